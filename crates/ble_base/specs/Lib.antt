@@ -1,0 +1,4 @@
+pub mod ChannelMap
+pub mod Instant
+pub mod Note
+pub mod Side

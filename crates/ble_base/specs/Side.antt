@@ -1,0 +1,7 @@
+use Rattle.ble_base.specs.declared.roles.Side.{Side}
+use Rattle.ble_base.specs.declared.roles.Side.TheVariants.{A, B}
+
+-- the other one of the two controllers (own)
+abbrev pub other_side : Side → Side
+other_side A = B
+other_side B = A

@@ -1,0 +1,83 @@
+ghost use Rattle.std.specs.Prelude.{◌≡◌};
+
+use crate::{Address, ErrCode, EventNo, Kind, Role};
+use arrayvec::ArrayVec;
+
+/// One thing that a controller tells of itself. `handle` is always the connection handle of the link.
+#[derive(Debug, PartialEq, Eq, Drop)]
+pub enum Note {
+    /// The octets of one HCI packet to the host, with its packet indicator first.
+    Up(ArrayVec<u8, 260>),
+    /// The link was made, with the addresses of both ends as they stood on the air.
+    Opened {
+        handle: u16,
+        role: Role,
+        own: Address,
+        peer: Address,
+    },
+    /// The link ended, and why.
+    Shut {
+        handle: u16,
+        reason: ErrCode,
+    },
+    /// A data channel PDU with a payload was fixed as the next to be sent. `number` counts these on the
+    /// link from 1; `llid` and `body` are those of the PDU, before any encryption.
+    Sent {
+        handle: u16,
+        number: u64,
+        llid: u8,
+        body: ArrayVec<u8, 251>,
+    },
+    /// A new data channel PDU with a payload was accepted. `number` counts these on the link from 1;
+    /// `llid` and `body` are those of the PDU, after any decryption.
+    Took {
+        handle: u16,
+        number: u64,
+        llid: u8,
+        body: ArrayVec<u8, 251>,
+    },
+    /// The link entered a connection event on a data channel.
+    Enter {
+        handle: u16,
+        event: EventNo,
+        channel: u8,
+    },
+    /// The indication with this PDU number holds from this event on.
+    Applied {
+        handle: u16,
+        number: u64,
+        event: EventNo,
+    },
+    /// This end began a control procedure.
+    Began {
+        handle: u16,
+        kind: Kind,
+    },
+    /// The peer refused a control procedure of this end, or a collision did.
+    Refused {
+        handle: u16,
+        kind: Kind,
+        code: ErrCode,
+    },
+    /// A control procedure of this end was completed.
+    Done {
+        handle: u16,
+        kind: Kind,
+    },
+}
+
+impl Default for Note {
+    ghost use Rattle.ble_base.specs.Note.{filler_note};
+
+    ghost is_default = { λ note. note ≡ filler_note };
+
+    fn default() -> Self {
+        Note::Done {
+            handle: 0,
+            kind: Kind::Update,
+        }
+    }
+}
+
+/// The notes of one step of a controller, in the order in which they were given.
+pub type Outbox = ArrayVec<Note, 64>;

@@ -1,0 +1,79 @@
+use crate::{
+    Address, ChannelMap, Config, ErrCode, EventNo, Kind, Note, Outbox, Role, Side, SlotNo, Verdict,
+    instant_gap,
+};
+use arrayvec::ArrayVec;
+use std::test::Fail;
+
+#[test]
+fn maps_are_read(rt: HostRuntime) {
+    for (bits, is_map) in [
+        (0, false),
+        (1, false),
+        (1 << 36, false),
+        (3, true),
+        (0x1F_FFFF_FFFF, true),
+        (0x20_0000_0003, false),
+        (0x8000_0000_0000_0003, false),
+    ] {
+        assert_eq!(rt; ChannelMap::new(bits).is_some(), is_map, "at {bits}");
+    }
+}
+
+#[test]
+fn map_is_walked(rt: HostRuntime) -> Result<(), Fail> {
+    let map = ChannelMap::new(0x1E_00E0_0600).ok_or("no map")?;
+    assert_eq!(rt; map.bits(), 0x1E_00E0_0600);
+    assert_eq!(rt; map.count(), 9);
+    let used = [9, 10, 21, 22, 23, 33, 34, 35, 36];
+    for (index, channel) in used.iter().enumerate() {
+        assert!(rt; map.uses(*channel));
+        if index < usize::from(map.count()) {
+            assert_eq!(rt; map.nth(index as u8), *channel);
+        }
+    }
+    assert!(rt; !map.uses(0) && !map.uses(37) && !map.uses(255));
+    assert_eq!(rt; ChannelMap::default().count(), 37);
+    Ok(())
+}
+
+#[test]
+fn gaps_go_round(rt: HostRuntime) {
+    for (instant, now, gap) in [(7, 7, 0), (6, 7, 65535), (0, 65535, 1), (10, 4, 6)] {
+        assert_eq!(rt; instant_gap(instant, now), gap);
+    }
+    assert_eq!(rt; EventNo(65536 * 3 + 5).counter(), 5);
+    assert_eq!(rt; Side::A.other(), Side::B);
+    assert_eq!(rt; Side::B.other(), Side::A);
+}
+
+#[test]
+fn words_stand_in_vectors(rt: HostRuntime) {
+    let mut notes = Outbox::new();
+    notes.push(Note::Up(ArrayVec::new()));
+    notes.push(Note::Opened {
+        handle: 1,
+        role: Role::Central,
+        own: Address::default(),
+        peer: Address {
+            random: true,
+            octets: [1, 2, 3, 4, 5, 0xC6],
+        },
+    });
+    notes.push(Note::Refused {
+        handle: 1,
+        kind: Kind::Request,
+        code: ErrCode(0x2A),
+    });
+    assert_eq!(rt; notes.len(), 3);
+    assert_eq!(rt;
+        Note::default(),
+        Note::Done {
+            handle: 0,
+            kind: Kind::Update
+        }
+    );
+    assert_eq!(rt; Verdict::default(), Verdict::Missed);
+    assert_eq!(rt; SlotNo::default(), SlotNo(0));
+    assert!(rt; Config::default().words.is_empty());
+}
