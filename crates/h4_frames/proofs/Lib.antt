@@ -1,0 +1,7 @@
+pub mod Finders
+pub mod Steps
+pub mod Searches
+pub mod Stages
+pub mod Feeding
+pub mod Growing
+pub mod Framings

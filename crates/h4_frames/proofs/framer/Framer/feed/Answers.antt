@@ -1,0 +1,12 @@
+use Rattle.std.proofs.Common.{◌∙◌}
+use Rattle.h4_frames.proofs.Feeding.{feeds}
+use Rattle.h4_frames.proofs.framer.Framer.feed.Goals as goal
+
+pub returns-clause-frames : goal.returns-clause-frames
+returns-clause-frames c = λ past is. (feeds past c.args.octet _ _ _ (c.self.view_is ∙ is) c.step.ensures.step).frames
+
+pub returns-clause-waits : goal.returns-clause-waits
+returns-clause-waits c = λ past is. (feeds past c.args.octet _ _ _ (c.self.view_is ∙ is) c.step.ensures.step).waits
+
+pub returns-clause-lost : goal.returns-clause-lost
+returns-clause-lost c = λ past is. (feeds past c.args.octet _ _ _ (c.self.view_is ∙ is) c.step.ensures.step).lost
