@@ -1,0 +1,5 @@
+pub mod TableEntries
+pub mod WordOctets
+pub mod ColumnOctets
+pub mod ExpandedWords
+pub mod CipherRounds

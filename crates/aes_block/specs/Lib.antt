@@ -1,0 +1,5 @@
+pub mod Field
+pub mod State
+pub mod KeyExpansion
+pub mod Cipher
+pub mod Words

@@ -1,0 +1,50 @@
+//! Blocks and round keys as four columns, each a word whose most significant octet is row 0.
+
+ghost use Rattle.std.specs.Prelude.{◌≡◌, ◌+◌, ◌≤◌, [], ◌∷◌, slice_index};
+ghost use Rattle.aes_block.specs.State.{round_key};
+ghost use Rattle.aes_block.specs.Words.{octets, octets_of, spelled};
+
+#[inline(always)]
+fn read_word(block: &[u8; 16], at: usize) -> u32
+    requires { at + 4 ≤ 16 }
+    ensures { let o = slice_index block.now in octets result ≡ o at ∷ o (at + 1) ∷ o (at + 2) ∷ o (at + 3) ∷ [] }
+{
+    u32::from_be_bytes([block[at], block[at + 1], block[at + 2], block[at + 3]])
+}
+
+/// The columns of a block.
+#[inline(always)]
+pub(crate) fn read(block: &[u8; 16]) -> [u32; 4]
+    ensures { octets_of result ≡ block.now }
+{
+    [
+        read_word(block, 0),
+        read_word(block, 4),
+        read_word(block, 8),
+        read_word(block, 12),
+    ]
+}
+
+/// The block of these columns.
+#[inline(always)]
+pub(crate) fn write(columns: [u32; 4]) -> [u8; 16]
+    ensures { result ≡ octets_of columns }
+{
+    let [a0, a1, a2, a3] = columns[0].to_be_bytes();
+    let [b0, b1, b2, b3] = columns[1].to_be_bytes();
+    let [c0, c1, c2, c3] = columns[2].to_be_bytes();
+    let [d0, d1, d2, d3] = columns[3].to_be_bytes();
+    [
+        a0, a1, a2, a3, b0, b1, b2, b3, c0, c1, c2, c3, d0, d1, d2, d3,
+    ]
+}
+
+/// The four words of a round, out of the expanded key.
+#[inline(always)]
+pub(crate) fn round_key(words: &[u32; 44], round: usize) -> [u32; 4]
+    requires { round ≤ 10 }
+    ensures { octets_of result ≡ round_key (spelled words.now) round }
+{
+    let at = 4 * round;
+    [words[at], words[at + 1], words[at + 2], words[at + 3]]
+}
