@@ -1,0 +1,6 @@
+use Rattle.std.proofs.Common.{◌∙◌}
+use Rattle.chan_select.proofs.Octets.{reverse_bits-octet}
+use Rattle.chan_select.proofs.pseudo_random.octet_reversed.Goals as goal
+
+pub returns : goal.returns
+returns c = c.reverse_bits.ensures ∙ reverse_bits-octet c.args.octet

@@ -1,0 +1,13 @@
+//! The data channel of each connection event: channel selection algorithms #1 and #2 (Core 5.2,
+//! volume 6 part B, section 4.5.8).
+#![tactic(auto)]
+
+mod hopping;
+mod laws;
+mod pseudo_random;
+mod selection;
+#[cfg(test)]
+mod tests;
+
+pub use crate::laws::hop_is_added_each_event;
+pub use crate::selection::{Algorithm, Selector};
