@@ -1,0 +1,4 @@
+pub mod BlockOctets
+pub mod Cutting
+pub mod Sealing
+pub mod Answering
