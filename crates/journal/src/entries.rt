@@ -1,0 +1,109 @@
+use crate::octets::Octets;
+use ble_base::{ErrCode, Kind, Role, Side, Verdict};
+
+/// What the radio did to a packet, as the schedule says.
+#[derive(Drop)]
+pub enum Mark {
+    /// It passed unchanged.
+    Pass,
+    /// It was lost.
+    Lost,
+    /// The pattern was added, bit by bit modulo 2, to its octets from place `at` on, where place 0 is
+    /// the first octet of the access address. What reaches past the end of the packet does nothing.
+    Damage { at: u16, pattern: Octets },
+}
+
+/// One thing that happened in a run. A turn is a slot of 1.25 ms. `link` is the number of a link: the
+/// n-th CONNECT_IND on the air begins link n, from 1.
+#[derive(Drop)]
+pub enum Entry {
+    /// A turn begins. `a_on` and `b_on` tell which radios are on; with one controller alone there is no
+    /// `b_on`.
+    Turn {
+        slot: u64,
+        a_on: bool,
+        b_on: Option<bool>,
+    },
+    /// The host of this side sent these octets to its controller: at least one, and once in a turn.
+    Fed {
+        side: Side,
+        octets: Octets,
+    },
+    /// The controller handed this HCI packet up to its host, its H4 indicator first.
+    Up {
+        side: Side,
+        octets: Octets,
+    },
+    /// A packet went on the air on this channel, 0 to 39. The octets are as sent: the access address, the
+    /// PDU and the CRC. The verdict is that of the other side.
+    Air {
+        side: Side,
+        channel: u8,
+        octets: Octets,
+        fate: Mark,
+        verdict: Verdict,
+    },
+    /// The side holds the link from here on, under this connection handle.
+    Opened {
+        side: Side,
+        link: u64,
+        handle: u16,
+        role: Role,
+    },
+    /// The side holds the link no more. A Reset has the reason 00.
+    Shut {
+        side: Side,
+        link: u64,
+        reason: ErrCode,
+    },
+    /// A PDU with a payload was fixed as the next to be sent. `number` counts these from 1 for each
+    /// sender and link; `llid` is 1 to 3; the body is the payload before any encryption.
+    Sent {
+        side: Side,
+        link: u64,
+        number: u64,
+        llid: u8,
+        body: Octets,
+    },
+    /// A new PDU with a payload was accepted. The fields are as those of `Sent`, after any decryption.
+    Took {
+        side: Side,
+        link: u64,
+        number: u64,
+        llid: u8,
+        body: Octets,
+    },
+    /// The side entered this connection event, on this data channel.
+    Enter {
+        side: Side,
+        link: u64,
+        event: u64,
+        channel: u8,
+    },
+    /// The n-th indication of the link holds at this side from this connection event on.
+    Applied {
+        side: Side,
+        link: u64,
+        number: u64,
+        event: u64,
+    },
+    /// The side began a control procedure.
+    Began {
+        side: Side,
+        link: u64,
+        kind: Kind,
+    },
+    /// A control procedure of the side was refused.
+    Refused {
+        side: Side,
+        link: u64,
+        kind: Kind,
+        code: ErrCode,
+    },
+    /// A control procedure of the side is done.
+    Done {
+        side: Side,
+        link: u64,
+        kind: Kind,
+    },
+}

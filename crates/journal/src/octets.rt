@@ -1,0 +1,44 @@
+ghost use Rattle.std.specs.Prelude.{◌≡◌, ℕ, List, IfOk};
+
+use std::alloc::{AllocError, Global};
+use std::marker::Model;
+
+/// Octets of a packet, a host stream or a text, in the order in which they go.
+#[derive(Drop)]
+pub struct Octets {
+    octets: Vec<u8>,
+}
+
+impl Model for Octets {
+    ghost use Rattle.std.specs.Prelude.{ℕ, List};
+
+    ghost Value = { List ℕ };
+
+    ghost view = { λ o. o.octets.items };
+}
+
+impl Octets {
+    /// A copy of these octets.
+    pub fn copy(alloc: Global, octets: &[u8]) -> Result<Self, AllocError>
+        ensures { IfOk result (λ copied. copied ≡ octets.now) }
+    {
+        Ok(Octets {
+            octets: Vec::from_slice(alloc, octets)?,
+        })
+    }
+
+    /// The octets as a slice.
+    pub fn as_slice(&self) -> &[u8]
+        ensures { result.now ≡ self.now }
+    {
+        self.octets.as_slice()
+    }
+}
+
+impl From<Vec<u8>> for Octets {
+    ghost from_gives = { λ octets made. made ≡ octets.items };
+
+    fn from(octets: Vec<u8>) -> Self {
+        Octets { octets }
+    }
+}
