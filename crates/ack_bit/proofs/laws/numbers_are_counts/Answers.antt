@@ -1,0 +1,8 @@
+use Rattle.ack_bit.proofs.Counting.{sn-counts, nesn-counts}
+use Rattle.ack_bit.proofs.laws.numbers_are_counts.Goals as goal
+
+pub returns-clause-sn : goal.returns-clause-sn
+returns-clause-sn c = sn-counts
+
+pub returns-clause-nesn : goal.returns-clause-nesn
+returns-clause-nesn c = nesn-counts

@@ -1,0 +1,3 @@
+pub mod AckBits
+pub mod AckLink
+pub mod AckNumbers

@@ -1,0 +1,11 @@
+//! The acknowledgement of the PDUs of a link by one bit each way (Core 5.2, volume 6 part B,
+//! section 4.5.9).
+#![tactic(auto)]
+
+mod ack_end;
+mod laws;
+#[cfg(test)]
+mod tests;
+
+pub use crate::ack_end::{AckEnd, AckSeen};
+pub use crate::laws::{each_pdu_once_and_in_order, numbers_are_counts};
