@@ -1,0 +1,10 @@
+pub mod BitLists
+pub mod BitSums
+pub mod Multiples
+pub mod OctetValues
+pub mod Registers
+pub mod Remainders
+pub mod SentOrder
+pub mod Sequences
+pub mod ShortChanges
+pub mod WhiteBits

@@ -1,0 +1,3 @@
+pub mod AirBits
+pub mod Crc
+pub mod Whitening
