@@ -1,10 +1,10 @@
 -- One direction of a link: of the sender what it sent and its SN, of the receiver what it accepted and its NESN.
 use Rattle.std.proofs.Common.{◌≡◌, ℕ, ◌+◌, Bool, true, false, not, cond, eqb, ◌&&◌, List, [], ◌∷◌, ◌++◌, length, refl, ap, ◌∙◌, sym, arith, length-append}
 use Rattle.std.specs.Bool.{beq}
-use Rattle.std.proofs.lemmas.Bool.{eqb-true, eqb-false}
+use Rattle.std.proofs.lemmas.Bool.{eqb-true, eqb-false, eq-eqb, ne_eqb}
 use Rattle.std.proofs.lemmas.List.{take_all, take_at}
 use Rattle.ack_bit.specs.AckBits.{header_of}
-use Rattle.ack_bit.specs.AckLink.{End, Packet, Step, a_sends, b_sends, Link, first_end, sending, receiving, hearing, step_of, run, link_after, IsReliable}
+use Rattle.ack_bit.specs.AckLink.{End, Packet, Step, a_sends, b_sends, Link, first_end, sending, receiving, hearing, step_of, run, link_after, IsReliable, SaysWhatIsAccepted}
 
 module _ {C : Type 0} where
   -- a PDU is out: the receiver has not accepted it yet, or it has and the sender has not seen the acknowledgement
@@ -138,3 +138,47 @@ module _ {C : Type 0} where
 
   pub reliable_from_b : (x y : C) (steps : List (Step C)) → IsReliable (link_after x y steps).b (link_after x y steps).a
   reliable_from_b x y steps = reliable _ _ (run_keeps _ steps (begins x y)).back
+
+  -- ---- what the bits of a packet say
+
+  new_if_out : (sent : List C) (last : C) (acked : ℕ) (sn : Bool) (accepted : List C) (nesn : Bool) → Pending sent last acked sn accepted nesn
+      → beq sn nesn ≡ eqb (length sent) (length accepted + 1)
+  new_if_out sent last acked true accepted true (out more count bits) = sym (eq-eqb _ _ (ap length more ∙ length-append accepted (last ∷ [])))
+  new_if_out sent last acked false accepted false (out more count bits) = sym (eq-eqb _ _ (ap length more ∙ length-append accepted (last ∷ [])))
+  new_if_out sent last acked true accepted false (out more count bits) = absurd (cc)
+  new_if_out sent last acked false accepted true (out more count bits) = absurd (cc)
+  new_if_out sent last acked true accepted true (taken same count bits) = absurd (cc)
+  new_if_out sent last acked false accepted false (taken same count bits) = absurd (cc)
+  new_if_out sent last acked true accepted false (taken same count bits) = sym (ne_eqb _ _ (λ e. omega (arith, ap length same)))
+  new_if_out sent last acked false accepted true (taken same count bits) = sym (ne_eqb _ _ (λ e. omega (arith, ap length same)))
+
+  acked_if_taken : (sent : List C) (last : C) (acked : ℕ) (sn : Bool) (accepted : List C) (nesn : Bool)
+      → Direction sent last acked sn accepted nesn → not (beq nesn sn) ≡ eqb (length accepted) (acked + 1)
+  acked_if_taken sent last acked true accepted true (idle same count bits) = sym (ne_eqb _ _ (λ e. omega (arith, ap length same)))
+  acked_if_taken sent last acked false accepted false (idle same count bits) = sym (ne_eqb _ _ (λ e. omega (arith, ap length same)))
+  acked_if_taken sent last acked true accepted false (idle same count bits) = absurd (cc)
+  acked_if_taken sent last acked false accepted true (idle same count bits) = absurd (cc)
+  acked_if_taken sent last acked true accepted true (pending (out more count bits)) = sym (ne_eqb _ _ (λ e. omega arith))
+  acked_if_taken sent last acked false accepted false (pending (out more count bits)) = sym (ne_eqb _ _ (λ e. omega arith))
+  acked_if_taken sent last acked true accepted false (pending (out more count bits)) = absurd (cc)
+  acked_if_taken sent last acked false accepted true (pending (out more count bits)) = absurd (cc)
+  acked_if_taken sent last acked true accepted true (pending (taken same count bits)) = absurd (cc)
+  acked_if_taken sent last acked false accepted false (pending (taken same count bits)) = absurd (cc)
+  acked_if_taken sent last acked true accepted false (pending (taken same count bits)) = sym (eq-eqb _ _ (sym (count ∙ ap length same)))
+  acked_if_taken sent last acked false accepted true (pending (taken same count bits)) = sym (eq-eqb _ _ (sym (count ∙ ap length same)))
+
+  says : (s r : End C) (p : Packet C) → IsInStep s r → SaysWhatIsAccepted s r p
+  says s r p g =
+      record {
+        fresh =
+            new_if_out _ _ s.acked s.bits.sn r.accepted r.bits.nesn
+            (sends (eqb s.acked (length s.sent)) s.sent s.last p.next s.acked s.bits.sn r.accepted r.bits.nesn refl g.there);
+        acked = acked_if_taken r.sent r.last r.acked r.bits.sn s.accepted s.bits.nesn g.back;
+      }
+
+  pub says_from_a : (x y : C) (steps : List (Step C)) (p : Packet C) → SaysWhatIsAccepted (link_after x y steps).a (link_after x y steps).b p
+  says_from_a x y steps p = says _ _ p (run_keeps _ steps (begins x y))
+
+  pub says_from_b : (x y : C) (steps : List (Step C)) (p : Packet C) → SaysWhatIsAccepted (link_after x y steps).b (link_after x y steps).a p
+  says_from_b x y steps p =
+      let g = run_keeps _ steps (begins x y) in says _ _ p (record { there = g.back; back = g.there })

@@ -90,3 +90,9 @@ module _ {C : Type 0} where
     pub acked_is_accepted : s.acked ≤ length r.accepted
     -- and the next PDU is sent only then
     pub one_at_a_time : length s.sent ≤ s.acked + 1
+
+  -- what a packet of s says to r, told without bits: its PDU is new exactly where r has not accepted it yet, and it acknowledges
+  -- exactly where s has accepted the last PDU of r and r does not know it
+  pub record SaysWhatIsAccepted (s r : End C) (p : Packet C) : Type 0 where
+    pub fresh : (seen_of r.bits (header_of s.bits p.llid p.md p.length)).fresh ≡ (length (sending s p.next).sent == length r.accepted + 1)
+    pub acked : (seen_of r.bits (header_of s.bits p.llid p.md p.length)).acked ≡ (length s.accepted == r.acked + 1)

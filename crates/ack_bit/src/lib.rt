@@ -8,4 +8,4 @@ mod laws;
 mod tests;
 
 pub use crate::ack_end::{AckEnd, AckSeen};
-pub use crate::laws::{each_pdu_once_and_in_order, numbers_are_counts};
+pub use crate::laws::{bits_say_what_was_accepted, each_pdu_once_and_in_order, numbers_are_counts};

@@ -1,4 +1,6 @@
-use crate::{AckEnd, AckSeen, each_pdu_once_and_in_order, numbers_are_counts};
+use crate::{
+    AckEnd, AckSeen, bits_say_what_was_accepted, each_pdu_once_and_in_order, numbers_are_counts,
+};
 use data_pdu::DataHeader;
 
 fn packet(nesn: bool, sn: bool) -> DataHeader {
@@ -32,5 +34,6 @@ fn bits_go_as_in_an_exchange(rt: HostRuntime) {
         assert_eq!(rt; end.header(1, false, 0), packet(next_nesn, next_sn));
     }
     each_pdu_once_and_in_order::<u8>();
+    bits_say_what_was_accepted::<u8>();
     numbers_are_counts();
 }

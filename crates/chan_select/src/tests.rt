@@ -1,5 +1,5 @@
-use crate::Selector;
 use crate::pseudo_random::prn;
+use crate::{Selector, hop_is_added_each_event};
 use ble_base::{ChannelMap, EventNo};
 use std::test::Fail;
 
@@ -36,6 +36,7 @@ fn channels_of_the_sample_data(rt: HostRuntime) -> Result<(), Fail> {
     for (counter, number) in [(0, 56857), (1, 1685), (2, 38301), (3, 27475)] {
         assert_eq!(rt; prn(0x305F, counter), number);
     }
+    hop_is_added_each_event();
     Ok(())
 }
 
