@@ -1,0 +1,4 @@
+pub mod CallNumbers
+pub mod FilesByName
+pub mod StoreChanges
+pub mod Fronts

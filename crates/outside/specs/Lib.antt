@@ -1,0 +1,5 @@
+pub mod Count
+pub mod Told
+pub mod Calls
+pub mod FileStore
+pub mod SinkStore

@@ -1,0 +1,20 @@
+//! Files and sinks: all that the program reads and writes outside itself.
+#![tactic(auto)]
+
+mod call_plan;
+mod files;
+mod held_file;
+mod mem_files;
+mod mem_sink;
+mod real_files;
+mod real_sink;
+mod sink;
+#[cfg(test)]
+mod tests;
+
+pub use files::{FileFault, Files};
+pub use mem_files::MemFiles;
+pub use mem_sink::MemSink;
+pub use real_files::RealFiles;
+pub use real_sink::RealSink;
+pub use sink::{Sink, SinkFault};

@@ -1,0 +1,59 @@
+ghost use Rattle.std.specs.Prelude.{◌≡◌, ◌≤◌, None, OnOk, IfErr};
+ghost use Rattle.std.specs.Io.KnownBytes.{Appends};
+ghost use Rattle.outside.specs.Count.{one_more};
+
+use crate::sink::{Sink, SinkFault};
+use std::io::Write;
+use std::marker::Model;
+
+/// A stream as a sink, such as standard output. As a sink it tells nothing of what was written, and
+/// counts the calls that failed. It takes no memory.
+///
+/// Contracts see it as the stream and that count. A call writes all of its octets and flushes, so
+/// nothing is left to the end of the program. It fails where the stream does, and where the stream
+/// takes none of the octets that are left.
+#[derive(Drop)]
+pub struct RealSink<W> {
+    stream: W,
+    faults: u64,
+}
+
+impl<W> Model for RealSink<W> {
+    ghost use Rattle.std.specs.Prelude.{ℕ};
+
+    ghost Value = { W × ℕ };
+
+    ghost view = { λ sink. (sink.stream, sink.faults) };
+}
+
+impl<W: Write> RealSink<W> {
+    /// A stream to which no write failed yet.
+    pub fn new(stream: W) -> RealSink<W>
+        ensures { result ≡ (stream, 0) }
+    {
+        RealSink { stream, faults: 0 }
+    }
+}
+
+impl<W: Write> Sink for RealSink<W> {
+    ghost written = { λ _. None };
+
+    ghost faults = { λ sink. sink.1 };
+
+    ghost is_reliable = { λ _. ⊥ };
+
+    ghost wants_memory = { λ _. ⊥ };
+
+    fn put(&mut self, octets: &[u8]) -> Result<(), SinkFault>
+        ensures whole { OnOk result (Appends (W.contents self.old.0) (W.contents self.new.0) octets.now) }
+        ensures ok { OnOk result (self.new.1 ≡ self.old.1) }
+        ensures err { IfErr result (λ fault. (fault ≡ SinkFault.Failed) × (self.new.1 ≡ one_more self.old.1)) }
+        ensures counts { self.old.1 ≤ self.new.1 }
+    {
+        if self.stream.write_all(octets).is_ok() && self.stream.flush().is_ok() {
+            return Ok(());
+        }
+        self.faults = self.faults.saturating_add(1);
+        Err(SinkFault::Failed)
+    }
+}
