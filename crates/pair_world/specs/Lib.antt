@@ -1,0 +1,4 @@
+pub mod Host
+pub mod History
+pub mod Run
+pub mod Steps
