@@ -1,0 +1,15 @@
+use Rattle.std.proofs.Common.{◌≡◌, ℕ, List, ◌++◌, ◌≤◌, length}
+use Rattle.outside.specs.Told.{GrewBy}
+use Rattle.journal.specs.Text.{text}
+use Rattle.ble_tool.proofs.pairs.write_journal.Given as goal
+
+abbrev pub invariant-loop-rest : goal.invariant-loop-rest
+invariant-loop-rest g l = (front : List ℕ)
+    × record {
+      grew : GrewBy (g.O.Sink.written l.fn.out) (g.O.Sink.written l.out) front;
+      parts : front ++ text l.rest ≡ text l.journal;
+      counts : g.O.Sink.faults l.fn.out ≤ g.O.Sink.faults l.out;
+    }
+
+abbrev pub decreases-loop-rest : goal.decreases-loop-rest
+decreases-loop-rest g l = length l.rest

@@ -1,0 +1,45 @@
+-- How the program ends: its statuses, and what it says. Own.
+use Rattle.std.specs.Prelude.{ℕ, List, [], ◌∷◌, ◌++◌, codes, decimal}
+use Rattle.ble_tool.specs.declared.faults.Fault.{Fault}
+use Rattle.ble_tool.specs.declared.faults.Fault.TheVariants.{CannotRead, BadLine, CannotWrite, NoMemory, TooLong}
+use Rattle.ble_tool.specs.declared.faults.Source.{Source}
+
+-- what becomes of a call of the program
+pub data Outcome : Type 0 where
+  -- a command did its work
+  Done : Outcome
+  -- the words are no command's
+  NoCommand : Outcome
+  -- a command did not do its work
+  Failed : Fault → Outcome
+
+abbrev pub status_of : Fault → ℕ
+status_of (CannotRead source) = 2
+status_of (BadLine line) = 3
+status_of CannotWrite = 4
+status_of NoMemory = 5
+status_of (TooLong source) = 7
+
+-- the exit status
+abbrev pub exit_status : Outcome → ℕ
+exit_status Done = 0
+exit_status NoCommand = 1
+exit_status (Failed fault) = status_of fault
+
+-- what is said of a fault, where the files have these names
+abbrev pub fault_text : (Source → List ℕ) → Fault → List ℕ
+fault_text name (CannotRead source) = codes "cannot read " ++ name source
+fault_text name (BadLine line) = codes "schedule line " ++ decimal line
+fault_text name CannotWrite = codes "cannot write"
+fault_text name NoMemory = codes "no memory"
+fault_text name (TooLong source) = codes "too long: " ++ name source
+
+-- with its newline
+abbrev pub fault_line : (Source → List ℕ) → Fault → List ℕ
+fault_line name fault = fault_text name fault ++ 10 ∷ []
+
+-- what is said at the end
+abbrev pub last_words : (Source → List ℕ) → Outcome → List ℕ
+last_words name Done = []
+last_words name NoCommand = codes "usage: ble pair A B SCHEDULE, ble make NUMBER, ble solo HOST AIR\n"
+last_words name (Failed fault) = fault_line name fault
