@@ -1,0 +1,33 @@
+"""Runs ciphers and channel selection on whole and halved loads, and prints figures and ratios."""
+import subprocess
+import sys
+import time
+
+
+def seconds(program, words):
+    best = None
+    for _ in range(3):
+        begun = time.monotonic()
+        subprocess.run([program, *words], check=True, stdout=subprocess.DEVNULL)
+        spent = time.monotonic() - begun
+        best = spent if best is None else min(best, spent)
+    return best
+
+
+def main():
+    program = sys.argv[1]
+    loads = (
+        ("blocks encrypted", "blocks", 1_000_000, []),
+        ("bodies of 27 octets sealed", "bodies", 100_000, ["27"]),
+        ("bodies of 251 octets sealed", "bodies", 100_000, ["251"]),
+        ("channels by algorithm 1", "channels", 10_000_000, ["1"]),
+        ("channels by algorithm 2", "channels", 10_000_000, ["2"]),
+    )
+    for name, kind, count, more in loads:
+        half = seconds(program, [kind, str(count // 2), *more])
+        whole = seconds(program, [kind, str(count), *more])
+        print(f"{name}: {count / whole:,.0f} a second")
+        print(f"  time at the whole load: {whole / half:.2f} times that at half of it")
+
+
+main()

@@ -1,0 +1,22 @@
+#!/usr/bin/env bash
+# Measures the parts that the program does not call yet: ciphers and channel selection, at the whole load and at
+# half of it. Needs the toolchain and python3. The program that it measures is parts.txt, built in a folder of its own.
+set -e
+cd "$(dirname "$0")/.."
+folder=$(mktemp -d)
+trap 'rm -rf "$folder"' EXIT
+mkdir -p "$folder/crates/parts_bench/src"
+for crate in aes_block ble_base ccm_link chan_select; do
+  mkdir "$folder/crates/$crate"
+  for part in src specs proofs; do
+    if [ -d "crates/$crate/$part" ]; then cp -r "crates/$crate/$part" "$folder/crates/$crate/"; fi
+  done
+done
+cp bench/parts.txt "$folder/crates/parts_bench/src/main.rt"
+grep -E '^(aes_block|ble_base|ccm_link|chan_select):' crates.txt >"$folder/crates.txt"
+echo 'parts_bench: aes_block ble_base ccm_link chan_select arrayvec' >>"$folder/crates.txt"
+(cd "$folder/crates/parts_bench" && rt run -- blocks 1) >/dev/null 2>&1 || {
+  echo "the program did not build" >&2
+  exit 1
+}
+python3 bench/parts.py "$folder/crates/parts_bench/out/parts_bench"
