@@ -1,0 +1,11 @@
+use Rattle.std.proofs.Common.{arith}
+use Rattle.air_frame.specs.Packet.{with_crc}
+use Rattle.air_frame.proofs.Bodies.{length-with_crc, same_pdu}
+use Rattle.air_frame.proofs.laws.packet_tells_its_pdu.Goals as goal
+
+pub returns-clause-length : goal.returns-clause-length
+returns-clause-length c = λ channel access init pdu.
+    omega (arith, c.whitening_is_linear.ensures.length channel (with_crc init pdu), length-with_crc init pdu)
+
+pub returns-clause-only : goal.returns-clause-only
+returns-clause-only c = λ channel access init pdu other. same_pdu channel access init pdu other c.whitening_is_linear.ensures.twice

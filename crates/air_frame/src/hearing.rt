@@ -1,0 +1,100 @@
+//! From the octets of a packet to what a listener makes of them.
+
+ghost use Rattle.std.specs.Prelude.{◌≡◌, ◌≢◌, ℕ, ◌+◌, ◌^◌, ◌<◌, ◌≤◌, ◌↔◌, List, length, take, IsTrue};
+ghost use Rattle.air_frame.specs.Hearing.{IsWhole, MatchHeard};
+ghost use Rattle.air_frame.specs.Packet.{access_octets, on_air, with_crc, IsPdu};
+ghost use Rattle.frame_bits.specs.Crc.{crc, crc_octets};
+ghost use Rattle.frame_bits.specs.Whitening.{whitened};
+
+use crate::Heard;
+use crate::octets::{LONGEST, append};
+use arrayvec::ArrayVec;
+use frame_bits::{crc_octets, crc24, whiten};
+
+/// What a listener on this channel index, for this access address and with this initial CRC, makes of the octets of
+/// a packet (Core 5.2, volume 6 part B, sections 2.1, 3.1.1 and 3.2). A length octet, or a CRC, that does not fit the
+/// octets makes the packet broken.
+pub fn unframe(channel: u8, access: u32, init: u32, octets: &[u8]) -> Heard
+    requires channel { channel < 40 }
+    requires init { init < 2 ^ 24 }
+    ensures not_ours { (result ≡ Heard.NotOurs) ↔ (take 4 octets.now ≢ access_octets access) }
+    ensures broken { (result ≡ Heard.Broken) ↔ ((take 4 octets.now ≡ access_octets access)
+        × ((pdu : List ℕ) → IsPdu pdu → octets.now ≢ on_air channel access init pdu)) }
+    ensures whole { (pdu : List ℕ) → IsWhole result pdu ↔ (IsPdu pdu × (octets.now ≡ on_air channel access init pdu)) }
+{
+    frame_bits::laws::whitening_is_linear();
+    addressed(channel, access, init, octets)
+}
+
+/// As `unframe`, a fact for each answer.
+fn addressed(channel: u8, access: u32, init: u32, octets: &[u8]) -> Heard
+    requires channel { channel < 40 }
+    requires init { init < 2 ^ 24 }
+    ensures { MatchHeard result (take 4 octets.now ≢ access_octets access)
+        ((take 4 octets.now ≡ access_octets access)
+        × ((pdu : List ℕ) → IsPdu pdu → octets.now ≢ on_air channel access init pdu))
+        (λ pdu. IsPdu pdu × (octets.now ≡ on_air channel access init pdu)) }
+{
+    match octets.strip_prefix(&access.to_le_bytes()) {
+        Some(body) => dewhitened(channel, init, body),
+        None => Heard::NotOurs,
+    }
+}
+
+/// What the octets behind the access address are.
+fn dewhitened(channel: u8, init: u32, octets: &[u8]) -> Heard
+    requires channel { channel < 40 }
+    requires init { init < 2 ^ 24 }
+    ensures { MatchHeard result ⊥ ((pdu : List ℕ) → IsPdu pdu → octets.now ≢ whitened channel (with_crc init pdu))
+        (λ pdu. IsPdu pdu × (octets.now ≡ whitened channel (with_crc init pdu))) }
+{
+    frame_bits::laws::whitening_is_linear();
+    if octets.len() > LONGEST {
+        return Heard::Broken;
+    }
+    let mut body = ArrayVec::<u8, LONGEST>::new();
+    append(&mut body, octets);
+    whiten(channel, body.as_mut_slice());
+    checked(init, body.as_slice())
+}
+
+/// What a PDU and its CRC are, no longer whitened.
+fn checked(init: u32, octets: &[u8]) -> Heard
+    requires { init < 2 ^ 24 }
+    ensures { MatchHeard result ⊥ ((pdu : List ℕ) → IsPdu pdu → octets.now ≢ with_crc init pdu)
+        (λ pdu. IsPdu pdu × (octets.now ≡ with_crc init pdu)) }
+{
+    let Some((pdu, sum)) = octets.split_last_chunk::<3>() else {
+        return Heard::Broken;
+    };
+    if is_pdu(pdu) && has_crc(init, pdu, sum) {
+        whole(pdu)
+    } else {
+        Heard::Broken
+    }
+}
+
+/// Whether the octets are a PDU in form.
+fn is_pdu(octets: &[u8]) -> bool
+    ensures { IsTrue result ↔ IsPdu octets.now }
+{
+    octets.len() >= 2 && octets.len() == 2 + octets[1] as usize
+}
+
+/// Whether these three octets are the CRC of the PDU.
+fn has_crc(init: u32, pdu: &[u8], sum: &[u8; 3]) -> bool
+    requires { init < 2 ^ 24 }
+    ensures { IsTrue result ↔ (sum.now ≡ crc_octets (crc init pdu.now)) }
+{
+    *sum == crc_octets(crc24(init, pdu))
+}
+
+/// The answer with this PDU.
+fn whole(pdu: &[u8]) -> Heard
+    requires { length pdu.now ≤ 257 }
+    ensures { IsWhole result pdu.now }
+{
+    let mut octets = ArrayVec::new();
+    append(&mut octets, pdu);
+    Heard::Whole(octets)
+}
