@@ -1,6 +1,6 @@
 -- A fault of a part is a fault of the whole.
-use Rattle.std.proofs.Common.{◌≡◌, ℕ, ◌+◌, ◌≤◌, List, ◌++◌, length, Option, Some, None, Result, Ok, Err, refl, sym, ap, subst, ◌∙◌, inl, inr, arith}
-use Rattle.std.specs.Prelude.{OnOk, IfErr, ◌⊎◌}
+use Rattle.std.proofs.Common.{◌≡◌, ℕ, ◌≤◌, List, ◌++◌, length, Option, Some, None, Result, Ok, Err, sym, subst, inl, inr, arith}
+use Rattle.std.specs.Prelude.{OnOk, IfErr}
 use Rattle.std.specs.Result.{IsErrAnd}
 use Rattle.outside.specs.Count.{Rose}
 use Rattle.outside.specs.Told.{WhereTold, GrewBy, GrewByPrefix}
@@ -13,7 +13,7 @@ use Rattle.radio_replay.specs.Schedule.{Right, schedule_of}
 use Rattle.ble_tool.specs.declared.faults.Fault.{Fault}
 use Rattle.ble_tool.specs.declared.faults.Fault.TheVariants.{CannotRead, BadLine, CannotWrite, NoMemory, TooLong}
 use Rattle.ble_tool.specs.declared.faults.Source.TheVariants.{A, B, Schedule}
-use Rattle.ble_tool.specs.Causes.{FILE_LIMIT, World, OfRun, IsFirstBadLine, IsReadFault, IsWriteFault, IsOctetsFault, IsPairFault, IsPairDone}
+use Rattle.ble_tool.specs.Causes.{FILE_LIMIT, World, OfRun, IsFirstBadLine, IsWriteFault, IsOctetsFault, IsPairFault, IsPairDone}
 use Rattle.ble_tool.proofs.Growth.{grew_part}
 
 -- what holds of the fault that an `Err` hands on

@@ -18,7 +18,8 @@ pub enum SinkFault {
 /// What takes octets.
 ///
 /// `written` is all that was written so far, where an implementation tells it. `faults` counts the
-/// writes that failed. `is_reliable` says that no write fails from now on.
+/// writes that failed. `is_reliable` says that no write fails from now on, and `wants_memory` that a
+/// write may find no memory.
 pub trait Sink {
     ghost written: { Self → Option (List ℕ) };
 

@@ -1,4 +1,4 @@
-use Rattle.std.proofs.Common.{◌≡◌, ℕ, List, [], ◌∷◌, ◌++◌, sym, ap, append-nil, append_assoc}
+use Rattle.std.proofs.Common.{[], ◌∷◌, ◌++◌, sym, ap, append-nil, append_assoc}
 use Rattle.outside.specs.Told.{GrewByPrefix}
 use Rattle.ble_tool.proofs.Growth.{grew_by_none, grew_more, grew_part, on_err_always, on_err_more}
 use Rattle.ble_tool.proofs.messages.put_line.Goals as goal

@@ -1,5 +1,3 @@
-use Rattle.std.proofs.Common.{◌≡◌, ℕ, List, Option}
-use Rattle.ble_tool.specs.declared.faults.Source.{Source}
 use Rattle.ble_tool.specs.Causes.{World, world_of}
 use Rattle.ble_tool.specs.Words.{name_of}
 use Rattle.ble_tool.proofs.Endings.{AreRead, files_done, files_not_done}

@@ -1,10 +1,8 @@
 use Rattle.std.proofs.Common.{◌≡◌, ℕ, List, ◌++◌, take, drop, ◌∙◌, ap, sym, append_assoc, arith}
 use Rattle.std.proofs.lemmas.Grind.{flat_map-append}
 use Rattle.std.proofs.lemmas.List.{take-append-drop}
-use Rattle.outside.specs.Told.{GrewBy}
 use Rattle.journal.specs.declared.entries.Entry.{Entry}
 use Rattle.journal.specs.Text.{line, text}
-use Rattle.ble_tool.specs.Causes.{IsWriteFault}
 use Rattle.ble_tool.proofs.Endings.{handed_on, part_not_written}
 use Rattle.ble_tool.proofs.Growth.{grew_more}
 use Rattle.ble_tool.proofs.pairs.write_journal.Goals as goal

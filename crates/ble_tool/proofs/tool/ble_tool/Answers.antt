@@ -1,9 +1,8 @@
 use Rattle.std.proofs.Common.{◌≡◌, refl, subst, inl, map}
 use mathlib.Core.Path.{fun_ext}
 use Rattle.std.specs.Prelude.{string_bytes}
-use Rattle.ble_tool.specs.declared.faults.Source.{Source}
-use Rattle.ble_tool.specs.Causes.{HasCause, IsPairDone, IsPairFault, world_of, Says}
-use Rattle.ble_tool.specs.Status.{Done, NoCommand, Failed, fault_line}
+use Rattle.ble_tool.specs.Causes.{IsPairDone, world_of}
+use Rattle.ble_tool.specs.Status.{Done, NoCommand, Failed}
 use Rattle.ble_tool.specs.Words.{name_in, name_of}
 use Rattle.ble_tool.proofs.Growth.{grew_by_none}
 use Rattle.ble_tool.proofs.tool.ble_tool.Goals as goal
