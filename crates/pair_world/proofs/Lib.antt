@@ -6,3 +6,5 @@ pub mod Progress
 pub mod Law
 pub mod Outcomes
 pub mod Turns
+pub mod Cuts
+pub mod Unique

@@ -9,15 +9,15 @@ use Rattle.pair_world.specs.History.{of_side, fed_in, fed_to, told_in, told_to, 
 use Rattle.pair_world.specs.Steps.{fed, fed_entry}
 
 -- packets to a host begin no turn and feed nothing
-begun-ups : (side : Side) (packets : List (List ℕ)) → turns_begun (map (Up side) packets) ≡ []
+pub begun-ups : (side : Side) (packets : List (List ℕ)) → turns_begun (map (Up side) packets) ≡ []
 begun-ups side [] = refl
 begun-ups side (packet ∷ packets) = begun-ups side packets
 
-fed_to-ups : (side other : Side) (packets : List (List ℕ)) → fed_to side (map (Up other) packets) ≡ []
+pub fed_to-ups : (side other : Side) (packets : List (List ℕ)) → fed_to side (map (Up other) packets) ≡ []
 fed_to-ups side other [] = refl
 fed_to-ups side other (packet ∷ packets) = fed_to-ups side other packets
 
-told_to-ups : (side other : Side) (packets : List (List ℕ)) → told_to side (map (Up other) packets) ≡ of_side side other packets
+pub told_to-ups : (side other : Side) (packets : List (List ℕ)) → told_to side (map (Up other) packets) ≡ of_side side other packets
 told_to-ups A A [] = refl
 told_to-ups A B [] = refl
 told_to-ups B A [] = refl
@@ -27,11 +27,11 @@ told_to-ups A B (packet ∷ packets) = told_to-ups A B packets
 told_to-ups B A (packet ∷ packets) = told_to-ups B A packets
 told_to-ups B B (packet ∷ packets) = ap (λ xs. packet ∷ xs) (told_to-ups B B packets)
 
-begun-entry : (side : Side) (octets : List ℕ) → turns_begun (fed_entry side octets) ≡ []
+pub begun-entry : (side : Side) (octets : List ℕ) → turns_begun (fed_entry side octets) ≡ []
 begun-entry side [] = refl
 begun-entry side (octet ∷ octets) = refl
 
-fed_to-entry : (side other : Side) (octets : List ℕ) → fed_to side (fed_entry other octets) ≡ of_side side other octets
+pub fed_to-entry : (side other : Side) (octets : List ℕ) → fed_to side (fed_entry other octets) ≡ of_side side other octets
 fed_to-entry A A [] = refl
 fed_to-entry A B [] = refl
 fed_to-entry B A [] = refl
@@ -41,7 +41,7 @@ fed_to-entry A B (octet ∷ octets) = refl
 fed_to-entry B A (octet ∷ octets) = refl
 fed_to-entry B B (octet ∷ octets) = simp append-nil
 
-told_to-entry : (side other : Side) (octets : List ℕ) → told_to side (fed_entry other octets) ≡ []
+pub told_to-entry : (side other : Side) (octets : List ℕ) → told_to side (fed_entry other octets) ≡ []
 told_to-entry side other [] = refl
 told_to-entry side other (octet ∷ octets) = refl
 

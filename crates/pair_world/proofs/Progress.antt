@@ -89,7 +89,7 @@ told_after_b history slot turn past_a now_a past_b now_b =
     (simp append-nil)
 
 -- one more turn feeds so many more octets
-total_more : (side : Side) (done : List Plan) (turn : Plan) → feed_total side (done ++ turn ∷ []) ≡ feed_total side done + feed_of side turn
+pub total_more : (side : Side) (done : List Plan) (turn : Plan) → feed_total side (done ++ turn ∷ []) ≡ feed_total side done + feed_of side turn
 total_more side done turn = sum_by-append (feed_of side) done (turn ∷ []) ∙ omega arith
 
 -- a side goes on by one turn

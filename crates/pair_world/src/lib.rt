@@ -6,10 +6,12 @@
 
 mod controllers;
 mod events;
+mod laws;
 mod runs;
 #[cfg(test)]
 mod tests;
 
+pub use crate::laws::a_run_has_one_journal;
 pub use crate::runs::{RunFault, run_pair};
 pub use ble_base::{Config, Side};
 pub use journal::{Entry, Journal, Octets};

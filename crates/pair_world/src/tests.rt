@@ -1,4 +1,4 @@
-use crate::run_pair;
+use crate::{a_run_has_one_journal, run_pair};
 use journal::write_lines;
 use radio_replay::Schedule;
 use std::alloc::Global;
@@ -37,6 +37,7 @@ fn journal_text(alloc: Global, a: &[u8], b: &[u8]) -> Result<Vec<u8>, Fail> {
 fn both_hosts_are_answered(rt: HostRuntime) -> Result<(), Fail> {
     let a = b"\x07\xaa\x01\x03\x0c\x00\x01";
     let b = b"\x01\xff\xff\x00\x01\x03\x0c\x01\x00";
+    a_run_has_one_journal();
     let text = journal_text(rt.alloc(), &a[..6], b)?;
     assert_eq!(rt; text.as_slice(), JOURNAL.as_bytes());
     Ok(())
