@@ -1,4 +1,4 @@
-//! Commands as they stand in recorded sessions, and the lengths of all of them.
+//! Commands as they stand in recorded streams, and the lengths of all of them.
 use super::*;
 use arrayvec::ArrayVec;
 use std::process::Abort;

@@ -1,4 +1,4 @@
-//! Events as they stand in recorded sessions.
+//! Events as they stand in recorded streams.
 use super::*;
 use arrayvec::ArrayVec;
 use std::process::Abort;
@@ -62,7 +62,7 @@ fn answers_to_commands(rt: HostRuntime) {
 }
 
 #[test]
-fn events_of_a_session(rt: HostRuntime) {
+fn events_without_a_subevent(rt: HostRuntime) {
     expect_packet(&rt, Event::HardwareError { code: 1 }, &[4, 0x10, 1, 1]);
     expect_packet(
         &rt,
