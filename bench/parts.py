@@ -17,16 +17,18 @@ def seconds(program, words):
 def main():
     program = sys.argv[1]
     loads = (
-        ("blocks encrypted", "blocks", 1_000_000, []),
-        ("bodies of 27 octets sealed", "bodies", 100_000, ["27"]),
-        ("bodies of 251 octets sealed", "bodies", 100_000, ["251"]),
-        ("channels by algorithm 1", "channels", 10_000_000, ["1"]),
-        ("channels by algorithm 2", "channels", 10_000_000, ["2"]),
+        ("blocks encrypted", "blocks", 1_000_000, [], 16),
+        ("bodies of 27 octets sealed", "bodies", 100_000, ["27"], 27),
+        ("bodies of 251 octets sealed", "bodies", 100_000, ["251"], 251),
+        ("channels by algorithm 1", "channels", 10_000_000, ["1"], 0),
+        ("channels by algorithm 2", "channels", 10_000_000, ["2"], 0),
     )
-    for name, kind, count, more in loads:
+    for name, kind, count, more, octets in loads:
         half = seconds(program, [kind, str(count // 2), *more])
         whole = seconds(program, [kind, str(count), *more])
         print(f"{name}: {count / whole:,.0f} a second")
+        if octets:
+            print(f"  {count * octets / whole:,.0f} octets a second")
         print(f"  time at the whole load: {whole / half:.2f} times that at half of it")
 
 
