@@ -1,0 +1,19 @@
+use Rattle.std.proofs.Common.{Some, ap}
+use Rattle.adv_pdu.proofs.Octets.{packet_of_pdu, read_is_pdu, read_is_only}
+use Rattle.adv_pdu.proofs.pdu.AdvPdu.read.Goals as goal
+
+pub returns-in_err-first-clause-only : goal.returns-in_err-first-clause-only
+returns-in_err-first-clause-only c = λ pdu good whole.
+    let packet = packet_of_pdu c.args.octets.now pdu good whole in
+    absurd (c.in_err-first.ensures.none packet.0 packet.1 packet.2)
+
+pub returns-clause-found : goal.returns-clause-found
+returns-clause-found c =
+    read_is_pdu c.args.octets.now c.pdu.result c.in_ok-first.first c.in_ok-first.payload.now c.in_ok-first.ensures.found
+    (rw (c.read.ensures.kind, c.read.ensures.ch_sel, c.read.ensures.tx_add, c.read.ensures.rx_add, c.new.ensures) at c.pdu.ensures)
+
+pub returns-clause-only : goal.returns-clause-only
+returns-clause-only c = λ pdu good whole.
+    ap (λ p. Some p)
+    (read_is_only c.args.octets.now c.pdu.result pdu c.in_ok-first.first c.in_ok-first.payload.now c.in_ok-first.ensures.found
+    (rw (c.read.ensures.kind, c.read.ensures.ch_sel, c.read.ensures.tx_add, c.read.ensures.rx_add, c.new.ensures) at c.pdu.ensures) good whole)

@@ -1,0 +1,155 @@
+//! PDUs, each read from its octets.
+ghost use Rattle.std.specs.Prelude.{◌≡◌, ℕ, ◌≤◌, ◌↔◌, ◌+◌, ◌++◌, Some, List, length, IfSome, IfNone, IsSome, IsTrue};
+ghost use Rattle.wire_fields.specs.Field.{spelled, AllFit};
+ghost use Rattle.adv_pdu.specs.declared.pdu.AdvPdu.{AdvPdu};
+ghost use Rattle.adv_pdu.specs.Header.{without_ignored_bits};
+ghost use Rattle.adv_pdu.specs.Pdu.{link_fields_of, written, IsPdu, IsWithinBits};
+ghost use Rattle.adv_pdu.specs.Reading.{is_payload_length, IsPacket, HasPacket, Spells};
+
+use crate::header::{
+    ADV_DIRECT_IND, ADV_IND, ADV_NONCONN_IND, ADV_SCAN_IND, CONNECT_IND, Header, SCAN_REQ, SCAN_RSP,
+};
+use crate::pdu::{AdvPdu, ConnectFields};
+use arrayvec::ArrayVec;
+use ble_base::Address;
+use wire_fields::{Fields, put_octets};
+
+fn link_fields(mut fields: Fields) -> ConnectFields
+    requires { length fields ≡ 22 }
+    ensures octets { spelled (link_fields_of result) ≡ fields.entry }
+    ensures fits { AllFit (link_fields_of result) }
+    ensures bits { IsWithinBits result }
+{
+    let access = fields.u32();
+    let crc_init = fields.u24();
+    let win_size = fields.u8();
+    let win_offset = fields.u16();
+    let interval = fields.u16();
+    let latency = fields.u16();
+    let timeout = fields.u16();
+    let map = fields.u40();
+    let hop_and_sca = fields.u8();
+    ConnectFields {
+        access,
+        crc_init,
+        win_size,
+        win_offset,
+        interval,
+        latency,
+        timeout,
+        map,
+        hop: hop_and_sca % 32,
+        sca: hop_and_sca / 32,
+    }
+}
+
+fn body(mut fields: Fields) -> ArrayVec<u8, 31>
+    requires { length fields ≤ 31 }
+    ensures { result.items ≡ fields.entry }
+{
+    let mut body = ArrayVec::new();
+    put_octets(&mut body, fields.slice(fields.len()));
+    body
+}
+
+fn address(random: bool, fields: &mut Fields) -> Address
+    requires { 6 ≤ length fields.old }
+    ensures random { result.random ≡ random }
+    ensures taken { fields.old ≡ result.octets ++ fields.new }
+    ensures rest { length fields.new + 6 ≡ length fields.old }
+{
+    Address {
+        random,
+        octets: fields.octets(),
+    }
+}
+
+// The PDU with this header and this payload.
+fn pdu(header: Header, mut fields: Fields) -> AdvPdu
+    requires { IsTrue (is_payload_length header.kind (length fields)) }
+    ensures { Spells result header.kind header.ch_sel header.tx_add header.rx_add fields.entry }
+{
+    let from = address(header.tx_add, &mut fields);
+    match header.kind {
+        ADV_IND => AdvPdu::Ind {
+            from,
+            ch_sel: header.ch_sel,
+            body: body(fields),
+        },
+        ADV_DIRECT_IND => AdvPdu::Direct {
+            from,
+            to: address(header.rx_add, &mut fields),
+            ch_sel: header.ch_sel,
+        },
+        ADV_NONCONN_IND => AdvPdu::Nonconn {
+            from,
+            body: body(fields),
+        },
+        SCAN_REQ => AdvPdu::ScanReq {
+            from,
+            to: address(header.rx_add, &mut fields),
+        },
+        SCAN_RSP => AdvPdu::ScanRsp {
+            from,
+            body: body(fields),
+        },
+        CONNECT_IND => AdvPdu::Connect {
+            from,
+            to: address(header.rx_add, &mut fields),
+            ch_sel: header.ch_sel,
+            fields: link_fields(fields),
+        },
+        ADV_SCAN_IND => AdvPdu::ScanInd {
+            from,
+            body: body(fields),
+        },
+        _ => unreachable!(),
+    }
+}
+
+// Whether a PDU of this type may have so many octets of payload.
+fn is_payload_length(kind: u8, count: usize) -> bool
+    ensures { result ≡ is_payload_length kind count }
+{
+    match kind {
+        ADV_IND | ADV_NONCONN_IND | SCAN_RSP | ADV_SCAN_IND => (6..=37).contains(&count),
+        ADV_DIRECT_IND | SCAN_REQ => count == 12,
+        CONNECT_IND => count == 34,
+        _ => false,
+    }
+}
+
+// The first octet and the payload of a PDU.
+fn packet_parts(octets: &[u8]) -> Option<(u8, &[u8])>
+    ensures found { IfSome result (λ p. IsPacket octets.now p.0 p.1.now) }
+    ensures none { IfNone result ((first : ℕ) (payload : List ℕ) → ¬ IsPacket octets.now first payload) }
+{
+    let [first, length, payload @ ..] = octets else {
+        return None;
+    };
+    if payload.len() != *length as usize {
+        return None;
+    }
+    if !is_payload_length(*first % 16, payload.len()) {
+        return None;
+    }
+    Some((*first, payload))
+}
+
+impl AdvPdu {
+    /// The PDU that these octets are, all of them: what `write` gives for it, but for bits that are ignored.
+    /// Those are bit 4 of the first octet, and ChSel or RxAdd of a type that has none. None where no PDU
+    /// is so written.
+    pub fn read(octets: &[u8]) -> Option<AdvPdu>
+        // There is a PDU where the type is 0 to 6, the second octet is the number of those behind it, and the
+        // type may have so many.
+        ensures some { IsSome result ↔ HasPacket octets.now }
+        ensures found { IfSome result (λ pdu. IsPdu pdu × (without_ignored_bits octets.now ≡ written pdu)) }
+        // Nothing else is read from the octets of a PDU.
+        ensures only { (pdu : AdvPdu) → IsPdu pdu → without_ignored_bits octets.now ≡ written pdu
+            → result ≡ Some pdu }
+    {
+        let (first, payload) = packet_parts(octets)?;
+        Some(pdu(Header::read(first), Fields::new(payload)))
+    }
+}
