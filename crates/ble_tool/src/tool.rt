@@ -1,4 +1,4 @@
-ghost use Rattle.std.specs.Prelude.{◌≡◌, ℕ, true, false, List, map, IfSome, IfNone, string_bytes};
+ghost use Rattle.std.specs.Prelude.{◌≡◌, ◌↔◌, ℕ, true, false, List, map, IfSome, IfNone, string_bytes};
 ghost use Rattle.ble_tool.specs.declared.faults.Source.{Source};
 ghost use Rattle.ble_tool.specs.Causes.{world_of, HasCause, Says};
 ghost use Rattle.ble_tool.specs.Status.{Outcome, exit_status, last_words};
@@ -46,7 +46,11 @@ pub fn ble_tool<F: Files, O: Sink, E: Sink>(
     out: &mut O,
     err: &mut E,
 ) -> u8
-    ensures { (outcome : Outcome) × (result ≡ exit_status outcome)
+    // The words are no command's exactly where the status is 1.
+    ensures usage { (result ≡ 1) ↔ (is_pair (map string_bytes words.now.items) ≡ false) }
+
+    // Every call has an ending: its status, what holds then, and what is said.
+    ensures ending { (outcome : Outcome) × (result ≡ exit_status outcome)
         × HasCause (map string_bytes words.now.items)
         (world_of (name_in (map string_bytes words.now.items)) (F.content files.old) (F.faults files.old) (F.faults files.new)
         (O.written out.old) (O.written out.new) (O.faults out.old) (O.faults out.new)) outcome

@@ -7,12 +7,12 @@ use Rattle.ble_tool.specs.Words.{name_in, name_of}
 use Rattle.ble_tool.proofs.Growth.{grew_by_none}
 use Rattle.ble_tool.proofs.tool.ble_tool.Goals as goal
 
-pub returns-in_default : goal.returns-in_default
-returns-in_default g c =
+pub returns-in_default-clause-ending : goal.returns-in_default-clause-ending
+returns-in_default-clause-ending g c =
     (NoCommand, refl, (rw c.as_slice.ensures.value at c.in_default.ensures.none, refl), c.say.ensures)
 
-pub returns-in-Ok : goal.returns-in-Ok
-returns-in-Ok g c =
+pub returns-in-Ok-clause-ending : goal.returns-in-Ok-clause-ending
+returns-in-Ok-clause-ending g c =
     let same : name_of c.in-Some.names.a.now c.in-Some.names.b.now c.in-Some.names.schedule.now ≡ name_in (map string_bytes c.args.words.now.items) =
     fun_ext (rw c.as_slice.ensures.value at c.in-Some.ensures.names) in
     let done = subst (λ name. IsPairDone (world_of name (g.F.Files.content c.args.files.now) (g.F.Files.faults c.args.files.now)
@@ -20,8 +20,8 @@ returns-in-Ok g c =
     (g.O.Sink.faults c.args.out.now) (g.O.Sink.faults c.pair.new.out))) same c.in-Ok.ensures.ok in
     (Done, refl, (rw c.as_slice.ensures.value at c.in-Some.ensures.some, done), inl (grew_by_none _))
 
-pub returns-in-Err : goal.returns-in-Err
-returns-in-Err g c =
+pub returns-in-Err-clause-ending : goal.returns-in-Err-clause-ending
+returns-in-Err-clause-ending g c =
     let same : name_of c.in-Some.names.a.now c.in-Some.names.b.now c.in-Some.names.schedule.now ≡ name_in (map string_bytes c.args.words.now.items) =
     fun_ext (rw c.as_slice.ensures.value at c.in-Some.ensures.names) in
     (Failed c.in-Err.fault, c.status.ensures, (rw c.as_slice.ensures.value at c.in-Some.ensures.some, rw same at c.in-Err.ensures.err), rw same at c.report.ensures)
