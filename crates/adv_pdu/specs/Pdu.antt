@@ -1,5 +1,6 @@
 -- The PDUs of the advertising channels and the octets in which they stand (Core 5.2, volume 6 part B, section 2.3).
-use Rattle.std.specs.Prelude.{ℕ, ◌+◌, ◌*◌, ◌<◌, ◌≤◌, ◌^◌, Bool, false, List, [], ◌∷◌, length, ⊤}
+use Rattle.std.specs.Prelude.{ℕ, ◌+◌, ◌*◌, ◌<◌, ◌≤◌, ◌^◌, Bool, false, List, [], ◌∷◌, length, Option, Some, None, ⊤}
+use Rattle.ble_base.specs.declared.addresses.Address.{Address}
 use Rattle.wire_fields.specs.Field.{Field, number, octets, spelled, AllFit}
 use Rattle.adv_pdu.specs.declared.pdu.ConnectFields.{ConnectFields}
 use Rattle.adv_pdu.specs.declared.pdu.AdvPdu.{AdvPdu}
@@ -23,15 +24,39 @@ ch_sel_of (Direct from to ch_sel) = ch_sel
 ch_sel_of (Connect from to ch_sel fields) = ch_sel
 ch_sel_of other = false
 
+-- the address of the sender
+abbrev pub sender_of : AdvPdu → Address
+sender_of (Ind from ch_sel body) = from
+sender_of (Direct from to ch_sel) = from
+sender_of (Nonconn from body) = from
+sender_of (ScanReq from to) = from
+sender_of (ScanRsp from body) = from
+sender_of (Connect from to ch_sel fields) = from
+sender_of (ScanInd from body) = from
+
+-- the address of the one that is meant, where the type has one
+abbrev pub target_of : AdvPdu → Option Address
+target_of (Direct from to ch_sel) = Some to
+target_of (ScanReq from to) = Some to
+target_of (Connect from to ch_sel fields) = Some to
+target_of other = None
+
+-- the advertising or scan response data, where the type has some
+abbrev pub body_of : AdvPdu → Option (List ℕ)
+body_of (Ind from ch_sel body) = Some body.items
+body_of (Nonconn from body) = Some body.items
+body_of (ScanRsp from body) = Some body.items
+body_of (ScanInd from body) = Some body.items
+body_of other = None
+
+-- the LLData of a CONNECT_IND
+abbrev pub link_of : AdvPdu → Option ConnectFields
+link_of (Connect from to ch_sel fields) = Some fields
+link_of other = None
+
 -- TxAdd: the address of the sender is random
 abbrev pub tx_add_of : AdvPdu → Bool
-tx_add_of (Ind from ch_sel body) = from.random
-tx_add_of (Direct from to ch_sel) = from.random
-tx_add_of (Nonconn from body) = from.random
-tx_add_of (ScanReq from to) = from.random
-tx_add_of (ScanRsp from body) = from.random
-tx_add_of (Connect from to ch_sel fields) = from.random
-tx_add_of (ScanInd from body) = from.random
+tx_add_of pdu = (sender_of pdu).random
 
 -- RxAdd: the address of the one that is meant is random; 0 where the type has none
 abbrev pub rx_add_of : AdvPdu → Bool

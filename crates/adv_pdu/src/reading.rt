@@ -4,7 +4,7 @@ ghost use Rattle.wire_fields.specs.Field.{spelled, AllFit};
 ghost use Rattle.adv_pdu.specs.declared.pdu.AdvPdu.{AdvPdu};
 ghost use Rattle.adv_pdu.specs.Header.{without_ignored_bits};
 ghost use Rattle.adv_pdu.specs.Pdu.{link_fields_of, written, IsPdu, IsWithinBits};
-ghost use Rattle.adv_pdu.specs.Reading.{is_payload_length, IsPacket, HasPacket, Spells};
+ghost use Rattle.adv_pdu.specs.Reading.{is_payload_length, IsPacket, HasPacket, IsReading, Spells};
 
 use crate::header::{
     ADV_DIRECT_IND, ADV_IND, ADV_NONCONN_IND, ADV_SCAN_IND, CONNECT_IND, Header, SCAN_REQ, SCAN_RSP,
@@ -145,6 +145,8 @@ impl AdvPdu {
         // type may have so many.
         ensures some { IsSome result ↔ HasPacket octets.now }
         ensures found { IfSome result (λ pdu. IsPdu pdu × (without_ignored_bits octets.now ≡ written pdu)) }
+        // Each part is what stands at its place.
+        ensures parts { IfSome result (λ pdu. IsReading octets.now pdu) }
         // Nothing else is read from the octets of a PDU.
         ensures only { (pdu : AdvPdu) → IsPdu pdu → without_ignored_bits octets.now ≡ written pdu
             → result ≡ Some pdu }

@@ -7,7 +7,7 @@ use Rattle.frame_bits.specs.Whitening.{whitened}
 use Rattle.air_frame.specs.declared.Heard.{Heard}
 use Rattle.air_frame.specs.declared.Heard.TheVariants.{NotOurs, Broken, Whole}
 use Rattle.air_frame.specs.Hearing.{IsWhole, MatchHeard}
-use Rattle.air_frame.specs.Packet.{access_octets, on_air, with_crc, IsPdu}
+use Rattle.air_frame.specs.Packet.{access_octets, on_air, pdu_in, with_crc, IsPdu}
 
 pub refuted : (b : Bool) (P : Type 0) → (IsTrue b ↔ P) → b ≡ false → P → ⊥
 refuted b P iff fails p = false≢true (sym fails ∙ iff.1 p)
@@ -61,6 +61,12 @@ same_pdu channel access init p q twice e =
     ∙ ap (whitened channel) (append_cancel_left (access_octets access) (whitened channel (with_crc init p)) (whitened channel (with_crc init q)) e)
     ∙ twice channel (with_crc init q) in
     sym (pdu_of init (with_crc init p) p refl) ∙ pdu_of init (with_crc init p) q same
+
+-- between the access address and the CRC, whitened once more
+pub found_again : (channel access init : ℕ) (pdu : List ℕ) → TurnsBack → length (on_air channel access init pdu) ≡ length pdu + 7 → pdu_in channel (on_air channel access init pdu) ≡ pdu
+found_again channel access init pdu twice len =
+    let count : length (on_air channel access init pdu) - 7 ≡ length pdu = omega (arith, len) in
+    (λ i. take (count i) (twice channel (with_crc init pdu) i)) ∙ take_at pdu (crc_octets (crc init pdu)) (length pdu) refl
 
 -- what a listener's answer says
 abbrev pub Answers : ℕ → ℕ → ℕ → List ℕ → Heard → Type 0

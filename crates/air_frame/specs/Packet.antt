@@ -1,5 +1,5 @@
 -- A packet on the air, without its preamble (Core 5.2, volume 6 part B, section 2.1).
-use Rattle.std.specs.Prelude.{◌≡◌, ℕ, ◌+◌, ◌≤◌, List, ◌++◌, length, slice_index}
+use Rattle.std.specs.Prelude.{◌≡◌, ℕ, ◌+◌, ◌-◌, ◌≤◌, List, ◌++◌, length, take, drop, slice_index}
 use Rattle.std.specs.Int.{to_le_bytes, w32}
 use Rattle.frame_bits.specs.Crc.{crc, crc_octets}
 use Rattle.frame_bits.specs.Whitening.{whitened}
@@ -22,3 +22,7 @@ with_crc init pdu = pdu ++ crc_octets (crc init pdu)
 -- the packet of a PDU: the access address, and behind it PDU and CRC, whitened (section 3.2)
 abbrev pub on_air : ℕ → ℕ → ℕ → List ℕ → List ℕ
 on_air channel access init pdu = access_octets access ++ whitened channel (with_crc init pdu)
+
+-- the PDU in the octets of a packet: what stands between the access address and the CRC, no longer whitened
+abbrev pub pdu_in : ℕ → List ℕ → List ℕ
+pdu_in channel packet = take (length packet - 7) (whitened channel (drop 4 packet))

@@ -2,13 +2,15 @@
 
 ghost use Rattle.std.specs.Prelude.{◌≡◌, ℕ, ◌+◌, ◌^◌, ◌<◌, List, length, drop, All};
 ghost use Rattle.frame_bits.specs.AirBits.{air_bits, DiffersWithin};
-ghost use Rattle.air_frame.specs.Packet.{on_air};
+ghost use Rattle.air_frame.specs.Packet.{on_air, pdu_in};
 
-/// A packet has seven octets more than its PDU, and no other PDU has it.
+/// A packet has seven octets more than its PDU, no other PDU has it, and what stands between its access address and its
+/// CRC, whitened once more, is the PDU.
 pub fn packet_tells_its_pdu()
     ensures length { (channel access init : ℕ) (pdu : List ℕ) → length (on_air channel access init pdu) ≡ length pdu + 7 }
     ensures only { (channel access init : ℕ) (pdu other : List ℕ)
         → on_air channel access init pdu ≡ on_air channel access init other → pdu ≡ other }
+    ensures found { (channel access init : ℕ) (pdu : List ℕ) → pdu_in channel (on_air channel access init pdu) ≡ pdu }
 {
     frame_bits::laws::whitening_is_linear();
 }

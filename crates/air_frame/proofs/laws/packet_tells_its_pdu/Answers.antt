@@ -1,6 +1,6 @@
 use Rattle.std.proofs.Common.{arith}
 use Rattle.air_frame.specs.Packet.{with_crc}
-use Rattle.air_frame.proofs.Bodies.{length-with_crc, same_pdu}
+use Rattle.air_frame.proofs.Bodies.{found_again, length-with_crc, same_pdu}
 use Rattle.air_frame.proofs.laws.packet_tells_its_pdu.Goals as goal
 
 pub returns-clause-length : goal.returns-clause-length
@@ -9,3 +9,7 @@ returns-clause-length c = λ channel access init pdu.
 
 pub returns-clause-only : goal.returns-clause-only
 returns-clause-only c = λ channel access init pdu other. same_pdu channel access init pdu other c.whitening_is_linear.ensures.twice
+
+pub returns-clause-found : goal.returns-clause-found
+returns-clause-found c = λ channel access init pdu.
+    found_again channel access init pdu c.whitening_is_linear.ensures.twice (returns-clause-length c channel access init pdu)

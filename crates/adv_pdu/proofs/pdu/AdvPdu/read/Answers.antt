@@ -1,5 +1,6 @@
 use Rattle.std.proofs.Common.{Some, ap}
 use Rattle.adv_pdu.proofs.Octets.{packet_of_pdu, read_is_pdu, read_is_only}
+use Rattle.adv_pdu.proofs.Places.{read_is_reading}
 use Rattle.adv_pdu.proofs.pdu.AdvPdu.read.Goals as goal
 
 pub returns-in_err-first-clause-only : goal.returns-in_err-first-clause-only
@@ -10,6 +11,11 @@ returns-in_err-first-clause-only c = λ pdu good whole.
 pub returns-clause-found : goal.returns-clause-found
 returns-clause-found c =
     read_is_pdu c.args.octets.now c.pdu.result c.in_ok-first.first c.in_ok-first.payload.now c.in_ok-first.ensures.found
+    (rw (c.read.ensures.kind, c.read.ensures.ch_sel, c.read.ensures.tx_add, c.read.ensures.rx_add, c.new.ensures) at c.pdu.ensures)
+
+pub returns-clause-parts : goal.returns-clause-parts
+returns-clause-parts c =
+    read_is_reading c.args.octets.now c.pdu.result c.in_ok-first.first c.in_ok-first.payload.now c.in_ok-first.ensures.found
     (rw (c.read.ensures.kind, c.read.ensures.ch_sel, c.read.ensures.tx_add, c.read.ensures.rx_add, c.new.ensures) at c.pdu.ensures)
 
 pub returns-clause-only : goal.returns-clause-only
