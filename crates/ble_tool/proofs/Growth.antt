@@ -1,7 +1,11 @@
 -- What was written grows part by part.
-use Rattle.std.proofs.Common.{◌≡◌, ℕ, List, [], ◌++◌, Option, Some, None, Result, Ok, Err, refl, sym, ap, subst, ◌∙◌, append-nil, append_assoc}
-use Rattle.std.specs.Prelude.{OnErr}
+use Rattle.std.proofs.Common.{◌≡◌, ℕ, ◌≤◌, List, [], ◌++◌, Option, Some, None, Result, Ok, Err, refl, sym, ap, subst, inl, inr, arith, ◌∙◌, append-nil, append_assoc}
+use Rattle.std.specs.Result.{IsErrAnd}
+use Rattle.outside.specs.declared.sink.SinkFault.{SinkFault}
+use Rattle.outside.specs.Count.{Rose}
 use Rattle.outside.specs.Told.{GrewBy, GrewByPrefix}
+use Rattle.ble_tool.specs.Causes.{Says}
+use Rattle.ble_tool.specs.Puts.{IsPut}
 
 pub grew_by_none : (old : Option (List ℕ)) → GrewBy old old []
 grew_by_none None = refl
@@ -28,10 +32,64 @@ grew_part old now new front more rest whole before part parts =
       grew_more old now new front prefix before part.2,
     )
 
-pub on_err_always : {X E : Type 0} (result : Result X E) (fact : Type 0) → fact → OnErr result fact
-on_err_always (Ok x) fact is = tt
-on_err_always (Err e) fact is = is
+pub rose_since : (first before now : ℕ) → first ≤ before → Rose before now → Rose first now
+rose_since first before now le rose = omega arith
 
-pub on_err_more : {X E : Type 0} (result : Result X E) (before after : Type 0) → (before → after) → OnErr result before → OnErr result after
-on_err_more (Ok x) before after goes is = tt
-on_err_more (Err e) before after goes is = goes is
+-- a part was put, and then a further one
+pub put_then : {Sink : Type 0} {written : Sink → Option (List ℕ)} {faults : Sink → ℕ} {wants_memory : Sink → Type 0}
+    {first middle last : Sink} {result : Result (Unit {0}) SinkFault} {front back : List ℕ}
+    → IsPut written faults wants_memory first middle (Ok tt) front → IsPut written faults wants_memory middle last result back
+    → IsPut written faults wants_memory first last result (front ++ back)
+put_then {written = written} {faults = faults} {first = first} {middle = middle} {last = last} {result = Ok done} {front = front} {back = back} before then = record {
+  ok = grew_more (written first) (written middle) (written last) front back before.ok then.ok;
+  err = tt;
+  fault = tt;
+  counts = omega (arith, before.counts, then.counts);
+  same_memory = λ wants. before.same_memory (then.same_memory wants);
+}
+put_then {written = written} {faults = faults} {first = first} {middle = middle} {last = last} {result = Err e} {front = front} {back = back} before then = record {
+  ok = tt;
+  err = grew_part (written first) (written middle) (written last) front back [] (front ++ back) before.ok then.err
+      (ap (λ xs. front ++ xs) (append-nil back));
+  fault = elim then.fault [
+    | inl rose ↦ inl (rose_since (faults first) (faults middle) (faults last) before.counts rose)
+    | inr wants ↦ inr (before.same_memory wants)
+  ];
+  counts = omega (arith, before.counts, then.counts);
+  same_memory = λ wants. before.same_memory (then.same_memory wants);
+}
+
+-- a part was not put, and nothing behind it
+pub put_no_more : {Sink : Type 0} {written : Sink → Option (List ℕ)} {faults : Sink → ℕ} {wants_memory : Sink → Type 0}
+    {first last : Sink} {fault : SinkFault} {front : List ℕ} (back : List ℕ)
+    → IsPut written faults wants_memory first last (Err fault) front
+    → IsPut written faults wants_memory first last (Err fault) (front ++ back)
+put_no_more {written = written} {first = first} {last = last} {front = front} back part = record {
+  ok = tt;
+  err = grew_part (written first) (written first) (written last) [] front back (front ++ back) (grew_by_none (written first)) part.err refl;
+  fault = part.fault;
+  counts = part.counts;
+  same_memory = part.same_memory;
+}
+
+-- what holds of a fault holds of what hands it on
+pub put_handed_on : {Sink : Type 0} {written : Sink → Option (List ℕ)} {faults : Sink → ℕ} {wants_memory : Sink → Type 0}
+    {first last : Sink} {result : Result (Unit {0}) SinkFault} {fault : SinkFault} {octets : List ℕ}
+    → IsErrAnd result (λ other. other ≡ fault) → IsPut written faults wants_memory first last (Err fault) octets
+    → IsPut written faults wants_memory first last result octets
+put_handed_on {result = Ok done} is part = absurd is
+put_handed_on {result = Err e} is part = record {
+  ok = tt;
+  err = part.err;
+  fault = part.fault;
+  counts = part.counts;
+  same_memory = part.same_memory;
+}
+
+-- what a line says that is put as far as it can be
+pub is_said : {Sink : Type 0} {written : Sink → Option (List ℕ)} {faults : Sink → ℕ} {wants_memory : Sink → Type 0}
+    {old new : Sink} {result : Result (Unit {0}) SinkFault} {octets : List ℕ}
+    → IsPut written faults wants_memory old new result octets
+    → Says (written old) (written new) (faults old) (faults new) (wants_memory old) octets
+is_said {result = Ok done} put = inl put.ok
+is_said {result = Err e} put = inr (put.err, put.fault)

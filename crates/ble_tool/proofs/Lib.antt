@@ -1,2 +1,4 @@
 pub mod Growth
 pub mod Endings
+pub mod Digits
+pub mod Completeness

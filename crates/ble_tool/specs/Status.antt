@@ -1,7 +1,8 @@
 -- How the program ends: its statuses, and what it says. Own.
 use Rattle.std.specs.Prelude.{ℕ, List, [], ◌∷◌, ◌++◌, codes, decimal}
 use Rattle.ble_tool.specs.declared.faults.Fault.{Fault}
-use Rattle.ble_tool.specs.declared.faults.Fault.TheVariants.{CannotRead, BadLine, CannotWrite, NoMemory, TooLong}
+use Rattle.journal.specs.Words.{hexadecimal}
+use Rattle.ble_tool.specs.declared.faults.Fault.TheVariants.{CannotRead, BadLine, CannotWrite, NoMemory, Unseen, TooLong, TooManyTurns}
 use Rattle.ble_tool.specs.declared.faults.Source.{Source}
 
 -- what becomes of a call of the program
@@ -18,7 +19,9 @@ status_of (CannotRead source) = 2
 status_of (BadLine line) = 3
 status_of CannotWrite = 4
 status_of NoMemory = 5
+status_of (Unseen turn packet sent heard) = 6
 status_of (TooLong source) = 7
+status_of (TooManyTurns line) = 7
 
 -- the exit status
 abbrev pub exit_status : Outcome → ℕ
@@ -26,13 +29,21 @@ exit_status Done = 0
 exit_status NoCommand = 1
 exit_status (Failed fault) = status_of fault
 
+-- what is said of damage that would be judged good: the turn, the place of the packet in it, counted from 1, and its octets
+abbrev pub unseen_text : ℕ → ℕ → List ℕ → List ℕ → List ℕ
+unseen_text turn packet sent heard =
+    (codes "unseen damage: turn " ++ decimal turn) ++ (codes " packet " ++ decimal packet)
+    ++ (codes " sent " ++ hexadecimal sent) ++ (codes " heard " ++ hexadecimal heard)
+
 -- what is said of a fault, where the files have these names
 abbrev pub fault_text : (Source → List ℕ) → Fault → List ℕ
 fault_text name (CannotRead source) = codes "cannot read " ++ name source
 fault_text name (BadLine line) = codes "schedule line " ++ decimal line
 fault_text name CannotWrite = codes "cannot write"
 fault_text name NoMemory = codes "no memory"
+fault_text name (Unseen turn packet sent heard) = unseen_text turn packet sent heard
 fault_text name (TooLong source) = codes "too long: " ++ name source
+fault_text name (TooManyTurns line) = codes "too long: schedule line " ++ decimal line
 
 -- with its newline
 abbrev pub fault_line : (Source → List ℕ) → Fault → List ℕ

@@ -1,23 +1,113 @@
-ghost use Rattle.std.specs.Prelude.{◌≡◌, ◌∷◌, [], ◌++◌, ◌≤◌, ◌⊎◌, OnOk, OnErr, IsErrOf};
-ghost use Rattle.outside.specs.Count.{Rose};
-ghost use Rattle.outside.specs.Told.{GrewBy, GrewByPrefix};
+ghost use Rattle.std.specs.Prelude.{◌≡◌, ◌∷◌, [], ◌++◌, ◌≤◌, length, codes, decimal};
+ghost use Rattle.hex.specs.Hex.{encode_lower};
+ghost use Rattle.journal.specs.Words.{hexadecimal};
 ghost use Rattle.ble_tool.specs.Causes.{Says};
-ghost use Rattle.ble_tool.specs.Status.{fault_line};
+ghost use Rattle.ble_tool.specs.Puts.{IsPut};
+ghost use Rattle.ble_tool.specs.Status.{fault_line, unseen_text};
 ghost use Rattle.ble_tool.specs.Words.{name_of};
 
 use crate::faults::{Fault, Source};
 use itoa::Buffer;
 use outside::{Sink, SinkFault};
 
-/// Writes a line of two parts.
-fn put_line<E: Sink>(err: &mut E, front: &[u8], back: &[u8]) -> Result<(), SinkFault>
-    ensures ok { OnOk result (GrewBy (E.written err.old) (E.written err.new) (front.now ++ back.now ++ 10 ∷ [])) }
-    ensures err { OnErr result (GrewByPrefix (E.written err.old) (E.written err.new) (front.now ++ back.now ++ 10 ∷ [])) }
-    ensures fault { OnErr result (Rose (E.faults err.old) (E.faults err.new) ⊎ E.wants_memory err.old) }
+/// How many octets are put in hexadecimal at once.
+const BLOCK: usize = 32;
+
+/// Puts some octets.
+fn put_part<E: Sink>(err: &mut E, octets: &[u8]) -> Result<(), SinkFault>
+    ensures { IsPut E.written E.faults E.wants_memory err.old err.new result octets.now }
 {
-    err.put(front)?;
-    err.put(back)?;
-    err.put(b"\n")
+    err.put(octets)
+}
+
+/// Puts a line of two parts.
+fn put_line<E: Sink>(err: &mut E, front: &[u8], back: &[u8]) -> Result<(), SinkFault>
+    ensures { IsPut E.written E.faults E.wants_memory err.old err.new result (front.now ++ back.now ++ 10 ∷ []) }
+{
+    put_part(err, front)?;
+    put_part(err, back)?;
+    put_part(err, b"\n")
+}
+
+/// Puts a text, and a number behind it.
+fn put_number<E: Sink>(err: &mut E, front: &[u8], number: u64) -> Result<(), SinkFault>
+    ensures { IsPut E.written E.faults E.wants_memory err.old err.new result (front.now ++ decimal number) }
+{
+    put_part(err, front)?;
+    put_part(err, Buffer::new().format(number).as_bytes())
+}
+
+/// Puts a block of octets in hexadecimal.
+fn put_block<E: Sink>(err: &mut E, octets: &[u8]) -> Result<(), SinkFault>
+    requires { length octets.now ≤ BLOCK }
+    ensures { IsPut E.written E.faults E.wants_memory err.old err.new result (encode_lower octets.now) }
+{
+    let mut buffer = [0; 2 * BLOCK];
+    let digits = &mut buffer[..2 * octets.len()];
+    hex::encode_to_slice(octets, digits).unwrap();
+    put_part(err, digits)
+}
+
+/// Puts octets in hexadecimal, block by block, which takes no memory.
+fn put_digits<E: Sink>(err: &mut E, octets: &[u8]) -> Result<(), SinkFault>
+    ensures { IsPut E.written E.faults E.wants_memory err.old err.new result (encode_lower octets.now) }
+{
+    let mut rest = octets;
+    while rest.len() > BLOCK {
+        let (front, back) = rest.split_at(BLOCK);
+        put_block(err, front)?;
+        rest = back;
+    }
+    put_block(err, rest)
+}
+
+/// Puts octets in hexadecimal, and a dash where there are none.
+fn put_hexadecimal<E: Sink>(err: &mut E, octets: &[u8]) -> Result<(), SinkFault>
+    ensures { IsPut E.written E.faults E.wants_memory err.old err.new result (hexadecimal octets.now) }
+{
+    if octets.is_empty() {
+        put_part(err, b"-")
+    } else {
+        put_digits(err, octets)
+    }
+}
+
+/// Puts a text, and octets in hexadecimal behind it.
+fn put_octets<E: Sink>(err: &mut E, front: &[u8], octets: &[u8]) -> Result<(), SinkFault>
+    ensures { IsPut E.written E.faults E.wants_memory err.old err.new result (front.now ++ hexadecimal octets.now) }
+{
+    put_part(err, front)?;
+    put_hexadecimal(err, octets)
+}
+
+/// Puts what is said of damage that would be judged good.
+fn put_unseen<E: Sink>(
+    err: &mut E,
+    turn: u64,
+    packet: u32,
+    sent: &[u8],
+    heard: &[u8],
+) -> Result<(), SinkFault>
+    ensures { IsPut E.written E.faults E.wants_memory err.old err.new result (unseen_text turn packet sent.now heard.now) }
+{
+    put_number(err, b"unseen damage: turn ", turn)?;
+    put_number(err, b" packet ", u64::from(packet))?;
+    put_octets(err, b" sent ", sent)?;
+    put_octets(err, b" heard ", heard)
+}
+
+/// Puts the line of damage that would be judged good.
+fn put_unseen_line<E: Sink>(
+    err: &mut E,
+    turn: u64,
+    packet: u32,
+    sent: &[u8],
+    heard: &[u8],
+) -> Result<(), SinkFault>
+    ensures { IsPut E.written E.faults E.wants_memory err.old err.new result (unseen_text turn packet sent.now heard.now ++ 10 ∷ []) }
+{
+    put_unseen(err, turn, packet, sent, heard)?;
+    put_part(err, b"\n")
 }
 
 /// Says a line of two parts, as far as it can be written.
@@ -26,6 +116,22 @@ pub fn say<E: Sink>(err: &mut E, front: &[u8], back: &[u8])
         (front.now ++ back.now ++ 10 ∷ []) }
 {
     let _ = put_line(err, front, back);
+}
+
+/// Says a line of a text and the number of a line, as far as it can be written.
+fn say_line_number<E: Sink>(err: &mut E, front: &[u8], line: u32)
+    ensures { Says (E.written err.old) (E.written err.new) (E.faults err.old) (E.faults err.new) (E.wants_memory err.old)
+        (front.now ++ decimal line ++ 10 ∷ []) }
+{
+    say(err, front, Buffer::new().format(line).as_bytes());
+}
+
+/// Says the line of damage that would be judged good, as far as it can be written.
+fn say_unseen<E: Sink>(err: &mut E, turn: u64, packet: u32, sent: &[u8], heard: &[u8])
+    ensures { Says (E.written err.old) (E.written err.new) (E.faults err.old) (E.faults err.new) (E.wants_memory err.old)
+        (unseen_text turn packet sent.now heard.now ++ 10 ∷ []) }
+{
+    let _ = put_unseen_line(err, turn, packet, sent, heard);
 }
 
 /// The names of the three files.
@@ -50,21 +156,22 @@ impl<'a> Names<'a> {
 }
 
 /// Says why a command did not do its work.
-pub fn report<E: Sink>(err: &mut E, names: Names<'_>, fault: Fault)
+pub fn report<E: Sink>(err: &mut E, names: Names<'_>, fault: &Fault)
     ensures { Says (E.written err.old) (E.written err.new) (E.faults err.old) (E.faults err.new) (E.wants_memory err.old)
-        (fault_line (name_of names.entry.a.now names.entry.b.now names.entry.schedule.now) fault) }
+        (fault_line (name_of names.entry.a.now names.entry.b.now names.entry.schedule.now) fault.now) }
 {
     match fault {
-        Fault::CannotRead(source) => say(err, b"cannot read ", names.of(source).as_bytes()),
-        Fault::BadLine(line) => {
-            say(
-                err,
-                b"schedule line ",
-                Buffer::new().format(line).as_bytes(),
-            );
-        }
+        Fault::CannotRead(source) => say(err, b"cannot read ", names.of(*source).as_bytes()),
+        Fault::BadLine(line) => say_line_number(err, b"schedule line ", *line),
         Fault::CannotWrite => say(err, b"cannot write", b""),
         Fault::NoMemory => say(err, b"no memory", b""),
-        Fault::TooLong(source) => say(err, b"too long: ", names.of(source).as_bytes()),
+        Fault::Unseen {
+            turn,
+            packet,
+            sent,
+            heard,
+        } => say_unseen(err, *turn, *packet, sent.as_slice(), heard.as_slice()),
+        Fault::TooLong(source) => say(err, b"too long: ", names.of(*source).as_bytes()),
+        Fault::TooManyTurns(line) => say_line_number(err, b"too long: schedule line ", *line),
     }
 }

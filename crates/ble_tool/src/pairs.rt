@@ -28,9 +28,11 @@ fn read_source<F: Files>(
 ) -> Result<Vec<u8>, Fault>
     ensures fits { IfOk result (λ octets. length octets.items ≤ FILE_LIMIT) }
     ensures ok { IfOk result (λ octets. WhereTold (F.content files.old name.now) (λ content. octets.items ≡ content)) }
-    ensures err { IfErr result (IsReadFault source (F.content files.old name.now) (F.faults files.old name.now) (F.faults files.new name.now)) }
+    ensures err { IfErr result (IsReadFault source (F.content files.old name.now) (F.is_reliable files.old name.now)
+        (F.faults files.old name.now) (F.faults files.new name.now)) }
     ensures contents { (other : List ℕ) → F.content files.new other ≡ F.content files.old other }
     ensures counts { (other : List ℕ) → F.faults files.old other ≤ F.faults files.new other }
+    ensures stays_reliable { (other : List ℕ) → F.is_reliable files.old other → F.is_reliable files.new other }
 {
     match files.read_file(alloc, name, FILE_LIMIT) {
         Ok(octets) => Ok(octets),
@@ -44,8 +46,9 @@ fn read_source<F: Files>(
 fn write_block<O: Sink>(alloc: Global, entries: &[Entry], out: &mut O) -> Result<(), Fault>
     ensures ok { OnOk result (GrewBy (O.written out.old) (O.written out.new) (text entries.now)) }
     ensures err { IfErr result (IsWriteFault (O.written out.old) (O.written out.new)
-        (O.faults out.old) (O.faults out.new) (text entries.now)) }
+        (O.is_reliable out.old) (O.faults out.old) (O.faults out.new) (text entries.now)) }
     ensures counts { O.faults out.old ≤ O.faults out.new }
+    ensures stays_reliable { O.is_reliable out.old → O.is_reliable out.new }
 {
     let Ok(lines) = write_lines(alloc, entries) else {
         return Err(Fault::NoMemory);
@@ -61,7 +64,7 @@ fn write_block<O: Sink>(alloc: Global, entries: &[Entry], out: &mut O) -> Result
 fn write_journal<O: Sink>(alloc: Global, journal: &Journal, out: &mut O) -> Result<(), Fault>
     ensures ok { OnOk result (GrewBy (O.written out.old) (O.written out.new) (text journal.now)) }
     ensures err { IfErr result (IsWriteFault (O.written out.old) (O.written out.new)
-        (O.faults out.old) (O.faults out.new) (text journal.now)) }
+        (O.is_reliable out.old) (O.faults out.old) (O.faults out.new) (text journal.now)) }
 {
     let mut rest = journal.as_slice();
     while !rest.is_empty() {
@@ -82,15 +85,33 @@ fn pair_octets<O: Sink>(
 ) -> Result<(), Fault>
     ensures ok { OnOk result (OfRun a.now b.now schedule.now (GrewBy (O.written out.old) (O.written out.new))) }
     ensures err { IfErr result (IsOctetsFault a.now b.now schedule.now (O.written out.old) (O.written out.new)
-        (O.faults out.old) (O.faults out.new)) }
+        (O.is_reliable out.old) (O.faults out.old) (O.faults out.new)) }
 {
     let schedule = match Schedule::read(alloc, schedule) {
         Ok(schedule) => schedule,
         Err(ScheduleFault::BadLine(line)) => return Err(Fault::BadLine(line)),
+        Err(ScheduleFault::TooLong(line)) => return Err(Fault::TooManyTurns(line)),
         Err(ScheduleFault::Memory) => return Err(Fault::NoMemory),
     };
     match run_pair(alloc, a, b, &schedule) {
         Ok(journal) => write_journal(alloc, &journal, out),
+        Err(
+            RunFault::Unseen {
+                turn,
+                packet,
+                sent,
+                heard,
+                journal,
+            },
+        ) => {
+            write_journal(alloc, &journal, out)?;
+            Err(Fault::Unseen {
+                turn,
+                packet,
+                sent,
+                heard,
+            })
+        }
         Err(RunFault::Memory) => Err(Fault::NoMemory),
     }
 }
@@ -102,10 +123,10 @@ pub fn pair<F: Files, O: Sink>(
     files: &mut F,
     out: &mut O,
 ) -> Result<(), Fault>
-    ensures ok { OnOk result (IsPairDone (world_of (name_of names.entry.a.now names.entry.b.now names.entry.schedule.now) (F.content files.old) (F.faults files.old) (F.faults files.new)
-        (O.written out.old) (O.written out.new) (O.faults out.old) (O.faults out.new))) }
-    ensures err { IfErr result (IsPairFault (world_of (name_of names.entry.a.now names.entry.b.now names.entry.schedule.now) (F.content files.old) (F.faults files.old) (F.faults files.new)
-        (O.written out.old) (O.written out.new) (O.faults out.old) (O.faults out.new))) }
+    ensures ok { OnOk result (IsPairDone (world_of (name_of names.entry.a.now names.entry.b.now names.entry.schedule.now) (F.content files.old) (F.is_reliable files.old) (F.faults files.old) (F.faults files.new)
+        (O.written out.old) (O.written out.new) (O.is_reliable out.old) (O.faults out.old) (O.faults out.new))) }
+    ensures err { IfErr result (IsPairFault (world_of (name_of names.entry.a.now names.entry.b.now names.entry.schedule.now) (F.content files.old) (F.is_reliable files.old) (F.faults files.old) (F.faults files.new)
+        (O.written out.old) (O.written out.new) (O.is_reliable out.old) (O.faults out.old) (O.faults out.new))) }
 {
     let octets_a = read_source(alloc, files, Source::A, names.a)?;
     let octets_b = read_source(alloc, files, Source::B, names.b)?;

@@ -10,8 +10,35 @@ side b c0ffee00000b 71764129 0000000000000002
 
 const USAGE: &str = "usage: ble pair A B SCHEDULE, ble make NUMBER, ble solo HOST AIR\n";
 
+/// The host of an advertiser: its parameters, of type 3, and then on.
+const ADVERTISE: &[u8] =
+    b"\x01\x06\x20\x0f\x20\x00\x20\x00\x03\x00\x00\x00\x00\x00\x00\x00\x00\x07\x00\x01\x0a\x20\x01\x01";
+
+/// The host of a scanner: an event mask with the LE events, and then on, with each report anew.
+const SCAN: &[u8] = b"\x01\x01\x0c\x08\xff\xff\xff\xff\xff\x1f\x00\x20\x01\x0c\x20\x02\x01\x00";
+
+/// The lines of what both are fed and told.
+const HOSTS: &str = "in a 0106200f200020000300000000000000000700010a200101
+up a 040e0401062000
+up a 040e04010a2000
+in b 01010c08ffffffffff1f0020010c20020100
+up b 040e0401010c00
+up b 040e04010c2000
+";
+
+/// What is said of the advertisement where the damage fits its CRC.
+const UNSEEN: &str =
+    "unseen damage: turn 0 packet 1 sent d6be898e8fd45da13d499970f84ada heard d6be898e8fd45da13d49997138fedb\n";
+
 /// The words `pair`, and the names of the three files.
 const PAIR: [&str; 4] = ["pair", "a.bin", "b.bin", "schedule"];
+
+/// The commands that are not built yet.
+const NOT_BUILT: [u16; 36] = [
+    0x0406, 0x041D, 0x0C31, 0x0C33, 0x0C35, 0x1001, 0x1003, 0x2001, 0x2002, 0x2003, 0x2005, 0x2008,
+    0x2009, 0x200B, 0x200D, 0x200E, 0x200F, 0x2010, 0x2011, 0x2012, 0x2013, 0x2014, 0x2015, 0x2016,
+    0x2017, 0x2018, 0x2019, 0x201A, 0x201B, 0x2020, 0x2021, 0x2022, 0x202F, 0x2030, 0x2031, 0x2032,
+];
 
 /// What the program did.
 #[derive(Drop)]
@@ -54,7 +81,7 @@ fn run(
 fn answers_both_hosts(rt: HostRuntime) -> Result<(), Fail> {
     let alloc = rt.alloc();
     let reset = b"\x01\x03\x0c\x00".as_slice();
-    let rows: [(&[u8], &str, &str); 5] = [
+    let rows: [(&[u8], &str, &str); 7] = [
         (
             reset,
             "t ++ a4\n",
@@ -80,6 +107,25 @@ fn answers_both_hosts(rt: HostRuntime) -> Result<(), Fail> {
             "t ++ a5\n",
             "turn 0 ++\nin a 01030c0100\nup a 040e0401030c12\n",
         ),
+        (
+            b"\x01\x09\x10\x00",
+            "t ++ a4\n",
+            "turn 0 ++\nin a 01091000\nup a 040e0a010910000a0000eeffc0\n",
+        ),
+        // Advertising of types 0 and 2 is not turned on; off is 0, and 2 is no value.
+        (
+            b"\x01\x0a\x20\x01\x01\x01\x06\x20\x0f\x00\x08\x00\x08\x02\x00\x00\x00\x00\x00\x00\x00\x00\x07\x00\x01\x0a\x20\x01\x01\x01\x0a\x20\x01\x00\x01\x0a\x20\x01\x02\x01\x06\x20\x0f\x00\x08\x00\x08\x03\x00\x00\x00\x00\x00\x00\x00\x00\x07\x00",
+            "t ++ a58\n",
+            "turn 0 ++
+in a 010a2001010106200f000800080200000000000000000700010a200101010a200100010a2001020106200f000800080300000000000000000700
+up a 040e04010a2011
+up a 040e0401062000
+up a 040e04010a2011
+up a 040e04010a2000
+up a 040e04010a2012
+up a 040e0401062000
+",
+        ),
     ];
     for (a, turns, journal) in rows {
         let mut files = files_of(alloc, a, b"", turns)?;
@@ -88,6 +134,70 @@ fn answers_both_hosts(rt: HostRuntime) -> Result<(), Fail> {
         assert_eq!(rt; ending.out.octets(), journal.as_bytes());
         assert!(rt; ending.err.octets().is_empty());
     }
+    Ok(())
+}
+
+#[test]
+fn answers_what_is_not_built(rt: HostRuntime) -> Result<(), Fail> {
+    let alloc = rt.alloc();
+    for opcode in NOT_BUILT {
+        let [low, high] = opcode.to_le_bytes();
+        let mut files = files_of(alloc, &[1, low, high, 0], b"", "t ++ a4\n")?;
+        let ending = run(alloc, &PAIR, &mut files, None)?;
+        let journal = format!(in alloc;
+            "turn 0 ++\nin a 01{low:02x}{high:02x}00\nup a 040f040101{low:02x}{high:02x}\n"
+        )?;
+        assert_eq!(rt; ending.status, 0);
+        assert_eq!(rt; ending.out.octets(), journal.as_bytes());
+    }
+    Ok(())
+}
+
+#[test]
+fn carries_an_advertisement(rt: HostRuntime) -> Result<(), Fail> {
+    let alloc = rt.alloc();
+    let rows = [
+        (
+            "t ++ a24 b18\n",
+            "turn 0 ++\n",
+            "air a 37 d6be898e8fd45da13d499970f84ada . good\nup b 043e0c020103000a0000eeffc0007f\n",
+        ),
+        (
+            "t ++ a24 b18 x\n",
+            "turn 0 ++\n",
+            "air a 37 d6be898e8fd45da13d499970f84ada x missed\n",
+        ),
+        (
+            "t ++ a24 b18 e6:01\n",
+            "turn 0 ++\n",
+            "air a 37 d6be898e8fd45da13d499970f84ada e6:01 broken\n",
+        ),
+        (
+            "t +- a24 b18\n",
+            "turn 0 +-\n",
+            "air a 37 d6be898e8fd45da13d499970f84ada . missed\n",
+        ),
+    ];
+    for (turns, first, last) in rows {
+        let mut files = files_of(alloc, ADVERTISE, SCAN, turns)?;
+        let ending = run(alloc, &PAIR, &mut files, None)?;
+        let journal = format!(in alloc; "{first}{HOSTS}{last}")?;
+        assert_eq!(rt; ending.status, 0);
+        assert_eq!(rt; ending.out.octets(), journal.as_bytes());
+        assert!(rt; ending.err.octets().is_empty());
+    }
+    Ok(())
+}
+
+#[test]
+fn says_that_damage_is_unseen(rt: HostRuntime) -> Result<(), Fail> {
+    let alloc = rt.alloc();
+    let mut files = files_of(alloc, ADVERTISE, SCAN, "t ++ a24 b18 e11:01c0b401\n")?;
+    let ending = run(alloc, &PAIR, &mut files, None)?;
+    let journal = format!(in alloc; "turn 0 ++\n{HOSTS}")?;
+    assert_eq!(rt; ending.status, 6);
+    assert_eq!(rt; ending.out.octets(), journal.as_bytes());
+    assert_eq!(rt; ending.err.octets(), UNSEEN.as_bytes());
     Ok(())
 }
 
@@ -113,7 +223,7 @@ fn refuses_what_is_no_command(rt: HostRuntime) -> Result<(), Fail> {
 #[test]
 fn says_which_file_and_line(rt: HostRuntime) -> Result<(), Fail> {
     let alloc = rt.alloc();
-    let rows: [(&[&str], &str, u8, &str); 5] = [
+    let rows: [(&[&str], &str, u8, &str); 9] = [
         (
             &["pair", "x", "b.bin", "schedule"],
             "t ++\n",
@@ -133,7 +243,21 @@ fn says_which_file_and_line(rt: HostRuntime) -> Result<(), Fail> {
             "cannot read z\n",
         ),
         (&PAIR, "t +\n", 3, "schedule line 4\n"),
-        (&PAIR, "t ++\nrun 3\n", 3, "schedule line 5\n"),
+        (&PAIR, "t ++\nrun 03\n", 3, "schedule line 5\n"),
+        (&PAIR, "run 100001\n", 7, "too long: schedule line 4\n"),
+        (
+            &PAIR,
+            "run 50000\nrun 50000\nt ++\nt +\n",
+            7,
+            "too long: schedule line 6\n",
+        ),
+        (&PAIR, "t +\nrun 100001\n", 3, "schedule line 4\n"),
+        (
+            &["pair", "a.bin", "b.bin", "z"],
+            "t +\n",
+            2,
+            "cannot read z\n",
+        ),
     ];
     for (words, turns, status, said) in rows {
         let mut files = files_of(alloc, b"", b"", turns)?;
@@ -148,11 +272,26 @@ fn says_which_file_and_line(rt: HostRuntime) -> Result<(), Fail> {
 #[test]
 fn says_that_it_cannot_write(rt: HostRuntime) -> Result<(), Fail> {
     let alloc = rt.alloc();
-    let mut files = files_of(alloc, b"\x01\x03\x0c\x00", b"", "t ++ a4\n")?;
-    let ending = run(alloc, &PAIR, &mut files, Some(1))?;
-    assert_eq!(rt; ending.status, 4);
-    assert_eq!(rt; ending.err.octets(), b"cannot write\n".as_slice());
-    assert!(rt; ending.out.octets().is_empty());
+    let rows = ["t ++ a24 b18\n", "t ++ a24 b18 e11:01c0b401\n"];
+    for turns in rows {
+        let mut files = files_of(alloc, ADVERTISE, SCAN, turns)?;
+        let ending = run(alloc, &PAIR, &mut files, Some(1))?;
+        assert_eq!(rt; ending.status, 4);
+        assert_eq!(rt; ending.err.octets(), b"cannot write\n".as_slice());
+        assert!(rt; ending.out.octets().is_empty());
+    }
+    Ok(())
+}
+
+#[test]
+fn runs_the_most_turns(rt: HostRuntime) -> Result<(), Fail> {
+    let alloc = rt.alloc();
+    let mut files = files_of(alloc, b"", b"", "run 50000\nrun 50000\n")?;
+    let ending = run(alloc, &PAIR, &mut files, None)?;
+    assert_eq!(rt; ending.status, 0);
+    // Lines of 9 octets and the digits of 0 to 99999.
+    assert_eq!(rt; ending.out.octets().len(), 1_388_890);
+    assert!(rt; ending.out.octets().ends_with(b"turn 99999 ++\n"));
     Ok(())
 }
 

@@ -1,4 +1,5 @@
-pub mod Host
 pub mod History
 pub mod Run
-pub mod Steps
+pub mod Pieces
+pub mod Turns
+pub mod Air

@@ -1,11 +1,38 @@
-// A law of runs. The body does nothing: the contract is the law.
-ghost use Rattle.std.specs.Prelude.{◌≡◌, ℕ, List};
+//! Laws of runs. The bodies do nothing: the contracts are the laws.
+ghost use Rattle.std.specs.Prelude.{◌≡◌, ℕ, Bool, Option, None, List, ◌∷◌, ◌++◌, slice_get};
+ghost use Rattle.ble_base.specs.declared.roles.Side.{Side};
+ghost use Rattle.ble_base.specs.declared.verdicts.Verdict.{Verdict};
 ghost use Rattle.journal.specs.declared.entries.Entry.{Entry};
-ghost use Rattle.radio_replay.specs.declared.turn_lines.Turn.{Turn};
-ghost use Rattle.pair_world.specs.Run.{IsRun};
+ghost use Rattle.journal.specs.declared.entries.Entry.TheVariants.{Turn, Air};
+ghost use Rattle.journal.specs.declared.entries.Mark.{Mark};
+ghost use Rattle.pair_world.specs.History.{aired};
+ghost use Rattle.pair_world.specs.Run.{Given, flights, IsJournal, IsRun, IsBroken};
+ghost use Rattle.pair_world.specs.Air.{IsAired};
 
-/// Two streams and a schedule's turns have one journal: what `run_pair` promises of it leaves no choice.
+/// A run has one journal: what `run_pair` promises of it leaves no choice, neither of the journal nor of whether and where
+/// unseen damage ends the run.
 pub fn a_run_has_one_journal()
-    ensures { (a b : List ℕ) (turns : List Turn) (journal other : List Entry)
-        → IsRun a b turns journal → IsRun a b turns other → journal ≡ other }
+    ensures whole { (given : Given) (journal other : List Entry) → IsRun given journal → IsRun given other → journal ≡ other }
+    ensures broken { (given : Given) (turn packet other_turn other_packet : ℕ) (sent heard other_sent other_heard : List ℕ) (journal other : List Entry)
+        → IsBroken given turn packet sent heard journal → IsBroken given other_turn other_packet other_sent other_heard other
+        → (journal ≡ other) × (turn ≡ other_turn) × (packet ≡ other_packet) × (sent ≡ other_sent) × (heard ≡ other_heard) }
+    ensures either { (given : Given) (turn packet : ℕ) (sent heard : List ℕ) (journal other : List Entry)
+        → IsRun given journal → IsBroken given turn packet sent heard other → ⊥ }
+{}
+
+/// Each packet on the air is the next of those that its turn calls for, with the next fate of that turn and the verdict of
+/// the other side on what the fate leaves of it; and no changed packet is judged good.
+pub fn each_packet_on_the_air_is_due()
+    ensures { (given : Given) (journal history rest : List Entry) (side : Side) (channel : ℕ) (octets : List ℕ) (fate : Mark) (verdict : Verdict)
+        → IsJournal given journal → journal ≡ history ++ Air side channel octets fate verdict ∷ rest
+        → IsAired given history side channel octets fate verdict }
+{}
+
+/// Where a turn is over, all the packets that it calls for were on the air.
+pub fn a_turn_sends_all_that_is_due()
+    ensures turn { (given : Given) (journal history rest : List Entry) (slot : ℕ) (a : Bool) (b : Option Bool)
+        → IsJournal given journal → journal ≡ history ++ Turn slot a b ∷ rest
+        → slice_get (flights given history) (aired history) ≡ None }
+    ensures last { (given : Given) (journal : List Entry) → IsRun given journal
+        → slice_get (flights given journal) (aired journal) ≡ None }
 {}

@@ -1,95 +1,92 @@
-ghost use Rattle.std.specs.Prelude.{◌≡◌, ℕ, List, [], ◌++◌, take, drop, IfOk, OnOk};
-ghost use Rattle.h4_frames.specs.Machine.{waits};
-ghost use Rattle.pair_world.specs.Run.{IsRun};
-ghost use Rattle.pair_world.specs.Steps.{fed, journal_of};
+//! A run.
+ghost use Rattle.std.specs.Prelude.{◌≡◌, [], length, IfOk, IfErr};
+ghost use Rattle.ble_base.specs.declared.roles.Side.TheVariants.{A, B};
+ghost use Rattle.pair_world.specs.Run.{Given, given_of, IsRun, IsRunFault};
+ghost use Rattle.pair_world.specs.Turns.{AtTurnEnd, IsAllRun, HasStopped};
 
-use crate::controllers::Controller;
-use ble_base::Side;
-use journal::{Entry, Journal};
-use radio_replay::{Schedule, Turn};
-use std::alloc::{AllocError, Global};
+use crate::stations::Station;
+use crate::stops::Stop;
+use crate::turns::{Pair, run_turn};
+use ble_base::{Outbox, Side};
+use journal::{Journal, Octets};
+use radio_replay::Schedule;
+use std::alloc::Global;
 
-/// Why a run has no journal.
-#[derive(Clone, Copy, Debug, PartialEq, Eq)]
+/// Why a run has no whole journal.
+#[derive(Drop)]
 pub enum RunFault {
-    /// There is no memory for the journal.
+    /// A packet was changed on the air, and its receiver would judge it good.
+    Unseen {
+        /// The slot of the turn.
+        turn: u64,
+        /// The place of the packet among those of the turn, counted from 1.
+        packet: u32,
+        /// Its octets as sent.
+        sent: Octets,
+        /// Its octets as they would be heard.
+        heard: Octets,
+        /// All that came before it.
+        journal: Journal,
+    },
+    /// There is no memory.
     Memory,
 }
 
-impl From<AllocError> for RunFault {
-    ghost use Rattle.pair_world.specs.declared.runs.RunFault.TheVariants.{Memory};
-
-    ghost from_gives = { λ _ fault. fault ≡ Memory };
-
-    fn from(_: AllocError) -> Self {
-        RunFault::Memory
-    }
-}
-
-/// A side of the run: its controller, and the octets of its host that are not fed yet.
-#[derive(Drop)]
-struct Station<'a> {
-    controller: Controller,
-    unfed: &'a [u8],
-}
-
-impl<'a> Station<'a> {
-    /// A new controller, and the whole stream of its host.
-    fn new(stream: &'a [u8]) -> Self
-        ensures waits { result.controller.framer ≡ waits [] }
-        ensures unfed { result.unfed.now ≡ stream.now }
+impl RunFault {
+    /// Why the turn in this slot stopped the run, whose journal so far this is.
+    fn of(stop: Stop, turn: u32, journal: Journal) -> RunFault
+        ensures { (given : Given) → HasStopped given turn journal stop → IsRunFault given result }
     {
-        Station {
-            controller: Controller::new(),
-            unfed: stream,
+        match stop {
+            Stop::Memory => RunFault::Memory,
+            Stop::Unseen {
+                packet,
+                sent,
+                heard,
+            } => RunFault::Unseen {
+                turn: u64::from(turn),
+                packet,
+                sent,
+                heard,
+                journal,
+            },
         }
     }
-
-    /// Feeds so many octets of the stream, or as many as are left.
-    fn feed(
-        &mut self,
-        alloc: Global,
-        side: Side,
-        count: u32,
-        journal: &mut Journal,
-    ) -> Result<(), AllocError>
-        ensures fed { OnOk result ((past : List ℕ) → self.old.controller.framer ≡ waits past
-            → journal.new ≡ journal.old ++ fed side past (take count self.old.unfed.now)) }
-        ensures waits { OnOk result ((past : List ℕ) → self.old.controller.framer ≡ waits past
-            → self.new.controller.framer ≡ waits (past ++ take count self.old.unfed.now)) }
-        ensures unfed { OnOk result (self.new.unfed.now ≡ drop count self.old.unfed.now) }
-    {
-        let (now, unfed) = self.unfed.split_at(self.unfed.len().min(count as usize));
-        self.controller.feed(alloc, side, now, journal)?;
-        self.unfed = unfed;
-        Ok(())
-    }
 }
 
-/// Runs these turns, and writes down what happens.
-fn run_turns(alloc: Global, a: &[u8], b: &[u8], turns: &[Turn]) -> Result<Journal, AllocError>
-    ensures { IfOk result (λ journal. journal ≡ journal_of a.now b.now turns.now) }
+/// Runs all turns, and writes down what happens.
+fn run_turns(
+    a: Station<'_>,
+    b: Station<'_>,
+    alloc: Global,
+    schedule: &Schedule,
+) -> Result<Journal, RunFault>
+    requires sides { (a.side ≡ A) × (b.side ≡ B) }
+    ensures ok { IfOk result (λ journal. (given : Given) → given.script.turns ≡ schedule.now.turns
+        → AtTurnEnd given 0 [] a.entry.controller b.entry.controller a.entry.unfed.now b.entry.unfed.now → IsAllRun given journal) }
+    ensures err { IfErr result (λ fault. (given : Given) → given.script.turns ≡ schedule.now.turns
+        → AtTurnEnd given 0 [] a.entry.controller b.entry.controller a.entry.unfed.now b.entry.unfed.now → IsRunFault given fault) }
 {
+    let mut pair = Pair { a, b };
+    let mut out = Outbox::new();
     let mut journal = Journal::new(alloc);
-    let mut station_a = Station::new(a);
-    let mut station_b = Station::new(b);
-    for (slot, turn) in turns.iter().enumerate() {
-        journal.push(Entry::Turn {
-            slot: slot as u64,
-            a_on: turn.a_on,
-            b_on: Some(turn.b_on),
-        })?;
-        station_a.feed(alloc, Side::A, turn.feed_a, &mut journal)?;
-        station_b.feed(alloc, Side::B, turn.feed_b, &mut journal)?;
+    for turn in 0..schedule.turns() {
+        if let Err(stop) = run_turn(alloc, schedule, turn, &mut pair, &mut out, &mut journal) {
+            return Err(RunFault::of(stop, turn, journal));
+        }
     }
     Ok(journal)
 }
 
 /// Runs two controllers over the streams of their hosts and a schedule, and gives the journal of the run.
 /// The octets that the schedule leaves unfed are not part of it.
+///
+/// Answers `Unseen` exactly where a fate changes a packet that is due and the changed one would be judged good.
 pub fn run_pair(alloc: Global, a: &[u8], b: &[u8], schedule: &Schedule) -> Result<Journal, RunFault>
-    ensures { IfOk result (IsRun a.now b.now schedule.now.turns) }
+    ensures ok { IfOk result (IsRun (given_of a.now b.now schedule.now)) }
+    ensures err { IfErr result (IsRunFault (given_of a.now b.now schedule.now)) }
 {
-    let journal = run_turns(alloc, a, b, schedule.turns())?;
-    Ok(journal)
+    let station_a = Station::new(Side::A, schedule.a.public, a);
+    let station_b = Station::new(Side::B, schedule.b.public, b);
+    run_turns(station_a, station_b, alloc, schedule)
 }

@@ -4,6 +4,7 @@ use Rattle.std.specs.Prelude.{Option, ◌≢◌, ◌==◌, unwrap_or}
 use Rattle.std.specs.List.{position_from, slice_split, onto_first}
 use Rattle.std.proofs.lemmas.List.{take_rest}
 use Rattle.std.proofs.lemmas.List.Splits.{length-slice_split, join_with_byte-slice_split}
+use Rattle.radio_replay.specs.FateWord.{only_part}
 use Rattle.radio_replay.specs.Parts.{parts_behind}
 use Rattle.radio_replay.specs.Text.{newline, lines_of, lines_of_parts}
 
@@ -39,8 +40,8 @@ pub more_parts : (line : List ℕ) (parts : List (List ℕ)) → length parts �
 more_parts line [] e = absurd (e refl)
 more_parts line (next ∷ parts) e = refl
 
-pub some_parts : (text : List ℕ) → length (slice_split (λ octet. octet == newline) text) ≢ 0
-some_parts text e = omega (arith, length-slice_split (λ octet. octet == newline) text)
+pub some_parts : (p : ℕ → Bool) (text : List ℕ) → length (slice_split p text) ≢ 0
+some_parts p text e = omega (arith, length-slice_split p text)
 
 one_line : (text line : List ℕ) → (length text == 0) ≡ false → slice_split (λ octet. octet == newline) text ≡ line ∷ [] → lines_of text ≡ line ∷ []
 one_line text line filled e =
@@ -52,4 +53,14 @@ one_line text line filled e =
 pub first_line : (text line : List ℕ) (behind : Option (List ℕ)) → (length text == 0) ≡ false → slice_split (λ octet. octet == newline) text ≡ line ∷ parts_behind newline behind
     → lines_of text ≡ line ∷ lines_of (unwrap_or behind [])
 first_line text line None filled e = one_line text line filled e
-first_line text line (Some rest) filled e = rw e (more_parts line (slice_split (λ octet. octet == newline) rest) (some_parts rest))
+first_line text line (Some rest) filled e = rw e (more_parts line (slice_split (λ octet. octet == newline) rest) (some_parts (λ octet. octet == newline) rest))
+
+not_only : (front : List ℕ) (parts : List (List ℕ)) → length parts ≢ 0 → only_part (front ∷ parts) ≡ None
+not_only front [] e = absurd (e refl)
+not_only front (next ∷ parts) e = refl
+
+-- behind a separator there is a second part
+pub second_part : (separator : ℕ) (octets front behind : List ℕ) → slice_split (λ octet. octet == separator) octets ≡ front ∷ slice_split (λ octet. octet == separator) behind
+    → only_part (slice_split (λ octet. octet == separator) octets) ≡ None
+second_part separator octets front behind first =
+    rw first (not_only front (slice_split (λ octet. octet == separator) behind) (some_parts (λ octet. octet == separator) behind))

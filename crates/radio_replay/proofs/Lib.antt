@@ -1,8 +1,10 @@
 pub mod Cuts
 pub mod Decimals
 pub mod Examples
+pub mod Facts
 pub mod Firsts
 pub mod Gathered
 pub mod SpelledLines
 pub mod SpelledNumbers
 pub mod SpelledSchedule
+pub mod Strikes

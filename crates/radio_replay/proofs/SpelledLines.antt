@@ -55,4 +55,4 @@ lines_of-ended (line ∷ lines) e =
     let first : slice_split (λ octet. octet == newline) (line ++ newline ∷ rest) ≡ line ∷ slice_split (λ octet. octet == newline) rest
     = slice_split_at (λ octet. octet == newline) line newline rest (no_separator 10 newline line (omega arith) parts.0) refl in
     rw (append_assoc line (newline ∷ []) rest, first)
-    (more_parts line (slice_split (λ octet. octet == newline) rest) (some_parts rest) ∙ ap (λ (ls : List (List ℕ)). line ∷ ls) (lines_of-ended lines parts.1))
+    (more_parts line (slice_split (λ octet. octet == newline) rest) (some_parts (λ octet. octet == newline) rest) ∙ ap (λ (ls : List (List ℕ)). line ∷ ls) (lines_of-ended lines parts.1))

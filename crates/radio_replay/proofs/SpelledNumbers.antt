@@ -9,6 +9,8 @@ use Rattle.std.specs.Str.Parse.{digits_value_after}
 use Rattle.std.proofs.lemmas.Bool.{agree_below_at, and_from, and_right, cases_lt, ne_eqb}
 use Rattle.std.proofs.lemmas.Bool.Decides.{nat_tests}
 use Rattle.std.proofs.lemmas.Int.Digits.{all_below_base_digits_of, first_digits_of, number_digits_of}
+use Rattle.std.specs.List.{All}
+use Rattle.std.proofs.lemmas.List.Elements.{All-nil, All-cons}
 use Rattle.std.proofs.lemmas.List.{get_or_past, get_or-reverse, length-reverse, reverse-reverse}
 use Rattle.std.proofs.lemmas.Nat.{mod_below, from_be_bytes-to_be_bytes_4, from_be_bytes-to_be_bytes_8}
 use Rattle.hex.specs.Hex.{IsBytes, encode_lower, encode_with, lower_digits}
@@ -54,15 +56,41 @@ number_of-digits (d ∷ ds) h p =
     = and_right (nat_lt 1 (length (map digit_char (d ∷ ds)))) (digit_char d == 48) (nonzero-digit_char d p h.0) in
     rw (filled, leads, all_digits (d ∷ ds) h) (ap Some (value 0 (d ∷ ds) h))
 
-pub number_of-decimal : (n : ℕ) → 0 < n → number_of (decimal n) ≡ Some n
-number_of-decimal n h =
-    number_of-digits (digits_of 10 n) (all_below_base_digits_of 10 n (omega arith)) (first_digits_of 10 n (omega arith) h)
-    ∙ ap Some (number_digits_of 10 n (omega arith))
+pub number_of-decimal : (n : ℕ) → number_of (decimal n) ≡ Some n
+number_of-decimal zero = refl
+number_of-decimal (suc n) =
+    number_of-digits (digits_of 10 (suc n)) (all_below_base_digits_of 10 (suc n) (omega arith)) (first_digits_of 10 (suc n) (omega arith) (omega arith))
+    ∙ ap Some (number_digits_of 10 (suc n) (omega arith))
 
 pub above-decimal : (n : ℕ) → is_above 32 (decimal n) ≡ true
-above-decimal n = above (digits_of 10 n) (all_below_base_digits_of 10 n (omega arith))
+above-decimal zero = refl
+above-decimal (suc n) = above (digits_of 10 (suc n)) (all_below_base_digits_of 10 (suc n) (omega arith))
+
+other-digit_char : (d : ℕ) → d < 10 → (digit_char d == 58) ≡ false
+other-digit_char d h = grind (arith, nat_tests)
+
+no_colon : (ds : List ℕ) → AllBelowBase 10 ds → All (λ octet. (octet == 58) ≡ false) (map digit_char ds)
+no_colon [] h = All-nil (λ (octet : ℕ). (octet == 58) ≡ false)
+no_colon (d ∷ ds) h =
+    All-cons (λ (octet : ℕ). (octet == 58) ≡ false) (digit_char d) (map digit_char ds) (other-digit_char d h.0) (no_colon ds h.1)
+
+pub no_colon-decimal : (n : ℕ) → All (λ octet. (octet == 58) ≡ false) (decimal n)
+no_colon-decimal zero = All-cons (λ (octet : ℕ). (octet == 58) ≡ false) 48 [] refl (All-nil (λ (octet : ℕ). (octet == 58) ≡ false))
+no_colon-decimal (suc n) = no_colon (digits_of 10 (suc n)) (all_below_base_digits_of 10 (suc n) (omega arith))
 
 -- ---- hexadecimal digits
+
+other-lower_digits : (d : ℕ) → d < 16 → (slice_index lower_digits d == 58) ≡ false
+other-lower_digits d h = agree_below_at (λ k. slice_index lower_digits k == 58) (λ _. false) 16 d refl h
+
+pub no_colon-encode_lower : (octets : List ℕ) → IsBytes octets → All (λ octet. (octet == 58) ≡ false) (encode_lower octets)
+unfolding encode_with
+no_colon-encode_lower [] h = All-nil (λ (octet : ℕ). (octet == 58) ≡ false)
+no_colon-encode_lower (octet ∷ octets) h =
+    let byte : octet < 256 = h 0 in
+    let low = slice_index lower_digits (octet % 16) in
+    All-cons (λ (octet : ℕ). (octet == 58) ≡ false) (slice_index lower_digits (octet / 16)) (low ∷ encode_lower octets) (other-lower_digits (octet / 16) (omega arith))
+    (All-cons (λ (octet : ℕ). (octet == 58) ≡ false) low (encode_lower octets) (other-lower_digits (octet % 16) (omega arith)) (no_colon-encode_lower octets (λ i. h (suc i))))
 
 above-lower_digits : (d : ℕ) → d < 16 → nat_lt 32 (slice_index lower_digits d) ≡ true
 above-lower_digits d h = agree_below_at (λ k. nat_lt 32 (slice_index lower_digits k)) (λ _. true) 16 d refl h

@@ -1,26 +1,90 @@
 -- A schedule that is spelled in the plainest form is read as itself.
-use Rattle.std.proofs.Common.{◌≡◌, ℕ, zero, suc, ◌+◌, ◌^◌, ◌<◌, ◌≤◌, Bool, true, false, List, [], ◌∷◌, ◌++◌, length, Some, Ok, refl, ◌∙◌, ap, arith}
-use Rattle.std.specs.Prelude.{◌&&◌, nat_lt, map, reverse, slice_index, codes}
-use Rattle.std.specs.List.{All, list_all}
+use Rattle.std.proofs.Common.{◌≡◌, ℕ, zero, suc, ◌+◌, ◌^◌, ◌<◌, ◌≤◌, Bool, true, false, List, [], ◌∷◌, ◌++◌, length, Some, Ok, refl, ◌∙◌, ap, sym, arith, append_assoc}
+use Rattle.std.specs.Prelude.{◌==◌, ◌&&◌, nat_lt, map, reverse, slice_index, codes, replicate}
+use Rattle.std.specs.Option.{option_map}
+use Rattle.std.specs.List.{All, list_all, slice_split}
 use Rattle.std.proofs.lemmas.Bool.{and_from, le-leb}
 use Rattle.std.specs.Int.{w32, bytes_high_first, to_be_bytes}
-use Rattle.hex.specs.Hex.{encode_lower}
+use Rattle.hex.specs.Hex.{IsBytes, encode_lower}
+use Rattle.hex.proofs.HexLemmas.{decode_of-encode_lower}
 use Rattle.std.specs.Str.{bytes_eq}
-use Rattle.std.proofs.lemmas.List.{length-map}
+use Rattle.std.proofs.lemmas.List.{append-nil, length-append, length-map}
 use Rattle.std.proofs.lemmas.List.Folds.{list_all-append}
 use Rattle.std.proofs.lemmas.List.Elements.{All-head, All-tail}
+use Rattle.std.proofs.lemmas.List.Splits.{slice_split_none, slice_split_at}
 use Rattle.ble_base.specs.declared.Config.{Config}
 use Rattle.ble_base.specs.declared.Side.{Side}
 use Rattle.ble_base.specs.declared.Side.TheVariants.{A, B}
-use Rattle.radio_replay.specs.declared.turn_lines.Turn.{Turn}
+use Rattle.radio_replay.specs.declared.fates.Fate.{Fate}
+use Rattle.radio_replay.specs.declared.fates.Fate.TheVariants.{Pass, Lost, Damage}
+use Rattle.radio_replay.specs.declared.lines.Line.TheVariants.{Single}
 use Rattle.radio_replay.proofs.SpelledLines.{is_above, words_of-line_of, above-line_of, lines_of-ended}
-use Rattle.radio_replay.proofs.SpelledNumbers.{number_of-decimal, above-decimal, above-encode_lower, IsBytes-reverse, IsBytes-bytes_high_first, address_of-text, cursor_of-text, random_word_of-text}
-use Rattle.radio_replay.specs.Numbers.{within}
-use Rattle.radio_replay.specs.Schedule.{Right, schedule_of, turns_from}
+use Rattle.radio_replay.proofs.SpelledNumbers.{number_of-decimal, above-decimal, no_colon-decimal, above-encode_lower, no_colon-encode_lower, IsBytes-reverse, IsBytes-bytes_high_first, address_of-text, cursor_of-text, random_word_of-text}
+use Rattle.radio_replay.specs.FateWord.{damage_in, fate_in, pattern_in}
+use Rattle.radio_replay.specs.Numbers.{number_of, within}
+use Rattle.radio_replay.specs.Schedule.{Right, schedule_of, turns_from, with_line}
+use Rattle.radio_replay.specs.Script.{Turn}
 use Rattle.radio_replay.specs.SideLine.{config_of, config_in, drawn_words_of, letter_of, random_words_of}
-use Rattle.radio_replay.specs.Spelling.{CanBeFed, CanBeSet, decimal, feed_words, line_of, radio_octet, random_word_text, schedule_lines, schedule_text, side_words, turn_words}
+use Rattle.radio_replay.specs.Spelling.{CanBeDone, CanBeSet, CanBeTaken, decimal, fate_word, feed_words, line_of, radio_octet, random_word_text, run_line, schedule_lines, schedule_text, side_words, turn_words}
 use Rattle.radio_replay.specs.Text.{words_of}
-use Rattle.radio_replay.specs.TurnLine.{fed_of, radios_of, turn_feeding, turn_of}
+use Rattle.radio_replay.specs.TurnLine.{fates_in, fed_of, line_in, plain_turn, radios_of, turn_feeding, turns_of}
+
+-- ---- fates
+
+damage_word : (octets : List ℕ) → (octets ≡ [] → ⊥) → fate_in (101 ∷ octets) ≡ damage_in octets
+damage_word [] some = absurd (some refl)
+damage_word (octet ∷ octets) some = refl
+
+not_empty : (front : List ℕ) (octet : ℕ) (back : List ℕ) → front ++ octet ∷ back ≡ [] → ⊥
+not_empty [] octet back e = absurd (cc)
+not_empty (x ∷ front) octet back e = absurd (cc)
+
+place_is : (at : ℕ) → at ≤ 263 → within 0 263 (number_of (decimal at)) ≡ Some at
+place_is at small = rw (number_of-decimal at, le-leb 0 at (omega arith), le-leb at 263 small) refl
+
+pattern_is : (octets : List ℕ) → 1 ≤ length octets → length octets ≤ 264 → IsBytes octets → pattern_in (encode_lower octets) ≡ Some octets
+pattern_is octets some most bytes =
+    rw (decode_of-encode_lower octets bytes, le-leb 1 (length octets) some, le-leb (length octets) 264 most) refl
+
+colon_parts : (at : ℕ) (octets : List ℕ) → IsBytes octets
+    → slice_split (λ octet. octet == 58) (decimal at ++ 58 ∷ encode_lower octets) ≡ decimal at ∷ encode_lower octets ∷ []
+colon_parts at octets bytes =
+    slice_split_at (λ octet. octet == 58) (decimal at) 58 (encode_lower octets) (no_colon-decimal at) refl
+    ∙ ap (λ (parts : List (List ℕ)). decimal at ∷ parts) (slice_split_none (λ octet. octet == 58) (encode_lower octets) (no_colon-encode_lower octets bytes))
+
+fate_in-word : (fate : Fate) → CanBeDone fate → fate_in (fate_word fate) ≡ Some fate
+fate_in-word Pass h = refl
+fate_in-word Lost h = refl
+fate_in-word (Damage at pattern) h =
+    damage_word (decimal at ++ 58 ∷ encode_lower pattern.items) (not_empty (decimal at) 58 (encode_lower pattern.items))
+    ∙ rw (colon_parts at pattern.items h.3, place_is at h.0, pattern_is pattern.items h.1 h.2 h.3) refl
+
+fates_in-words : (fates : List Fate) → All CanBeDone fates → fates_in (map fate_word fates) ≡ Some fates
+fates_in-words [] h = refl
+fates_in-words (fate ∷ fates) h =
+    rw (fate_in-word fate (All-head CanBeDone fate fates h), fates_in-words fates (All-tail CanBeDone fate fates h)) refl
+
+above-fate : (fate : Fate) → CanBeDone fate → is_above 32 (fate_word fate) ≡ true
+above-fate Pass h = refl
+above-fate Lost h = refl
+above-fate (Damage at pattern) h =
+    rw (list_all-append (λ octet. nat_lt 32 octet) (decimal at) (58 ∷ encode_lower pattern.items), above-decimal at) (above-encode_lower pattern.items h.3)
+
+above-fates : (fates : List Fate) → All CanBeDone fates → list_all (λ w. is_above 32 w) (map fate_word fates) ≡ true
+above-fates [] h = refl
+above-fates (fate ∷ fates) h =
+    rw (above-fate fate (All-head CanBeDone fate fates h), above-fates fates (All-tail CanBeDone fate fates h)) refl
+
+-- no word of a fate says what is fed
+fed_nothing : (side : Side) (fates : List Fate) → fed_of (letter_of side) (map fate_word fates) ≡ Some (record { count = 0; behind = map fate_word fates })
+fed_nothing A [] = refl
+fed_nothing A (Pass ∷ fates) = refl
+fed_nothing A (Lost ∷ fates) = refl
+fed_nothing A (Damage at pattern ∷ fates) = refl
+fed_nothing B [] = refl
+fed_nothing B (Pass ∷ fates) = refl
+fed_nothing B (Lost ∷ fates) = refl
+fed_nothing B (Damage at pattern ∷ fates) = refl
 
 -- ---- turn lines
 
@@ -28,17 +92,18 @@ within_all : (count : ℕ) → 0 < count → count ≤ 1048576 → within 1 1048
 within_all count p h = rw (le-leb 1 count (omega arith), le-leb count 1048576 h) refl
 
 fed_a : (count : ℕ) (words : List (List ℕ)) → count < 1048576 → fed_of 97 ((97 ∷ decimal (suc count)) ∷ words) ≡ Some (record { count = suc count; behind = words })
-fed_a count words h = rw (number_of-decimal (suc count) (omega arith), within_all (suc count) (omega arith) (omega arith)) refl
+fed_a count words h = rw (number_of-decimal (suc count), within_all (suc count) (omega arith) (omega arith)) refl
 
 fed_b : (count : ℕ) (words : List (List ℕ)) → count < 1048576 → fed_of 98 ((98 ∷ decimal (suc count)) ∷ words) ≡ Some (record { count = suc count; behind = words })
-fed_b count words h = rw (number_of-decimal (suc count) (omega arith), within_all (suc count) (omega arith) (omega arith)) refl
+fed_b count words h = rw (number_of-decimal (suc count), within_all (suc count) (omega arith) (omega arith)) refl
 
-feeding : (a_on b_on : Bool) (a b : ℕ) → a ≤ 1048576 → b ≤ 1048576
-    → turn_feeding (a_on, b_on) (fed_of 97 (feed_words 97 a ++ feed_words 98 b)) ≡ Some (record { a_on = a_on; b_on = b_on; feed_a = a; feed_b = b })
-feeding a_on b_on zero zero ha hb = refl
-feeding a_on b_on zero (suc b) ha hb = rw (fed_b b [] (omega arith)) refl
-feeding a_on b_on (suc a) zero ha hb = rw (fed_a a [] (omega arith)) refl
-feeding a_on b_on (suc a) (suc b) ha hb = rw (fed_a a (feed_words 98 (suc b)) (omega arith), fed_b b [] (omega arith)) refl
+feeding : (a_on b_on : Bool) (a b : ℕ) (fates : List Fate) → a ≤ 1048576 → b ≤ 1048576 → All CanBeDone fates
+    → turn_feeding (a_on, b_on) (fed_of 97 (feed_words 97 a ++ (feed_words 98 b ++ map fate_word fates))) ≡ Some (record { a_on = a_on; b_on = b_on; feed_a = a; feed_b = b; fates = fates })
+feeding a_on b_on zero zero fates ha hb hf = rw (fed_nothing A fates, fed_nothing B fates, fates_in-words fates hf) refl
+feeding a_on b_on zero (suc b) fates ha hb hf = rw (fed_b b (map fate_word fates) (omega arith), fates_in-words fates hf) refl
+feeding a_on b_on (suc a) zero fates ha hb hf = rw (fed_a a (map fate_word fates) (omega arith), fed_nothing B fates, fates_in-words fates hf) refl
+feeding a_on b_on (suc a) (suc b) fates ha hb hf =
+    rw (fed_a a (feed_words 98 (suc b) ++ map fate_word fates) (omega arith), fed_b b (map fate_word fates) (omega arith), fates_in-words fates hf) refl
 
 radios_of-octets : (a b : Bool) → radios_of (radio_octet a ∷ radio_octet b ∷ []) ≡ Some (a, b)
 radios_of-octets true true = refl
@@ -46,8 +111,9 @@ radios_of-octets true false = refl
 radios_of-octets false true = refl
 radios_of-octets false false = refl
 
-turn_of-words : (turn : Turn) → CanBeFed turn → turn_of (turn_words turn) ≡ Some turn
-turn_of-words turn h = rw (radios_of-octets turn.a_on turn.b_on) (feeding turn.a_on turn.b_on turn.feed_a turn.feed_b h.0 h.1)
+line_in-words : (turn : Turn) → CanBeTaken turn → line_in (turn_words turn) ≡ Some (Single turn)
+line_in-words turn h =
+    rw (radios_of-octets turn.a_on turn.b_on, feeding turn.a_on turn.b_on turn.feed_a turn.feed_b turn.fates h.0.0 h.0.1 h.1) refl
 
 above-radio : (on : Bool) → nat_lt 32 (radio_octet on) ≡ true
 above-radio true = refl
@@ -57,26 +123,55 @@ above-feed : (letter count : ℕ) → nat_lt 32 letter ≡ true → list_all (λ
 above-feed letter zero h = refl
 above-feed letter (suc count) h = rw (h, above-decimal (suc count)) refl
 
-above-turn_words : (turn : Turn) → list_all (λ w. is_above 32 w) (turn_words turn) ≡ true
-above-turn_words turn =
-    rw (above-radio turn.a_on, above-radio turn.b_on, list_all-append (λ w. is_above 32 w) (feed_words 97 turn.feed_a) (feed_words 98 turn.feed_b), above-feed 97 turn.feed_a refl, above-feed 98 turn.feed_b refl) refl
+above-turn_words : (turn : Turn) → CanBeTaken turn → list_all (λ w. is_above 32 w) (turn_words turn) ≡ true
+above-turn_words turn h =
+    let fates = map fate_word turn.fates in
+    rw (
+      above-radio turn.a_on,
+      above-radio turn.b_on,
+      list_all-append (λ w. is_above 32 w) (feed_words 97 turn.feed_a) (feed_words 98 turn.feed_b ++ fates),
+      list_all-append (λ w. is_above 32 w) (feed_words 98 turn.feed_b) fates,
+      above-feed 97 turn.feed_a refl,
+      above-feed 98 turn.feed_b refl,
+    ) (above-fates turn.fates h.1)
 
-turn_of-line : (turn : Turn) → CanBeFed turn → turn_of (words_of (line_of (turn_words turn))) ≡ Some turn
-turn_of-line turn h =
-    ap turn_of (words_of-line_of (codes "t") ((radio_octet turn.a_on ∷ radio_octet turn.b_on ∷ []) ∷ (feed_words 97 turn.feed_a ++ feed_words 98 turn.feed_b)) (above-turn_words turn))
-    ∙ turn_of-words turn h
+-- the words of a turn behind its first
+more_words : Turn → List (List ℕ)
+more_words turn = (radio_octet turn.a_on ∷ radio_octet turn.b_on ∷ []) ∷ (feed_words 97 turn.feed_a ++ (feed_words 98 turn.feed_b ++ map fate_word turn.fates))
 
-turns_from-lines : (number : ℕ) (turns : List Turn) → All CanBeFed turns → turns_from number (map (λ turn. line_of (turn_words turn)) turns) ≡ Ok turns
-turns_from-lines number [] h = refl
-turns_from-lines number (turn ∷ turns) h =
-    rw (turn_of-line turn (All-head CanBeFed turn turns h), turns_from-lines (number + 1) turns (All-tail CanBeFed turn turns h)) refl
+line_in-line : (turn : Turn) → CanBeTaken turn → line_in (words_of (line_of (turn_words turn))) ≡ Some (Single turn)
+unfolding more_words
+line_in-line turn h =
+    ap line_in (words_of-line_of (codes "t") (more_words turn) (above-turn_words turn h)) ∙ line_in-words turn h
 
-above-turns : (turns : List Turn) → list_all (λ l. is_above 10 l) (map (λ turn. line_of (turn_words turn)) turns) ≡ true
-above-turns [] = refl
-above-turns (turn ∷ turns) =
+one_more : (before : List Turn) (turn : Turn) → length before < 100000 → with_line before (Some (turn ∷ [])) ≡ Ok (before ++ turn ∷ [])
+one_more before turn short = rw (le-leb (length before + 1) 100000 (omega arith)) refl
+
+turns_from-lines : (number : ℕ) (before turns : List Turn) → All CanBeTaken turns → length before + length turns ≤ 100000
+    → turns_from number before (map (λ turn. line_of (turn_words turn)) turns) ≡ Ok (before ++ turns)
+turns_from-lines number before [] h short = ap Ok (sym (append-nil before))
+turns_from-lines number before (turn ∷ turns) h short =
+    rw (line_in-line turn (All-head CanBeTaken turn turns h), one_more before turn (omega arith))
+    (turns_from-lines (number + 1) (before ++ turn ∷ []) turns (All-tail CanBeTaken turn turns h) (omega (arith, length-append before (turn ∷ [])))
+    ∙ ap Ok (append_assoc before (turn ∷ []) turns))
+
+above-turns : (turns : List Turn) → All CanBeTaken turns → list_all (λ l. is_above 10 l) (map (λ turn. line_of (turn_words turn)) turns) ≡ true
+unfolding more_words
+above-turns [] h = refl
+above-turns (turn ∷ turns) h =
     and_from (is_above 10 (line_of (turn_words turn))) (list_all (λ l. is_above 10 l) (map (λ turn. line_of (turn_words turn)) turns))
-    (above-line_of (codes "t") ((radio_octet turn.a_on ∷ radio_octet turn.b_on ∷ []) ∷ (feed_words 97 turn.feed_a ++ feed_words 98 turn.feed_b)) (above-turn_words turn))
-    (above-turns turns)
+    (above-line_of (codes "t") (more_words turn) (above-turn_words turn (All-head CanBeTaken turn turns h)))
+    (above-turns turns (All-tail CanBeTaken turn turns h))
+
+-- ---- runs
+
+above-run : (count : ℕ) → list_all (λ w. is_above 32 w) (codes "run" ∷ decimal count ∷ []) ≡ true
+above-run count = rw (above-decimal count) refl
+
+pub turns_of-run : (count : ℕ) → 1 ≤ count → count ≤ 999999 → option_map turns_of (line_in (words_of (run_line count))) ≡ Some (replicate count plain_turn)
+turns_of-run count some most =
+    ap (λ (words : List (List ℕ)). option_map turns_of (line_in words)) (words_of-line_of (codes "run") (decimal count ∷ []) (above-run count))
+    ∙ rw (number_of-decimal count, le-leb 1 count some, le-leb count 999999 most) refl
 
 -- ---- side lines
 
@@ -123,13 +218,13 @@ above-side_line side config h =
     ((letter_of side ∷ []) ∷ encode_lower (reverse config.public) ∷ encode_lower (to_be_bytes w32 config.cursor) ∷ map random_word_text config.words.items)
     (above-side_words side config h)
 
-above-lines : (a b : Config) (turns : List Turn) → CanBeSet a → CanBeSet b → list_all (λ l. is_above 10 l) (schedule_lines a b turns) ≡ true
-above-lines a b turns ha hb =
+above-lines : (a b : Config) (turns : List Turn) → CanBeSet a → CanBeSet b → All CanBeTaken turns → list_all (λ l. is_above 10 l) (schedule_lines a b turns) ≡ true
+above-lines a b turns ha hb ht =
     and_from (is_above 10 (line_of (side_words A a))) (is_above 10 (line_of (side_words B b)) && list_all (λ l. is_above 10 l) (map (λ turn. line_of (turn_words turn)) turns))
     (above-side_line A a ha)
     (and_from (is_above 10 (line_of (side_words B b))) (list_all (λ l. is_above 10 l) (map (λ turn. line_of (turn_words turn)) turns))
-    (above-side_line B b hb) (above-turns turns))
+    (above-side_line B b hb) (above-turns turns ht))
 
-pub schedule_of-schedule_text : (a b : Config) (turns : List Turn) → CanBeSet a → CanBeSet b → All CanBeFed turns → schedule_of (schedule_text a b turns) ≡ Right a b turns
-schedule_of-schedule_text a b turns ha hb ht =
-    rw (lines_of-ended (schedule_lines a b turns) (above-lines a b turns ha hb), config_in-line A a ha, config_in-line B b hb, turns_from-lines 4 turns ht) refl
+pub schedule_of-schedule_text : (a b : Config) (turns : List Turn) → CanBeSet a → CanBeSet b → All CanBeTaken turns → length turns ≤ 100000 → schedule_of (schedule_text a b turns) ≡ Right a b turns
+schedule_of-schedule_text a b turns ha hb ht short =
+    rw (lines_of-ended (schedule_lines a b turns) (above-lines a b turns ha hb ht), config_in-line A a ha, config_in-line B b hb, turns_from-lines 4 [] turns ht (omega arith)) refl

@@ -1,3 +1,6 @@
+pub mod Damage
+pub mod FateWord
+pub mod Kept
 pub mod Numbers
 pub mod Parts
 pub mod Schedule

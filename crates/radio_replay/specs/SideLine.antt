@@ -5,18 +5,13 @@ use Rattle.ble_base.specs.declared.Config.{Config}
 use Rattle.ble_base.specs.declared.Side.{Side}
 use Rattle.ble_base.specs.declared.Side.TheVariants.{A, B}
 use Rattle.radio_replay.specs.Numbers.{address_of, cursor_of, random_word_of}
+use Rattle.radio_replay.specs.Parts.{in_front}
 use Rattle.radio_replay.specs.Text.{words_of}
 
 -- the letter that names a side (own)
 abbrev pub letter_of : Side → ℕ
 letter_of A = 97
 letter_of B = 98
-
--- both values, the first in front
-abbrev pub in_front : Option ℕ → Option (List ℕ) → Option (List ℕ)
-in_front None values = None
-in_front (Some value) None = None
-in_front (Some value) (Some values) = Some (value ∷ values)
 
 -- the numbers that all these words spell (own)
 abbrev pub random_words_of : List (List ℕ) → Option (List ℕ)

@@ -1,8 +1,14 @@
--- What a turn line says. The format is this product's own.
-use Rattle.std.specs.Prelude.{◌≡◌, ℕ, ◌==◌, Bool, true, false, List, [], ◌∷◌, Option, Some, None, if◌then◌else◌, codes}
+-- What a line behind the first three says. The format is this product's own.
+use Rattle.std.specs.Prelude.{ℕ, ◌==◌, Bool, true, false, List, [], ◌∷◌, Option, Some, None, if◌then◌else◌, codes, replicate}
+use Rattle.std.specs.Option.{option_map}
 use Rattle.std.specs.Str.{bytes_eq}
-use Rattle.radio_replay.specs.declared.turn_lines.Turn.{Turn}
+use Rattle.radio_replay.specs.declared.fates.Fate.{Fate}
+use Rattle.radio_replay.specs.declared.lines.Line.{Line}
+use Rattle.radio_replay.specs.declared.lines.Line.TheVariants.{Run, Single}
+use Rattle.radio_replay.specs.FateWord.{fate_in}
 use Rattle.radio_replay.specs.Numbers.{number_of, within}
+use Rattle.radio_replay.specs.Parts.{in_front}
+use Rattle.radio_replay.specs.Script.{Turn}
 
 -- `+` for a radio that is on, `-` for one that is off (own)
 abbrev pub radio_of : ℕ → Option Bool
@@ -39,30 +45,50 @@ fed_of letter ((octet ∷ digits) ∷ words) =
     if octet == letter then fed_by (within 1 1048576 (number_of digits)) words
     else fed_by (Some 0) ((octet ∷ digits) ∷ words)
 
--- the count that was read, and the words that are left behind it
-abbrev pub FeedsFrom : Option Fed → Option ℕ → List (List ℕ) → Type 0
-FeedsFrom None count words = count ≡ None
-FeedsFrom (Some fed) count words = (count ≡ Some fed.count) × (words ≡ fed.behind)
+-- the fates that all these words spell (own)
+abbrev pub fates_in : List (List ℕ) → Option (List Fate)
+fates_in [] = Some []
+fates_in (word ∷ words) = in_front (fate_in word) (fates_in words)
 
--- the turn with these radios and what it feeds to A and to B, behind which no word stands (own)
+-- the turn with these radios and what it feeds to A and to B, behind which fates stand (own)
 abbrev pub turn_with : Bool × Bool → ℕ → Option Fed → Option Turn
 turn_with radios feed_a None = None
-turn_with radios feed_a (Some b) = ended b.behind
-  where
-    ended : List (List ℕ) → Option Turn
-    ended [] = Some (record { a_on = radios.0; b_on = radios.1; feed_a = feed_a; feed_b = b.count })
-    ended (word ∷ words) = None
+turn_with radios feed_a (Some b) =
+    option_map (λ fates. record { a_on = radios.0; b_on = radios.1; feed_a = feed_a; feed_b = b.count; fates = fates }) (fates_in b.behind)
 
+-- the same, where what is fed to A was read
 abbrev pub turn_feeding : Bool × Bool → Option Fed → Option Turn
 turn_feeding radios None = None
 turn_feeding radios (Some a) = turn_with radios a.count (fed_of 98 a.behind)
 
+-- the same, where the radios were read
 abbrev pub turn_on : Option (Bool × Bool) → List (List ℕ) → Option Turn
 turn_on None words = None
 turn_on (Some radios) words = turn_feeding radios (fed_of 97 words)
 
--- `t`, the radios, then what is fed to A and then to B (own)
-abbrev pub turn_of : List (List ℕ) → Option Turn
-turn_of [] = None
-turn_of (head ∷ []) = None
-turn_of (head ∷ radios ∷ words) = if bytes_eq head (codes "t") then turn_on (radios_of radios) words else None
+-- the radios, what is fed to A and then to B, and the fates (own)
+abbrev pub turn_in : List (List ℕ) → Option Turn
+turn_in [] = None
+turn_in (radios ∷ words) = turn_on (radios_of radios) words
+
+-- one number from 1, of at most six digits (own)
+abbrev pub count_in : List (List ℕ) → Option ℕ
+count_in (word ∷ []) = within 1 999999 (number_of word)
+count_in _ = None
+
+-- `run` and a number, or `t` and a turn (own)
+abbrev pub line_in : List (List ℕ) → Option Line
+line_in [] = None
+line_in (head ∷ words) =
+    if bytes_eq head (codes "run") then option_map Run (count_in words)
+    else if bytes_eq head (codes "t") then option_map Single (turn_in words)
+    else None
+
+-- a turn with both radios on, in which nothing is fed and all packets pass (own)
+abbrev pub plain_turn : Turn
+plain_turn = record { a_on = true; b_on = true; feed_a = 0; feed_b = 0; fates = [] }
+
+-- the turns of a line: as many plain ones as it says, or the one that it spells (own)
+abbrev pub turns_of : Line → List Turn
+turns_of (Run count) = replicate count plain_turn
+turns_of (Single turn) = turn ∷ []

@@ -1,12 +1,13 @@
 //! What a word spells as a number.
-ghost use Rattle.std.specs.Prelude.{◌≡◌, ◌≤◌};
+ghost use Rattle.std.specs.Prelude.{◌≡◌, ◌≤◌, IfSome};
 ghost use Rattle.radio_replay.specs.Numbers.{number_of, within, address_of, cursor_of, random_word_of};
 
 use hex::FromHex;
 
 /// The number from `least` to `most` that the decimal digits of a word spell.
 pub(crate) fn read_number(word: &[u8], least: u32, most: u32) -> Option<u32>
-    ensures { result ≡ within least most (number_of word.now) }
+    ensures value { result ≡ within least most (number_of word.now) }
+    ensures most { IfSome result (λ number. number ≤ most) }
 {
     if word.is_empty() || (word.len() > 1 && word[0] == b'0') {
         return None;

@@ -16,7 +16,7 @@ fn place_of(octets: &[u8], separator: u8) -> Option<usize>
 }
 
 /// The octets before the first separator, and those behind it, where there is one.
-fn cut(octets: &[u8], separator: u8) -> (&[u8], Option<&[u8]>)
+pub(crate) fn cut(octets: &[u8], separator: u8) -> (&[u8], Option<&[u8]>)
     ensures { slice_split (λ octet. octet == separator) octets.now ≡ result.0.now ∷ parts_behind separator (option_copied result.1) }
 {
     match place_of(octets, separator) {

@@ -1,20 +1,52 @@
-use crate::{Schedule, ScheduleFault, Turn};
+use crate::{Fate, Schedule, ScheduleFault};
+use arrayvec::ArrayVec;
 use std::alloc::Global;
 use std::test::Fail;
 
 const HEAD: &str =
     "ble-schedule 1\nside a c0ffee00000a 71764129 0000000000000001\nside b c0ffee00000b 71764129 0000000000000002\n";
 
-/// How many turns a text has, or why it is no schedule.
-fn turn_count(alloc: Global, text: &str) -> Result<usize, ScheduleFault> {
-    let schedule = Schedule::read(alloc, text.as_bytes())?;
-    Ok(schedule.turns().len())
+/// How many turns these lines have behind the first three, or why they are no schedule's.
+fn turn_count(alloc: Global, lines: &str) -> Result<u32, ScheduleFault> {
+    let mut text = String::from_str(alloc, HEAD).map_err(|_| ScheduleFault::Memory)?;
+    text.push_str(lines).map_err(|_| ScheduleFault::Memory)?;
+    Ok(Schedule::read(alloc, text.as_bytes())?.turns())
+}
+
+/// A damage.
+fn damage(at: u16, octets: &[u8]) -> Fate {
+    let mut pattern = ArrayVec::new();
+    for octet in octets {
+        let _ = pattern.try_push(*octet);
+    }
+    Fate::Damage { at, pattern }
+}
+
+/// The radios of A and B and what they are fed in a turn, where there is that turn.
+fn turn_told(schedule: &Schedule, turn: u32) -> Option<(bool, bool, u32, u32)> {
+    if turn >= schedule.turns() {
+        return None;
+    }
+    Some((
+        schedule.a_on(turn),
+        schedule.b_on(turn),
+        schedule.feed_a(turn),
+        schedule.feed_b(turn),
+    ))
+}
+
+/// The fate of a packet of a turn, where there is that turn.
+fn fate_told(schedule: &Schedule, turn: u32, packet: u32) -> Option<Fate> {
+    if turn >= schedule.turns() {
+        return None;
+    }
+    Some(schedule.fate(turn, packet))
 }
 
 #[test]
 fn every_part_is_read(rt: HostRuntime) -> Result<(), Fail> {
     let text =
-        b"ble-schedule 1\nside a c0ffee00000a 71764129 0000000000000001\nside b C0FFEE00000B 0000000a 0000000000000002 fedcba9876543210\nt ++ a41 b17\nt +- b1048576\nt -- a1";
+        b"ble-schedule 1\nside a c0ffee00000a 71764129 0000000000000001\nside b C0FFEE00000B 0000000a 0000000000000002 fedcba9876543210\nt ++ a41 b17\nrun 2\nt +- b1048576 . x e11:01C0b401\nt -- a1 e0:ff";
     let schedule = Schedule::read(rt.alloc(), text)?;
     assert_eq!(rt; schedule.a.public, [0x0a, 0, 0, 0xee, 0xff, 0xc0]);
     assert_eq!(rt; schedule.a.cursor, 0x7176_4129);
@@ -26,26 +58,29 @@ fn every_part_is_read(rt: HostRuntime) -> Result<(), Fail> {
         [2, 0xfedc_ba98_7654_3210].as_slice()
     );
     let turns = [
-        Turn {
-            a_on: true,
-            b_on: true,
-            feed_a: 41,
-            feed_b: 17,
-        },
-        Turn {
-            a_on: true,
-            b_on: false,
-            feed_a: 0,
-            feed_b: 1_048_576,
-        },
-        Turn {
-            a_on: false,
-            b_on: false,
-            feed_a: 1,
-            feed_b: 0,
-        },
+        (true, true, 41, 17),
+        (true, true, 0, 0),
+        (true, true, 0, 0),
+        (true, false, 0, 1_048_576),
+        (false, false, 1, 0),
     ];
-    assert_eq!(rt; schedule.turns(), turns.as_slice());
+    assert_eq!(rt; schedule.turns(), 5);
+    for (turn, want) in (0..5).zip(turns) {
+        assert_eq!(rt; turn_told(&schedule, turn), Some(want));
+    }
+    let fates = [
+        (0, 0, Fate::Pass),
+        (1, 0, Fate::Pass),
+        (3, 0, Fate::Pass),
+        (3, 1, Fate::Lost),
+        (3, 2, damage(11, &[1, 0xc0, 0xb4, 1])),
+        (3, 3, Fate::Pass),
+        (4, 0, damage(0, &[0xff])),
+        (4, u32::MAX, Fate::Pass),
+    ];
+    for (turn, packet, want) in fates {
+        assert_eq!(rt; fate_told(&schedule, turn, packet), Some(want));
+    }
     Ok(())
 }
 
@@ -68,8 +103,9 @@ fn the_first_lines_are_asked_for(rt: HostRuntime) {
         ),
     ];
     for (text, line) in texts {
+        let read = Schedule::read(rt.alloc(), text.as_bytes());
         assert_eq!(rt;
-            turn_count(rt.alloc(), text),
+            read.map(|schedule| schedule.turns()),
             Err(ScheduleFault::BadLine(line)),
             "{text}"
         );
@@ -77,20 +113,79 @@ fn the_first_lines_are_asked_for(rt: HostRuntime) {
 }
 
 #[test]
-fn the_first_bad_turn_line_is_told(rt: HostRuntime) -> Result<(), Fail> {
-    let turns = [
-        ("", Ok(0)),
-        ("t ++ a4", Ok(1)),
-        ("t +\n", Err(4)),
-        ("t ++\n\nt ++\n", Err(5)),
-        ("t ++\r\n", Err(4)),
-        ("run 5\n", Err(4)),
-        ("t ++ a4 .\n", Err(4)),
+fn a_line_is_in_the_grammar_or_not(rt: HostRuntime) {
+    let right = [
+        ("", 0),
+        ("t ++ a4", 1),
+        ("t -+ b1 x\n", 1),
+        ("t ++ e263:00\n", 1),
+        ("t ++ . . e0:aAbBcC . x x\n", 1),
+        ("run 1\n", 1),
+        ("run 99999\nt ++\n", 100_000),
+        ("run 50000\nrun 50000\n", 100_000),
     ];
-    for (lines, want) in turns {
-        let text = format!(in rt.alloc(); "{HEAD}{lines}")?;
-        let want = want.map_err(ScheduleFault::BadLine);
-        assert_eq!(rt; turn_count(rt.alloc(), text.as_str()), want, "{lines}");
+    for (lines, count) in right {
+        assert_eq!(rt; turn_count(rt.alloc(), lines), Ok(count), "{lines}");
+    }
+    let wrong = [
+        ("t +\n", 4),
+        ("t ++\n\nt ++\n", 5),
+        ("t ++\r\n", 4),
+        ("t ++ \n", 4),
+        ("t ++  .\n", 4),
+        ("t ++ a0\n", 4),
+        ("t ++ a1048577\n", 4),
+        ("t ++ b5 a5\n", 4),
+        ("t ++ . a5\n", 4),
+        ("t ++ X\n", 4),
+        ("t ++ ..\n", 4),
+        ("t ++ e264:00\n", 4),
+        ("t ++ e00:00\n", 4),
+        ("t ++ e:00\n", 4),
+        ("t ++ e5\n", 4),
+        ("t ++ e5:\n", 4),
+        ("t ++ e5:0\n", 4),
+        ("t ++ e5:0g\n", 4),
+        ("t ++ e5:00:\n", 4),
+        ("run\n", 4),
+        ("run 0\n", 4),
+        ("run 007\n", 4),
+        ("run +7\n", 4),
+        ("run 5 .\n", 4),
+        ("run 1000000\n", 4),
+        ("run 2\nt ++\nrun  2\n", 6),
+    ];
+    for (lines, line) in wrong {
+        assert_eq!(rt;
+            turn_count(rt.alloc(), lines),
+            Err(ScheduleFault::BadLine(line)),
+            "{lines}"
+        );
+    }
+}
+
+#[test]
+fn the_first_line_at_fault_is_told(rt: HostRuntime) -> Result<(), Fail> {
+    let faults = [
+        ("run 100001\n", ScheduleFault::TooLong(4)),
+        ("run 999999\n", ScheduleFault::TooLong(4)),
+        (
+            "run 50000\nrun 50000\nt ++\nt +\n",
+            ScheduleFault::TooLong(6),
+        ),
+        ("run 100000\nt +\nt ++\n", ScheduleFault::BadLine(5)),
+        ("t +\nrun 100001\n", ScheduleFault::BadLine(4)),
+    ];
+    for (lines, fault) in faults {
+        assert_eq!(rt; turn_count(rt.alloc(), lines), Err(fault), "{lines}");
+    }
+    let texts = [
+        (ScheduleFault::BadLine(4), "schedule line 4"),
+        (ScheduleFault::TooLong(4), "too long: schedule line 4"),
+        (ScheduleFault::Memory, "no memory"),
+    ];
+    for (fault, text) in texts {
+        assert_eq!(rt; format!(in rt.alloc(); "{fault}")?.as_str(), text);
     }
     Ok(())
 }
@@ -106,12 +201,46 @@ fn a_side_has_one_to_64_words(rt: HostRuntime) -> Result<(), Fail> {
             text.push_str(" 0000000000000001")?;
         }
         text.push_str("\nside b c0ffee00000b 71764129 0000000000000002\nt ++\n")?;
-        let want = want.map_err(ScheduleFault::BadLine);
+        let read = Schedule::read(rt.alloc(), text.as_bytes());
         assert_eq!(rt;
-            turn_count(rt.alloc(), text.as_str()),
-            want,
+            read.map(|schedule| schedule.turns()),
+            want.map_err(ScheduleFault::BadLine),
             "{count} words"
         );
     }
     Ok(())
+}
+
+#[test]
+fn a_pattern_has_one_to_264_octets(rt: HostRuntime) -> Result<(), Fail> {
+    for (count, want) in [(264, Ok(1)), (265, Err(ScheduleFault::BadLine(4)))] {
+        let mut lines = String::from_str(rt.alloc(), "t ++ e0:")?;
+        for _ in 0..count {
+            lines.push_str("5a")?;
+        }
+        assert_eq!(rt;
+            turn_count(rt.alloc(), lines.as_str()),
+            want,
+            "{count} octets"
+        );
+    }
+    Ok(())
+}
+
+#[test]
+fn only_a_damage_changes_a_packet(rt: HostRuntime) {
+    let strikes = [
+        (Fate::Pass, [1, 2, 3]),
+        (Fate::Lost, [1, 2, 3]),
+        (damage(0, &[0xff]), [0xfe, 2, 3]),
+        (damage(1, &[0x02, 0x80]), [1, 0, 0x83]),
+        (damage(2, &[0x01, 0x01, 0x01]), [1, 2, 2]),
+        (damage(3, &[0x01]), [1, 2, 3]),
+        (damage(263, &[0x01]), [1, 2, 3]),
+    ];
+    for (fate, want) in strikes {
+        let mut packet = [1, 2, 3];
+        fate.strike(&mut packet);
+        assert_eq!(rt; packet, want);
+    }
 }

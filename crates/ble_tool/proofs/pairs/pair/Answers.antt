@@ -5,9 +5,9 @@ use Rattle.ble_tool.proofs.pairs.pair.Goals as goal
 
 pub returns-clause-ok : goal.returns-clause-ok
 returns-clause-ok g c =
-    let world : World = world_of (name_of c.args.names.a.now c.args.names.b.now c.args.names.schedule.now) (g.F.Files.content c.args.files.now) (g.F.Files.faults c.args.files.now)
+    let world : World = world_of (name_of c.args.names.a.now c.args.names.b.now c.args.names.schedule.now) (g.F.Files.content c.args.files.now) (g.F.Files.is_reliable c.args.files.now) (g.F.Files.faults c.args.files.now)
     (g.F.Files.faults c.read_source-3.new.files) (g.O.Sink.written c.args.out.now) (g.O.Sink.written c.pair_octets.new.out)
-    (g.O.Sink.faults c.args.out.now) (g.O.Sink.faults c.pair_octets.new.out) in
+    (g.O.Sink.is_reliable c.args.out.now) (g.O.Sink.faults c.args.out.now) (g.O.Sink.faults c.pair_octets.new.out) in
     let are : AreRead world c.in_ok-octets_a.octets_a.items c.in_ok-octets_b.octets_b.items c.in_ok-text.text.items = record {
       is_a = c.in_ok-octets_a.ensures.ok;
       is_b = rw (c.read_source.ensures.contents c.args.names.b.now) at c.in_ok-octets_b.ensures.ok;
@@ -20,9 +20,9 @@ returns-clause-ok g c =
 
 pub returns-clause-err : goal.returns-clause-err
 returns-clause-err g c =
-    let world : World = world_of (name_of c.args.names.a.now c.args.names.b.now c.args.names.schedule.now) (g.F.Files.content c.args.files.now) (g.F.Files.faults c.args.files.now)
+    let world : World = world_of (name_of c.args.names.a.now c.args.names.b.now c.args.names.schedule.now) (g.F.Files.content c.args.files.now) (g.F.Files.is_reliable c.args.files.now) (g.F.Files.faults c.args.files.now)
     (g.F.Files.faults c.read_source-3.new.files) (g.O.Sink.written c.args.out.now) (g.O.Sink.written c.pair_octets.new.out)
-    (g.O.Sink.faults c.args.out.now) (g.O.Sink.faults c.pair_octets.new.out) in
+    (g.O.Sink.is_reliable c.args.out.now) (g.O.Sink.faults c.args.out.now) (g.O.Sink.faults c.pair_octets.new.out) in
     let are : AreRead world c.in_ok-octets_a.octets_a.items c.in_ok-octets_b.octets_b.items c.in_ok-text.text.items = record {
       is_a = c.in_ok-octets_a.ensures.ok;
       is_b = rw (c.read_source.ensures.contents c.args.names.b.now) at c.in_ok-octets_b.ensures.ok;

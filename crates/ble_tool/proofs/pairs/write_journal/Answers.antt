@@ -19,7 +19,7 @@ returns-in_err-write_block-clause-err g c =
     let at = c.loop-rest.invariant.1 in
     let parts = text_parts _ _ _ _ c.split_at.ensures.front c.split_at.ensures.back in
     handed_on c.from_residual.result _ c.in_err-write_block.field-0.0 c.from_residual.ensures.1
-    (part_not_written _ _ _ _ _ _ front _ (text c.split_at.result.1.now) _ _ at.grew at.counts (ap (λ xs. front ++ xs) parts ∙ at.parts) c.in_err-write_block.ensures.err)
+    (part_not_written _ _ _ _ _ _ _ _ front _ (text c.split_at.result.1.now) _ _ at.grew at.stays at.counts (ap (λ xs. front ++ xs) parts ∙ at.parts) c.in_err-write_block.ensures.err)
 
 pub loop-rest-preserved : goal.loop-rest-preserved
 loop-rest-preserved g c =
@@ -30,6 +30,7 @@ loop-rest-preserved g c =
       record {
         grew = grew_more _ _ _ _ _ at.grew c.in_ok-write_block.ensures.ok;
         parts = append_assoc front _ _ ∙ ap (λ xs. front ++ xs) parts ∙ at.parts;
+        stays = λ never. c.write_block.ensures.stays_reliable (at.stays never);
         counts = omega (arith, at.counts, c.write_block.ensures.counts);
       },
     )

@@ -8,6 +8,7 @@ invariant-loop-rest g l = (front : List ℕ)
     × record {
       grew : GrewBy (g.O.Sink.written l.fn.out) (g.O.Sink.written l.out) front;
       parts : front ++ text l.rest ≡ text l.journal;
+      stays : g.O.Sink.is_reliable l.fn.out → g.O.Sink.is_reliable l.out;
       counts : g.O.Sink.faults l.fn.out ≤ g.O.Sink.faults l.out;
     }
 

@@ -1,13 +1,15 @@
-use Rattle.std.proofs.Common.{◌≡◌, ℕ, List, ◌++◌, drop}
-use Rattle.h4_frames.specs.Machine.{waits}
-use Rattle.pair_world.specs.Steps.{journal_from, journal_of}
+use Rattle.std.proofs.Common.{◌≡◌, []}
+use Rattle.ble_base.specs.declared.roles.Side.TheVariants.{A, B}
+use Rattle.pair_world.specs.Run.{Given}
+use Rattle.pair_world.specs.Turns.{AtTurnEnd}
 use Rattle.pair_world.proofs.runs.run_turns.Given as goal
 
-abbrev pub invariant-loop-slot : goal.invariant-loop-slot
-invariant-loop-slot l = (past_a : List ℕ) × (past_b : List ℕ)
-    × record {
-      waits_a : l.station_a.controller.framer ≡ waits past_a;
-      waits_b : l.station_b.controller.framer ≡ waits past_b;
-      rest : l.journal ++ journal_from l.slot past_a l.station_a.unfed.now past_b l.station_b.unfed.now (drop l.slot l.turns)
-          ≡ journal_of l.a l.b l.turns;
-    }
+abbrev pub invariant-loop-turn : goal.invariant-loop-turn
+invariant-loop-turn l = record {
+  side_a : l.pair.a.side ≡ A;
+  side_b : l.pair.b.side ≡ B;
+  empty : l.out.items ≡ [];
+  at : (given : Given) → given.script.turns ≡ l.schedule.turns
+      → AtTurnEnd given 0 [] l.fn.a.controller l.fn.b.controller l.fn.a.unfed.now l.fn.b.unfed.now
+      → AtTurnEnd given l.turn l.journal l.pair.a.controller l.pair.b.controller l.pair.a.unfed.now l.pair.b.unfed.now;
+}

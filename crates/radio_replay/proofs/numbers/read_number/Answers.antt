@@ -2,8 +2,8 @@ use Rattle.std.proofs.Common.{sym, ◌∙◌, ◌*◌, ◌+◌, ◌-◌, drop, g
 use Rattle.radio_replay.proofs.Decimals.{next_digit, past_most}
 use Rattle.radio_replay.proofs.numbers.read_number.Goals as goal
 
-pub returns-then-number-from : goal.returns-then-number-from
-returns-then-number-from c =
+pub returns-then-number-from-clause-value : goal.returns-then-number-from-clause-value
+returns-then-number-from-clause-value c =
     let n = c.loop-digit.number in
     let i = c.loop-digit.digit-index in
     let word = c.args.word.now in

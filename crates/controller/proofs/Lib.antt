@@ -1,0 +1,7 @@
+pub mod Hearing
+pub mod Reading
+pub mod Telling
+pub mod Views
+pub mod Acting
+pub mod Taking
+pub mod Understood

@@ -1,0 +1,5 @@
+use Rattle.controller.proofs.Views.{rested-ready}
+use Rattle.controller.proofs.laws.turns_follow.Goals as goal
+
+pub returns : goal.returns
+returns c = rested-ready

@@ -1,0 +1,120 @@
+-- A controller by its past: all that came to it, in order. Own.
+use Rattle.std.specs.Prelude.{ℕ, ◌+◌, ◌==◌, ◌&&◌, Bool, true, false, List, [], ◌∷◌, ◌++◌, length, map, drop}
+use Rattle.std.specs.Int.{bit_at}
+use Rattle.std.specs.List.{filter}
+use Rattle.ble_base.specs.declared.notes.Note.{Note}
+use Rattle.ble_base.specs.declared.notes.Note.TheVariants.{Up}
+use Rattle.h4_frames.specs.declared.packet.Fed.{Fed}
+use Rattle.h4_frames.specs.declared.packet.Fed.TheVariants.{More}
+use Rattle.h4_frames.specs.Frames.{frames}
+use Rattle.hci_evt.specs.declared.event.Event.{Event}
+use Rattle.hci_evt.specs.declared.event.MaskBit.{MaskBit}
+use Rattle.hci_evt.specs.declared.event.MaskBit.TheVariants.{Always, Main, Meta}
+use Rattle.hci_evt.specs.Event.{mask_bit_of, written}
+use Rattle.controller.specs.declared.intents.Intent.{Intent}
+use Rattle.controller.specs.declared.devices.Device.{Device}
+use Rattle.controller.specs.declared.devices.Activity.{Activity}
+use Rattle.controller.specs.Table.{initial, device_after, events_for}
+use Rattle.controller.specs.Turns.{activity, intent_in, advertisement_for, device_hears, device_tells, behind_turn}
+
+-- what comes to a controller
+pub data Input : Type 0 where
+  -- a turn begins: its slot, and whether the radio is on in it
+  Turned : (slot : ℕ) (on : Bool) → Input
+  -- an octet of the host
+  Given : (octet : ℕ) → Input
+  -- a packet that was heard
+  Heard : (packet : List ℕ) → Input
+
+-- what a controller holds
+pub record View : Type 0 where
+  -- its public address
+  pub public : List ℕ
+  -- the octets of the host
+  pub octets : List ℕ
+  -- the turn that began last, and the number of turns that began
+  pub slot : ℕ
+  pub on : Bool
+  pub next : ℕ
+  pub device : Device
+
+-- ---- masks (Core 5.2, volume 4 part E, sections 7.3.1 and 7.8.1)
+
+-- the mask of LE events, which no command sets yet
+abbrev pub le_mask : ℕ
+le_mask = 0x1F
+
+abbrev pub has_bit : ℕ → ℕ → Bool
+has_bit mask bit = bit_at mask bit == 1
+
+-- an LE event needs its own bit, and that of all LE events, which is 61
+abbrev pub passes : ℕ → MaskBit → Bool
+passes mask Always = true
+passes mask (Main bit) = has_bit mask bit
+passes mask (Meta bit) = has_bit mask 61 && has_bit le_mask bit
+
+-- the packets of the events that the mask lets through
+abbrev pub told : ℕ → List Event → List (List ℕ)
+told mask events = map written (filter (λ event. passes mask (mask_bit_of event)) events)
+
+-- ---- what an octet of the host brings behind those before it
+
+abbrev pub first_of : List (ℕ × Fed) → Fed
+first_of [] = More
+first_of (entry ∷ entries) = entry.1
+
+unfoldable pub brought : List ℕ → ℕ → Fed
+brought past octet = first_of (drop (length (frames past)) (frames (past ++ octet ∷ [])))
+
+-- ---- step by step
+
+abbrev pub activity_of : View → Activity
+activity_of view = activity view.slot view.on view.device
+
+-- what comes changes what it holds
+abbrev pub see : View → Input → View
+see view (Turned slot on) =
+    record view { slot = slot; on = on; next = slot + 1; device = behind_turn view.slot view.on view.device }
+see view (Given octet) =
+    record view {
+      octets = view.octets ++ octet ∷ [];
+      device = device_after view.slot view.device (brought view.octets octet);
+    }
+see view (Heard packet) =
+    record view { device = device_hears view.device view.device.scanner (advertisement_for view.public (activity_of view) packet) }
+
+-- and is told to the host: the packets
+abbrev pub tells : View → Input → List (List ℕ)
+tells view (Turned slot on) = []
+tells view (Given octet) = told view.device.mask (events_for view.public view.device (brought view.octets octet))
+tells view (Heard packet) =
+    told view.device.mask (device_tells view.device.scanner (advertisement_for view.public (activity_of view) packet))
+
+-- ---- all of it
+
+abbrev pub first_view : List ℕ → View
+first_view public = record { public = public; octets = []; slot = 0; on = false; next = 0; device = initial }
+
+abbrev pub view_from : View → List Input → View
+view_from view [] = view
+view_from view (input ∷ inputs) = view_from (see view input) inputs
+
+-- what a controller with this public address holds, once all this has come
+unfoldable pub view_of : List ℕ → List Input → View
+view_of public past = view_from (first_view public) past
+
+abbrev pub told_from : View → List Input → List (List ℕ)
+told_from view [] = []
+told_from view (input ∷ inputs) = tells view input ++ told_from (see view input) inputs
+
+-- all that its host is told by then
+unfoldable pub told_by : List ℕ → List Input → List (List ℕ)
+told_by public past = told_from (first_view public) past
+
+-- what it does in a phase of the turn that began last
+abbrev pub intent_of : ℕ → View → Intent
+intent_of phase view = intent_in phase view.public (activity_of view)
+
+-- packets to the host as notes
+abbrev pub notes_of : List (List ℕ) → List Note
+notes_of packets = map (λ packet. Up (record { items = packet })) packets

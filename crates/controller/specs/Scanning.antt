@@ -1,0 +1,115 @@
+-- When a scanner listens, and what it reports (Core 5.2, volume 6 part B, section 4.4.3, and volume 4 part E, section 7.7.65.2).
+use Rattle.std.specs.Prelude.{ℕ, ◌+◌, ◌-◌, ◌/◌, ◌%◌, ◌==◌, ◌&&◌, ◌||◌, not, nat_lt, Bool, false, List, [], ◌∷◌, ◌++◌, length, take, drop, slice_index, Option, Some, None, if◌then◌else◌}
+use Rattle.std.specs.Bool.{beq}
+use Rattle.std.specs.List.{list_any}
+use Rattle.std.specs.Str.{bytes_eq}
+use Rattle.ble_base.specs.declared.Address.{Address}
+use Rattle.adv_pdu.specs.declared.pdu.AdvPdu.{AdvPdu}
+use Rattle.adv_pdu.specs.declared.pdu.AdvPdu.TheVariants.{Ind, Direct, Nonconn, ScanInd}
+use Rattle.adv_pdu.specs.Header.{is_one}
+use Rattle.adv_pdu.specs.Reading.{is_payload_length}
+use Rattle.hci_evt.specs.declared.event.Event.{Event}
+use Rattle.hci_evt.specs.declared.event.Event.TheVariants.{AdvertisingReport}
+use Rattle.controller.specs.declared.scanners.Report.{Report}
+use Rattle.controller.specs.declared.scanners.Advertisement.{Advertisement}
+use Rattle.controller.specs.declared.scanners.Scanner.{Scanner}
+use Rattle.controller.specs.Advertising.{slots_of}
+
+-- the scan interval and the scan window of a controller whose host has set none, in units of 0.625 ms (volume 4 part E, section 7.8.10)
+abbrev pub scan_interval : ℕ
+scan_interval = 0x0010
+
+abbrev pub scan_window : ℕ
+scan_window = 0x0010
+
+-- the channel on which a scanner listens so many slots behind its start: one of three for each interval, in turn, at the
+-- beginning of which the window stands (own)
+abbrev pub channel_after : ℕ → Option ℕ
+channel_after slots =
+    if nat_lt (slots % slots_of scan_interval) (slots_of scan_window)
+    then Some (37 + slots / slots_of scan_interval % 3) else None
+
+-- ---- what a PDU tells a scanner
+
+-- the type of report that a PDU of this type is told by; scan requests, scan responses and connection requests by none,
+-- where the scanning is passive
+abbrev pub report_kind : ℕ → Option ℕ
+report_kind kind =
+    if kind == 0 then Some 0 else if kind == 1 then Some 1 else if kind == 6 then Some 2 else if kind == 2 then Some 3 else None
+
+-- a directed advertisement is for the device whose address it names
+abbrev pub is_for : List ℕ → ℕ → List ℕ → Bool
+is_for public kind octets =
+    not (kind == 1) || (not (is_one (slice_index octets 0) 7) && bytes_eq (take 6 (drop 8 octets)) public)
+
+abbrev pub advertisement_with : Option ℕ → ℕ → List ℕ → Option Advertisement
+advertisement_with None kind octets = None
+advertisement_with (Some report) kind octets =
+    Some (record {
+      kind = report;
+      from = record { random = is_one (slice_index octets 0) 6; octets = take 6 (drop 2 octets) };
+      body = record { items = if kind == 1 then [] else drop 8 octets };
+    })
+
+-- the same of a PDU by its parts: its report has the address of the sender and the advertising data
+abbrev pub advertisement_of_pdu : List ℕ → AdvPdu → Option Advertisement
+advertisement_of_pdu public (Ind from ch_sel body) = Some (record { kind = 0; from = from; body = body })
+advertisement_of_pdu public (Direct from to ch_sel) =
+    if not to.random && bytes_eq to.octets public then Some (record { kind = 1; from = from; body = record { items = [] } }) else None
+advertisement_of_pdu public (ScanInd from body) = Some (record { kind = 2; from = from; body = body })
+advertisement_of_pdu public (Nonconn from body) = Some (record { kind = 3; from = from; body = body })
+advertisement_of_pdu public other = None
+
+-- the octets are a header and as many octets as its second octet says, which a PDU of this type may have
+abbrev pub is_whole_pdu : List ℕ → Bool
+is_whole_pdu octets =
+    not (nat_lt (length octets) 2) && (length octets == 2 + slice_index octets 1)
+    && is_payload_length (slice_index octets 0 % 16) (slice_index octets 1)
+
+-- the advertisement that these octets are to the device of this public address
+unfoldable pub advertisement_in : List ℕ → List ℕ → Option Advertisement
+advertisement_in public octets =
+    if is_whole_pdu octets && is_for public (slice_index octets 0 % 16) octets
+    then advertisement_with (report_kind (slice_index octets 0 % 16)) (slice_index octets 0 % 16) octets else None
+
+-- ---- duplicates
+
+abbrev pub is_same_address : Address → Address → Bool
+is_same_address one other = beq one.random other.random && bytes_eq one.octets other.octets
+
+abbrev pub is_alike : Report → Report → Bool
+is_alike one other = (one.kind == other.kind) && is_same_address one.from other.from
+
+abbrev pub report_of : Advertisement → Report
+report_of advertisement = record { kind = advertisement.kind; from = advertisement.from }
+
+-- the last 16
+abbrev pub last_16 : List Report → List Report
+last_16 reports = drop (length reports - 16) reports
+
+-- a duplicate is a report of a type and address that are among the last 16 reported since scanning began; where they are
+-- filtered it is withheld (own)
+abbrev pub is_withheld : Scanner → Advertisement → Bool
+is_withheld scanner advertisement = scanner.once && list_any (λ report. is_alike report (report_of advertisement)) scanner.recent.items
+
+-- the scanner that has heard this
+abbrev pub scanner_after : Scanner → Advertisement → Scanner
+scanner_after scanner advertisement =
+    if is_withheld scanner advertisement then scanner
+    else record scanner { recent = record { items = last_16 (scanner.recent.items ++ report_of advertisement ∷ []) } }
+
+abbrev pub address_kind : Address → ℕ
+address_kind address = if address.random then 1 else 0
+
+-- the signal strength is not told: 7F (volume 4 part E, section 7.7.65.2)
+abbrev pub report_event : Advertisement → Event
+report_event advertisement =
+    AdvertisingReport advertisement.kind (address_kind advertisement.from) advertisement.from.octets advertisement.body 0x7F
+
+-- the event that this calls for
+abbrev pub events_of : Scanner → Advertisement → List Event
+events_of scanner advertisement = if is_withheld scanner advertisement then [] else report_event advertisement ∷ []
+
+-- what an advertisement that is not connectable says of a device with this public address, which has no data
+abbrev pub advertisement_from : List ℕ → Advertisement
+advertisement_from public = record { kind = 3; from = record { random = false; octets = public }; body = record { items = [] } }

@@ -1,0 +1,21 @@
+//! A controller, step by step: the octets of its host, the turns of the radio, and what it sends and tells.
+//!
+//! It carries out six commands, advertises without being connectable, and scans passively (Core 5.2, volume 6
+//! part B, sections 4.4.2 and 4.4.3, and volume 4 part E). A turn is a slot of 1.25 ms and has three phases; in each the
+//! controller sends a packet, listens on a channel, or is idle.
+#![tactic(auto)]
+
+mod advertisers;
+mod commands;
+mod controllers;
+mod devices;
+mod intents;
+pub mod laws;
+mod packets;
+mod scanners;
+mod statuses;
+#[cfg(test)]
+mod tests;
+
+pub use crate::controllers::Controller;
+pub use crate::intents::Intent;

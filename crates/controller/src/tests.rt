@@ -1,0 +1,306 @@
+//! Controllers between octets of a host and the packets of a turn, as worked out by hand.
+
+use super::*;
+use arrayvec::ArrayVec;
+use ble_base::{Note, Outbox, SlotNo, Verdict};
+use std::process::Abort;
+
+const PUBLIC_A: [u8; 6] = [0x0A, 0x00, 0x00, 0xEE, 0xFF, 0xC0];
+
+const PUBLIC_B: [u8; 6] = [0x0B, 0x00, 0x00, 0xEE, 0xFF, 0xC0];
+
+/// The advertisement of the device with the first of these addresses, on the channels 37, 38 and 39.
+const ADVERTISEMENTS: [[u8; 15]; 3] = [
+    [
+        0xD6, 0xBE, 0x89, 0x8E, 0x8F, 0xD4, 0x5D, 0xA1, 0x3D, 0x49, 0x99, 0x70, 0xF8, 0x4A, 0xDA,
+    ],
+    [
+        0xD6, 0xBE, 0x89, 0x8E, 0xD4, 0xC3, 0x4E, 0x20, 0x59, 0x30, 0x1E, 0x4F, 0x96, 0xDE, 0x64,
+    ],
+    [
+        0xD6, 0xBE, 0x89, 0x8E, 0x1D, 0x31, 0x40, 0x5F, 0x85, 0x18, 0x63, 0x5A, 0x4C, 0xAD, 0x0E,
+    ],
+];
+
+/// ADV_DIRECT_IND from the device with the first address to that with the second, on channel 37.
+const TO_B: [u8; 21] = [
+    0xD6, 0xBE, 0x89, 0x8E, 0x8C, 0xDE, 0x5D, 0xA1, 0x3D, 0x49, 0x99, 0x70, 0x7E, 0x31, 0x11, 0xA6,
+    0x69, 0xB7, 0xCF, 0x2B, 0x92,
+];
+
+/// The same to a device with another address.
+const TO_ANOTHER: [u8; 21] = [
+    0xD6, 0xBE, 0x89, 0x8E, 0x8C, 0xDE, 0x5D, 0xA1, 0x3D, 0x49, 0x99, 0x70, 0x79, 0x31, 0x11, 0xA6,
+    0x69, 0xB7, 0x2E, 0x3A, 0x77,
+];
+
+/// What the host of the second device is told of the advertisement of the first, and of the directed one.
+const REPORT: [u8; 15] = [
+    0x04, 0x3E, 0x0C, 0x02, 0x01, 0x03, 0x00, 0x0A, 0x00, 0x00, 0xEE, 0xFF, 0xC0, 0x00, 0x7F,
+];
+
+const DIRECTED_REPORT: [u8; 15] = [
+    0x04, 0x3E, 0x0C, 0x02, 0x01, 0x01, 0x00, 0x0A, 0x00, 0x00, 0xEE, 0xFF, 0xC0, 0x00, 0x7F,
+];
+
+/// LE Set Advertising Parameters: 20 ms, not connectable, the public address, all channels.
+const PARAMETERS: [u8; 19] = [
+    0x01, 0x06, 0x20, 0x0F, 0x20, 0x00, 0x20, 0x00, 0x03, 0x00, 0x00, 0x00, 0x00, 0x00, 0x00, 0x00,
+    0x00, 0x07, 0x00,
+];
+
+const ADVERTISE: [u8; 5] = [0x01, 0x0A, 0x20, 0x01, 0x01];
+
+const SCAN: [u8; 6] = [0x01, 0x0C, 0x20, 0x02, 0x01, 0x00];
+
+const SCAN_ONCE: [u8; 6] = [0x01, 0x0C, 0x20, 0x02, 0x01, 0x01];
+
+const RESET: [u8; 4] = [0x01, 0x03, 0x0C, 0x00];
+
+/// Set Event Mask, with the bit of the LE events.
+const MASK: [u8; 12] = [
+    0x01, 0x01, 0x0C, 0x08, 0xFF, 0xFF, 0xFF, 0xFF, 0xFF, 0x1F, 0x00, 0x20,
+];
+
+fn up(rt: &impl Abort, packet: &[u8]) -> Note {
+    let mut octets = ArrayVec::new();
+    assert!(rt; octets.try_extend_from_slice(packet).is_ok());
+    Note::Up(octets)
+}
+
+/// HCI_Command_Complete of a command, with a status and nothing else.
+fn complete(command: &[u8], status: u8) -> [u8; 7] {
+    let opcode = command.get(1..3).unwrap_or(&[]);
+    let low = opcode.first().copied().unwrap_or(0);
+    let high = opcode.last().copied().unwrap_or(0);
+    [0x04, 0x0E, 0x04, 0x01, low, high, status]
+}
+
+/// The octets of a host call for these packets, in order.
+fn give(rt: &impl Abort, controller: &mut Controller, octets: &[u8], packets: &[&[u8]]) {
+    let mut rest = packets.iter();
+    for octet in octets {
+        let mut out = Outbox::new();
+        controller.host_octet(*octet, &mut out);
+        for note in out.as_slice() {
+            let packet = rest.next().copied().unwrap_or(&[]);
+            assert_eq!(rt; note, &up(rt, packet), "at {octet}");
+        }
+    }
+    assert_eq!(rt; rest.next(), None);
+}
+
+/// The command is answered with this status.
+fn command(rt: &impl Abort, controller: &mut Controller, octets: &[u8], status: u8) {
+    give(
+        rt,
+        controller,
+        octets,
+        &[complete(octets, status).as_slice()],
+    );
+}
+
+fn sends(rt: &impl Abort, channel: u8, packet: &[u8]) -> Intent {
+    let mut octets = ArrayVec::new();
+    assert!(rt; octets.try_extend_from_slice(packet).is_ok());
+    Intent::Send { channel, octets }
+}
+
+/// A turn in which nothing is heard, and what was wanted in its first two phases.
+fn turn(controller: &mut Controller, slot: u32, on: bool) -> (Intent, Intent) {
+    let first = controller.begin_turn(SlotNo(u64::from(slot)), on);
+    let second = controller.unheard();
+    controller.unheard();
+    controller.unheard();
+    controller.end_turn();
+    (first, second)
+}
+
+/// A turn in which the packet is heard in the first phase, on channel 37, and its report, if it makes one.
+fn hearing(
+    rt: &impl Abort,
+    controller: &mut Controller,
+    slot: u32,
+    packet: &[u8],
+    report: Option<&[u8]>,
+) {
+    let mut out = Outbox::new();
+    assert_eq!(rt;
+        controller.begin_turn(SlotNo(u64::from(slot)), true),
+        Intent::Listen { channel: 37 }
+    );
+    assert_eq!(rt; controller.judge(packet), Verdict::Good);
+    assert_eq!(rt; controller.heard(packet, &mut out), Intent::Idle);
+    assert_eq!(rt; controller.judge(packet), Verdict::Missed);
+    assert_eq!(rt;
+        out.as_slice().first(),
+        report.map(|octets| up(rt, octets)).as_ref()
+    );
+    controller.unheard();
+    controller.unheard();
+    controller.end_turn();
+}
+
+#[test]
+fn answers_commands(rt: HostRuntime) {
+    laws::past_grows();
+    laws::turns_follow();
+    laws::an_advertisement_is_understood();
+    let mut controller = Controller::new(PUBLIC_A);
+    give(
+        &rt,
+        &mut controller,
+        &[0x01, 0x09, 0x10, 0x00],
+        &[&[
+            0x04, 0x0E, 0x0A, 0x01, 0x09, 0x10, 0x00, 0x0A, 0x00, 0x00, 0xEE, 0xFF, 0xC0,
+        ]],
+    );
+    give(
+        &rt,
+        &mut controller,
+        &[0x01, 0xFF, 0xFF, 0x00],
+        &[&[0x04, 0x0F, 0x04, 0x01, 0x01, 0xFF, 0xFF]],
+    );
+    give(
+        &rt,
+        &mut controller,
+        &[0x07, 0xAA, 0x01, 0x03, 0x0C, 0x00],
+        &[&[0x04, 0x10, 0x01, 0x01], &complete(&RESET, 0x00)],
+    );
+    command(&rt, &mut controller, &[0x01, 0x03, 0x0C, 0x01, 0x00], 0x12);
+    command(&rt, &mut controller, &[0x01, 0x0A, 0x20, 0x00], 0x12);
+}
+
+#[test]
+fn refuses_by_the_table(rt: HostRuntime) {
+    let mut controller = Controller::new(PUBLIC_A);
+    for (place, octet, status) in [
+        (4, 0x1F, 0x12),
+        (4, 0x21, 0x12),
+        (7, 0x40, 0x12),
+        (8, 0x01, 0x11),
+        (8, 0x05, 0x12),
+        (9, 0x02, 0x11),
+        (9, 0x03, 0x11),
+        (9, 0x04, 0x12),
+        (10, 0x02, 0x12),
+        (17, 0x00, 0x12),
+        (17, 0x08, 0x12),
+        (18, 0x04, 0x12),
+        (8, 0x04, 0x00),
+    ] {
+        let mut octets = PARAMETERS;
+        if let Some(changed) = octets.get_mut(place) {
+            *changed = octet;
+        }
+        command(&rt, &mut controller, &octets, status);
+    }
+    command(&rt, &mut controller, &[0x01, 0x0A, 0x20, 0x01, 0x02], 0x12);
+    command(&rt, &mut controller, &ADVERTISE, 0x11);
+    command(
+        &rt,
+        &mut controller,
+        &[0x01, 0x0C, 0x20, 0x02, 0x02, 0x00],
+        0x12,
+    );
+    command(
+        &rt,
+        &mut controller,
+        &[0x01, 0x0C, 0x20, 0x02, 0x01, 0x02],
+        0x12,
+    );
+    command(&rt, &mut controller, &PARAMETERS, 0x00);
+    command(&rt, &mut controller, &ADVERTISE, 0x00);
+    command(&rt, &mut controller, &PARAMETERS, 0x0C);
+}
+
+#[test]
+fn advertises_on_three_channels(rt: HostRuntime) {
+    let mut controller = Controller::new(PUBLIC_A);
+    command(&rt, &mut controller, &PARAMETERS, 0x00);
+    command(&rt, &mut controller, &ADVERTISE, 0x00);
+    for slot in 0..19 {
+        let intents = turn(&mut controller, slot, true);
+        match slot % 16 {
+            place @ 0..3 => {
+                let channel = 37 + place as u8;
+                let packet = ADVERTISEMENTS
+                    .get(place as usize)
+                    .map(|octets| octets.as_slice());
+                assert_eq!(rt;
+                    intents,
+                    (
+                        sends(&rt, channel, packet.unwrap_or(&[])),
+                        Intent::Listen { channel }
+                    ),
+                    "in {slot}"
+                );
+            }
+            _ => assert_eq!(rt; intents, (Intent::Idle, Intent::Idle), "in {slot}"),
+        }
+    }
+}
+
+#[test]
+fn leaves_out_channels_and_turns_without_radio(rt: HostRuntime) {
+    let mut controller = Controller::new(PUBLIC_A);
+    let mut parameters = PARAMETERS;
+    parameters[17] = 0x05;
+    command(&rt, &mut controller, &parameters, 0x00);
+    command(&rt, &mut controller, &ADVERTISE, 0x00);
+    for (slot, on, channel) in [
+        (0, false, None),
+        (1, true, Some(37)),
+        (2, true, None),
+        (3, false, None),
+        (4, true, None),
+    ] {
+        let (first, second) = turn(&mut controller, slot, on);
+        assert_eq!(rt;
+            second,
+            channel.map_or(Intent::Idle, |channel| Intent::Listen { channel })
+        );
+        assert_eq!(rt; first == Intent::Idle, channel.is_none());
+    }
+}
+
+#[test]
+fn reports_what_it_scans(rt: HostRuntime) {
+    let mut controller = Controller::new(PUBLIC_B);
+    let [advertisement, ..] = ADVERTISEMENTS;
+    command(&rt, &mut controller, &SCAN, 0x00);
+    hearing(&rt, &mut controller, 0, &advertisement, None);
+    command(&rt, &mut controller, &MASK, 0x00);
+    hearing(&rt, &mut controller, 1, &advertisement, Some(&REPORT));
+    hearing(&rt, &mut controller, 2, &advertisement, Some(&REPORT));
+    hearing(&rt, &mut controller, 3, &TO_B, Some(&DIRECTED_REPORT));
+    hearing(&rt, &mut controller, 4, &TO_ANOTHER, None);
+    let mut damaged = advertisement;
+    damaged[6] ^= 0x01;
+    assert_eq!(rt;
+        controller.begin_turn(SlotNo(5), true),
+        Intent::Listen { channel: 37 }
+    );
+    assert_eq!(rt; controller.judge(&damaged), Verdict::Broken);
+    damaged[0] ^= 0x01;
+    assert_eq!(rt; controller.judge(&damaged), Verdict::Missed);
+    controller.end_turn();
+}
+
+#[test]
+fn withholds_duplicates_until_a_reset(rt: HostRuntime) {
+    let mut controller = Controller::new(PUBLIC_B);
+    let [advertisement, ..] = ADVERTISEMENTS;
+    command(&rt, &mut controller, &MASK, 0x00);
+    command(&rt, &mut controller, &SCAN_ONCE, 0x00);
+    hearing(&rt, &mut controller, 0, &advertisement, Some(&REPORT));
+    hearing(&rt, &mut controller, 1, &advertisement, None);
+    command(&rt, &mut controller, &RESET, 0x00);
+    assert_eq!(rt;
+        turn(&mut controller, 2, true),
+        (Intent::Idle, Intent::Idle)
+    );
+    command(&rt, &mut controller, &MASK, 0x00);
+    command(&rt, &mut controller, &SCAN_ONCE, 0x00);
+    hearing(&rt, &mut controller, 3, &advertisement, Some(&REPORT));
+}

@@ -1,0 +1,25 @@
+-- What is so of a packet on the air. Own.
+use Rattle.std.specs.Prelude.{◌≡◌, ℕ, List, Some, slice_get}
+use Rattle.ble_base.specs.declared.roles.Side.{Side}
+use Rattle.ble_base.specs.declared.verdicts.Verdict.{Verdict}
+use Rattle.ble_base.specs.declared.verdicts.Verdict.TheVariants.{Good}
+use Rattle.journal.specs.declared.entries.Entry.{Entry}
+use Rattle.journal.specs.declared.entries.Mark.{Mark}
+use Rattle.radio_replay.specs.Damage.{struck}
+use Rattle.pair_world.specs.History.{aired}
+use Rattle.pair_world.specs.Run.{Given, Flight, flights, fate_at, mark_of, verdict_of}
+
+-- behind this history the packet is on the air with this fate and this verdict
+pub record IsAired (given : Given) (history : List Entry) (side : Side) (channel : ℕ) (octets : List ℕ) (fate : Mark) (verdict : Verdict) : Type 0 where
+  pub flight : Flight
+  -- it is the next of those that the turn calls for
+  pub is_next : slice_get (flights given history) (aired history) ≡ Some flight
+  pub side_is : side ≡ flight.side
+  pub channel_is : channel ≡ flight.channel
+  pub octets_are : octets ≡ flight.octets
+  -- its fate is the next of the turn
+  pub fate_is : fate ≡ mark_of (fate_at given history)
+  -- the verdict is that of the other side
+  pub verdict_is : verdict ≡ verdict_of given history flight
+  -- what is judged good was not changed
+  pub unchanged : verdict ≡ Good → struck (fate_at given history) octets ≡ octets
