@@ -1,9 +1,9 @@
 #!/usr/bin/env bash
-# Measures `ble pair` over host octets alone: speed, and peak memory against the text of the journal.
+# Measures `ble pair` over host octets and the radio: speed, and peak memory against the text of the journal.
 # Needs the toolchain and python3.
 cd "$(dirname "$0")/.." || exit 1
 (cd crates/ble && rt run -- pair data/a.bin data/b.bin data/schedule) >/dev/null 2>&1 || {
   echo "the program did not build" >&2
   exit 1
 }
-exec python3 bench/first_path.py crates/ble/out/ble
+exec python3 bench/runs.py crates/ble/out/ble
