@@ -3,7 +3,7 @@ use Rattle.std.proofs.Common.{◌≡◌, ℕ, ◌≤◌, ◌<◌, List, length, 
 use Rattle.std.specs.Prelude.{◌⊎◌}
 use Rattle.outside.specs.Told.{WhereTold}
 use Rattle.journal.specs.declared.entries.Entry.{Entry}
-use Rattle.pair_world.specs.Run.{given_of, IsBroken}
+use Rattle.pair_world.specs.Run.{given_of, EndsUnseen}
 use Rattle.radio_replay.specs.Schedule.{Reading, Right, Wrong, TooMany, schedule_of, line_number}
 use Rattle.ble_tool.specs.declared.faults.Fault.TheVariants.{CannotRead, BadLine, CannotWrite, NoMemory, Unseen, TooLong, TooManyTurns}
 use Rattle.ble_tool.specs.declared.faults.Source.{Source}
@@ -52,7 +52,7 @@ not_read_so words content world reading number not_right of can told =
 -- this damage ends a run of these streams and of the schedule that was read
 abbrev IsUnseenIn : List ℕ → List ℕ → ℕ → ℕ → List ℕ → List ℕ → List Entry → Reading → Type 0
 IsUnseenIn a b turn packet sent heard journal (Right config_a config_b turns) =
-    IsBroken (given_of a b (record { a = config_a; b = config_b; turns = turns })) turn packet sent heard journal
+    EndsUnseen (given_of a b (record { a = config_a; b = config_b; turns = turns })) turn packet sent heard journal
 IsUnseenIn a b turn packet sent heard journal (Wrong line) = ⊥
 IsUnseenIn a b turn packet sent heard journal (TooMany line) = ⊥
 

@@ -6,7 +6,7 @@ use Rattle.outside.specs.Told.{WhereTold, GrewBy, GrewByPrefix}
 use Rattle.ble_tool.specs.declared.faults.Fault.{Fault}
 use Rattle.ble_tool.specs.declared.faults.Fault.TheVariants.{CannotRead, BadLine, CannotWrite, NoMemory, Unseen, TooLong, TooManyTurns}
 use Rattle.ble_tool.specs.declared.faults.Source.TheVariants.{A, B, Schedule}
-use Rattle.ble_tool.specs.Causes.{FILE_LIMIT, World, AllFit, OfRun, OfBroken, OfEnded, OfFiles, HasFailed, IsFirstBadLine, IsFirstLongLine, IsWriteFault, IsOctetsFault, IsPairFault, IsPairDone}
+use Rattle.ble_tool.specs.Causes.{FILE_LIMIT, World, AllFit, OfRun, OfUnseen, OfEnded, OfFiles, HasFailed, IsFirstBadLine, IsFirstLongLine, IsWriteFault, IsOctetsFault, IsPairFault, IsPairDone}
 use Rattle.ble_tool.proofs.Growth.{grew_part, rose_since}
 
 -- what holds of the fault that an `Err` hands on
@@ -90,7 +90,7 @@ files_fault world a b schedule NoMemory are is =
     ]
 files_fault world a b schedule (Unseen turn packet sent heard) are is = (
   all_fit world a b schedule are,
-  of_files world a b schedule (λ a b schedule. OfBroken turn packet sent heard a b schedule (GrewBy world.written world.written_now)) are is,
+  of_files world a b schedule (λ a b schedule. OfUnseen turn packet sent heard a b schedule (GrewBy world.written world.written_now)) are is,
 )
 files_fault world a b schedule (CannotRead source) are is = absurd is
 files_fault world a b schedule (TooLong source) are is = absurd is

@@ -5,7 +5,7 @@ use Rattle.outside.specs.Told.{WhereTold, GrewBy, GrewByPrefix}
 use Rattle.ble_base.specs.declared.Config.{Config}
 use Rattle.journal.specs.declared.entries.Entry.{Entry}
 use Rattle.journal.specs.Text.{text}
-use Rattle.pair_world.specs.Run.{Given, given_of, IsRun, IsBroken}
+use Rattle.pair_world.specs.Run.{Given, given_of, IsRun, EndsUnseen}
 use Rattle.radio_replay.specs.Schedule.{Right, Wrong, TooMany, schedule_of, line_number}
 use Rattle.radio_replay.specs.Script.{Turn}
 use Rattle.ble_tool.specs.declared.faults.Fault.{Fault}
@@ -78,13 +78,13 @@ abbrev pub OfRun : List ℕ → List ℕ → List ℕ → (List ℕ → Type 0) 
 OfRun a b schedule fact = OfJournal IsRun a b schedule fact
 
 -- of the run that damage to this packet ends, which would be judged good
-abbrev pub OfBroken : ℕ → ℕ → List ℕ → List ℕ → List ℕ → List ℕ → List ℕ → (List ℕ → Type 0) → Type 0
-OfBroken turn packet sent heard a b schedule fact = OfJournal (λ given. IsBroken given turn packet sent heard) a b schedule fact
+abbrev pub OfUnseen : ℕ → ℕ → List ℕ → List ℕ → List ℕ → List ℕ → List ℕ → (List ℕ → Type 0) → Type 0
+OfUnseen turn packet sent heard a b schedule fact = OfJournal (λ given. EndsUnseen given turn packet sent heard) a b schedule fact
 
 -- the journal of a run, whole or ended by damage that would be judged good
 abbrev pub IsEnded : Given → List Entry → Type 0
 IsEnded given journal = IsRun given journal
-    ⊎ ((turn : ℕ) × (packet : ℕ) × (sent : List ℕ) × (heard : List ℕ) × IsBroken given turn packet sent heard journal)
+    ⊎ ((turn : ℕ) × (packet : ℕ) × (sent : List ℕ) × (heard : List ℕ) × EndsUnseen given turn packet sent heard journal)
 
 -- of either run
 abbrev pub OfEnded : List ℕ → List ℕ → List ℕ → (List ℕ → Type 0) → Type 0
@@ -131,7 +131,7 @@ IsOctetsFault a b schedule old new never_fails before now CannotWrite =
     HasFailed never_fails before now × OfEnded a b schedule (GrewByPrefix old new)
 IsOctetsFault a b schedule old new never_fails before now NoMemory = (new ≡ old) ⊎ OfEnded a b schedule (GrewByPrefix old new)
 IsOctetsFault a b schedule old new never_fails before now (Unseen turn packet sent heard) =
-    OfBroken turn packet sent heard a b schedule (GrewBy old new)
+    OfUnseen turn packet sent heard a b schedule (GrewBy old new)
 IsOctetsFault a b schedule old new never_fails before now _ = ⊥
 
 -- the whole journal was written
@@ -141,7 +141,7 @@ WroteAll world = OfFiles world (λ a b schedule. OfRun a b schedule (GrewBy worl
 -- the journal of all that came before this packet was written
 abbrev pub WroteAllBefore : ℕ → ℕ → List ℕ → List ℕ → World → Type 0
 WroteAllBefore turn packet sent heard world =
-    OfFiles world (λ a b schedule. OfBroken turn packet sent heard a b schedule (GrewBy world.written world.written_now))
+    OfFiles world (λ a b schedule. OfUnseen turn packet sent heard a b schedule (GrewBy world.written world.written_now))
 
 -- a part of the journal of either run was written, from its front
 abbrev pub WrotePart : World → Type 0
@@ -205,7 +205,7 @@ pub record CanBeDone (words : List (List ℕ)) (content : List ℕ → Option (L
   pub schedule_fits : length schedule ≤ FILE_LIMIT
   pub is_right : schedule_of schedule ≡ Right config_a config_b turns
   pub none_unseen : (turn packet : ℕ) (sent heard : List ℕ) (journal : List Entry)
-      → ¬ IsBroken (given_of a b (record { a = config_a; b = config_b; turns = turns })) turn packet sent heard journal
+      → ¬ EndsUnseen (given_of a b (record { a = config_a; b = config_b; turns = turns })) turn packet sent heard journal
 
 -- no count of faults of the three files rose
 abbrev pub NoneRose : List (List ℕ) → (List ℕ → ℕ) → (List ℕ → ℕ) → Type 0

@@ -14,7 +14,7 @@ use Rattle.radio_replay.specs.declared.fates.Fate.{Fate}
 use Rattle.radio_replay.specs.Damage.{struck}
 use Rattle.radio_replay.specs.Script.{Turn as Plan}
 use Rattle.pair_world.specs.History.{turns_begun, aired}
-use Rattle.pair_world.specs.Run.{Given, Flight, Due, Next, Unseen, Over, untold, unfed, flight_or, turn_or, flights, fate_at, verdict_of, mark_of, is_unseen, due, IsJournal, IsRun, IsBroken}
+use Rattle.pair_world.specs.Run.{Given, Flight, Due, Next, Unseen, Over, untold, unfed, flight_or, turn_or, flights, fate_at, verdict_of, mark_of, is_unseen, due, IsJournal, IsRun, EndsUnseen}
 use Rattle.pair_world.specs.Air.{IsAired}
 use Rattle.pair_world.proofs.Journals.{due_by, one_journal, turn_due}
 
@@ -103,7 +103,7 @@ pub one_whole : (given : Given) (journal other : List Entry) → IsRun given jou
 one_whole given journal other run again = one_journal given journal other Over Over tt tt run.is_journal run.over again.is_journal again.over
 
 pub one_broken : (given : Given) (turn packet other_turn other_packet : ℕ) (sent heard other_sent other_heard : List ℕ) (journal other : List Entry)
-    → IsBroken given turn packet sent heard journal → IsBroken given other_turn other_packet other_sent other_heard other
+    → EndsUnseen given turn packet sent heard journal → EndsUnseen given other_turn other_packet other_sent other_heard other
     → (journal ≡ other) × (turn ≡ other_turn) × (packet ≡ other_packet) × (sent ≡ other_sent) × (heard ≡ other_heard)
 one_broken given turn packet other_turn other_packet sent heard other_sent other_heard journal other broken again =
     let same = one_journal given journal other (Unseen packet sent heard) (Unseen other_packet other_sent other_heard) tt tt
@@ -115,7 +115,7 @@ one_broken given turn packet other_turn other_packet sent heard other_sent other
     one_less : (m n : ℕ) → m + 1 ≡ n + 1 → m ≡ n
     one_less m n e = omega arith
 
-pub one_ending : (given : Given) (turn packet : ℕ) (sent heard : List ℕ) (journal other : List Entry) → IsRun given journal → IsBroken given turn packet sent heard other → ⊥
+pub one_ending : (given : Given) (turn packet : ℕ) (sent heard : List ℕ) (journal other : List Entry) → IsRun given journal → EndsUnseen given turn packet sent heard other → ⊥
 one_ending given turn packet sent heard journal other run broken =
     let same = one_journal given journal other Over (Unseen packet sent heard) tt tt run.is_journal run.over broken.is_journal broken.unseen in
     let ends : Over ≡ Unseen packet sent heard = sym run.over ∙ ap (due given) same ∙ broken.unseen in cc

@@ -10,7 +10,7 @@ use Rattle.controller.specs.Past.{told_by, view_of}
 use Rattle.controller.specs.State.{State, rested}
 use Rattle.controller.specs.Turns.{activity}
 use Rattle.pair_world.specs.History.{told_to, fed_to, past_of, turns_begun, aired}
-use Rattle.pair_world.specs.Run.{Given, Flight, Due, Next, Unseen, Over, public_of, turns_from, untold, unfed, up_or, fed_or, flown, flight_or, turn_or, flights, fate_at, verdict_of, due, AreDue, IsTurnEnd, IsUpToDate, IsJournal, IsRun, IsBroken, IsEnd}
+use Rattle.pair_world.specs.Run.{Given, Flight, Due, Next, Unseen, Over, public_of, turns_from, untold, unfed, up_or, fed_or, flown, flight_or, turn_or, flights, fate_at, verdict_of, due, AreDue, IsTurnEnd, IsUpToDate, IsJournal, IsRun, EndsUnseen, IsEnd}
 use Rattle.pair_world.specs.Pieces.{told_behind}
 use Rattle.pair_world.specs.Turns.{feeds_at, AtTurnEnd, IsQuiet, IsAllRun, IsUnseen}
 use Rattle.pair_world.proofs.Adds.{begun-more}
@@ -383,7 +383,7 @@ run_is given journal all =
       whole = is_journal.turns ∙ ap (turns_from 0) (ap (λ n. take n given.script.turns) all.begun ∙ take_all given.script.turns);
     }
 
-pub broken_is : (given : Given) (slot packet : ℕ) (sent heard : List ℕ) (journal : List Entry) → IsUnseen given slot journal packet sent heard → IsBroken given slot packet sent heard journal
+pub broken_is : (given : Given) (slot packet : ℕ) (sent heard : List ℕ) (journal : List Entry) → IsUnseen given slot journal packet sent heard → EndsUnseen given slot packet sent heard journal
 broken_is given slot packet sent heard journal is = record {
   is_journal = journal_is given journal is.quiet;
   unseen = is.unseen;

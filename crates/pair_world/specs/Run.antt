@@ -235,7 +235,7 @@ pub record IsRun (given : Given) (journal : List Entry) : Type 0 where
   pub whole : turns_begun journal ≡ turns_from 0 given.script.turns
 
 -- the journal of a run that unseen damage ends: in this turn, at this packet of it
-pub record IsBroken (given : Given) (turn packet : ℕ) (sent heard : List ℕ) (journal : List Entry) : Type 0 where
+pub record EndsUnseen (given : Given) (turn packet : ℕ) (sent heard : List ℕ) (journal : List Entry) : Type 0 where
   pub is_journal : IsJournal given journal
   pub unseen : due given journal ≡ Unseen packet sent heard
   pub turn_is : length (turns_begun journal) ≡ turn + 1
@@ -243,4 +243,4 @@ pub record IsBroken (given : Given) (turn packet : ℕ) (sent heard : List ℕ) 
 -- what a fault of a run says: want of memory says nothing
 abbrev pub IsRunFault : Given → RunFault → Type 0
 IsRunFault given Memory = Unit {0}
-IsRunFault given (Broken turn packet sent heard journal) = IsBroken given turn packet sent heard journal
+IsRunFault given (Broken turn packet sent heard journal) = EndsUnseen given turn packet sent heard journal

@@ -6,7 +6,7 @@ ghost use Rattle.journal.specs.declared.entries.Entry.{Entry};
 ghost use Rattle.journal.specs.declared.entries.Entry.TheVariants.{Turn, Air};
 ghost use Rattle.journal.specs.declared.entries.Mark.{Mark};
 ghost use Rattle.pair_world.specs.History.{aired};
-ghost use Rattle.pair_world.specs.Run.{Given, flights, IsJournal, IsRun, IsBroken};
+ghost use Rattle.pair_world.specs.Run.{Given, flights, IsJournal, IsRun, EndsUnseen};
 ghost use Rattle.pair_world.specs.Air.{IsAired};
 
 /// A run has one journal: what `run_pair` promises of it leaves no choice, neither of the journal nor of whether and where
@@ -14,10 +14,10 @@ ghost use Rattle.pair_world.specs.Air.{IsAired};
 pub fn a_run_has_one_journal()
     ensures whole { (given : Given) (journal other : List Entry) → IsRun given journal → IsRun given other → journal ≡ other }
     ensures broken { (given : Given) (turn packet other_turn other_packet : ℕ) (sent heard other_sent other_heard : List ℕ) (journal other : List Entry)
-        → IsBroken given turn packet sent heard journal → IsBroken given other_turn other_packet other_sent other_heard other
+        → EndsUnseen given turn packet sent heard journal → EndsUnseen given other_turn other_packet other_sent other_heard other
         → (journal ≡ other) × (turn ≡ other_turn) × (packet ≡ other_packet) × (sent ≡ other_sent) × (heard ≡ other_heard) }
     ensures either { (given : Given) (turn packet : ℕ) (sent heard : List ℕ) (journal other : List Entry)
-        → IsRun given journal → IsBroken given turn packet sent heard other → ⊥ }
+        → IsRun given journal → EndsUnseen given turn packet sent heard other → ⊥ }
 {}
 
 /// Each packet on the air is the next of those that its turn calls for, with the next fate of that turn and the verdict of
