@@ -1,10 +1,8 @@
 """Runs `ble pair` on loads of host octets and of the radio, whole and halved, and prints figures and ratios."""
 import os
-import resource
 import subprocess
 import sys
 import tempfile
-import time
 
 HEAD = (
     b"ble-schedule 1\n"
@@ -12,69 +10,105 @@ HEAD = (
     b"side b c0ffee00000b 71764129 0000000000000002\n"
 )
 RESET = bytes.fromhex("01030c00")
-# Advertising parameters, and advertising turned off and on again.
-PARAMETERS = bytes.fromhex("0106200f20002000030000000000000000000700")
-OFF_AND_ON = bytes.fromhex("010a200100010a200101")
-# LE events let through, and scanning turned on.
-SCANS = bytes.fromhex("01010c08ffffffffff1f0020010c20020100")
+# Advertising parameters: an interval of 16 slots, type 3, all channels; 19 octets.
+PARAMETERS = bytes.fromhex("0106200f" "2000" "2000" "03" "00" "00" "000000000000" "07" "00")
+ON = bytes.fromhex("010a200101")
+OFF_AND_ON = bytes.fromhex("010a200100") + ON
+# LE events let through, and scanning turned on: 18 octets.
+SCANS = bytes.fromhex("01010c08ffffffffff1f0020" "010c20020100")
+
+# Runs a program and writes its status, its seconds and its peak memory in octets. It is small itself: what a process takes before it
+# becomes the program counts as the program's.
+STARTER = """
+import os, sys, time
+begun = time.monotonic()
+child = os.fork()
+if child == 0:
+    os.execv(sys.argv[1], sys.argv[1:])
+_, status, usage = os.wait4(child, 0)
+print(status, time.monotonic() - begun, usage.ru_maxrss * 1024, file=sys.stderr)
+"""
+
+
+class Load:
+    """What a run is given, and how many turns and packets on the air its journal must have."""
+
+    def __init__(self, a, b, turns, count, packets):
+        self.a = a
+        self.b = b
+        self.schedule = HEAD + turns
+        self.turns = count
+        self.packets = packets
 
 
 def one_turn(octets):
     """So many octets of Resets, fed in one turn."""
-    return RESET * (octets // 4), b"", HEAD + b"t ++ a%d\n" % octets, 1
+    return Load(RESET * (octets // 4), b"", b"t ++ a%d\n" % octets, 1, 0)
 
 
 def ten_a_turn(turns):
     """Resets, ten octets a turn."""
-    return RESET * (turns * 10 // 4), b"", HEAD + b"t ++ a10\n" * turns, turns
+    return Load(RESET * (turns * 10 // 4), b"", b"t ++ a10\n" * turns, turns, 0)
 
 
 def on_air(turns):
     """An advertiser that is turned off and on again in each turn, and so sends in each, and a scanner."""
-    first = b"t ++ a20 b18\n"
-    return PARAMETERS + OFF_AND_ON * (turns - 1), SCANS, HEAD + first + b"t ++ a10\n" * (turns - 1), turns
+    a = PARAMETERS + OFF_AND_ON * turns
+    first = b"t ++ a%d b%d\n" % (len(PARAMETERS + OFF_AND_ON), len(SCANS))
+    return Load(a, SCANS, first + b"t ++ a10\n" * (turns - 1), turns, turns)
 
 
 def advertising(turns):
     """An advertiser at its least interval, and a scanner, with nothing fed behind the first turn."""
-    octets = PARAMETERS + OFF_AND_ON
-    return octets, SCANS, HEAD + b"t ++ a30 b18\nrun %d\n" % (turns - 1), turns
+    a = PARAMETERS + ON
+    packets = sum(1 for slot in range(turns) if slot % 16 < 3)
+    return Load(a, SCANS, b"t ++ a%d b%d\nrun %d\n" % (len(a), len(SCANS), turns - 1), turns, packets)
 
 
 def idle(turns):
     """Turns in which nothing happens."""
-    return b"", b"", HEAD + b"run %d\n" % turns, turns
+    return Load(b"", b"", b"run %d\n" % turns, turns, 0)
 
 
 def long_lines(octets):
     """A schedule of so many octets of turn lines with fates."""
     line = b"t ++ . x e0:00\n"
     turns = (octets - len(HEAD)) // len(line)
-    return b"", b"", HEAD + line * turns, turns
+    return Load(b"", b"", line * turns, turns, 0)
+
+
+def check(load, journal):
+    """The journal has the turns and the packets that the load calls for."""
+    turns = packets = 0
+    with open(journal, "rb") as file:
+        for line in file:
+            turns += line.startswith(b"turn ")
+            packets += line.startswith(b"air ")
+    if (turns, packets) != (load.turns, load.packets):
+        sys.exit(f"{turns} turns and {packets} packets, and not {load.turns} and {load.packets}")
 
 
 def run(program, folder, load):
     """Seconds, peak memory in octets, and the size of the journal's text."""
-    a, b, schedule, _ = load
-    for name, content in (("a", a), ("b", b), ("s", schedule)):
+    for name, content in (("a", load.a), ("b", load.b), ("s", load.schedule)):
         with open(os.path.join(folder, name), "wb") as file:
             file.write(content)
+    path = os.path.join(folder, "journal")
     best = None
     for _ in range(3):
-        with open(os.path.join(folder, "journal"), "wb") as journal:
-            begun = time.monotonic()
-            child = subprocess.Popen([program, "pair", "a", "b", "s"], cwd=folder, stdout=journal)
-            _, status, usage = os.wait4(child.pid, 0)
-            seconds = time.monotonic() - begun
-        if status != 0:
-            sys.exit(f"the program ended with {status}")
-        best = seconds if best is None else min(best, seconds)
-    return best, usage.ru_maxrss * 1024, os.path.getsize(os.path.join(folder, "journal"))
+        with open(path, "wb") as journal:
+            starter = [sys.executable, "-S", "-E", "-c", STARTER, program, "pair", "a", "b", "s"]
+            ended = subprocess.run(starter, cwd=folder, stdout=journal, stderr=subprocess.PIPE, text=True, check=True)
+        status, seconds, memory = ended.stderr.split()[-3:]
+        if status != "0":
+            sys.exit(f"the program ended with {ended.stderr}")
+        best = float(seconds) if best is None else min(best, float(seconds))
+    check(load, path)
+    return best, int(memory), os.path.getsize(path)
 
 
 def main():
     program = os.path.abspath(sys.argv[1])
-    resource.setrlimit(resource.RLIMIT_CORE, (0, 0))
     with tempfile.TemporaryDirectory() as folder:
         for name, make, whole in (
             ("Resets in one turn, by octets", one_turn, 1_048_576),
@@ -88,7 +122,7 @@ def main():
             load = make(whole)
             seconds, memory, text = run(program, folder, load)
             print(f"{name}: {whole:,}")
-            print(f"  {whole / seconds:,.0f} of them and {load[3] / seconds:,.0f} turns a second")
+            print(f"  {whole / seconds:,.0f} of them and {load.turns / seconds:,.0f} turns a second")
             print(f"  time at the whole load: {seconds / half[0]:.2f} times that at half of it")
             print(f"  peak memory: {memory:,} octets, {memory / text:.2f} times the text of the journal")
 
