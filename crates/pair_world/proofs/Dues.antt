@@ -8,8 +8,8 @@ use Rattle.journal.specs.declared.entries.Entry.{Entry}
 use Rattle.radio_replay.specs.Script.{Turn as Plan}
 use Rattle.controller.specs.Past.{told_by}
 use Rattle.pair_world.specs.History.{told_to, fed_to, past_of, turns_begun, aired}
-use Rattle.pair_world.specs.Run.{Given, Flight, Due, Next, public_of, untold, unfed, up_or, fed_or, flight_or, turn_or, flown, flights, fate_at, verdict_of, due, AreDue, Over}
-use Rattle.pair_world.specs.Turns.{feeds_at, Stands, IsQuiet}
+use Rattle.pair_world.specs.Run.{Given, Flight, Due, Next, public_of, feeds_at, untold, unfed, up_or, fed_or, flight_or, turn_or, flown, flights, fate_at, verdict_of, due, AreDue, Over}
+use Rattle.pair_world.specs.Turns.{Stands, IsQuiet}
 
 -- an entry that is due may be added
 pub due_more : (given : Given) (history entries : List Entry) (entry : Entry)

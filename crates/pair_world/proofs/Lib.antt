@@ -7,5 +7,6 @@ pub mod Feeding
 pub mod OnAir
 pub mod Phases
 pub mod Opening
+pub mod Reasons
 pub mod Journals
 pub mod Aired

@@ -12,9 +12,9 @@ use Rattle.journal.specs.declared.entries.Mark.{Mark}
 use Rattle.radio_replay.specs.Script.{Turn as Plan}
 use Rattle.controller.specs.Past.{Input, Turned, told_by}
 use Rattle.pair_world.specs.History.{told_to, fed_to, past_of, turns_begun, aired, heard_if}
-use Rattle.pair_world.specs.Run.{Given, public_of, stream_of, feed_of, feed_total, flights, due, Next}
+use Rattle.pair_world.specs.Run.{Given, public_of, stream_of, feed_of, feed_total, feeds_at, flights, due, Next}
 use Rattle.pair_world.specs.Pieces.{fed_entry, given_all, ups, told_behind}
-use Rattle.pair_world.specs.Turns.{feeds_at, Stands, IsQuiet}
+use Rattle.pair_world.specs.Turns.{Stands, IsQuiet}
 use Rattle.pair_world.proofs.Adds.{told_to-more, fed_to-more, past-more, begun-more}
 use Rattle.pair_world.proofs.Pasts.{told_by-append, told_behind-none}
 use Rattle.pair_world.proofs.Dues.{due_more, due_stands, due_turn}
@@ -57,7 +57,7 @@ none_behind given side history packets =
 
 -- ---- packets to the hosts
 
-tell_one_a : (given : Given) (history : List Entry) (packet : List ℕ) (packets told_b : List (List ℕ)) (fed_a fed_b : List ℕ)
+pub tell_one_a : (given : Given) (history : List Entry) (packet : List ℕ) (packets told_b : List (List ℕ)) (fed_a fed_b : List ℕ)
     → Stands given history (packet ∷ packets) told_b fed_a fed_b → Stands given (history ++ Up A packet ∷ []) packets told_b fed_a fed_b
 tell_one_a given history packet packets told_b fed_a fed_b stands = record {
   followed = due_more given [] history (Up A packet) stands.followed (due_stands given history (packet ∷ packets) told_b fed_a fed_b stands);
@@ -67,7 +67,7 @@ tell_one_a given history packet packets told_b fed_a fed_b stands = record {
   left_b = left_more given B history (Up A packet ∷ []) fed_b [] fed_b stands.left_b refl refl refl;
 }
 
-tell_one_b : (given : Given) (history : List Entry) (packet : List ℕ) (packets : List (List ℕ)) (fed_a fed_b : List ℕ)
+pub tell_one_b : (given : Given) (history : List Entry) (packet : List ℕ) (packets : List (List ℕ)) (fed_a fed_b : List ℕ)
     → Stands given history [] (packet ∷ packets) fed_a fed_b → Stands given (history ++ Up B packet ∷ []) [] packets fed_a fed_b
 tell_one_b given history packet packets fed_a fed_b stands = record {
   followed = due_more given [] history (Up B packet) stands.followed (due_stands given history [] (packet ∷ packets) fed_a fed_b stands);

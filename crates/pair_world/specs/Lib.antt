@@ -1,4 +1,5 @@
 pub mod History
+pub mod Order
 pub mod Run
 pub mod Pieces
 pub mod Turns

@@ -1,11 +1,11 @@
 -- What the journal of a run is. Own.
-use Rattle.std.specs.Prelude.{◌≡◌, ℕ, zero, suc, ◌+◌, ◌-◌, ◌==◌, ◌&&◌, not, Bool, false, true, List, [], ◌∷◌, ◌++◌, length, take, drop, slice_get, Option, Some, None, if◌then◌else◌}
+use Rattle.std.specs.Prelude.{◌≡◌, ℕ, zero, suc, ◌+◌, ◌-◌, ◌==◌, ◌&&◌, not, Bool, false, true, List, [], ◌∷◌, ◌++◌, length, take, drop, slice_get, Option, Some, None, All, if◌then◌else◌}
 use Rattle.std.specs.List.{sum_by}
 use Rattle.std.specs.Str.{bytes_eq}
 use Rattle.ble_base.specs.declared.roles.Side.{Side}
 use Rattle.ble_base.specs.declared.roles.Side.TheVariants.{A, B}
 use Rattle.ble_base.specs.declared.verdicts.Verdict.{Verdict}
-use Rattle.ble_base.specs.declared.verdicts.Verdict.TheVariants.{Missed, Broken as WasBroken, Forged, Good}
+use Rattle.ble_base.specs.declared.verdicts.Verdict.TheVariants.{Missed, Broken, Forged, Good}
 use Rattle.ble_base.specs.Side.{other_side}
 use Rattle.journal.specs.declared.entries.Entry.{Entry}
 use Rattle.journal.specs.declared.entries.Entry.TheVariants.{Turn, Fed, Up, Air}
@@ -22,7 +22,8 @@ use Rattle.controller.specs.Packets.{verdict_on}
 use Rattle.controller.specs.Past.{View, view_of, told_by, intent_of}
 use Rattle.controller.specs.State.{listened}
 use Rattle.pair_world.specs.declared.runs.RunFault.{RunFault}
-use Rattle.pair_world.specs.declared.runs.RunFault.TheVariants.{Unseen as Broken, Memory}
+use Rattle.pair_world.specs.declared.runs.RunFault.TheVariants.{Unseen as UnseenFault, Memory}
+use Rattle.pair_world.specs.Order.{IsInOrder, IsOfRun}
 use Rattle.pair_world.specs.History.{Begun, fed_to, told_to, turns_begun, aired, past_of}
 
 -- what a run is given: the streams of both hosts, whole, and the schedule
@@ -123,7 +124,7 @@ verdict_of given history flight =
 abbrev pub is_good : Verdict → Bool
 is_good Good = true
 is_good Missed = false
-is_good WasBroken = false
+is_good Broken = false
 is_good Forged = false
 
 -- a changed packet is judged good
@@ -162,11 +163,13 @@ abbrev pub up_or : Side → List (List ℕ) → Due → Due
 up_or side [] otherwise = otherwise
 up_or side (packet ∷ packets) otherwise = Next (Up side packet)
 
+-- all that the turns that began feed to a side, as far as its stream goes
+abbrev pub feeds_at : Given → Side → List Entry → List ℕ
+feeds_at given side history = take (feed_total side (take (length (turns_begun history)) given.script.turns)) (stream_of side given)
+
 -- the octets that a side is still to be fed in the turns that began
 abbrev pub unfed : Given → Side → List Entry → List ℕ
-unfed given side history =
-    drop (length (fed_to side history))
-    (take (feed_total side (take (length (turns_begun history)) given.script.turns)) (stream_of side given))
+unfed given side history = drop (length (fed_to side history)) (feeds_at given side history)
 
 abbrev pub fed_or : Side → List ℕ → Due → Due
 fed_or side [] otherwise = otherwise
@@ -213,8 +216,7 @@ AreDue given history (entry ∷ entries) = (due given history ≡ Next entry) ×
 -- what has come to pass where some turns are over: each side was fed what the schedule feeds in them, as far as its
 -- stream goes, and each host was told all that came to its controller calls for
 pub record IsUpToDate (given : Given) (history : List Entry) : Type 0 where
-  pub fed : (side : Side) → fed_to side history
-      ≡ take (feed_total side (take (length (turns_begun history)) given.script.turns)) (stream_of side given)
+  pub fed : (side : Side) → fed_to side history ≡ feeds_at given side history
   pub told : (side : Side) → told_to side history ≡ told_by (public_of side given) (past_of side history)
 
 -- a journal of a run, or of a run so far
@@ -224,6 +226,14 @@ pub record IsJournal (given : Given) (journal : List Entry) : Type 0 where
   -- the turns begin in the order of the schedule, and nothing stands before the first
   pub turns : turns_begun journal ≡ turns_from 0 (take (length (turns_begun journal)) given.script.turns)
   pub begins : IsTurnEnd journal
+  -- the entries of a turn stand in the order of its steps, and are of the kinds that a run has
+  pub in_order : IsInOrder journal
+  pub of_run : All IsOfRun journal
+  -- a side is fed before any packet of the turn is on the air
+  pub fed_first : (history rest : List Entry) (side : Side) (octets : List ℕ) → journal ≡ history ++ Fed side octets ∷ rest → aired history ≡ 0
+  -- the n-th packet on the air in a turn has the n-th fate of that turn, and those past the last fate pass
+  pub fates : (history rest : List Entry) (side : Side) (channel : ℕ) (octets : List ℕ) (fate : Mark) (verdict : Verdict)
+      → journal ≡ history ++ Air side channel octets fate verdict ∷ rest → fate ≡ mark_of (fate_at given history)
   -- wherever a turn is over, what it calls for has come to pass
   pub up_to_date : (history rest : List Entry) → journal ≡ history ++ rest → IsTurnEnd rest → IsUpToDate given history
 
@@ -243,4 +253,4 @@ pub record EndsUnseen (given : Given) (turn packet : ℕ) (sent heard : List ℕ
 -- what a fault of a run says: want of memory says nothing
 abbrev pub IsRunFault : Given → RunFault → Type 0
 IsRunFault given Memory = Unit {0}
-IsRunFault given (Broken turn packet sent heard journal) = EndsUnseen given turn packet sent heard journal
+IsRunFault given (UnseenFault turn packet sent heard journal) = EndsUnseen given turn packet sent heard journal

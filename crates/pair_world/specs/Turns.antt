@@ -1,6 +1,5 @@
 -- How a run stands at the end of a turn, and in a phase of one. Own.
 use Rattle.std.specs.Prelude.{◌≡◌, ℕ, ◌+◌, List, [], ◌++◌, length, take, drop, slice_get, None}
-use Rattle.ble_base.specs.declared.roles.Side.{Side}
 use Rattle.ble_base.specs.declared.roles.Side.TheVariants.{A, B}
 use Rattle.journal.specs.declared.entries.Entry.{Entry}
 use Rattle.controller.specs.declared.intents.Intent.{Intent}
@@ -9,11 +8,7 @@ use Rattle.controller.specs.State.{State, acting, rested, Acts}
 use Rattle.pair_world.specs.declared.stops.Stop.{Stop}
 use Rattle.pair_world.specs.declared.stops.Stop.TheVariants.{Unseen as Stopped, Memory}
 use Rattle.pair_world.specs.History.{turns_begun, aired, past_of, told_to, fed_to}
-use Rattle.pair_world.specs.Run.{Given, public_of, stream_of, feed_total, view_at, flights, flights_from, due, Unseen, AreDue}
-
--- all that the turns that began feed to a side
-abbrev pub feeds_at : Given → Side → List Entry → List ℕ
-feeds_at given side history = take (feed_total side (take (length (turns_begun history)) given.script.turns)) (stream_of side given)
+use Rattle.pair_world.specs.Run.{Given, public_of, feed_total, feeds_at, view_at, flights, flights_from, due, Unseen, AreDue}
 
 -- the history of a run, and what is still to come behind it before the next packet: to the hosts, and from them
 pub record Stands (given : Given) (history : List Entry) (told_a told_b : List (List ℕ)) (fed_a fed_b : List ℕ) : Type 0 where

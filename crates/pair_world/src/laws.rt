@@ -13,7 +13,7 @@ ghost use Rattle.pair_world.specs.Air.{IsAired};
 /// unseen damage ends the run.
 pub fn a_run_has_one_journal()
     ensures whole { (given : Given) (journal other : List Entry) → IsRun given journal → IsRun given other → journal ≡ other }
-    ensures broken { (given : Given) (turn packet other_turn other_packet : ℕ) (sent heard other_sent other_heard : List ℕ) (journal other : List Entry)
+    ensures unseen { (given : Given) (turn packet other_turn other_packet : ℕ) (sent heard other_sent other_heard : List ℕ) (journal other : List Entry)
         → EndsUnseen given turn packet sent heard journal → EndsUnseen given other_turn other_packet other_sent other_heard other
         → (journal ≡ other) × (turn ≡ other_turn) × (packet ≡ other_packet) × (sent ≡ other_sent) × (heard ≡ other_heard) }
     ensures either { (given : Given) (turn packet : ℕ) (sent heard : List ℕ) (journal other : List Entry)

@@ -26,7 +26,15 @@ fn take_note(
             side,
             octets: Octets::copy(alloc, packet.as_slice())?,
         }),
-        _ => Ok(()),
+        Note::Opened { .. }
+        | Note::Shut { .. }
+        | Note::Sent { .. }
+        | Note::Took { .. }
+        | Note::Enter { .. }
+        | Note::Applied { .. }
+        | Note::Began { .. }
+        | Note::Refused { .. }
+        | Note::Done { .. } => Ok(()),
     }
 }
 

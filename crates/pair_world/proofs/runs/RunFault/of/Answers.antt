@@ -1,7 +1,7 @@
-use Rattle.pair_world.proofs.Journals.{broken_is}
+use Rattle.pair_world.proofs.Journals.{unseen_is}
 use Rattle.pair_world.proofs.runs.RunFault.of.Goals as goal
 
 pub returns-in-Unseen : goal.returns-in-Unseen
 returns-in-Unseen c = λ given stopped.
     rw c.from.ensures
-    (broken_is given c.args.turn c.in-Unseen.packet c.in-Unseen.sent c.in-Unseen.heard c.args.journal (rw c.in-Unseen.is at stopped))
+    (unseen_is given c.args.turn c.in-Unseen.packet c.in-Unseen.sent c.in-Unseen.heard c.args.journal (rw c.in-Unseen.is at stopped))
