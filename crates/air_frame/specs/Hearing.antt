@@ -1,7 +1,9 @@
--- What a listener makes of a packet.
-use Rattle.std.specs.Prelude.{◌≡◌, ℕ, List}
+-- What a listener makes of the octets of a packet (Core 5.2, volume 6 part B, sections 2.1 and 3).
+use Rattle.std.specs.Prelude.{◌≡◌, ℕ, List, take, if◌then◌else◌}
+use Rattle.std.specs.Str.{bytes_eq}
 use Rattle.air_frame.specs.declared.Heard.{Heard}
 use Rattle.air_frame.specs.declared.Heard.TheVariants.{NotOurs, Broken, Whole}
+use Rattle.air_frame.specs.Packet.{access_octets, is_packet, pdu_in}
 
 -- a fact for each answer
 abbrev pub MatchHeard : Heard → Type 0 → Type 0 → (List ℕ → Type 0) → Type 0
@@ -12,3 +14,11 @@ MatchHeard (Whole pdu) not_ours broken whole = whole pdu.items
 -- the answer with these octets as the PDU
 abbrev pub IsWhole : Heard → List ℕ → Type 0
 IsWhole heard pdu = MatchHeard heard ⊥ ⊥ (λ octets. octets ≡ pdu)
+
+-- what is heard of octets on a channel index, for an access address and with an initial CRC: nothing that is meant for the
+-- listener where they do not begin with the access address (section 2.1.2), and behind it the PDU whose packet they are
+-- (sections 3.1.1 and 3.2)
+unfoldable pub heard_in : ℕ → ℕ → ℕ → List ℕ → Heard
+heard_in channel access init octets =
+    if bytes_eq (take 4 octets) (access_octets access)
+    then (if is_packet channel access init octets then Whole (record { items = pdu_in channel octets }) else Broken) else NotOurs

@@ -10,7 +10,8 @@ use frame_bits::{crc_octets, crc24, whiten};
 
 /// The packet of a PDU on the air: the access address, four octets, least significant first; then, whitened for the
 /// channel index, the PDU and its CRC of three octets, which begins with `init` (Core 5.2, volume 6 part B,
-/// sections 2.1, 3.1.1 and 3.2). The PDU has its header of two octets, the second of which counts the octets behind it.
+/// sections 2.1, 3.1.1 and 3.2). The PDU has its header of two octets, the second of which counts the octets behind it,
+/// so that there are 2 to 257 octets, and 7 more in the packet.
 pub fn build(channel: u8, access: u32, init: u32, pdu: &[u8]) -> ArrayVec<u8, 264>
     requires channel { channel < 40 }
     requires init { init < 2 ^ 24 }

@@ -1,7 +1,7 @@
 //! From the octets of a packet to what a listener makes of them.
 
-ghost use Rattle.std.specs.Prelude.{◌≡◌, ◌≢◌, ℕ, ◌+◌, ◌^◌, ◌<◌, ◌≤◌, ◌↔◌, List, length, take, IsTrue};
-ghost use Rattle.air_frame.specs.Hearing.{IsWhole, MatchHeard};
+ghost use Rattle.std.specs.Prelude.{◌≡◌, ◌≢◌, ℕ, ◌+◌, ◌-◌, ◌^◌, ◌<◌, ◌≤◌, ◌↔◌, List, length, take, drop, IsTrue, IfSome, IfNone};
+ghost use Rattle.air_frame.specs.Hearing.{heard_in, IsWhole, MatchHeard};
 ghost use Rattle.air_frame.specs.Packet.{access_octets, on_air, with_crc, IsPdu};
 ghost use Rattle.frame_bits.specs.Crc.{crc, crc_octets};
 ghost use Rattle.frame_bits.specs.Whitening.{whitened};
@@ -12,8 +12,8 @@ use arrayvec::ArrayVec;
 use frame_bits::{crc_octets, crc24, whiten};
 
 /// What a listener on this channel index, for this access address and with this initial CRC, makes of the octets of
-/// a packet (Core 5.2, volume 6 part B, sections 2.1, 3.1.1 and 3.2). A length octet, or a CRC, that does not fit the
-/// octets makes the packet broken.
+/// a packet, as many as there may be, in the order of the air and without preamble (Core 5.2, volume 6 part B,
+/// sections 2.1, 3.1.1 and 3.2). A length octet, or a CRC, that does not fit the octets makes the packet broken.
 pub fn unframe(channel: u8, access: u32, init: u32, octets: &[u8]) -> Heard
     requires channel { channel < 40 }
     requires init { init < 2 ^ 24 }
@@ -21,8 +21,11 @@ pub fn unframe(channel: u8, access: u32, init: u32, octets: &[u8]) -> Heard
     ensures broken { (result ≡ Heard.Broken) ↔ ((take 4 octets.now ≡ access_octets access)
         × ((pdu : List ℕ) → IsPdu pdu → octets.now ≢ on_air channel access init pdu)) }
     ensures whole { (pdu : List ℕ) → IsWhole result pdu ↔ (IsPdu pdu × (octets.now ≡ on_air channel access init pdu)) }
+    // The same by a definition that computes.
+    ensures heard { result ≡ heard_in channel access init octets.now }
 {
     frame_bits::laws::whitening_is_linear();
+    crate::laws::packet_tells_its_pdu();
     addressed(channel, access, init, octets)
 }
 
@@ -64,7 +67,7 @@ fn checked(init: u32, octets: &[u8]) -> Heard
     ensures { MatchHeard result ⊥ ((pdu : List ℕ) → IsPdu pdu → octets.now ≢ with_crc init pdu)
         (λ pdu. IsPdu pdu × (octets.now ≡ with_crc init pdu)) }
 {
-    let Some((pdu, sum)) = octets.split_last_chunk::<3>() else {
+    let Some((pdu, sum)) = pdu_and_crc(octets) else {
         return Heard::Broken;
     };
     if is_pdu(pdu) && has_crc(init, pdu, sum) {
@@ -72,6 +75,15 @@ fn checked(init: u32, octets: &[u8]) -> Heard
     } else {
         Heard::Broken
     }
+}
+
+/// The octets of a PDU, and the three of the CRC behind them: the last three, whatever the length octet says.
+fn pdu_and_crc(octets: &[u8]) -> Option<(&[u8], &[u8; 3])>
+    ensures pdu { IfSome result (λ parts. parts.0.now ≡ take (length octets.now - 3) octets.now) }
+    ensures crc { IfSome result (λ parts. parts.1.now ≡ drop (length octets.now - 3) octets.now) }
+    ensures short { IfNone result (length octets.now < 3) }
+{
+    octets.split_last_chunk::<3>()
 }
 
 /// Whether the octets are a PDU in form.

@@ -10,16 +10,20 @@ use arrayvec::ArrayVec;
 pub use building::build;
 pub use hearing::unframe;
 
-/// What a listener makes of the octets of a packet.
+/// What a listener makes of the octets of a packet (Core 5.2, volume 6 part B, sections 2.1 and 3; the three answers are
+/// own).
 #[derive(Debug, PartialEq, Eq, Drop)]
 pub enum Heard {
-    /// The packet does not begin with the access address.
+    /// The packet does not begin with the four octets of the access address.
     NotOurs,
-    /// What stands behind the access address is no whole PDU with its CRC.
+    /// What stands behind the access address is no whole PDU with the three octets of its CRC.
     Broken,
-    /// The PDU: its header of two octets, then as many octets as the second of them says.
+    /// The PDU, 2 to 257 octets in the order of the air, not whitened: its header of two octets, then as many octets as the
+    /// second of them says (section 2.3).
     Whole(ArrayVec<u8, 257>),
 }
 
+#[cfg(test)]
+mod plain;
 #[cfg(test)]
 mod tests;

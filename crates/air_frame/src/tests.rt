@@ -35,6 +35,8 @@ fn builds_as_worked_out(rt: HostRuntime) {
 
 #[test]
 fn hears_as_worked_out(rt: HostRuntime) -> Result<(), Fail> {
+    laws::packet_tells_its_pdu();
+    laws::short_damage_is_never_whole();
     assert_eq!(rt;
         unframe(37, ADVERTISING, 0, &PACKET),
         Heard::Whole(ArrayVec::try_from(PDU.as_slice())?)

@@ -1,0 +1,99 @@
+//! Packets by the plain rules of the standard on lists of bits, apart from all code that is proved, and `build` and
+//! `unframe` held against them. A bit is 0 or 1, and bits stand in the order of the air.
+
+use super::*;
+use std::test::Fail;
+
+/// Access address and initial CRC of the advertising channels.
+const ADVERTISING: (u32, u32) = (0x8e89_bed6, 0x55_5555);
+
+/// Channel index, access address and initial CRC, and PDU of at most 12 octets.
+const PACKETS: [(u8, (u32, u32), &[u8]); 8] = [
+    (37, ADVERTISING, &[2, 6, 10, 0, 0, 0xee, 0xff, 0xc0]),
+    (38, ADVERTISING, &[0x44, 9, 1, 2, 3, 4, 5, 0xc6, 2, 1, 6]),
+    (39, ADVERTISING, &[0x60, 7, 9, 0, 0, 0, 0, 0xff, 0]),
+    (39, (0x8e89_bed6, 0), &[0, 0]),
+    (0, (0x7176_4129, 0x12_3456), &[1, 0]),
+    (12, (0x5065_5d5a, 0xab_cdef), &[14, 4, 128, 1, 127, 254]),
+    (12, (0, 0xff_ffff), &[0xff, 1, 0xa5]),
+    (37, (u32::MAX, 1), &[3, 10, 9, 8, 7, 6, 5, 4, 3, 2, 1, 0]),
+];
+
+/// x^24 + x^10 + x^9 + x^6 + x^4 + x^3 + x + 1, highest power first (Core 5.2, volume 6 part B, section 3.1.1).
+const GENERATOR: [u8; 25] = [
+    1, 0, 0, 0, 0, 0, 0, 0, 0, 0, 0, 0, 0, 0, 1, 1, 0, 0, 1, 0, 1, 1, 0, 1, 1,
+];
+
+/// The bit at a place of octets, the least significant of each octet first (section 1.2), and 0 behind their end.
+fn bit_of(octets: &[u8], place: usize) -> u8 {
+    let octet = octets.get(place / 8).copied().unwrap_or(0);
+    (octet >> (place % 8)) & 1
+}
+
+/// The n bits of a PDU, and behind them the 24 of its CRC, highest power first: what long division by the generator
+/// leaves of P*x^24 + init*x^n, where the first bit of the PDU is the highest power in P (section 3.1.1).
+fn pdu_and_crc(init: u32, pdu: &[u8]) -> [u8; 120] {
+    let mut bits = [0; 120];
+    for place in 0..120usize {
+        let start = if place < 24 { init >> (23 - place) } else { 0 };
+        bits[place] = bit_of(pdu, place) ^ (start & 1) as u8;
+    }
+    for place in 0..8 * pdu.len().min(12) {
+        let quotient = bits[place];
+        for term in 0..25usize {
+            bits[place + term] ^= quotient & GENERATOR[term];
+        }
+        bits[place] = bit_of(pdu, place);
+    }
+    bits
+}
+
+/// The whitening sequence of x^7 + x^4 + 1: each bit is the sum of those of seven and of three before it. Positions 6 to
+/// 0 of the register come first: the channel index, least significant bit first, and 1 (section 3.2).
+fn whitening(channel: u8) -> [u8; 120] {
+    let register = 0x40 + channel % 0x40;
+    let mut white = [0; 120];
+    for place in 0..120usize {
+        let first = register >> place.min(7);
+        let entering = if place < 7 { first } else { white[place - 7] };
+        let fed_back = if place < 3 { 0 } else { white[place - 3] };
+        white[place] = (entering ^ fed_back) & 1;
+    }
+    white
+}
+
+/// The packet, and behind it octets that mean nothing.
+fn packet(channel: u8, access: u32, init: u32, pdu: &[u8]) -> [u8; 19] {
+    let (bits, white) = (pdu_and_crc(init, pdu), whitening(channel));
+    let mut octets = [0; 19];
+    octets[..4].copy_from_slice(&access.to_le_bytes());
+    for place in 0..120usize {
+        octets[4 + place / 8] |= (bits[place] ^ white[place]) << (place % 8);
+    }
+    octets
+}
+
+#[test]
+fn packets_are_as_the_plain_rules_say(rt: HostRuntime) -> Result<(), Fail> {
+    for (channel, (access, init), pdu) in PACKETS {
+        assert!(rt; channel < 40 && init < 0x100_0000);
+        assert!(rt; pdu.len() >= 2 && pdu.len() <= 12 && pdu.len() == 2 + pdu[1] as usize);
+        let octets = packet(channel, access, init, pdu);
+        let count = pdu.len() + 7;
+        let built = build(channel, access, init, pdu);
+        assert_eq!(rt; built.as_slice(), &octets[..count], "of {pdu:?}");
+        let heard = unframe(channel, access, init, &octets[..count]);
+        assert_eq!(rt; heard, Heard::Whole(ArrayVec::try_from(pdu)?), "of {pdu:?}");
+        for place in 0..8 * count {
+            let mut spoilt = octets;
+            spoilt[place / 8] ^= 1 << (place % 8);
+            let heard = unframe(channel, access, init, &spoilt[..count]);
+            let want = match place {
+                0..32 => Heard::NotOurs,
+                _ => Heard::Broken,
+            };
+            assert_eq!(rt; heard, want, "with bit {place} changed in {pdu:?}");
+        }
+    }
+    Ok(())
+}
