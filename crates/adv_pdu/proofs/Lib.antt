@@ -2,3 +2,4 @@ pub mod Bits
 pub mod Rows
 pub mod Octets
 pub mod Places
+pub mod Values

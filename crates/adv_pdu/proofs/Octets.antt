@@ -20,11 +20,11 @@ two_and_others octet count others n p q r small count_small none first second th
     ∙ ap (λ (rest : List ℕ). octet ∷ rest) (octet_then count others count_small)
 
 -- what is left of an octet is the header of a PDU: the parts are the same
-abbrev HasParts : ℕ → AdvPdu → Type 0
+abbrev pub HasParts : ℕ → AdvPdu → Type 0
 HasParts octet pdu =
     (octet % 16 ≡ type_of pdu) × ((has_ch_sel (octet % 16) && is_one octet 5) ≡ ch_sel_of pdu) × (is_one octet 6 ≡ tx_add_of pdu) × ((has_rx_add (octet % 16) && is_one octet 7) ≡ rx_add_of pdu)
 
-has_parts : (octet : ℕ) (pdu : AdvPdu) → kept_bits octet ≡ header_octet (type_of pdu) (ch_sel_of pdu) (tx_add_of pdu) (rx_add_of pdu) → HasParts octet pdu
+pub has_parts : (octet : ℕ) (pdu : AdvPdu) → kept_bits octet ≡ header_octet (type_of pdu) (ch_sel_of pdu) (tx_add_of pdu) (rx_add_of pdu) → HasParts octet pdu
 has_parts octet pdu e =
     header_parts (octet % 16) (type_of pdu) _ _ _ _ _ _ (omega arith) (type_small pdu) (sym (kept_parts octet) ∙ e)
 

@@ -47,7 +47,7 @@ has_places (Connect from to ch_sel fields) first count good same =
 has_places (ScanInd from body) first count good same =
     let at = one_address from.octets body.items good.fits.0 in (at.0, tt, at.1, tt)
 
-reading_is : (pdu : AdvPdu) (first : ℕ) (payload : List ℕ) → Spells pdu (first % 16) (is_one first 5) (is_one first 6) (is_one first 7) payload → IsReading (first ∷ length payload ∷ payload) pdu
+pub reading_is : (pdu : AdvPdu) (first : ℕ) (payload : List ℕ) → Spells pdu (first % 16) (is_one first 5) (is_one first 6) (is_one first 7) payload → IsReading (first ∷ length payload ∷ payload) pdu
 reading_is pdu first payload spells =
     let rx_add : rx_add_of pdu ≡ (has_rx_add (type_of pdu) && is_one first 7) =
     subst (λ (kind : ℕ). rx_add_of pdu ≡ (has_rx_add kind && is_one first 7)) (sym spells.kind_is) spells.rx_add_is in

@@ -4,7 +4,7 @@ ghost use Rattle.wire_fields.specs.Field.{spelled, AllFit};
 ghost use Rattle.adv_pdu.specs.declared.pdu.AdvPdu.{AdvPdu};
 ghost use Rattle.adv_pdu.specs.Header.{without_ignored_bits};
 ghost use Rattle.adv_pdu.specs.Pdu.{link_fields_of, written, IsPdu, IsWithinBits};
-ghost use Rattle.adv_pdu.specs.Reading.{is_payload_length, IsPacket, HasPacket, IsReading, Spells};
+ghost use Rattle.adv_pdu.specs.Reading.{is_payload_length, read_of, IsPacket, HasPacket, IsReading, Spells};
 
 use crate::header::{
     ADV_DIRECT_IND, ADV_IND, ADV_NONCONN_IND, ADV_SCAN_IND, CONNECT_IND, Header, SCAN_REQ, SCAN_RSP,
@@ -150,6 +150,8 @@ impl AdvPdu {
         // Nothing else is read from the octets of a PDU.
         ensures only { (pdu : AdvPdu) → IsPdu pdu → without_ignored_bits octets.now ≡ written pdu
             → result ≡ Some pdu }
+        // It is what the octets say, place by place.
+        ensures value { result ≡ read_of octets.now }
     {
         let (first, payload) = packet_parts(octets)?;
         Some(pdu(Header::read(first), Fields::new(payload)))

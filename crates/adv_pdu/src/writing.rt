@@ -1,9 +1,10 @@
 //! PDUs, each written into its octets.
-ghost use Rattle.std.specs.Prelude.{◌≡◌, ◌≤◌, ◌+◌, ◌++◌, [], length};
+ghost use Rattle.std.specs.Prelude.{◌≡◌, ◌≤◌, ◌+◌, ◌++◌, [], length, Some};
 ghost use Rattle.arrayvec.specs.ArrayVec.{array_vec_len};
 ghost use Rattle.wire_fields.specs.Field.{appended, AllFit};
 ghost use Rattle.adv_pdu.specs.Header.{without_ignored_bits};
 ghost use Rattle.adv_pdu.specs.Pdu.{link_fields_of, payload_of, written, FitsBits, HasRoom, IsPdu, IsWithinBits};
+ghost use Rattle.adv_pdu.specs.Reading.{read_of};
 
 use crate::header::Header;
 use crate::pdu::{AdvPdu, ConnectFields};
@@ -72,6 +73,8 @@ impl AdvPdu {
         ensures pdu { IsPdu self.now }
         // No ignored bit is 1.
         ensures no_ignored_bits { without_ignored_bits result.items ≡ result.items }
+        // They say this PDU.
+        ensures read { read_of result.items ≡ Some self.now }
     {
         let payload = payload(self);
         let mut packet = ArrayVec::new();
