@@ -12,7 +12,8 @@ use Rattle.controller.specs.declared.devices.Device.{Device}
 use Rattle.controller.specs.declared.devices.Activity.{Activity}
 use Rattle.controller.specs.declared.devices.Activity.TheVariants.{Advertises, Scans, Rests}
 use Rattle.controller.specs.Advertising.{place_of}
-use Rattle.controller.specs.Past.{Input, Heard, activity_of, intent_of, see, tells, told, view_of}
+use Rattle.controller.specs.Masks.{told}
+use Rattle.controller.specs.Past.{Input, Heard, activity_of, intent_of, see, tells, view_of}
 use Rattle.controller.specs.Scanning.{channel_after, is_withheld}
 use Rattle.controller.specs.State.{State, Acts, acting, acting_at, advertisement_by, doing_in, heard_on, listened, ready, wanted, IsTurn}
 use Rattle.controller.specs.Turns.{activity, advertisement_for, advertising, advertising_at, behind_turn, device_hears, device_tells, intent_in, scanner_hears, scanning, scans_on, serve}
@@ -63,15 +64,15 @@ acts_next phase public past old intent next was goes wants =
 pub acts_first : (public : List ℕ) (past : List Input) (slot : ℕ) (on : Bool) (old : State) (device : Device) (intent : Intent) (done : Doing)
     → old ≡ ready public past → IsTurn slot on (view_of public past) → device ≡ behind_turn slot on old.device
     → done ≡ doing_in 0 (activity slot on old.device) → intent ≡ wanted old.public done
-    → Acts 0 public past (record old { slot = slot + 1; device = device; doing = done }) intent
+    → Acts 0 public past (record old { next_slot = slot + 1; device = device; doing = done }) intent
 unfolding ready acting
 acts_first public past slot on old device intent done was turn served does wants =
     let view = view_of public past in
     let kept : old.device ≡ view.device = ap (λ (s : State). s.device) was in
     let served_is : device ≡ behind_turn view.slot view.on view.device = served ∙ (λ i. behind_turn (sym turn.slot_is i) (sym turn.on_is i) (kept i)) in
     let does_is : done ≡ doing_in 0 (activity_of view) = does ∙ (λ i. doing_in 0 (activity (sym turn.slot_is i) (sym turn.on_is i) (kept i))) in
-    acts 0 public past (record old { slot = slot + 1; device = device; doing = done }) intent
-    (λ i. record (was i) { slot = sym turn.next_is i; device = served_is i; doing = does_is i }) wants
+    acts 0 public past (record old { next_slot = slot + 1; device = device; doing = done }) intent
+    (λ i. record (was i) { next_slot = sym turn.next_is i; device = served_is i; doing = does_is i }) wants
 
 -- ---- what is heard
 

@@ -7,6 +7,7 @@ use Rattle.adv_pdu.specs.declared.pdu.AdvPdu.{AdvPdu}
 use Rattle.adv_pdu.specs.declared.pdu.AdvPdu.TheVariants.{Ind, Direct, Nonconn, ScanReq, ScanRsp, Connect, ScanInd}
 use Rattle.adv_pdu.specs.Reading.{is_payload_length, HasPacket, IsPacket, IsReading}
 use Rattle.controller.specs.declared.scanners.Advertisement.{Advertisement}
+use Rattle.controller.specs.declared.scanners.ReportKind.TheVariants.{Undirected, Directed, Scannable, Nonconnectable}
 use Rattle.controller.specs.Scanning.{advertisement_in, advertisement_of_pdu, advertisement_with, is_for, is_whole_pdu, report_kind}
 
 -- ---- whole PDUs
@@ -57,17 +58,17 @@ tells public octets kind told whole is same = rw (whole, ← is) same
 pub pdu_tells : (public octets : List ℕ) (pdu : AdvPdu) → is_whole_pdu octets ≡ true → IsReading octets pdu → advertisement_of_pdu public pdu ≡ advertisement_in public octets
 pdu_tells public octets (Ind from ch_sel body) whole is =
     tells public octets 0 _ whole is.kind
-    (λ i. Some (record { kind = 0; from = record { random = is.sender.is_random i; octets = is.sender.stands i }; body = record { items = is.body i } }))
+    (λ i. Some (record { kind = Undirected; from = record { random = is.sender.is_random i; octets = is.sender.stands i }; body = record { items = is.body i } }))
 pdu_tells public octets (Nonconn from body) whole is =
     tells public octets 2 _ whole is.kind
-    (λ i. Some (record { kind = 3; from = record { random = is.sender.is_random i; octets = is.sender.stands i }; body = record { items = is.body i } }))
+    (λ i. Some (record { kind = Nonconnectable; from = record { random = is.sender.is_random i; octets = is.sender.stands i }; body = record { items = is.body i } }))
 pdu_tells public octets (ScanInd from body) whole is =
     tells public octets 6 _ whole is.kind
-    (λ i. Some (record { kind = 2; from = record { random = is.sender.is_random i; octets = is.sender.stands i }; body = record { items = is.body i } }))
+    (λ i. Some (record { kind = Scannable; from = record { random = is.sender.is_random i; octets = is.sender.stands i }; body = record { items = is.body i } }))
 pdu_tells public octets (Direct from to ch_sel) whole is =
     tells public octets 1 _ whole is.kind
     (λ i. cond (not (is.target.is_random i) && bytes_eq (is.target.stands i) public)
-    (Some (record { kind = 1; from = record { random = is.sender.is_random i; octets = is.sender.stands i }; body = record { items = [] } })) None)
+    (Some (record { kind = Directed; from = record { random = is.sender.is_random i; octets = is.sender.stands i }; body = record { items = [] } })) None)
 pdu_tells public octets (ScanReq from to) whole is = tells public octets 3 _ whole is.kind refl
 pdu_tells public octets (ScanRsp from body) whole is = tells public octets 4 _ whole is.kind refl
 pdu_tells public octets (Connect from to ch_sel fields) whole is = tells public octets 5 _ whole is.kind refl

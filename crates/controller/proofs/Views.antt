@@ -37,7 +37,7 @@ rested-ready public past slot on is =
     (λ i. record {
       public = view.public;
       framer = waits view.octets;
-      slot = sym is i;
+      next_slot = sym is i;
       device = behind_turn view.slot view.on view.device;
       doing = Waits;
     })

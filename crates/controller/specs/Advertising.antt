@@ -1,12 +1,16 @@
 -- When an advertiser sends (Core 5.2, volume 6 part B, section 4.4.2), in slots of 1.25 ms. Own: an event takes one slot for each channel.
 use Rattle.std.specs.Prelude.{ℕ, ◌+◌, ◌-◌, ◌/◌, ◌==◌, nat_lt, nat_le, Bool, Option, Some, None, if◌then◌else◌}
-use Rattle.std.specs.Int.{bit_at}
 use Rattle.controller.specs.declared.advertisers.Advertiser.{Advertiser}
 use Rattle.controller.specs.declared.advertisers.AdvParams.{AdvParams}
+use Rattle.controller.specs.Masks.{has_bit}
 
 -- units of 0.625 ms in slots, rounded up (own)
 abbrev pub slots_of : ℕ → ℕ
 slots_of units = (units + 1) / 2
+
+-- an advertiser as it is turned on
+abbrev pub fresh : Advertiser
+fresh = record { event_slot = None }
 
 -- which of the three slots of its event this one is: the radio is held for three, and the next event is due an interval
 -- behind the beginning of the one before (own)
@@ -21,18 +25,18 @@ place_in_event interval slot (Some begun) = place_behind interval slot begun
 
 -- the slot in which the last event began, once this one is over
 abbrev pub begun_by : ℕ → Option ℕ → Option ℕ → Option ℕ
-begun_by slot None served = served
-begun_by slot (Some place) served = if place == 0 then Some slot else served
+begun_by slot None begun = begun
+begun_by slot (Some place) begun = if place == 0 then Some slot else begun
 
 -- the place in its event at which an advertiser holds or takes this slot
 abbrev pub place_of : AdvParams → ℕ → Advertiser → Option ℕ
-place_of parameters slot advertiser = place_in_event (slots_of parameters.interval) slot advertiser.served
+place_of parameters slot advertiser = place_in_event (slots_of parameters.interval) slot advertiser.event_slot
 
 -- the advertiser once it was served in this slot
 abbrev pub served_in : AdvParams → ℕ → Advertiser → Advertiser
 served_in parameters slot advertiser =
-    record advertiser { served = begun_by slot (place_of parameters slot advertiser) advertiser.served }
+    record advertiser { event_slot = begun_by slot (place_of parameters slot advertiser) advertiser.event_slot }
 
 -- whether the channel of this place, 37, 38 or 39, is one that the advertiser uses
 abbrev pub is_used : AdvParams → ℕ → Bool
-is_used parameters place = bit_at parameters.channels place == 1
+is_used parameters place = has_bit parameters.channels place

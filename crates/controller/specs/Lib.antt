@@ -1,5 +1,6 @@
 pub mod Commands
 pub mod Table
+pub mod Masks
 pub mod Advertising
 pub mod Scanning
 pub mod Packets

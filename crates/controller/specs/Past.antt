@@ -1,19 +1,14 @@
 -- A controller by its past: all that came to it, in order. Own.
-use Rattle.std.specs.Prelude.{ℕ, ◌+◌, ◌==◌, ◌&&◌, Bool, true, false, List, [], ◌∷◌, ◌++◌, length, map, drop}
-use Rattle.std.specs.Int.{bit_at}
-use Rattle.std.specs.List.{filter}
+use Rattle.std.specs.Prelude.{ℕ, ◌+◌, Bool, false, List, [], ◌∷◌, ◌++◌, length, map, drop}
 use Rattle.ble_base.specs.declared.notes.Note.{Note}
 use Rattle.ble_base.specs.declared.notes.Note.TheVariants.{Up}
 use Rattle.h4_frames.specs.declared.packet.Fed.{Fed}
 use Rattle.h4_frames.specs.declared.packet.Fed.TheVariants.{More}
 use Rattle.h4_frames.specs.Frames.{frames}
-use Rattle.hci_evt.specs.declared.event.Event.{Event}
-use Rattle.hci_evt.specs.declared.event.MaskBit.{MaskBit}
-use Rattle.hci_evt.specs.declared.event.MaskBit.TheVariants.{Always, Main, Meta}
-use Rattle.hci_evt.specs.Event.{mask_bit_of, written}
 use Rattle.controller.specs.declared.intents.Intent.{Intent}
 use Rattle.controller.specs.declared.devices.Device.{Device}
 use Rattle.controller.specs.declared.devices.Activity.{Activity}
+use Rattle.controller.specs.Masks.{told}
 use Rattle.controller.specs.Table.{initial, device_after, events_for}
 use Rattle.controller.specs.Turns.{activity, intent_in, advertisement_for, device_hears, device_tells, behind_turn}
 
@@ -37,25 +32,6 @@ pub record View : Type 0 where
   pub on : Bool
   pub next : ℕ
   pub device : Device
-
--- ---- masks (Core 5.2, volume 4 part E, sections 7.3.1 and 7.8.1)
-
--- the mask of LE events, which no command sets yet
-abbrev pub le_mask : ℕ
-le_mask = 0x1F
-
-abbrev pub has_bit : ℕ → ℕ → Bool
-has_bit mask bit = bit_at mask bit == 1
-
--- an LE event needs its own bit, and that of all LE events, which is 61
-abbrev pub passes : ℕ → MaskBit → Bool
-passes mask Always = true
-passes mask (Main bit) = has_bit mask bit
-passes mask (Meta bit) = has_bit mask 61 && has_bit le_mask bit
-
--- the packets of the events that the mask lets through
-abbrev pub told : ℕ → List Event → List (List ℕ)
-told mask events = map written (filter (λ event. passes mask (mask_bit_of event)) events)
 
 -- ---- what an octet of the host brings behind those before it
 

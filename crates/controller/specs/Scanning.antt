@@ -10,6 +10,8 @@ use Rattle.adv_pdu.specs.Header.{is_one}
 use Rattle.adv_pdu.specs.Reading.{is_payload_length}
 use Rattle.hci_evt.specs.declared.event.Event.{Event}
 use Rattle.hci_evt.specs.declared.event.Event.TheVariants.{AdvertisingReport}
+use Rattle.controller.specs.declared.scanners.ReportKind.{ReportKind}
+use Rattle.controller.specs.declared.scanners.ReportKind.TheVariants.{Undirected, Directed, Scannable, Nonconnectable}
 use Rattle.controller.specs.declared.scanners.Report.{Report}
 use Rattle.controller.specs.declared.scanners.Advertisement.{Advertisement}
 use Rattle.controller.specs.declared.scanners.Scanner.{Scanner}
@@ -33,16 +35,24 @@ channel_after slots =
 
 -- the type of report that a PDU of this type is told by; scan requests, scan responses and connection requests by none,
 -- where the scanning is passive
-abbrev pub report_kind : ℕ → Option ℕ
+abbrev pub report_kind : ℕ → Option ReportKind
 report_kind kind =
-    if kind == 0 then Some 0 else if kind == 1 then Some 1 else if kind == 6 then Some 2 else if kind == 2 then Some 3 else None
+    if kind == 0 then Some Undirected else if kind == 1 then Some Directed
+    else if kind == 6 then Some Scannable else if kind == 2 then Some Nonconnectable else None
+
+-- Event_Type of a report
+abbrev pub event_type : ReportKind → ℕ
+event_type Undirected = 0
+event_type Directed = 1
+event_type Scannable = 2
+event_type Nonconnectable = 3
 
 -- a directed advertisement is for the device whose address it names
 abbrev pub is_for : List ℕ → ℕ → List ℕ → Bool
 is_for public kind octets =
     not (kind == 1) || (not (is_one (slice_index octets 0) 7) && bytes_eq (take 6 (drop 8 octets)) public)
 
-abbrev pub advertisement_with : Option ℕ → ℕ → List ℕ → Option Advertisement
+abbrev pub advertisement_with : Option ReportKind → ℕ → List ℕ → Option Advertisement
 advertisement_with None kind octets = None
 advertisement_with (Some report) kind octets =
     Some (record {
@@ -53,11 +63,11 @@ advertisement_with (Some report) kind octets =
 
 -- the same of a PDU by its parts: its report has the address of the sender and the advertising data
 abbrev pub advertisement_of_pdu : List ℕ → AdvPdu → Option Advertisement
-advertisement_of_pdu public (Ind from ch_sel body) = Some (record { kind = 0; from = from; body = body })
+advertisement_of_pdu public (Ind from ch_sel body) = Some (record { kind = Undirected; from = from; body = body })
 advertisement_of_pdu public (Direct from to ch_sel) =
-    if not to.random && bytes_eq to.octets public then Some (record { kind = 1; from = from; body = record { items = [] } }) else None
-advertisement_of_pdu public (ScanInd from body) = Some (record { kind = 2; from = from; body = body })
-advertisement_of_pdu public (Nonconn from body) = Some (record { kind = 3; from = from; body = body })
+    if not to.random && bytes_eq to.octets public then Some (record { kind = Directed; from = from; body = record { items = [] } }) else None
+advertisement_of_pdu public (ScanInd from body) = Some (record { kind = Scannable; from = from; body = body })
+advertisement_of_pdu public (Nonconn from body) = Some (record { kind = Nonconnectable; from = from; body = body })
 advertisement_of_pdu public other = None
 
 -- the octets are a header and as many octets as its second octet says, which a PDU of this type may have
@@ -78,7 +88,7 @@ abbrev pub is_same_address : Address → Address → Bool
 is_same_address one other = beq one.random other.random && bytes_eq one.octets other.octets
 
 abbrev pub is_alike : Report → Report → Bool
-is_alike one other = (one.kind == other.kind) && is_same_address one.from other.from
+is_alike one other = (event_type one.kind == event_type other.kind) && is_same_address one.from other.from
 
 abbrev pub report_of : Advertisement → Report
 report_of advertisement = record { kind = advertisement.kind; from = advertisement.from }
@@ -90,7 +100,7 @@ last_16 reports = drop (length reports - 16) reports
 -- a duplicate is a report of a type and address that are among the last 16 reported since scanning began; where they are
 -- filtered it is withheld (own)
 abbrev pub is_withheld : Scanner → Advertisement → Bool
-is_withheld scanner advertisement = scanner.once && list_any (λ report. is_alike report (report_of advertisement)) scanner.recent.items
+is_withheld scanner advertisement = scanner.filters_duplicates && list_any (λ report. is_alike report (report_of advertisement)) scanner.recent.items
 
 -- the scanner that has heard this
 abbrev pub scanner_after : Scanner → Advertisement → Scanner
@@ -104,7 +114,7 @@ address_kind address = if address.random then 1 else 0
 -- the signal strength is not told: 7F (volume 4 part E, section 7.7.65.2)
 abbrev pub report_event : Advertisement → Event
 report_event advertisement =
-    AdvertisingReport advertisement.kind (address_kind advertisement.from) advertisement.from.octets advertisement.body 0x7F
+    AdvertisingReport (event_type advertisement.kind) (address_kind advertisement.from) advertisement.from.octets advertisement.body 0x7F
 
 -- the event that this calls for
 abbrev pub events_of : Scanner → Advertisement → List Event
@@ -112,4 +122,4 @@ events_of scanner advertisement = if is_withheld scanner advertisement then [] e
 
 -- what an advertisement that is not connectable says of a device with this public address, which has no data
 abbrev pub advertisement_from : List ℕ → Advertisement
-advertisement_from public = record { kind = 3; from = record { random = false; octets = public }; body = record { items = [] } }
+advertisement_from public = record { kind = Nonconnectable; from = record { random = false; octets = public }; body = record { items = [] } }

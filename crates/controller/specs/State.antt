@@ -17,7 +17,7 @@ use Rattle.controller.specs.Past.{Input, View, activity_of, view_of, intent_of}
 pub record State : Type 0 where
   pub public : List ℕ
   pub framer : Stage
-  pub slot : ℕ
+  pub next_slot : ℕ
   pub device : Device
   pub doing : Doing
 
@@ -74,7 +74,7 @@ pub record IsTurn (slot : ℕ) (on : Bool) (view : View) : Type 0 where
 -- a turn began, and octets of the host may come
 abbrev pub ready_at : View → State
 ready_at view =
-    record { public = view.public; framer = waits view.octets; slot = view.slot; device = view.device; doing = Waits }
+    record { public = view.public; framer = waits view.octets; next_slot = view.slot; device = view.device; doing = Waits }
 
 -- in a phase of the turn
 abbrev pub acting_at : ℕ → View → State
@@ -82,7 +82,7 @@ acting_at phase view =
     record {
       public = view.public;
       framer = waits view.octets;
-      slot = view.next;
+      next_slot = view.next;
       device = behind_turn view.slot view.on view.device;
       doing = doing_in phase (activity_of view);
     }
@@ -93,7 +93,7 @@ rested_at view =
     record {
       public = view.public;
       framer = waits view.octets;
-      slot = view.next;
+      next_slot = view.next;
       device = behind_turn view.slot view.on view.device;
       doing = Waits;
     }

@@ -12,6 +12,7 @@ use Rattle.hci_evt.specs.declared.event.Event.TheVariants.{CommandComplete, Comm
 use Rattle.controller.specs.declared.advertisers.AdvKind.{AdvKind}
 use Rattle.controller.specs.declared.advertisers.AdvKind.TheVariants.{Undirected, Directed, Scannable, Nonconnectable}
 use Rattle.controller.specs.declared.devices.Device.{Device}
+use Rattle.controller.specs.Advertising.{fresh}
 use Rattle.controller.specs.Commands.{command_in}
 
 -- the first refusal of a list whose condition holds, and 00 where none does
@@ -95,14 +96,14 @@ abbrev pub advertiser_by : Device → ℕ → Device
 advertiser_by device value =
     if value == 0 then record device { advertiser = None }
     else if is_some device.advertiser then device
-    else record device { advertiser = Some (record { served = None }) }
+    else record device { advertiser = Some fresh }
 
 -- turned on in this slot, where it was off
 abbrev pub scanner_by : ℕ → Device → ℕ → ℕ → Device
 scanner_by slot device value duplicates =
     if value == 0 then record device { scanner = None }
     else if is_some device.scanner then device
-    else record device { scanner = Some (record { since = slot; once = (duplicates == 1); recent = record { items = [] } }) }
+    else record device { scanner = Some (record { since = slot; filters_duplicates = (duplicates == 1); recent = record { items = [] } }) }
 
 -- what a command that is carried out in this slot leaves behind
 abbrev pub done_by : ℕ → Device → Command → Device

@@ -2,6 +2,8 @@
 ghost use Rattle.std.specs.Prelude.{◌≡◌, ◌<◌, IfSome};
 ghost use Rattle.controller.specs.Advertising.{slots_of, place_of, is_used, served_in};
 
+use crate::masks::has_bit;
+
 /// The kinds of advertising (Core 5.2, volume 6 part B, section 4.4.2).
 #[derive(Clone, Copy, Debug, PartialEq, Eq)]
 pub(crate) enum AdvKind {
@@ -31,7 +33,7 @@ pub(crate) struct AdvParams {
 #[derive(Clone, Copy, Debug, PartialEq, Eq)]
 pub(crate) struct Advertiser {
     /// The slot in which its last event began, once one has.
-    pub served: Option<u64>,
+    pub event_slot: Option<u64>,
 }
 
 /// Units of 0.625 ms in slots of 1.25 ms, rounded up.
@@ -47,7 +49,7 @@ impl AdvParams {
         ensures value { result ≡ place_of self.now slot advertiser.now }
         ensures place { IfSome result (λ place. place < 3) }
     {
-        let Some(begun) = advertiser.served else {
+        let Some(begun) = advertiser.event_slot else {
             return Some(0);
         };
         let behind = slot.saturating_sub(begun);
@@ -62,10 +64,9 @@ impl AdvParams {
 
     /// Whether the channel of this place in an event is used.
     pub(crate) fn uses(&self, place: u8) -> bool
-        requires { place < 8 }
         ensures { result ≡ is_used self.now place }
     {
-        (self.channels >> place) & 1 == 1
+        has_bit(u64::from(self.channels), place)
     }
 }
 
@@ -75,7 +76,7 @@ impl Advertiser {
         ensures { self.new ≡ served_in parameters.now slot self.old }
     {
         if parameters.place(slot, self) == Some(0) {
-            self.served = Some(slot);
+            self.event_slot = Some(slot);
         }
     }
 }

@@ -1,27 +1,21 @@
 //! A controller between its host and the radio.
 ghost use Rattle.std.specs.Prelude.{◌≡◌, ℕ, suc, ◌+◌, ◌<◌, ◌^◌, List, [], ◌∷◌, ◌++◌, Some};
-ghost use Rattle.std.specs.Option.{option_to_list};
 ghost use Rattle.arrayvec.specs.ArrayVec.{array_vec_len};
-ghost use Rattle.hci_evt.specs.Event.{mask_bit_of};
 ghost use Rattle.controller.specs.declared.devices.Activity.{Activity};
+ghost use Rattle.controller.specs.Masks.{told};
 ghost use Rattle.controller.specs.Packets.{verdict_of};
-ghost use Rattle.controller.specs.Past.{Input, Given, Heard, has_bit, passes, notes_of, told, tells, view_of, intent_of};
+ghost use Rattle.controller.specs.Table.{device_after, events_for};
+ghost use Rattle.controller.specs.Past.{Input, Given, Heard, notes_of, tells, view_of, intent_of};
 ghost use Rattle.controller.specs.State.{listened, heard_on, wanted, doing_in, advertisement_by, ready, acting, rested, IsTurn, Acts, HasChannel};
 
 use crate::devices::{Activity, Device};
 use crate::intents::Intent;
+use crate::masks::tell;
 use crate::packets::{advertisement, judge, pdu};
 use crate::scanners::{Advertisement, read_advertisement};
-use ble_base::{Note, Outbox, SlotNo, Verdict};
-use h4_frames::Framer;
-use hci_evt::{Event, MaskBit, mask_bit, write};
+use ble_base::{Outbox, SlotNo, Verdict};
+use h4_frames::{Fed, Framer};
 use std::marker::Model;
-
-/// The mask of LE events (Core 5.2, volume 4 part E, section 7.8.1), which no command sets yet.
-const LE_MASK: u64 = 0x1F;
-
-/// The bit of the mask of events that lets LE events through.
-const LE_META: u8 = 61;
 
 /// What a controller does in the phase that comes next.
 #[derive(Clone, Copy, Debug, PartialEq, Eq)]
@@ -43,7 +37,8 @@ enum Doing {
 pub struct Controller {
     public: [u8; 6],
     framer: Framer,
-    slot: u64,
+    /// The slot of the turn that comes next.
+    next_slot: u64,
     device: Device,
     doing: Doing,
 }
@@ -54,38 +49,9 @@ impl Model for Controller {
 
     ghost Value = { State };
 
-    ghost view = { λ c. record { public = c.public; framer = c.framer; slot = c.slot; device = c.device; doing = c.doing } };
+    ghost view = { λ c. record { public = c.public; framer = c.framer; next_slot = c.next_slot; device = c.device; doing = c.doing } };
 
     ghost invariant = { λ c. HasChannel c.doing };
-}
-
-/// Whether a bit of a mask is 1.
-fn has_bit(mask: u64, bit: u8) -> bool
-    ensures { result ≡ has_bit mask bit }
-{
-    bit < 64 && (mask >> bit) & 1 == 1
-}
-
-/// Whether the mask lets an event through.
-fn passes(mask: u64, event: &Event) -> bool
-    ensures { result ≡ passes mask (mask_bit_of event.now) }
-{
-    match mask_bit(event) {
-        MaskBit::Always => true,
-        MaskBit::Main(bit) => has_bit(mask, bit),
-        MaskBit::Meta(bit) => has_bit(mask, LE_META) && has_bit(LE_MASK, bit),
-    }
-}
-
-/// Tells the host of an event that the mask lets through.
-fn tell(mask: u64, event: Option<Event>, out: &mut Outbox)
-    requires room { array_vec_len out.old < 64 }
-    ensures { out.new.items ≡ out.old.items ++ notes_of (told mask (option_to_list event)) }
-{
-    match event {
-        Some(event) if passes(mask, &event) => out.push(Note::Up(write(&event))),
-        _ => {}
-    }
 }
 
 impl Doing {
@@ -131,7 +97,7 @@ impl Controller {
         Controller {
             public,
             framer: Framer::new(),
-            slot: 0,
+            next_slot: 0,
             device: Device::initial(),
             doing: Doing::Rests,
         }
@@ -146,8 +112,21 @@ impl Controller {
             → out.new.items ≡ out.old.items ++ notes_of (tells (view_of public past) (Given octet)) }
     {
         let fed = self.framer.feed(octet);
+        if let Fed::More = fed {
+            return;
+        }
+        self.take(&fed, out);
+    }
+
+    /// Takes what an octet of the host brought, and tells the host what it calls for.
+    fn take(&mut self, fed: &Fed, out: &mut Outbox)
+        requires room { array_vec_len out.old < 64 }
+        ensures state { self.new ≡ record self.old { device = device_after self.old.next_slot self.old.device fed.now } }
+        ensures notes { out.new.items
+            ≡ out.old.items ++ notes_of (told self.old.device.mask (events_for self.old.public self.old.device fed.now)) }
+    {
         let mask = self.device.mask;
-        let event = self.device.take(self.slot, &self.public, &fed);
+        let event = self.device.take(self.next_slot, &self.public, fed);
         tell(mask, event, out);
     }
 
@@ -174,7 +153,7 @@ impl Controller {
     {
         let activity = self.device.activity(slot.0, radio_on);
         self.device.serve(slot.0, radio_on);
-        self.slot = slot.0 + 1;
+        self.next_slot = slot.0 + 1;
         self.doing = Doing::first(activity);
         self.intent()
     }

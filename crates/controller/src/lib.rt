@@ -10,7 +10,8 @@ mod commands;
 mod controllers;
 mod devices;
 mod intents;
-pub mod laws;
+mod laws;
+mod masks;
 mod packets;
 mod scanners;
 mod statuses;
@@ -19,3 +20,4 @@ mod tests;
 
 pub use crate::controllers::Controller;
 pub use crate::intents::Intent;
+pub use crate::laws::{an_advertisement_is_understood, past_grows, turns_follow};

@@ -3,7 +3,7 @@ ghost use Rattle.std.specs.Prelude.{◌≡◌, ◌-◌, ◌∷◌, [], ◌++◌,
 ghost use Rattle.std.specs.List.{list_any};
 ghost use Rattle.std.specs.Str.{bytes_eq};
 ghost use Rattle.std.specs.Option.{option_to_list};
-ghost use Rattle.controller.specs.Scanning.{channel_after, is_alike, is_withheld, last_16, scanner_after, events_of, advertisement_of_pdu, advertisement_in};
+ghost use Rattle.controller.specs.Scanning.{channel_after, event_type, is_alike, is_withheld, last_16, scanner_after, events_of, advertisement_of_pdu, advertisement_in};
 
 use crate::advertisers::slots_of;
 use adv_pdu::AdvPdu;
@@ -19,11 +19,38 @@ const SCAN_WINDOW: u16 = 0x0010;
 /// The signal strength in a report where it is not known (Core 5.2, volume 4 part E, section 7.7.65.2).
 const NO_RSSI: u8 = 0x7F;
 
+/// The types of advertisement that a report tells of.
+#[derive(Clone, Copy, Debug, PartialEq, Eq, Default)]
+pub(crate) enum ReportKind {
+    /// Connectable and scannable, to anyone.
+    #[default]
+    Undirected,
+    /// Connectable, to one device.
+    Directed,
+    /// Scannable alone, to anyone.
+    Scannable,
+    /// Neither connectable nor scannable.
+    Nonconnectable,
+}
+
+impl ReportKind {
+    /// Event_Type of its report (Core 5.2, volume 4 part E, section 7.7.65.2).
+    pub(crate) fn event_type(self) -> u8
+        ensures { result ≡ event_type self }
+    {
+        match self {
+            ReportKind::Undirected => 0,
+            ReportKind::Directed => 1,
+            ReportKind::Scannable => 2,
+            ReportKind::Nonconnectable => 3,
+        }
+    }
+}
+
 /// What a duplicate is known by: the type of a report and the address in it.
 #[derive(Clone, Copy, Debug, PartialEq, Eq, Default)]
 pub(crate) struct Report {
-    /// Event_Type (Core 5.2, volume 4 part E, section 7.7.65.2).
-    pub kind: u8,
+    pub kind: ReportKind,
     pub from: Address,
 }
 
@@ -48,8 +75,7 @@ fn is_among(reports: &[Report], report: &Report) -> bool
 /// An advertisement that a scanner may report.
 #[derive(Debug, PartialEq, Eq, Drop)]
 pub(crate) struct Advertisement {
-    /// Event_Type of its report.
-    pub kind: u8,
+    pub kind: ReportKind,
     pub from: Address,
     /// The advertising data, 0 to 31 octets.
     pub body: ArrayVec<u8, 31>,
@@ -61,7 +87,7 @@ pub(crate) struct Scanner {
     /// The slot in which it was turned on.
     pub since: u64,
     /// Whether duplicates are filtered.
-    pub once: bool,
+    pub filters_duplicates: bool,
     /// The last reports since then, the oldest first.
     pub recent: ArrayVec<Report, 16>,
 }
@@ -89,7 +115,7 @@ impl Scanner {
             kind: advertisement.kind,
             from: advertisement.from,
         };
-        self.once && is_among(self.recent.as_slice(), &report)
+        self.filters_duplicates && is_among(self.recent.as_slice(), &report)
     }
 
     /// Notes that this was reported.
@@ -115,7 +141,7 @@ impl Scanner {
             from: advertisement.from,
         });
         Some(Event::AdvertisingReport {
-            kind: advertisement.kind,
+            kind: advertisement.kind.event_type(),
             address_kind: u8::from(advertisement.from.random),
             address: advertisement.from.octets,
             octets: advertisement.body,
@@ -137,22 +163,22 @@ fn advertisement_of(public: &[u8; 6], pdu: AdvPdu) -> Option<Advertisement>
 {
     match pdu {
         AdvPdu::Ind { from, body, .. } => Some(Advertisement {
-            kind: 0,
+            kind: ReportKind::Undirected,
             from,
             body,
         }),
         AdvPdu::Direct { from, to, .. } if is_own(public, to) => Some(Advertisement {
-            kind: 1,
+            kind: ReportKind::Directed,
             from,
             body: ArrayVec::new(),
         }),
         AdvPdu::ScanInd { from, body } => Some(Advertisement {
-            kind: 2,
+            kind: ReportKind::Scannable,
             from,
             body,
         }),
         AdvPdu::Nonconn { from, body } => Some(Advertisement {
-            kind: 3,
+            kind: ReportKind::Nonconnectable,
             from,
             body,
         }),

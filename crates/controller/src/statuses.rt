@@ -144,7 +144,7 @@ impl Device {
         if value == 0 {
             self.advertiser = None;
         } else if self.advertiser.is_none() {
-            self.advertiser = Some(Advertiser { served: None });
+            self.advertiser = Some(Advertiser { event_slot: None });
         }
     }
 
@@ -157,7 +157,7 @@ impl Device {
         } else if self.scanner.is_none() {
             self.scanner = Some(Scanner {
                 since: slot,
-                once: duplicates == 1,
+                filters_duplicates: duplicates == 1,
                 recent: ArrayVec::new(),
             });
         }

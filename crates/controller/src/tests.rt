@@ -51,9 +51,13 @@ const PARAMETERS: [u8; 19] = [
 
 const ADVERTISE: [u8; 5] = [0x01, 0x0A, 0x20, 0x01, 0x01];
 
+const STOP_ADVERTISING: [u8; 5] = [0x01, 0x0A, 0x20, 0x01, 0x00];
+
 const SCAN: [u8; 6] = [0x01, 0x0C, 0x20, 0x02, 0x01, 0x00];
 
 const SCAN_ONCE: [u8; 6] = [0x01, 0x0C, 0x20, 0x02, 0x01, 0x01];
+
+const STOP_SCANNING: [u8; 6] = [0x01, 0x0C, 0x20, 0x02, 0x00, 0x00];
 
 const RESET: [u8; 4] = [0x01, 0x03, 0x0C, 0x00];
 
@@ -116,6 +120,28 @@ fn turn(controller: &mut Controller, slot: u32, on: bool) -> (Intent, Intent) {
     (first, second)
 }
 
+/// The channel on which a controller that wants this listens.
+fn channel_of(intent: Intent) -> Option<u8> {
+    match intent {
+        Intent::Listen { channel } => Some(channel),
+        _ => None,
+    }
+}
+
+/// In this slot it advertises on this channel, or not at all.
+fn advertises(rt: &impl Abort, controller: &mut Controller, slot: u32, channel: Option<u8>) {
+    let (first, second) = turn(controller, slot, true);
+    assert_eq!(rt; channel_of(second), channel, "in {slot}");
+    assert_eq!(rt; first == Intent::Idle, channel.is_none(), "in {slot}");
+}
+
+/// In this slot it scans on this channel.
+fn scans(rt: &impl Abort, controller: &mut Controller, slot: u32, channel: u8) {
+    let (first, second) = turn(controller, slot, true);
+    assert_eq!(rt; channel_of(first), Some(channel), "in {slot}");
+    assert_eq!(rt; second, Intent::Idle, "in {slot}");
+}
+
 /// A turn in which the packet is heard in the first phase, on channel 37, and its report, if it makes one.
 fn hearing(
     rt: &impl Abort,
@@ -141,11 +167,36 @@ fn hearing(
     controller.end_turn();
 }
 
+/// A turn in which an advertisement of another device is heard, whose address begins with this octet.
+fn hearing_from(
+    rt: &impl Abort,
+    controller: &mut Controller,
+    slot: u32,
+    device: u8,
+    is_reported: bool,
+) {
+    let mut public = PUBLIC_A;
+    public[0] = device;
+    let mut report = REPORT;
+    report[7] = device;
+    let mut out = Outbox::new();
+    let channel = channel_of(controller.begin_turn(SlotNo(u64::from(slot)), true)).unwrap_or(0);
+    assert!(rt; (37..40).contains(&channel), "in {slot}");
+    controller.heard(packets::advertisement(public, channel).as_slice(), &mut out);
+    assert_eq!(rt;
+        out.as_slice().first(),
+        is_reported.then(|| up(rt, &report)).as_ref(),
+        "in {slot}"
+    );
+    controller.unheard();
+    controller.unheard();
+    controller.end_turn();
+}
+
 #[test]
 fn answers_commands(rt: HostRuntime) {
-    laws::past_grows();
-    laws::turns_follow();
-    laws::an_advertisement_is_understood();
+    past_grows();
+    turns_follow();
     let mut controller = Controller::new(PUBLIC_A);
     give(
         &rt,
@@ -266,6 +317,7 @@ fn leaves_out_channels_and_turns_without_radio(rt: HostRuntime) {
 
 #[test]
 fn reports_what_it_scans(rt: HostRuntime) {
+    an_advertisement_is_understood();
     let mut controller = Controller::new(PUBLIC_B);
     let [advertisement, ..] = ADVERTISEMENTS;
     command(&rt, &mut controller, &SCAN, 0x00);
@@ -303,4 +355,85 @@ fn withholds_duplicates_until_a_reset(rt: HostRuntime) {
     command(&rt, &mut controller, &MASK, 0x00);
     command(&rt, &mut controller, &SCAN_ONCE, 0x00);
     hearing(&rt, &mut controller, 3, &advertisement, Some(&REPORT));
+}
+
+#[test]
+fn scans_on_one_channel_an_interval(rt: HostRuntime) {
+    let mut controller = Controller::new(PUBLIC_B);
+    command(&rt, &mut controller, &SCAN, 0x00);
+    for (slots, channel) in [(0..8, 37), (8..16, 38), (16..24, 39), (24..26, 37)] {
+        for slot in slots {
+            scans(&rt, &mut controller, slot, channel);
+        }
+    }
+}
+
+#[test]
+fn begins_anew_where_it_is_turned_off_and_on(rt: HostRuntime) {
+    let mut advertiser = Controller::new(PUBLIC_A);
+    command(&rt, &mut advertiser, &PARAMETERS, 0x00);
+    command(&rt, &mut advertiser, &ADVERTISE, 0x00);
+    advertises(&rt, &mut advertiser, 0, Some(37));
+    advertises(&rt, &mut advertiser, 1, Some(38));
+    command(&rt, &mut advertiser, &STOP_ADVERTISING, 0x00);
+    command(&rt, &mut advertiser, &ADVERTISE, 0x00);
+    for slot in 2..20 {
+        let channel = match slot {
+            2 | 18 => Some(37),
+            3 | 19 => Some(38),
+            4 => Some(39),
+            _ => None,
+        };
+        advertises(&rt, &mut advertiser, slot, channel);
+    }
+    let mut scanner = Controller::new(PUBLIC_B);
+    command(&rt, &mut scanner, &SCAN, 0x00);
+    for slot in 0..10 {
+        turn(&mut scanner, slot, true);
+    }
+    command(&rt, &mut scanner, &STOP_SCANNING, 0x00);
+    command(&rt, &mut scanner, &SCAN, 0x00);
+    for (slots, channel) in [(10..18, 37), (18..20, 38)] {
+        for slot in slots {
+            scans(&rt, &mut scanner, slot, channel);
+        }
+    }
+}
+
+#[test]
+fn rounds_an_odd_interval_up(rt: HostRuntime) {
+    let mut controller = Controller::new(PUBLIC_A);
+    let mut parameters = PARAMETERS;
+    parameters[4] = 0x21;
+    parameters[6] = 0x21;
+    command(&rt, &mut controller, &parameters, 0x00);
+    command(&rt, &mut controller, &ADVERTISE, 0x00);
+    for slot in 0..19 {
+        let channel = match slot {
+            0 | 17 => Some(37),
+            1 | 18 => Some(38),
+            2 => Some(39),
+            _ => None,
+        };
+        advertises(&rt, &mut controller, slot, channel);
+    }
+}
+
+#[test]
+fn remembers_16_reports(rt: HostRuntime) {
+    let mut controller = Controller::new(PUBLIC_B);
+    command(&rt, &mut controller, &MASK, 0x00);
+    command(&rt, &mut controller, &SCAN_ONCE, 0x00);
+    for slot in 0..16 {
+        hearing_from(&rt, &mut controller, slot, slot as u8, true);
+    }
+    for (slot, device, is_reported) in [
+        (16, 0, false),
+        (17, 16, true),
+        (18, 0, true),
+        (19, 16, false),
+        (20, 1, true),
+    ] {
+        hearing_from(&rt, &mut controller, slot, device, is_reported);
+    }
 }

@@ -1,7 +1,7 @@
 use Rattle.std.proofs.Common.{arith}
 use Rattle.std.proofs.lemmas.Bool.Decides.{nat_tests}
 use Rattle.std.proofs.lemmas.Nat.Bits.{bit_at_above}
-use Rattle.controller.proofs.controllers.has_bit.Goals as goal
+use Rattle.controller.proofs.masks.has_bit.Goals as goal
 
 pub returns-else-bit-lt64 : goal.returns-else-bit-lt64
 returns-else-bit-lt64 c =
