@@ -5,3 +5,5 @@ pub mod Views
 pub mod Acting
 pub mod Taking
 pub mod Understood
+pub mod Answered
+pub mod Intervals

@@ -6,4 +6,6 @@ pub mod Scanning
 pub mod Packets
 pub mod Turns
 pub mod Past
+pub mod Answers
+pub mod Events
 pub mod State

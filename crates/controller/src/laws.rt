@@ -1,10 +1,23 @@
 //! Laws of a controller. The bodies only call laws that they stand on: the contracts are the laws.
-ghost use Rattle.std.specs.Prelude.{◌≡◌, ℕ, Bool, List, [], ◌∷◌, ◌++◌, length, Some};
+ghost use Rattle.std.specs.Prelude.{◌≡◌, ℕ, ◌+◌, ◌≤◌, Bool, true, List, [], ◌∷◌, ◌++◌, length, Some, if◌then◌else◌};
 ghost use Rattle.ble_base.specs.declared.Verdict.TheVariants.{Good};
+ghost use Rattle.h4_frames.specs.declared.packet.HostPacket.TheVariants.{Command, Acl};
+ghost use Rattle.h4_frames.specs.declared.packet.Fed.TheVariants.{Packet, LostSync};
+ghost use Rattle.h4_frames.specs.Frames.{frames};
+ghost use Rattle.hci_evt.specs.declared.event.Event.{Event};
+ghost use Rattle.hci_evt.specs.declared.event.Event.TheVariants.{HardwareError};
+ghost use Rattle.hci_evt.specs.Event.{written};
+ghost use Rattle.controller.specs.declared.advertisers.AdvParams.{AdvParams};
 ghost use Rattle.controller.specs.declared.devices.Activity.TheVariants.{Scans};
+ghost use Rattle.controller.specs.declared.devices.Device.{Device};
+ghost use Rattle.controller.specs.Advertising.{fresh, place_of, slots_of};
+ghost use Rattle.controller.specs.Answers.{HeardNothing, IsAnswerTo, answers, octets_of};
+ghost use Rattle.controller.specs.Events.{advertiser_after, left_on, place_by};
+ghost use Rattle.controller.specs.Masks.{has_bit, told};
 ghost use Rattle.controller.specs.Packets.{advertisement_on, verdict_on};
 ghost use Rattle.controller.specs.Scanning.{advertisement_from};
-ghost use Rattle.controller.specs.Turns.{advertisement_for};
+ghost use Rattle.controller.specs.Table.{events_for, is_interval};
+ghost use Rattle.controller.specs.Turns.{activity, advertisement_for, advertising_at};
 ghost use Rattle.controller.specs.Past.{Input, Turned, see, tells, told_by, view_of};
 ghost use Rattle.controller.specs.State.{ready, rested};
 
@@ -31,3 +44,34 @@ pub fn an_advertisement_is_understood()
 {
     air_frame::laws::packet_tells_its_pdu();
 }
+
+/// As long as nothing is heard from the air, a host is told exactly the answers to its packets, in order, whatever the
+/// slots in which they come and the turns between them. A command has one answer, which says its opcode and that one
+/// further command may be sent; ACL data has none; and a loss of synchronisation is told as Hardware Error, which is
+/// bit 15 of the mask.
+pub fn each_packet_is_answered()
+    ensures told { (public : List ℕ) (slot : ℕ) (past : List Input) → HeardNothing past
+        → told_by public past ≡ answers public slot (frames (octets_of past)) }
+    ensures command { (public : List ℕ) (device : Device) (opcode : ℕ) (parameters : List ℕ)
+        → (event : Event)
+        × (told device.mask (events_for public device (Packet (Command opcode (record { items = parameters })))) ≡ written event ∷ [])
+        × IsAnswerTo opcode event }
+    ensures acl { (public : List ℕ) (device : Device) (handle : ℕ) (start : Bool) (count : ℕ) (octets : List ℕ)
+        → told device.mask (events_for public device (Packet (Acl handle start count (record { items = octets })))) ≡ [] }
+    ensures loss { (public : List ℕ) (device : Device)
+        → told device.mask (events_for public device LostSync)
+        ≡ (if has_bit device.mask 15 then written (HardwareError 0x01) ∷ [] else []) }
+{}
+
+/// An advertiser that is turned on in a slot and left on, with its radio on, is in an event in the first three slots of
+/// each interval and in no others. In these it sends on the channels that it uses and is idle on the others, and between
+/// events a scanner has the radio. An interval that a host may set has 16 slots or more.
+pub fn an_advertiser_keeps_its_interval()
+    ensures place { (parameters : AdvParams) (start slots : ℕ) → 3 ≤ slots_of parameters.interval
+        → place_of parameters (start + slots) (advertiser_after parameters start slots)
+        ≡ place_by (slots_of parameters.interval) slots }
+    ensures activity { (device : Device) (start slots : ℕ) → device.advertiser ≡ Some fresh → 3 ≤ slots_of device.parameters.interval
+        → activity (start + slots) true (left_on start slots device)
+        ≡ advertising_at (start + slots) device (place_by (slots_of device.parameters.interval) slots) }
+    ensures long { (units : ℕ) → is_interval units ≡ true → 16 ≤ slots_of units }
+{}

@@ -20,4 +20,7 @@ mod tests;
 
 pub use crate::controllers::Controller;
 pub use crate::intents::Intent;
-pub use crate::laws::{an_advertisement_is_understood, past_grows, turns_follow};
+pub use crate::laws::{
+    an_advertisement_is_understood, an_advertiser_keeps_its_interval, each_packet_is_answered,
+    past_grows, turns_follow,
+};

@@ -197,6 +197,7 @@ fn hearing_from(
 fn answers_commands(rt: HostRuntime) {
     past_grows();
     turns_follow();
+    each_packet_is_answered();
     let mut controller = Controller::new(PUBLIC_A);
     give(
         &rt,
@@ -267,6 +268,7 @@ fn refuses_by_the_table(rt: HostRuntime) {
 
 #[test]
 fn advertises_on_three_channels(rt: HostRuntime) {
+    an_advertiser_keeps_its_interval();
     let mut controller = Controller::new(PUBLIC_A);
     command(&rt, &mut controller, &PARAMETERS, 0x00);
     command(&rt, &mut controller, &ADVERTISE, 0x00);
