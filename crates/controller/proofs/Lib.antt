@@ -1,4 +1,3 @@
-pub mod Hearing
 pub mod Reading
 pub mod Telling
 pub mod Views

@@ -1,13 +1,14 @@
 -- An advertisement is heard as it was sent.
-use Rattle.std.proofs.Common.{◌≡◌, ℕ, List, [], ◌∷◌, length, Some, refl, sym, ap, ◌∙◌, arith}
+use Rattle.std.proofs.Common.{◌≡◌, ℕ, List, [], ◌∷◌, length, Some, refl, ap, ◌∙◌, arith}
 use Rattle.ble_base.specs.declared.Verdict.TheVariants.{Good}
 use Rattle.adv_pdu.specs.Pdu.{written}
-use Rattle.air_frame.specs.Packet.{IsPdu}
-use Rattle.controller.specs.Packets.{advertisement_of, advertisement_on, verdict_on}
+use Rattle.air_frame.specs.declared.Heard.{Heard}
+use Rattle.air_frame.specs.declared.Heard.TheVariants.{Whole}
+use Rattle.air_frame.specs.Hearing.{heard_in}
+use Rattle.air_frame.specs.Packet.{on_air, IsPdu}
+use Rattle.controller.specs.Packets.{advertising_access, advertising_init, advertisement_of, advertisement_on, pdu_by, pdu_heard, verdict_by, verdict_on}
 use Rattle.controller.specs.Scanning.{advertisement_from, advertisement_in}
 use Rattle.controller.specs.Turns.{advertisement_heard}
-use Rattle.controller.specs.Packets.{pdu_heard}
-use Rattle.controller.proofs.Hearing.{TellsPdu, good, pdu_is_heard}
 
 -- six octets make a PDU in form, which says them
 record Says (public own : List ℕ) : Type 0 where
@@ -28,13 +29,19 @@ six_say own (a ∷ b ∷ c ∷ d ∷ []) six = absurd (omega arith)
 six_say own (a ∷ b ∷ c ∷ d ∷ e ∷ []) six = absurd (omega arith)
 six_say own (a ∷ b ∷ c ∷ d ∷ e ∷ f ∷ g ∷ more) six = absurd (omega arith)
 
-pub understood_good : (tells : TellsPdu) (public : List ℕ) (channel : ℕ) → length public ≡ 6 → verdict_on channel (advertisement_on public channel) ≡ Good
-unfolding advertisement_on
-understood_good tells public channel six = sym (good channel _ (written (advertisement_of public)) tells (six_say [] public six).form refl)
+-- a packet of a PDU in form is heard whole
+abbrev pub IsHeardWhole : Type 0
+IsHeardWhole = (channel access init : ℕ) (pdu : List ℕ) → IsPdu pdu → heard_in channel access init (on_air channel access init pdu) ≡ Whole (record { items = pdu })
 
-pub understood_says : (tells : TellsPdu) (public own : List ℕ) (channel : ℕ) → length public ≡ 6
+pub understood_good : (whole : IsHeardWhole) (public : List ℕ) (channel : ℕ) → length public ≡ 6 → verdict_on channel (advertisement_on public channel) ≡ Good
+unfolding advertisement_on verdict_on
+understood_good whole public channel six =
+    ap verdict_by (whole channel advertising_access advertising_init (written (advertisement_of public)) (six_say [] public six).form)
+
+pub understood_says : (whole : IsHeardWhole) (public own : List ℕ) (channel : ℕ) → length public ≡ 6
     → advertisement_heard own (pdu_heard channel (advertisement_on public channel)) ≡ Some (advertisement_from public)
-unfolding advertisement_on
-understood_says tells public own channel six =
+unfolding advertisement_on pdu_heard
+understood_says whole public own channel six =
     let said = six_say own public six in
-    ap (advertisement_heard own) (sym (pdu_is_heard channel _ (written (advertisement_of public)) tells said.form refl)) ∙ said.says
+    ap (λ (heard : Heard). advertisement_heard own (pdu_by heard)) (whole channel advertising_access advertising_init (written (advertisement_of public)) said.form)
+    ∙ said.says

@@ -1,12 +1,14 @@
 -- The packets of the advertising channels on the air (Core 5.2, volume 6 part B, sections 2.1, 2.3 and 3).
-use Rattle.std.specs.Prelude.{ℕ, ◌+◌, ◌==◌, ◌&&◌, nat_le, Bool, false, List, [], length, take, slice_index, Option, Some, None, if◌then◌else◌}
-use Rattle.std.specs.Str.{bytes_eq}
+use Rattle.std.specs.Prelude.{ℕ, false, List, [], Option, Some, None}
 use Rattle.ble_base.specs.declared.Verdict.{Verdict}
 use Rattle.ble_base.specs.declared.Verdict.TheVariants.{Missed, Broken, Good}
 use Rattle.adv_pdu.specs.declared.pdu.AdvPdu.{AdvPdu}
 use Rattle.adv_pdu.specs.declared.pdu.AdvPdu.TheVariants.{Nonconn}
 use Rattle.adv_pdu.specs.Pdu.{written}
-use Rattle.air_frame.specs.Packet.{access_octets, on_air, pdu_in}
+use Rattle.air_frame.specs.declared.Heard.{Heard}
+use Rattle.air_frame.specs.declared.Heard.TheVariants.{NotOurs, Broken as Faulty, Whole}
+use Rattle.air_frame.specs.Hearing.{heard_in}
+use Rattle.air_frame.specs.Packet.{on_air}
 
 -- the access address of all packets on these channels (section 2.1.2)
 abbrev pub advertising_access : ℕ
@@ -20,24 +22,19 @@ advertising_init = 0x555555
 abbrev pub packet_of : ℕ → List ℕ → List ℕ
 packet_of channel pdu = on_air channel advertising_access advertising_init pdu
 
--- a PDU in form: a header of two octets, the second of which counts the octets behind it (section 2.3)
-abbrev pub is_pdu : List ℕ → Bool
-is_pdu pdu = nat_le 2 (length pdu) && nat_le (length pdu) 257 && (length pdu == 2 + slice_index pdu 1)
+-- what is heard of octets on the channel
+abbrev pub heard_on_channel : ℕ → List ℕ → Heard
+heard_on_channel channel octets = heard_in channel advertising_access advertising_init octets
 
--- the octets are the packet of the PDU in them
-abbrev pub is_packet : ℕ → List ℕ → Bool
-is_packet channel octets = is_pdu (pdu_in channel octets) && bytes_eq octets (packet_of channel (pdu_in channel octets))
-
--- a packet of these channels is heard whole
-abbrev pub is_heard : ℕ → List ℕ → Bool
-is_heard channel octets = bytes_eq (take 4 octets) (access_octets advertising_access) && is_packet channel octets
+abbrev pub verdict_by : Heard → Verdict
+verdict_by NotOurs = Missed
+verdict_by Faulty = Broken
+verdict_by (Whole pdu) = Good
 
 -- what a listener on the channel makes of octets: missed where they do not begin with the access address, broken where they are
 -- the packet of no PDU
 unfoldable pub verdict_on : ℕ → List ℕ → Verdict
-verdict_on channel octets =
-    if is_heard channel octets then Good
-    else if bytes_eq (take 4 octets) (access_octets advertising_access) then Broken else Missed
+verdict_on channel octets = verdict_by (heard_on_channel channel octets)
 
 -- nobody hears it who does not listen
 abbrev pub verdict_of : Option ℕ → List ℕ → Verdict
@@ -52,6 +49,11 @@ advertisement_of public = Nonconn (record { random = false; octets = public }) (
 unfoldable pub advertisement_on : List ℕ → ℕ → List ℕ
 advertisement_on public channel = packet_of channel (written (advertisement_of public))
 
+abbrev pub pdu_by : Heard → Option (List ℕ)
+pdu_by NotOurs = None
+pdu_by Faulty = None
+pdu_by (Whole pdu) = Some pdu.items
+
 -- the PDU of a packet that is heard whole on the channel
-abbrev pub pdu_heard : ℕ → List ℕ → Option (List ℕ)
-pdu_heard channel octets = if is_heard channel octets then Some (pdu_in channel octets) else None
+unfoldable pub pdu_heard : ℕ → List ℕ → Option (List ℕ)
+pdu_heard channel octets = pdu_by (heard_on_channel channel octets)

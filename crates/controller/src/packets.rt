@@ -31,11 +31,11 @@ pub(crate) fn advertisement(public: [u8; 6], channel: u8) -> ArrayVec<u8, 264>
 }
 
 /// What a listener on this channel makes of the octets of a packet.
+#[tactic(auto, unfolding(crate::specs::Packets::verdict_on))]
 pub(crate) fn judge(channel: u8, octets: &[u8]) -> Verdict
     requires { channel < 40 }
     ensures { result ≡ verdict_on channel octets.now }
 {
-    air_frame::laws::packet_tells_its_pdu();
     match unframe(channel, ACCESS, CRC_INIT, octets) {
         Heard::NotOurs => Verdict::Missed,
         Heard::Broken => Verdict::Broken,
@@ -44,11 +44,11 @@ pub(crate) fn judge(channel: u8, octets: &[u8]) -> Verdict
 }
 
 /// The PDU of a packet that is heard whole on this channel.
+#[tactic(auto, unfolding(crate::specs::Packets::pdu_heard))]
 pub(crate) fn pdu(channel: u8, octets: &[u8]) -> Option<ArrayVec<u8, 257>>
     requires { channel < 40 }
     ensures { option_map (λ pdu. pdu.items) result ≡ pdu_heard channel octets.now }
 {
-    air_frame::laws::packet_tells_its_pdu();
     match unframe(channel, ACCESS, CRC_INIT, octets) {
         Heard::Whole(pdu) => Some(pdu),
         Heard::NotOurs | Heard::Broken => None,
