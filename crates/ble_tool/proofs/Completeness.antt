@@ -1,5 +1,5 @@
 -- Where the work can be done it is, or there is no memory.
-use Rattle.std.proofs.Common.{◌≡◌, ℕ, ◌≤◌, ◌<◌, List, length, Option, Some, refl, sym, subst, inl, inr, arith, ◌∙◌}
+use Rattle.std.proofs.Common.{◌≡◌, ℕ, ◌<◌, List, length, Option, Some, refl, sym, subst, inl, inr, arith, ◌∙◌}
 use Rattle.std.specs.Prelude.{◌⊎◌}
 use Rattle.outside.specs.Told.{WhereTold}
 use Rattle.journal.specs.declared.entries.Entry.{Entry}
@@ -8,32 +8,27 @@ use Rattle.radio_replay.specs.Schedule.{Reading, Right, Wrong, TooMany, schedule
 use Rattle.ble_tool.specs.declared.faults.Fault.TheVariants.{CannotRead, BadLine, CannotWrite, NoMemory, Unseen, TooLong, TooManyTurns}
 use Rattle.ble_tool.specs.declared.faults.Source.{Source}
 use Rattle.ble_tool.specs.declared.faults.Source.TheVariants.{A, B, Schedule}
-use Rattle.ble_tool.specs.Causes.{FILE_LIMIT, World, ReadsFailed, WritesFailed, WroteAllBefore, HasCause, CanBeDone}
-use Rattle.ble_tool.specs.Words.{name_in}
+use Rattle.ble_tool.specs.Causes.{FILE_LIMIT, IsWithinLimit, IsOverLimit, WroteAllBefore, HasCause}
+use Rattle.ble_tool.specs.Ending.{IsEnding, CanBeDone, NoneRose, IsReliable}
 use Rattle.ble_tool.specs.Status.{Outcome, Done, NoCommand, Failed, exit_status}
+use Rattle.ble_tool.specs.World.{Reads, World, ReadsFailed, WritesFailed}
 
 -- what is told of a content that is known
 of_content : (content : Option (List ℕ)) (octets : List ℕ) (fact : List ℕ → Type 0) → content ≡ Some octets → WhereTold content fact
     → fact octets
 of_content content octets fact is holds = subst (λ c. WhereTold c fact) is holds
 
-not_too_long : (content : Option (List ℕ)) (octets : List ℕ) → content ≡ Some octets → length octets ≤ FILE_LIMIT
-    → ¬ WhereTold content (λ told. FILE_LIMIT < length told)
+not_too_long : (content : Option (List ℕ)) (octets : List ℕ) → content ≡ Some octets → IsWithinLimit octets
+    → ¬ WhereTold content IsOverLimit
 not_too_long content octets is fits long =
-    let over : FILE_LIMIT < length octets = of_content content octets (λ told. FILE_LIMIT < length told) is long in
+    let over : FILE_LIMIT < length octets = of_content content octets IsOverLimit is long in
     omega (arith, fits, over)
 
--- what the program sees of the files is what the names hold
-abbrev IsOfNames : List (List ℕ) → (List ℕ → Option (List ℕ)) → World → Type 0
-IsOfNames words content world = (source : Source) → world.content source ≡ content (name_in words source)
-
-files_fit : (words : List (List ℕ)) (content : List ℕ → Option (List ℕ)) (world : World) (source : Source)
-    → IsOfNames words content world → CanBeDone words content
-    → ¬ WhereTold (world.content source) (λ told. FILE_LIMIT < length told)
-files_fit words content world A of can = not_too_long (world.content A) can.a (of A ∙ can.a_is) can.a_fits
-files_fit words content world B of can = not_too_long (world.content B) can.b (of B ∙ can.b_is) can.b_fits
-files_fit words content world Schedule of can =
-    not_too_long (world.content Schedule) can.schedule (of Schedule ∙ can.schedule_is) can.schedule_fits
+files_fit : (words : List (List ℕ)) (reads : Reads) (source : Source) → CanBeDone words reads
+    → ¬ WhereTold (reads.content source) IsOverLimit
+files_fit words reads A can = not_too_long (reads.content A) can.a can.a_is can.a_fits
+files_fit words reads B can = not_too_long (reads.content B) can.b can.b_is can.b_fits
+files_fit words reads Schedule can = not_too_long (reads.content Schedule) can.schedule can.schedule_is can.schedule_fits
 
 abbrev IsRight : Reading → Type 0
 IsRight (Right a b turns) = Unit {0}
@@ -41,12 +36,12 @@ IsRight (Wrong line) = ⊥
 IsRight (TooMany line) = ⊥
 
 -- no fact that wants another reading holds of the schedule
-not_read_so : (words : List (List ℕ)) (content : List ℕ → Option (List ℕ)) (world : World) (reading : ℕ → Reading) (number : ℕ)
-    → ((line : ℕ) → IsRight (reading line) → ⊥) → IsOfNames words content world → CanBeDone words content
-    → ¬ WhereTold (world.content Schedule) (λ text. (line : ℕ) × (schedule_of text ≡ reading line) × (number ≡ line_number line))
-not_read_so words content world reading number not_right of can told =
-    let line = of_content (world.content Schedule) can.schedule
-    (λ text. (line : ℕ) × (schedule_of text ≡ reading line) × (number ≡ line_number line)) (of Schedule ∙ can.schedule_is) told in
+not_read_so : (words : List (List ℕ)) (reads : Reads) (reading : ℕ → Reading) (number : ℕ)
+    → ((line : ℕ) → IsRight (reading line) → ⊥) → CanBeDone words reads
+    → ¬ WhereTold (reads.content Schedule) (λ text. (line : ℕ) × (schedule_of text ≡ reading line) × (number ≡ line_number line))
+not_read_so words reads reading number not_right can told =
+    let line = of_content (reads.content Schedule) can.schedule
+    (λ text. (line : ℕ) × (schedule_of text ≡ reading line) × (number ≡ line_number line)) can.schedule_is told in
     not_right line.0 (subst IsRight (sym can.is_right ∙ line.1) tt)
 
 -- this damage ends a run of these streams and of the schedule that was read
@@ -56,35 +51,46 @@ IsUnseenIn a b turn packet sent heard journal (Right config_a config_b turns) =
 IsUnseenIn a b turn packet sent heard journal (Wrong line) = ⊥
 IsUnseenIn a b turn packet sent heard journal (TooMany line) = ⊥
 
-not_unseen : (words : List (List ℕ)) (content : List ℕ → Option (List ℕ)) (world : World) (turn packet : ℕ) (sent heard : List ℕ)
-    → IsOfNames words content world → CanBeDone words content → ¬ WroteAllBefore turn packet sent heard world
-not_unseen words content world turn packet sent heard of can wrote =
-    let broken = of_content (world.content Schedule) can.schedule _ (of Schedule ∙ can.schedule_is)
-    (of_content (world.content B) can.b _ (of B ∙ can.b_is) (of_content (world.content A) can.a _ (of A ∙ can.a_is) wrote)) in
-    can.none_unseen turn packet sent heard broken.journal
-    (subst (IsUnseenIn can.a can.b turn packet sent heard broken.journal) (sym broken.no_fault ∙ can.is_right) broken.is_of_kind)
+not_unseen : (words : List (List ℕ)) (world : World) (turn packet : ℕ) (sent heard : List ℕ) → CanBeDone words world.reads
+    → ¬ WroteAllBefore turn packet sent heard world
+not_unseen words world turn packet sent heard can wrote =
+    let ended = of_content (world.reads.content Schedule) can.schedule _ can.schedule_is
+    (of_content (world.reads.content B) can.b _ can.b_is (of_content (world.reads.content A) can.a _ can.a_is wrote)) in
+    can.none_unseen turn packet sent heard ended.journal
+    (subst (IsUnseenIn can.a can.b turn packet sent heard ended.journal) (sym ended.no_fault ∙ can.is_right) ended.is_of_kind)
 
-can_only : (words : List (List ℕ)) (content : List ℕ → Option (List ℕ)) (world : World) (outcome : Outcome)
-    → IsOfNames words content world → HasCause words world outcome → CanBeDone words content
-    → ((source : Source) → ¬ ReadsFailed world source) → (¬ WritesFailed world)
+can_only : (words : List (List ℕ)) (world : World) (outcome : Outcome) → HasCause words world outcome → CanBeDone words world.reads
+    → ((source : Source) → ¬ ReadsFailed world.reads source) → (¬ WritesFailed world.writes)
     → (exit_status outcome ≡ 0) ⊎ (exit_status outcome ≡ 5)
-can_only words content world Done of cause can reads writes = inl refl
-can_only words content world NoCommand of cause can reads writes = absurd (cc (can.is_command, cause.0))
-can_only words content world (Failed (CannotRead source)) of cause can reads writes = absurd (reads source cause.1.0)
-can_only words content world (Failed (TooLong source)) of cause can reads writes =
-    absurd (files_fit words content world source of can cause.1.0)
-can_only words content world (Failed (BadLine number)) of cause can reads writes =
-    absurd (not_read_so words content world Wrong number (λ line is. is) of can cause.1.0)
-can_only words content world (Failed (TooManyTurns number)) of cause can reads writes =
-    absurd (not_read_so words content world TooMany number (λ line is. is) of can cause.1.0)
-can_only words content world (Failed CannotWrite) of cause can reads writes = absurd (writes cause.1.0)
-can_only words content world (Failed NoMemory) of cause can reads writes = inr refl
-can_only words content world (Failed (Unseen turn packet sent heard)) of cause can reads writes =
-    absurd (not_unseen words content world turn packet sent heard of can cause.1.1)
+can_only words world Done cause can reads writes = inl refl
+can_only words world NoCommand cause can reads writes = absurd (cc (can.is_command, cause.0))
+can_only words world (Failed (CannotRead source)) cause can reads writes = absurd (reads source cause.1.0)
+can_only words world (Failed (TooLong source)) cause can reads writes =
+    absurd (files_fit words world.reads source can cause.1.0)
+can_only words world (Failed (BadLine number)) cause can reads writes =
+    absurd (not_read_so words world.reads Wrong number (λ line is. is) can cause.1.0)
+can_only words world (Failed (TooManyTurns number)) cause can reads writes =
+    absurd (not_read_so words world.reads TooMany number (λ line is. is) can cause.1.0)
+can_only words world (Failed CannotWrite) cause can reads writes = absurd (writes cause.1.0)
+can_only words world (Failed NoMemory) cause can reads writes = inr refl
+can_only words world (Failed (Unseen turn packet sent heard)) cause can reads writes =
+    absurd (not_unseen words world turn packet sent heard can cause.1.1)
 
 -- the status of a call that can do its work, and in which nothing failed
-pub done_or_no_memory : (words : List (List ℕ)) (content : List ℕ → Option (List ℕ)) (world : World) (status : ℕ) (outcome : Outcome)
-    → IsOfNames words content world → status ≡ exit_status outcome → HasCause words world outcome → CanBeDone words content
-    → ((source : Source) → ¬ ReadsFailed world source) → (¬ WritesFailed world) → (status ≡ 0) ⊎ (status ≡ 5)
-done_or_no_memory words content world status outcome of is cause can reads writes =
-    subst (λ n. (n ≡ 0) ⊎ (n ≡ 5)) (sym is) (can_only words content world outcome of cause can reads writes)
+done_or_no_memory : {words : List (List ℕ)} {world : World} {says : List ℕ → Type 0} {status : ℕ}
+    → IsEnding words world says status → CanBeDone words world.reads
+    → ((source : Source) → ¬ ReadsFailed world.reads source) → (¬ WritesFailed world.writes) → (status ≡ 0) ⊎ (status ≡ 5)
+done_or_no_memory {words = words} {world = world} ending can reads writes =
+    subst (λ n. (n ≡ 0) ⊎ (n ≡ 5)) (sym ending.is_status) (can_only words world ending.outcome ending.has_cause can reads writes)
+
+-- where no count of faults rose, nothing failed
+pub done_as_none_rose : {words : List (List ℕ)} {world : World} {says : List ℕ → Type 0} {status : ℕ}
+    → IsEnding words world says status → CanBeDone words world.reads → NoneRose world → (status ≡ 0) ⊎ (status ≡ 5)
+done_as_none_rose ending can none =
+    done_or_no_memory ending can (λ source failed. none.reads source failed.0) (λ failed. none.writes failed.0)
+
+-- where nothing may fail, nothing did
+pub done_as_reliable : {words : List (List ℕ)} {world : World} {says : List ℕ → Type 0} {status : ℕ}
+    → IsEnding words world says status → CanBeDone words world.reads → IsReliable world → (status ≡ 0) ⊎ (status ≡ 5)
+done_as_reliable ending can reliable =
+    done_or_no_memory ending can (λ source failed. failed.1 (reliable.reads source)) (λ failed. failed.1 reliable.writes)

@@ -4,8 +4,7 @@ use Rattle.std.specs.Result.{IsErrAnd}
 use Rattle.outside.specs.declared.sink.SinkFault.{SinkFault}
 use Rattle.outside.specs.Count.{Rose}
 use Rattle.outside.specs.Told.{GrewBy, GrewByPrefix}
-use Rattle.ble_tool.specs.Causes.{Says}
-use Rattle.ble_tool.specs.Puts.{IsPut}
+use Rattle.ble_tool.specs.Puts.{IsPut, Says}
 
 pub grew_by_none : (old : Option (List ℕ)) → GrewBy old old []
 grew_by_none None = refl
@@ -90,6 +89,6 @@ put_handed_on {result = Err e} is part = record {
 pub is_said : {Sink : Type 0} {written : Sink → Option (List ℕ)} {faults : Sink → ℕ} {wants_memory : Sink → Type 0}
     {old new : Sink} {result : Result (Unit {0}) SinkFault} {octets : List ℕ}
     → IsPut written faults wants_memory old new result octets
-    → Says (written old) (written new) (faults old) (faults new) (wants_memory old) octets
+    → Says written faults wants_memory old new octets
 is_said {result = Ok done} put = inl put.ok
 is_said {result = Err e} put = inr (put.err, put.fault)

@@ -1,7 +1,6 @@
 -- What the program does, and when it ends with which fault. Own.
-use Rattle.std.specs.Prelude.{◌≡◌, ℕ, ◌<◌, ◌≤◌, true, false, List, length, Option, Some, ◌⊎◌}
-use Rattle.outside.specs.Count.{Rose}
-use Rattle.outside.specs.Told.{WhereTold, GrewBy, GrewByPrefix}
+use Rattle.std.specs.Prelude.{◌≡◌, ℕ, ◌<◌, ◌≤◌, true, false, List, length, ◌⊎◌}
+use Rattle.outside.specs.Told.{WhereTold}
 use Rattle.ble_base.specs.declared.Config.{Config}
 use Rattle.journal.specs.declared.entries.Entry.{Entry}
 use Rattle.journal.specs.Text.{text}
@@ -13,58 +12,40 @@ use Rattle.ble_tool.specs.declared.faults.Fault.TheVariants.{CannotRead, BadLine
 use Rattle.ble_tool.specs.declared.faults.Source.{Source}
 use Rattle.ble_tool.specs.declared.faults.Source.TheVariants.{A, B, Schedule}
 use Rattle.ble_tool.specs.Status.{Outcome, Done, NoCommand, Failed}
-use Rattle.ble_tool.specs.Words.{is_pair, name_in}
+use Rattle.ble_tool.specs.Words.{is_pair}
+use Rattle.ble_tool.specs.World.{Reads, Writes, World, ReadsFailed, WritesFailed, Wrote, WrotePart, WroteNothing}
+
+-- ---- limits
 
 -- how long a file may be, in octets
 abbrev pub FILE_LIMIT : ℕ
 FILE_LIMIT = 1048576
 
--- what the program sees of the world, before and after: what each file holds, where it is told; whether no read of it fails
--- from now on; how often reads of it failed; what was written to the output, where it is told; whether no write to it fails
--- from now on; and how often writes to it failed
-pub record World : Type 1 where
-  pub content : Source → Option (List ℕ)
-  pub is_read_surely : Source → Type 0
-  pub reads_failed : Source → ℕ
-  pub reads_failed_now : Source → ℕ
-  pub written : Option (List ℕ)
-  pub written_now : Option (List ℕ)
-  pub is_written_surely : Type 0
-  pub writes_failed : ℕ
-  pub writes_failed_now : ℕ
+-- a content is within the limit
+abbrev pub IsWithinLimit : List ℕ → Type 0
+IsWithinLimit octets = length octets ≤ FILE_LIMIT
 
--- the same, by the names of the files and by what is told of each name and of the output
-abbrev pub world_of : (Source → List ℕ) → (List ℕ → Option (List ℕ)) → (List ℕ → Type 0) → (List ℕ → ℕ) → (List ℕ → ℕ)
-    → Option (List ℕ) → Option (List ℕ) → Type 0 → ℕ → ℕ → World
-world_of name content is_read_surely reads_failed reads_failed_now written written_now is_written_surely writes_failed writes_failed_now = record {
-  content = λ source. content (name source);
-  is_read_surely = λ source. is_read_surely (name source);
-  reads_failed = λ source. reads_failed (name source);
-  reads_failed_now = λ source. reads_failed_now (name source);
-  written = written;
-  written_now = written_now;
-  is_written_surely = is_written_surely;
-  writes_failed = writes_failed;
-  writes_failed_now = writes_failed_now;
-}
+-- a content is over the limit
+abbrev pub IsOverLimit : List ℕ → Type 0
+IsOverLimit octets = FILE_LIMIT < length octets
 
 -- a file is within the limit, where its content is told
-abbrev pub Fits : World → Source → Type 0
-Fits world source = WhereTold (world.content source) (λ octets. length octets ≤ FILE_LIMIT)
+abbrev pub Fits : Reads → Source → Type 0
+Fits reads source = WhereTold (reads.content source) IsWithinLimit
 
 -- the files that are read before this one are within the limit
-abbrev pub EarlierFit : World → Source → Type 0
-EarlierFit world A = Unit {0}
-EarlierFit world B = Fits world A
-EarlierFit world Schedule = Fits world A × Fits world B
+abbrev pub EarlierFit : Reads → Source → Type 0
+EarlierFit reads A = Unit {0}
+EarlierFit reads B = Fits reads A
+EarlierFit reads Schedule = Fits reads A × Fits reads B
 
-abbrev pub AllFit : World → Type 0
-AllFit world = Fits world A × Fits world B × Fits world Schedule
+abbrev pub AllFit : Reads → Type 0
+AllFit reads = Fits reads A × Fits reads B × Fits reads Schedule
 
 -- ---- journals
 
 -- a fact of the text of a journal of this kind, of these streams and of this schedule's text, which has no line at fault
-pub record OfJournal (is_journal : Given → List Entry → Type 0) (a b schedule : List ℕ) (fact : List ℕ → Type 0) : Type 0 where
+pub record OfJournal (is_journal : Given → List Entry → Type 0) (fact : List ℕ → Type 0) (a b schedule : List ℕ) : Type 0 where
   pub config_a : Config
   pub config_b : Config
   pub turns : List Turn
@@ -74,12 +55,12 @@ pub record OfJournal (is_journal : Given → List Entry → Type 0) (a b schedul
   pub holds : fact (text journal)
 
 -- of the whole run
-abbrev pub OfRun : List ℕ → List ℕ → List ℕ → (List ℕ → Type 0) → Type 0
-OfRun a b schedule fact = OfJournal IsRun a b schedule fact
+abbrev pub OfRun : (List ℕ → Type 0) → List ℕ → List ℕ → List ℕ → Type 0
+OfRun fact a b schedule = OfJournal IsRun fact a b schedule
 
 -- of the run that damage to this packet ends, which would be judged good
-abbrev pub OfUnseen : ℕ → ℕ → List ℕ → List ℕ → List ℕ → List ℕ → List ℕ → (List ℕ → Type 0) → Type 0
-OfUnseen turn packet sent heard a b schedule fact = OfJournal (λ given. EndsUnseen given turn packet sent heard) a b schedule fact
+abbrev pub OfUnseen : ℕ → ℕ → List ℕ → List ℕ → (List ℕ → Type 0) → List ℕ → List ℕ → List ℕ → Type 0
+OfUnseen turn packet sent heard fact a b schedule = OfJournal (λ given. EndsUnseen given turn packet sent heard) fact a b schedule
 
 -- the journal of a run, whole or ended by damage that would be judged good
 abbrev pub IsEnded : Given → List Entry → Type 0
@@ -87,13 +68,13 @@ IsEnded given journal = IsRun given journal
     ⊎ ((turn : ℕ) × (packet : ℕ) × (sent : List ℕ) × (heard : List ℕ) × EndsUnseen given turn packet sent heard journal)
 
 -- of either run
-abbrev pub OfEnded : List ℕ → List ℕ → List ℕ → (List ℕ → Type 0) → Type 0
-OfEnded a b schedule fact = OfJournal IsEnded a b schedule fact
+abbrev pub OfEnded : (List ℕ → Type 0) → List ℕ → List ℕ → List ℕ → Type 0
+OfEnded fact a b schedule = OfJournal IsEnded fact a b schedule
 
 -- a fact of the three files, where they tell their content
-abbrev pub OfFiles : World → (List ℕ → List ℕ → List ℕ → Type 0) → Type 0
-OfFiles world fact =
-    WhereTold (world.content A) (λ a. WhereTold (world.content B) (λ b. WhereTold (world.content Schedule) (fact a b)))
+abbrev pub OfFiles : Reads → (List ℕ → List ℕ → List ℕ → Type 0) → Type 0
+OfFiles reads fact =
+    WhereTold (reads.content A) (λ a. WhereTold (reads.content B) (λ b. WhereTold (reads.content Schedule) (fact a b)))
 
 -- ---- faults
 
@@ -105,108 +86,60 @@ IsFirstBadLine number schedule = (line : ℕ) × (schedule_of schedule ≡ Wrong
 abbrev pub IsFirstLongLine : ℕ → List ℕ → Type 0
 IsFirstLongLine number schedule = (line : ℕ) × (schedule_of schedule ≡ TooMany line) × (number ≡ line_number line)
 
--- calls failed: their count of faults rose, and they were not such as never fail
-abbrev pub HasFailed : Type 0 → ℕ → ℕ → Type 0
-HasFailed never_fails before now = Rose before now × (¬ never_fails)
-
--- what a file that was not read shows: its count of faults rose, or it is over the limit, where its content is told
-abbrev pub IsReadFault : Source → Option (List ℕ) → Type 0 → ℕ → ℕ → Fault → Type 0
-IsReadFault source content never_fails before now (CannotRead other) = (other ≡ source) × HasFailed never_fails before now
-IsReadFault source content never_fails before now (TooLong other) =
-    (other ≡ source) × WhereTold content (λ octets. FILE_LIMIT < length octets)
-IsReadFault source content never_fails before now NoMemory = Unit {0}
-IsReadFault source content never_fails before now _ = ⊥
+-- what a file that was not read shows: reads of it failed, or it is over the limit, where its content is told
+abbrev pub IsReadFault : Reads → Source → Fault → Type 0
+IsReadFault reads source (CannotRead other) = (other ≡ source) × ReadsFailed reads source
+IsReadFault reads source (TooLong other) = (other ≡ source) × WhereTold (reads.content source) IsOverLimit
+IsReadFault reads source NoMemory = Unit {0}
+IsReadFault reads source _ = ⊥
 
 -- what a text that was not written whole shows
-abbrev pub IsWriteFault : Option (List ℕ) → Option (List ℕ) → Type 0 → ℕ → ℕ → List ℕ → Fault → Type 0
-IsWriteFault old new never_fails before now octets CannotWrite = HasFailed never_fails before now × GrewByPrefix old new octets
-IsWriteFault old new never_fails before now octets NoMemory = GrewByPrefix old new octets
-IsWriteFault old new never_fails before now octets _ = ⊥
+abbrev pub IsWriteFault : Writes → List ℕ → Fault → Type 0
+IsWriteFault writes octets CannotWrite = WritesFailed writes × WrotePart writes octets
+IsWriteFault writes octets NoMemory = WrotePart writes octets
+IsWriteFault writes octets _ = ⊥
 
 -- what a run of these streams and of this schedule's text shows that did not end well, or was not written whole
-abbrev pub IsOctetsFault : List ℕ → List ℕ → List ℕ → Option (List ℕ) → Option (List ℕ) → Type 0 → ℕ → ℕ → Fault → Type 0
-IsOctetsFault a b schedule old new never_fails before now (BadLine number) = IsFirstBadLine number schedule × (new ≡ old)
-IsOctetsFault a b schedule old new never_fails before now (TooManyTurns number) = IsFirstLongLine number schedule × (new ≡ old)
-IsOctetsFault a b schedule old new never_fails before now CannotWrite =
-    HasFailed never_fails before now × OfEnded a b schedule (GrewByPrefix old new)
-IsOctetsFault a b schedule old new never_fails before now NoMemory = (new ≡ old) ⊎ OfEnded a b schedule (GrewByPrefix old new)
-IsOctetsFault a b schedule old new never_fails before now (Unseen turn packet sent heard) =
-    OfUnseen turn packet sent heard a b schedule (GrewBy old new)
-IsOctetsFault a b schedule old new never_fails before now _ = ⊥
+abbrev pub IsOctetsFault : Writes → List ℕ → List ℕ → List ℕ → Fault → Type 0
+IsOctetsFault writes a b schedule (BadLine number) = IsFirstBadLine number schedule × WroteNothing writes
+IsOctetsFault writes a b schedule (TooManyTurns number) = IsFirstLongLine number schedule × WroteNothing writes
+IsOctetsFault writes a b schedule CannotWrite = WritesFailed writes × OfEnded (WrotePart writes) a b schedule
+IsOctetsFault writes a b schedule NoMemory = WroteNothing writes ⊎ OfEnded (WrotePart writes) a b schedule
+IsOctetsFault writes a b schedule (Unseen turn packet sent heard) = OfUnseen turn packet sent heard (Wrote writes) a b schedule
+IsOctetsFault writes a b schedule _ = ⊥
 
 -- the whole journal was written
 abbrev pub WroteAll : World → Type 0
-WroteAll world = OfFiles world (λ a b schedule. OfRun a b schedule (GrewBy world.written world.written_now))
+WroteAll world = OfFiles world.reads (OfRun (Wrote world.writes))
 
 -- the journal of all that came before this packet was written
 abbrev pub WroteAllBefore : ℕ → ℕ → List ℕ → List ℕ → World → Type 0
-WroteAllBefore turn packet sent heard world =
-    OfFiles world (λ a b schedule. OfUnseen turn packet sent heard a b schedule (GrewBy world.written world.written_now))
+WroteAllBefore turn packet sent heard world = OfFiles world.reads (OfUnseen turn packet sent heard (Wrote world.writes))
 
 -- a part of the journal of either run was written, from its front
-abbrev pub WrotePart : World → Type 0
-WrotePart world = OfFiles world (λ a b schedule. OfEnded a b schedule (GrewByPrefix world.written world.written_now))
-
--- nothing was written
-abbrev pub WroteNothing : World → Type 0
-WroteNothing world = world.written_now ≡ world.written
-
--- reads of a file failed
-abbrev pub ReadsFailed : World → Source → Type 0
-ReadsFailed world source = HasFailed (world.is_read_surely source) (world.reads_failed source) (world.reads_failed_now source)
-
--- writes of the output failed
-abbrev pub WritesFailed : World → Type 0
-WritesFailed world = HasFailed world.is_written_surely world.writes_failed world.writes_failed_now
+abbrev pub WrotePartOfJournal : World → Type 0
+WrotePartOfJournal world = OfFiles world.reads (OfEnded (WrotePart world.writes))
 
 -- what holds where `pair` ends with a fault
 abbrev pub IsPairFault : World → Fault → Type 0
-IsPairFault world (CannotRead source) = ReadsFailed world source × EarlierFit world source × WroteNothing world
+IsPairFault world (CannotRead source) =
+    ReadsFailed world.reads source × EarlierFit world.reads source × WroteNothing world.writes
 IsPairFault world (TooLong source) =
-    WhereTold (world.content source) (λ octets. FILE_LIMIT < length octets) × EarlierFit world source × WroteNothing world
-IsPairFault world (BadLine number) = WhereTold (world.content Schedule) (IsFirstBadLine number) × AllFit world × WroteNothing world
+    WhereTold (world.reads.content source) IsOverLimit × EarlierFit world.reads source × WroteNothing world.writes
+IsPairFault world (BadLine number) =
+    WhereTold (world.reads.content Schedule) (IsFirstBadLine number) × AllFit world.reads × WroteNothing world.writes
 IsPairFault world (TooManyTurns number) =
-    WhereTold (world.content Schedule) (IsFirstLongLine number) × AllFit world × WroteNothing world
-IsPairFault world CannotWrite = WritesFailed world × AllFit world × WrotePart world
-IsPairFault world NoMemory = WroteNothing world ⊎ WrotePart world
-IsPairFault world (Unseen turn packet sent heard) = AllFit world × WroteAllBefore turn packet sent heard world
+    WhereTold (world.reads.content Schedule) (IsFirstLongLine number) × AllFit world.reads × WroteNothing world.writes
+IsPairFault world CannotWrite = WritesFailed world.writes × AllFit world.reads × WrotePartOfJournal world
+IsPairFault world NoMemory = WroteNothing world.writes ⊎ WrotePartOfJournal world
+IsPairFault world (Unseen turn packet sent heard) = AllFit world.reads × WroteAllBefore turn packet sent heard world
 
 -- `pair` has done its work
 abbrev pub IsPairDone : World → Type 0
-IsPairDone world = AllFit world × WroteAll world
+IsPairDone world = AllFit world.reads × WroteAll world
 
 -- what holds where the program ends so
 abbrev pub HasCause : List (List ℕ) → World → Outcome → Type 0
 HasCause words world Done = (is_pair words ≡ true) × IsPairDone world
-HasCause words world NoCommand = (is_pair words ≡ false) × WroteNothing world
+HasCause words world NoCommand = (is_pair words ≡ false) × WroteNothing world.writes
 HasCause words world (Failed fault) = (is_pair words ≡ true) × IsPairFault world fault
-
--- it has grown by all of this text, or else by a part from its front, and then the count of faults rose or memory was wanted
-abbrev pub Says : Option (List ℕ) → Option (List ℕ) → ℕ → ℕ → Type 0 → List ℕ → Type 0
-Says old new before now wants_memory octets = GrewBy old new octets ⊎ (GrewByPrefix old new octets × (Rose before now ⊎ wants_memory))
-
--- ---- work that can be done
-
--- the words are those of `pair`; the three files tell contents within the limit; the schedule is in its grammar, with at most
--- 100,000 turns; and no damage would be judged good
-pub record CanBeDone (words : List (List ℕ)) (content : List ℕ → Option (List ℕ)) : Type 0 where
-  pub is_command : is_pair words ≡ true
-  pub a : List ℕ
-  pub b : List ℕ
-  pub schedule : List ℕ
-  pub config_a : Config
-  pub config_b : Config
-  pub turns : List Turn
-  pub a_is : content (name_in words A) ≡ Some a
-  pub b_is : content (name_in words B) ≡ Some b
-  pub schedule_is : content (name_in words Schedule) ≡ Some schedule
-  pub a_fits : length a ≤ FILE_LIMIT
-  pub b_fits : length b ≤ FILE_LIMIT
-  pub schedule_fits : length schedule ≤ FILE_LIMIT
-  pub is_right : schedule_of schedule ≡ Right config_a config_b turns
-  pub none_unseen : (turn packet : ℕ) (sent heard : List ℕ) (journal : List Entry)
-      → ¬ EndsUnseen (given_of a b (record { a = config_a; b = config_b; turns = turns })) turn packet sent heard journal
-
--- no count of faults of the three files rose
-abbrev pub NoneRose : List (List ℕ) → (List ℕ → ℕ) → (List ℕ → ℕ) → Type 0
-NoneRose words before now = (source : Source) → ¬ Rose (before (name_in words source)) (now (name_in words source))

@@ -14,3 +14,9 @@ pub record IsPut {Sink : Type 0} (written : Sink → Option (List ℕ)) (faults 
   -- no count falls, and a sink that wants no memory goes on so
   pub counts : faults old ≤ faults new
   pub same_memory : wants_memory new → wants_memory old
+
+-- these octets were said into a sink, of which this is seen before and after, as far as it could be: it has grown by all of them,
+-- or else by a part from their front, and then the count of faults rose or memory was wanted
+abbrev pub Says : {Sink : Type 0} → (Sink → Option (List ℕ)) → (Sink → ℕ) → (Sink → Type 0) → Sink → Sink → List ℕ → Type 0
+Says written faults wants_memory old new octets = GrewBy (written old) (written new) octets
+    ⊎ (GrewByPrefix (written old) (written new) octets × (Rose (faults old) (faults new) ⊎ wants_memory old))

@@ -3,7 +3,7 @@ use Rattle.std.specs.Prelude.{ℕ, List, [], ◌∷◌, ◌++◌, codes, decimal
 use Rattle.ble_tool.specs.declared.faults.Fault.{Fault}
 use Rattle.journal.specs.Words.{hexadecimal}
 use Rattle.ble_tool.specs.declared.faults.Fault.TheVariants.{CannotRead, BadLine, CannotWrite, NoMemory, Unseen, TooLong, TooManyTurns}
-use Rattle.ble_tool.specs.declared.faults.Source.{Source}
+use Rattle.ble_tool.specs.Words.{FileNames, name_of}
 
 -- what becomes of a call of the program
 pub data Outcome : Type 0 where
@@ -36,21 +36,25 @@ unseen_text turn packet sent heard =
     ++ (codes " sent " ++ hexadecimal sent) ++ (codes " heard " ++ hexadecimal heard)
 
 -- what is said of a fault, where the files have these names
-abbrev pub fault_text : (Source → List ℕ) → Fault → List ℕ
-fault_text name (CannotRead source) = codes "cannot read " ++ name source
-fault_text name (BadLine line) = codes "schedule line " ++ decimal line
-fault_text name CannotWrite = codes "cannot write"
-fault_text name NoMemory = codes "no memory"
-fault_text name (Unseen turn packet sent heard) = unseen_text turn packet sent heard
-fault_text name (TooLong source) = codes "too long: " ++ name source
-fault_text name (TooManyTurns line) = codes "too long: schedule line " ++ decimal line
+abbrev pub fault_text : FileNames → Fault → List ℕ
+fault_text names (CannotRead source) = codes "cannot read " ++ name_of names source
+fault_text names (BadLine line) = codes "schedule line " ++ decimal line
+fault_text names CannotWrite = codes "cannot write"
+fault_text names NoMemory = codes "no memory"
+fault_text names (Unseen turn packet sent heard) = unseen_text turn packet sent heard
+fault_text names (TooLong source) = codes "too long: " ++ name_of names source
+fault_text names (TooManyTurns line) = codes "too long: schedule line " ++ decimal line
 
 -- with its newline
-abbrev pub fault_line : (Source → List ℕ) → Fault → List ℕ
-fault_line name fault = fault_text name fault ++ 10 ∷ []
+abbrev pub fault_line : FileNames → Fault → List ℕ
+fault_line names fault = fault_text names fault ++ 10 ∷ []
+
+-- what is said where the words are no command's
+abbrev pub usage_line : List ℕ
+usage_line = codes "usage: ble pair A B SCHEDULE, ble make NUMBER, ble solo HOST AIR\n"
 
 -- what is said at the end
-abbrev pub last_words : (Source → List ℕ) → Outcome → List ℕ
-last_words name Done = []
-last_words name NoCommand = codes "usage: ble pair A B SCHEDULE, ble make NUMBER, ble solo HOST AIR\n"
-last_words name (Failed fault) = fault_line name fault
+abbrev pub last_words : FileNames → Outcome → List ℕ
+last_words names Done = []
+last_words names NoCommand = usage_line
+last_words names (Failed fault) = fault_line names fault

@@ -8,18 +8,18 @@ use Rattle.ble_tool.specs.declared.faults.Source.TheVariants.{A, B, Schedule}
 abbrev pub is_pair : List (List ℕ) → Bool
 is_pair words = (length words == 4) && bytes_eq (slice_index_or words 0 []) (codes "pair")
 
--- the place of a file among the words
-abbrev pub place_of : Source → ℕ
-place_of A = 1
-place_of B = 2
-place_of Schedule = 3
+-- the names of the three files
+pub record FileNames : Type 0 where
+  pub a : List ℕ
+  pub b : List ℕ
+  pub schedule : List ℕ
+
+-- the names behind `pair`, in this order
+abbrev pub names_in : List (List ℕ) → FileNames
+names_in words = record { a = slice_index_or words 1 []; b = slice_index_or words 2 []; schedule = slice_index_or words 3 [] }
 
 -- the name of a file
-abbrev pub name_in : List (List ℕ) → Source → List ℕ
-name_in words source = slice_index_or words (place_of source) []
-
--- the names of the three files
-abbrev pub name_of : List ℕ → List ℕ → List ℕ → Source → List ℕ
-name_of a b schedule A = a
-name_of a b schedule B = b
-name_of a b schedule Schedule = schedule
+abbrev pub name_of : FileNames → Source → List ℕ
+name_of names A = names.a
+name_of names B = names.b
+name_of names Schedule = names.schedule

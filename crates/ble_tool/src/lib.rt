@@ -3,6 +3,7 @@
 
 mod faults;
 mod messages;
+mod names;
 mod pairs;
 #[cfg(test)]
 mod tests;

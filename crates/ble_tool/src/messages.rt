@@ -1,14 +1,15 @@
 ghost use Rattle.std.specs.Prelude.{◌≡◌, ◌∷◌, [], ◌++◌, ◌≤◌, length, codes, decimal};
 ghost use Rattle.hex.specs.Hex.{encode_lower};
 ghost use Rattle.journal.specs.Words.{hexadecimal};
-ghost use Rattle.ble_tool.specs.Causes.{Says};
-ghost use Rattle.ble_tool.specs.Puts.{IsPut};
-ghost use Rattle.ble_tool.specs.Status.{fault_line, unseen_text};
-ghost use Rattle.ble_tool.specs.Words.{name_of};
+ghost use Rattle.ble_tool.specs.Puts.{IsPut, Says};
+ghost use Rattle.ble_tool.specs.Status.{fault_line, unseen_text, usage_line};
 
-use crate::faults::{Fault, Source};
+use crate::faults::Fault;
+use crate::names::Names;
 use itoa::Buffer;
 use outside::{Sink, SinkFault};
+
+const USAGE: &[u8] = b"usage: ble pair A B SCHEDULE, ble make NUMBER, ble solo HOST AIR";
 
 /// How many octets are put in hexadecimal at once.
 const BLOCK: usize = 32;
@@ -111,8 +112,8 @@ fn put_unseen_line<E: Sink>(
 }
 
 /// Says a line of two parts, as far as it can be written.
-pub fn say<E: Sink>(err: &mut E, front: &[u8], back: &[u8])
-    ensures { Says (E.written err.old) (E.written err.new) (E.faults err.old) (E.faults err.new) (E.wants_memory err.old)
+fn say<E: Sink>(err: &mut E, front: &[u8], back: &[u8])
+    ensures { Says E.written E.faults E.wants_memory err.old err.new
         (front.now ++ back.now ++ 10 ∷ []) }
 {
     let _ = put_line(err, front, back);
@@ -120,7 +121,7 @@ pub fn say<E: Sink>(err: &mut E, front: &[u8], back: &[u8])
 
 /// Says a line of a text and the number of a line, as far as it can be written.
 fn say_line_number<E: Sink>(err: &mut E, front: &[u8], line: u32)
-    ensures { Says (E.written err.old) (E.written err.new) (E.faults err.old) (E.faults err.new) (E.wants_memory err.old)
+    ensures { Says E.written E.faults E.wants_memory err.old err.new
         (front.now ++ decimal line ++ 10 ∷ []) }
 {
     say(err, front, Buffer::new().format(line).as_bytes());
@@ -128,37 +129,23 @@ fn say_line_number<E: Sink>(err: &mut E, front: &[u8], line: u32)
 
 /// Says the line of damage that would be judged good, as far as it can be written.
 fn say_unseen<E: Sink>(err: &mut E, turn: u64, packet: u32, sent: &[u8], heard: &[u8])
-    ensures { Says (E.written err.old) (E.written err.new) (E.faults err.old) (E.faults err.new) (E.wants_memory err.old)
+    ensures { Says E.written E.faults E.wants_memory err.old err.new
         (unseen_text turn packet sent.now heard.now ++ 10 ∷ []) }
 {
     let _ = put_unseen_line(err, turn, packet, sent, heard);
 }
 
-/// The names of the three files.
-#[derive(Clone, Copy)]
-pub struct Names<'a> {
-    pub a: &'a str,
-    pub b: &'a str,
-    pub schedule: &'a str,
-}
-
-impl<'a> Names<'a> {
-    /// The name of a file.
-    fn of(self, source: Source) -> &'a str
-        ensures { result.now ≡ name_of self.entry.a.now self.entry.b.now self.entry.schedule.now source }
-    {
-        match source {
-            Source::A => self.a,
-            Source::B => self.b,
-            Source::Schedule => self.schedule,
-        }
-    }
+/// Says how the program is called.
+pub fn say_usage<E: Sink>(err: &mut E)
+    ensures { Says E.written E.faults E.wants_memory err.old err.new usage_line }
+{
+    say(err, USAGE, b"");
 }
 
 /// Says why a command did not do its work.
-pub fn report<E: Sink>(err: &mut E, names: Names<'_>, fault: &Fault)
-    ensures { Says (E.written err.old) (E.written err.new) (E.faults err.old) (E.faults err.new) (E.wants_memory err.old)
-        (fault_line (name_of names.entry.a.now names.entry.b.now names.entry.schedule.now) fault.now) }
+pub fn report<E: Sink>(err: &mut E, names: &Names<'_>, fault: &Fault)
+    ensures { Says E.written E.faults E.wants_memory err.old err.new
+        (fault_line names.now fault.now) }
 {
     match fault {
         Fault::CannotRead(source) => say(err, b"cannot read ", names.of(*source).as_bytes()),

@@ -30,8 +30,8 @@ up b 040e04010c2000
 const UNSEEN: &str =
     "unseen damage: turn 0 packet 1 sent d6be898e8fd45da13d499970f84ada heard d6be898e8fd45da13d49997138fedb\n";
 
-/// The words `pair`, and the names of the three files.
-const PAIR: [&str; 4] = ["pair", "a.bin", "b.bin", "schedule"];
+/// The words of `pair` with the three files that are held.
+const PAIR: &str = "pair a.bin b.bin schedule";
 
 /// The commands that are not built yet.
 const NOT_BUILT: [u16; 36] = [
@@ -39,6 +39,276 @@ const NOT_BUILT: [u16; 36] = [
     0x2009, 0x200B, 0x200D, 0x200E, 0x200F, 0x2010, 0x2011, 0x2012, 0x2013, 0x2014, 0x2015, 0x2016,
     0x2017, 0x2018, 0x2019, 0x201A, 0x201B, 0x2020, 0x2021, 0x2022, 0x202F, 0x2030, 0x2031, 0x2032,
 ];
+
+/// A call of the program, and how it ends.
+#[derive(Clone, Copy)]
+struct Row {
+    name: &'static str,
+    /// The words, with a space between two.
+    words: &'static str,
+    /// What the files `a.bin` and `b.bin` hold.
+    a: &'static [u8],
+    b: &'static [u8],
+    /// The lines of the file `schedule` behind its settings.
+    turns: &'static str,
+    /// Whether the first write of the journal fails.
+    fails: bool,
+    status: u8,
+    /// What is written to the output, in parts.
+    out: [&'static str; 3],
+    err: &'static str,
+}
+
+/// A run of the host of A alone, of which this journal is written.
+fn answered(
+    name: &'static str,
+    a: &'static [u8],
+    turns: &'static str,
+    journal: &'static str,
+) -> Row {
+    Row {
+        name,
+        words: PAIR,
+        a,
+        b: b"",
+        turns,
+        fails: false,
+        status: 0,
+        out: [journal, "", ""],
+        err: "",
+    }
+}
+
+/// A run of an advertiser and a scanner, in one turn.
+fn on_the_air(
+    name: &'static str,
+    turns: &'static str,
+    status: u8,
+    out: [&'static str; 3],
+    err: &'static str,
+) -> Row {
+    Row {
+        name,
+        words: PAIR,
+        a: ADVERTISE,
+        b: SCAN,
+        turns,
+        fails: false,
+        status,
+        out,
+        err,
+    }
+}
+
+/// A run of an advertiser and a scanner, of which nothing can be written.
+fn unwritten(name: &'static str, turns: &'static str) -> Row {
+    Row {
+        name,
+        words: PAIR,
+        a: ADVERTISE,
+        b: SCAN,
+        turns,
+        fails: true,
+        status: 4,
+        out: ["", "", ""],
+        err: "cannot write\n",
+    }
+}
+
+/// A call that ends before the run.
+fn refused(
+    name: &'static str,
+    words: &'static str,
+    turns: &'static str,
+    status: u8,
+    err: &'static str,
+) -> Row {
+    Row {
+        name,
+        words,
+        a: b"",
+        b: b"",
+        turns,
+        fails: false,
+        status,
+        out: ["", "", ""],
+        err,
+    }
+}
+
+/// The worked calls.
+fn rows() -> [Row; 27] {
+    [
+        answered(
+            "a Reset",
+            b"\x01\x03\x0c\x00",
+            "t ++ a4\n",
+            "turn 0 ++\nin a 01030c00\nup a 040e0401030c00\n",
+        ),
+        answered(
+            "a Reset in three turns",
+            b"\x01\x03\x0c\x00",
+            "t ++ a1\nt ++ a2\nt ++ a1\n",
+            "turn 0 ++\nin a 01\nturn 1 ++\nin a 030c\nturn 2 ++\nin a 00\nup a 040e0401030c00\n",
+        ),
+        answered(
+            "a loss of synchronisation",
+            b"\x07\xaa\x01\x03\x0c\x00",
+            "t ++ a6\n",
+            "turn 0 ++\nin a 07aa01030c00\nup a 04100101\nup a 040e0401030c00\n",
+        ),
+        answered(
+            "an opcode of no command",
+            b"\x01\xff\xff\x00",
+            "t ++ a4\n",
+            "turn 0 ++\nin a 01ffff00\nup a 040f040101ffff\n",
+        ),
+        answered(
+            "a Reset with a parameter",
+            b"\x01\x03\x0c\x01\x00",
+            "t ++ a5\n",
+            "turn 0 ++\nin a 01030c0100\nup a 040e0401030c12\n",
+        ),
+        answered(
+            "the address of a device",
+            b"\x01\x09\x10\x00",
+            "t ++ a4\n",
+            "turn 0 ++\nin a 01091000\nup a 040e0a010910000a0000eeffc0\n",
+        ),
+        // Advertising of types 0 and 2 is not turned on; off is 0, and 2 is no value.
+        answered(
+            "advertising that is not turned on",
+            b"\x01\x0a\x20\x01\x01\x01\x06\x20\x0f\x00\x08\x00\x08\x02\x00\x00\x00\x00\x00\x00\x00\x00\x07\x00\x01\x0a\x20\x01\x01\x01\x0a\x20\x01\x00\x01\x0a\x20\x01\x02\x01\x06\x20\x0f\x00\x08\x00\x08\x03\x00\x00\x00\x00\x00\x00\x00\x00\x07\x00",
+            "t ++ a58\n",
+            "turn 0 ++
+in a 010a2001010106200f000800080200000000000000000700010a200101010a200100010a2001020106200f000800080300000000000000000700
+up a 040e04010a2011
+up a 040e0401062000
+up a 040e04010a2011
+up a 040e04010a2000
+up a 040e04010a2012
+up a 040e0401062000
+",
+        ),
+        on_the_air(
+            "a packet that passes",
+            "t ++ a24 b18\n",
+            0,
+            [
+                "turn 0 ++\n",
+                HOSTS,
+                "air a 37 d6be898e8fd45da13d499970f84ada . good\nup b 043e0c020103000a0000eeffc0007f\n",
+            ],
+            "",
+        ),
+        on_the_air(
+            "a packet that is lost",
+            "t ++ a24 b18 x\n",
+            0,
+            [
+                "turn 0 ++\n",
+                HOSTS,
+                "air a 37 d6be898e8fd45da13d499970f84ada x missed\n",
+            ],
+            "",
+        ),
+        on_the_air(
+            "a packet that is damaged",
+            "t ++ a24 b18 e6:01\n",
+            0,
+            [
+                "turn 0 ++\n",
+                HOSTS,
+                "air a 37 d6be898e8fd45da13d499970f84ada e6:01 broken\n",
+            ],
+            "",
+        ),
+        on_the_air(
+            "a packet that nobody hears",
+            "t +- a24 b18\n",
+            0,
+            [
+                "turn 0 +-\n",
+                HOSTS,
+                "air a 37 d6be898e8fd45da13d499970f84ada . missed\n",
+            ],
+            "",
+        ),
+        on_the_air(
+            "damage that fits the CRC",
+            "t ++ a24 b18 e11:01c0b401\n",
+            6,
+            ["turn 0 ++\n", HOSTS, ""],
+            UNSEEN,
+        ),
+        unwritten("a journal", "t ++ a24 b18\n"),
+        unwritten(
+            "a journal that unseen damage ends",
+            "t ++ a24 b18 e11:01c0b401\n",
+        ),
+        refused("no words", "", "", 1, USAGE),
+        refused("two files", "pair a.bin b.bin", "", 1, USAGE),
+        refused("a command that is not built", "make 7", "", 1, USAGE),
+        refused("another word", "pairs a.bin b.bin schedule", "", 1, USAGE),
+        refused(
+            "no stream of A",
+            "pair x b.bin schedule",
+            "t ++\n",
+            2,
+            "cannot read x\n",
+        ),
+        refused(
+            "no stream of B",
+            "pair a.bin y schedule",
+            "t ++\n",
+            2,
+            "cannot read y\n",
+        ),
+        refused(
+            "no schedule",
+            "pair a.bin b.bin z",
+            "t ++\n",
+            2,
+            "cannot read z\n",
+        ),
+        refused("a bad line", PAIR, "t +\n", 3, "schedule line 4\n"),
+        refused(
+            "a number with a zero in front",
+            PAIR,
+            "t ++\nrun 03\n",
+            3,
+            "schedule line 5\n",
+        ),
+        refused(
+            "a turn too many",
+            PAIR,
+            "run 100001\n",
+            7,
+            "too long: schedule line 4\n",
+        ),
+        refused(
+            "a turn too many, and then a bad line",
+            PAIR,
+            "run 50000\nrun 50000\nt ++\nt +\n",
+            7,
+            "too long: schedule line 6\n",
+        ),
+        refused(
+            "a bad line, and then a turn too many",
+            PAIR,
+            "t +\nrun 100001\n",
+            3,
+            "schedule line 4\n",
+        ),
+        refused(
+            "no schedule, and a bad line in another file",
+            "pair a.bin b.bin z",
+            "t +\n",
+            2,
+            "cannot read z\n",
+        ),
+    ]
+}
 
 /// What the program did.
 #[derive(Drop)]
@@ -58,19 +328,20 @@ fn files_of(alloc: Global, a: &[u8], b: &[u8], turns: &str) -> Result<MemFiles, 
     Ok(files)
 }
 
+/// Calls the program with these words, over sinks to which nothing was written.
 fn run(
     alloc: Global,
-    words: &[&str],
+    words: &str,
     files: &mut MemFiles,
-    failing: Option<u64>,
+    fails: bool,
 ) -> Result<Ending, AllocError> {
     let mut owned = Vec::new(alloc);
-    for word in words {
+    for word in words.split_whitespace() {
         owned.push(String::from_str(alloc, word)?)?;
     }
     let mut out = MemSink::new(alloc);
-    if let Some(call) = failing {
-        out.fail_at(call)?;
+    if fails {
+        out.fail_at(1)?;
     }
     let mut err = MemSink::new(alloc);
     let status = ble_tool(alloc, &owned, files, &mut out, &mut err);
@@ -78,61 +349,17 @@ fn run(
 }
 
 #[test]
-fn answers_both_hosts(rt: HostRuntime) -> Result<(), Fail> {
+fn ends_as_the_rows_say(rt: HostRuntime) -> Result<(), Fail> {
     let alloc = rt.alloc();
-    let reset = b"\x01\x03\x0c\x00".as_slice();
-    let rows: [(&[u8], &str, &str); 7] = [
-        (
-            reset,
-            "t ++ a4\n",
-            "turn 0 ++\nin a 01030c00\nup a 040e0401030c00\n",
-        ),
-        (
-            reset,
-            "t ++ a1\nt ++ a2\nt ++ a1\n",
-            "turn 0 ++\nin a 01\nturn 1 ++\nin a 030c\nturn 2 ++\nin a 00\nup a 040e0401030c00\n",
-        ),
-        (
-            b"\x07\xaa\x01\x03\x0c\x00",
-            "t ++ a6\n",
-            "turn 0 ++\nin a 07aa01030c00\nup a 04100101\nup a 040e0401030c00\n",
-        ),
-        (
-            b"\x01\xff\xff\x00",
-            "t ++ a4\n",
-            "turn 0 ++\nin a 01ffff00\nup a 040f040101ffff\n",
-        ),
-        (
-            b"\x01\x03\x0c\x01\x00",
-            "t ++ a5\n",
-            "turn 0 ++\nin a 01030c0100\nup a 040e0401030c12\n",
-        ),
-        (
-            b"\x01\x09\x10\x00",
-            "t ++ a4\n",
-            "turn 0 ++\nin a 01091000\nup a 040e0a010910000a0000eeffc0\n",
-        ),
-        // Advertising of types 0 and 2 is not turned on; off is 0, and 2 is no value.
-        (
-            b"\x01\x0a\x20\x01\x01\x01\x06\x20\x0f\x00\x08\x00\x08\x02\x00\x00\x00\x00\x00\x00\x00\x00\x07\x00\x01\x0a\x20\x01\x01\x01\x0a\x20\x01\x00\x01\x0a\x20\x01\x02\x01\x06\x20\x0f\x00\x08\x00\x08\x03\x00\x00\x00\x00\x00\x00\x00\x00\x07\x00",
-            "t ++ a58\n",
-            "turn 0 ++
-in a 010a2001010106200f000800080200000000000000000700010a200101010a200100010a2001020106200f000800080300000000000000000700
-up a 040e04010a2011
-up a 040e0401062000
-up a 040e04010a2011
-up a 040e04010a2000
-up a 040e04010a2012
-up a 040e0401062000
-",
-        ),
-    ];
-    for (a, turns, journal) in rows {
-        let mut files = files_of(alloc, a, b"", turns)?;
-        let ending = run(alloc, &PAIR, &mut files, None)?;
-        assert_eq!(rt; ending.status, 0);
-        assert_eq!(rt; ending.out.octets(), journal.as_bytes());
-        assert!(rt; ending.err.octets().is_empty());
+    for row in rows() {
+        let name = row.name;
+        let mut files = files_of(alloc, row.a, row.b, row.turns)?;
+        let ending = run(alloc, row.words, &mut files, row.fails)?;
+        let [front, middle, back] = row.out;
+        let out = format!(in alloc; "{front}{middle}{back}")?;
+        assert_eq!(rt; ending.status, row.status, "{name}");
+        assert_eq!(rt; ending.out.octets(), out.as_bytes(), "{name}");
+        assert_eq!(rt; ending.err.octets(), row.err.as_bytes(), "{name}");
     }
     Ok(())
 }
@@ -143,7 +370,7 @@ fn answers_what_is_not_built(rt: HostRuntime) -> Result<(), Fail> {
     for opcode in NOT_BUILT {
         let [low, high] = opcode.to_le_bytes();
         let mut files = files_of(alloc, &[1, low, high, 0], b"", "t ++ a4\n")?;
-        let ending = run(alloc, &PAIR, &mut files, None)?;
+        let ending = run(alloc, PAIR, &mut files, false)?;
         let journal = format!(in alloc;
             "turn 0 ++\nin a 01{low:02x}{high:02x}00\nup a 040f040101{low:02x}{high:02x}\n"
         )?;
@@ -154,140 +381,10 @@ fn answers_what_is_not_built(rt: HostRuntime) -> Result<(), Fail> {
 }
 
 #[test]
-fn carries_an_advertisement(rt: HostRuntime) -> Result<(), Fail> {
-    let alloc = rt.alloc();
-    let rows = [
-        (
-            "t ++ a24 b18\n",
-            "turn 0 ++\n",
-            "air a 37 d6be898e8fd45da13d499970f84ada . good\nup b 043e0c020103000a0000eeffc0007f\n",
-        ),
-        (
-            "t ++ a24 b18 x\n",
-            "turn 0 ++\n",
-            "air a 37 d6be898e8fd45da13d499970f84ada x missed\n",
-        ),
-        (
-            "t ++ a24 b18 e6:01\n",
-            "turn 0 ++\n",
-            "air a 37 d6be898e8fd45da13d499970f84ada e6:01 broken\n",
-        ),
-        (
-            "t +- a24 b18\n",
-            "turn 0 +-\n",
-            "air a 37 d6be898e8fd45da13d499970f84ada . missed\n",
-        ),
-    ];
-    for (turns, first, last) in rows {
-        let mut files = files_of(alloc, ADVERTISE, SCAN, turns)?;
-        let ending = run(alloc, &PAIR, &mut files, None)?;
-        let journal = format!(in alloc; "{first}{HOSTS}{last}")?;
-        assert_eq!(rt; ending.status, 0);
-        assert_eq!(rt; ending.out.octets(), journal.as_bytes());
-        assert!(rt; ending.err.octets().is_empty());
-    }
-    Ok(())
-}
-
-#[test]
-fn says_that_damage_is_unseen(rt: HostRuntime) -> Result<(), Fail> {
-    let alloc = rt.alloc();
-    let mut files = files_of(alloc, ADVERTISE, SCAN, "t ++ a24 b18 e11:01c0b401\n")?;
-    let ending = run(alloc, &PAIR, &mut files, None)?;
-    let journal = format!(in alloc; "turn 0 ++\n{HOSTS}")?;
-    assert_eq!(rt; ending.status, 6);
-    assert_eq!(rt; ending.out.octets(), journal.as_bytes());
-    assert_eq!(rt; ending.err.octets(), UNSEEN.as_bytes());
-    Ok(())
-}
-
-#[test]
-fn refuses_what_is_no_command(rt: HostRuntime) -> Result<(), Fail> {
-    let alloc = rt.alloc();
-    let rows: [&[&str]; 4] = [
-        &[],
-        &["pair", "a.bin", "b.bin"],
-        &["make", "7"],
-        &["pairs", "a.bin", "b.bin", "schedule"],
-    ];
-    for words in rows {
-        let mut files = files_of(alloc, b"", b"", "")?;
-        let ending = run(alloc, words, &mut files, None)?;
-        assert_eq!(rt; ending.status, 1);
-        assert_eq!(rt; ending.err.octets(), USAGE.as_bytes());
-        assert!(rt; ending.out.octets().is_empty());
-    }
-    Ok(())
-}
-
-#[test]
-fn says_which_file_and_line(rt: HostRuntime) -> Result<(), Fail> {
-    let alloc = rt.alloc();
-    let rows: [(&[&str], &str, u8, &str); 9] = [
-        (
-            &["pair", "x", "b.bin", "schedule"],
-            "t ++\n",
-            2,
-            "cannot read x\n",
-        ),
-        (
-            &["pair", "a.bin", "y", "schedule"],
-            "t ++\n",
-            2,
-            "cannot read y\n",
-        ),
-        (
-            &["pair", "a.bin", "b.bin", "z"],
-            "t ++\n",
-            2,
-            "cannot read z\n",
-        ),
-        (&PAIR, "t +\n", 3, "schedule line 4\n"),
-        (&PAIR, "t ++\nrun 03\n", 3, "schedule line 5\n"),
-        (&PAIR, "run 100001\n", 7, "too long: schedule line 4\n"),
-        (
-            &PAIR,
-            "run 50000\nrun 50000\nt ++\nt +\n",
-            7,
-            "too long: schedule line 6\n",
-        ),
-        (&PAIR, "t +\nrun 100001\n", 3, "schedule line 4\n"),
-        (
-            &["pair", "a.bin", "b.bin", "z"],
-            "t +\n",
-            2,
-            "cannot read z\n",
-        ),
-    ];
-    for (words, turns, status, said) in rows {
-        let mut files = files_of(alloc, b"", b"", turns)?;
-        let ending = run(alloc, words, &mut files, None)?;
-        assert_eq!(rt; ending.status, status);
-        assert_eq!(rt; ending.err.octets(), said.as_bytes());
-        assert!(rt; ending.out.octets().is_empty());
-    }
-    Ok(())
-}
-
-#[test]
-fn says_that_it_cannot_write(rt: HostRuntime) -> Result<(), Fail> {
-    let alloc = rt.alloc();
-    let rows = ["t ++ a24 b18\n", "t ++ a24 b18 e11:01c0b401\n"];
-    for turns in rows {
-        let mut files = files_of(alloc, ADVERTISE, SCAN, turns)?;
-        let ending = run(alloc, &PAIR, &mut files, Some(1))?;
-        assert_eq!(rt; ending.status, 4);
-        assert_eq!(rt; ending.err.octets(), b"cannot write\n".as_slice());
-        assert!(rt; ending.out.octets().is_empty());
-    }
-    Ok(())
-}
-
-#[test]
 fn runs_the_most_turns(rt: HostRuntime) -> Result<(), Fail> {
     let alloc = rt.alloc();
     let mut files = files_of(alloc, b"", b"", "run 50000\nrun 50000\n")?;
-    let ending = run(alloc, &PAIR, &mut files, None)?;
+    let ending = run(alloc, PAIR, &mut files, false)?;
     assert_eq!(rt; ending.status, 0);
     // Lines of 9 octets and the digits of 0 to 99999.
     assert_eq!(rt; ending.out.octets().len(), 1_388_890);
@@ -302,12 +399,16 @@ fn zeros(alloc: Global, count: usize) -> Result<Vec<u8>, AllocError> {
 #[test]
 fn says_that_a_file_is_too_long(rt: HostRuntime) -> Result<(), Fail> {
     let alloc = rt.alloc();
-    let rows = [(1_048_576, 0, ""), (1_048_577, 7, "too long: a.bin\n")];
-    for (length, status, said) in rows {
+    let rows = [
+        (1_048_576, 0, "turn 0 ++\n", ""),
+        (1_048_577, 7, "", "too long: a.bin\n"),
+    ];
+    for (length, status, out, err) in rows {
         let mut files = files_of(alloc, &zeros(alloc, length)?, b"", "t ++\n")?;
-        let ending = run(alloc, &PAIR, &mut files, None)?;
+        let ending = run(alloc, PAIR, &mut files, false)?;
         assert_eq!(rt; ending.status, status);
-        assert_eq!(rt; ending.err.octets(), said.as_bytes());
+        assert_eq!(rt; ending.out.octets(), out.as_bytes());
+        assert_eq!(rt; ending.err.octets(), err.as_bytes());
     }
     Ok(())
 }

@@ -1,39 +1,41 @@
-ghost use Rattle.std.specs.Prelude.{◌≡◌, ◌↔◌, ◌⊎◌, ℕ, true, false, List, map, IfSome, IfNone, string_bytes};
-ghost use Rattle.outside.specs.Count.{Rose};
-ghost use Rattle.ble_tool.specs.declared.faults.Source.{Source};
-ghost use Rattle.ble_tool.specs.Causes.{world_of, HasCause, Says, CanBeDone, NoneRose};
-ghost use Rattle.ble_tool.specs.Status.{Outcome, exit_status, last_words};
-ghost use Rattle.ble_tool.specs.Words.{is_pair, name_in, name_of};
+ghost use Rattle.std.specs.Prelude.{◌≡◌, ◌↔◌, ◌⊎◌, false, map, string_bytes, OnOk, IfErr};
+ghost use Rattle.ble_tool.specs.Causes.{IsPairDone, IsPairFault};
+ghost use Rattle.ble_tool.specs.Ending.{IsEnding, CanBeDone, NoneRose, IsReliable};
+ghost use Rattle.ble_tool.specs.Puts.{Says};
+ghost use Rattle.ble_tool.specs.Words.{is_pair, names_in};
+ghost use Rattle.ble_tool.specs.World.{world_of, reads_of, writes_of};
 
-use crate::messages::{Names, report, say};
+use crate::faults::Fault;
+use crate::messages::{report, say_usage};
+use crate::names::Names;
 use crate::pairs::pair;
 use outside::{Files, Sink};
 use std::alloc::Global;
 
-const USAGE: &[u8] = b"usage: ble pair A B SCHEDULE, ble make NUMBER, ble solo HOST AIR";
-
-/// The names of the files behind `pair`, where that is the command.
-fn pair_names(words: &[String]) -> Option<Names<'_>>
-    ensures none { IfNone result (is_pair (map string_bytes words.now) ≡ false) }
-    ensures some { IfSome result (λ _. is_pair (map string_bytes words.now) ≡ true) }
-    ensures names { IfSome result (λ names. (source : Source)
-        → name_of names.a.now names.b.now names.schedule.now source ≡ name_in (map string_bytes words.now) source) }
+/// Does the work of the command `pair`, the one that is built.
+fn carry_out<F: Files, O: Sink>(
+    alloc: Global,
+    names: &Names<'_>,
+    files: &mut F,
+    out: &mut O,
+) -> Result<(), Fault>
+    ensures ok { OnOk result (IsPairDone (world_of
+        (reads_of F.content F.is_reliable F.faults files.old files.new names.now)
+        (writes_of O.written O.is_reliable O.faults out.old out.new))) }
+    ensures err { IfErr result (IsPairFault (world_of
+        (reads_of F.content F.is_reliable F.faults files.old files.new names.now)
+        (writes_of O.written O.is_reliable O.faults out.old out.new))) }
 {
-    match words {
-        [command, a, b, schedule] if command.as_str() == "pair" => Some(Names {
-            a: a.as_str(),
-            b: b.as_str(),
-            schedule: schedule.as_str(),
-        }),
-        _ => None,
-    }
+    pair(alloc, names, files, out)
 }
 
-/// Does what the words behind the program's name say, and gives the exit status.
+/// Does what the words behind the program's name say, and gives the exit status (own).
 ///
-/// `pair A B SCHEDULE` reads two host streams and a schedule, each of at most 1,048,576 octets, runs two controllers
-/// over them and writes the journal to `out`. With a status other than 0 one line on `err` says why:
+/// `pair A B SCHEDULE` reads the octets of two hosts and the text of a schedule, in this order, each of at most
+/// 1,048,576 octets, runs two controllers over them and writes the journal to `out`. With a status other than 0
+/// one line on `err` says why:
 ///
+/// - 0: the whole journal was written;
 /// - 1: the words are no command's;
 /// - 2: a file could not be read;
 /// - 3: a line of the schedule is outside its grammar;
@@ -52,30 +54,33 @@ pub fn ble_tool<F: Files, O: Sink, E: Sink>(
     ensures usage { (result ≡ 1) ↔ (is_pair (map string_bytes words.now.items) ≡ false) }
 
     // Where the work can be done, it is, or there is no memory: if no count of faults rose,
-    ensures complete { CanBeDone (map string_bytes words.now.items) (F.content files.old)
-        → NoneRose (map string_bytes words.now.items) (F.faults files.old) (F.faults files.new)
-        → ¬ Rose (O.faults out.old) (O.faults out.new) → (result ≡ 0) ⊎ (result ≡ 5) }
+    ensures complete { let given = map string_bytes words.now.items in
+        let world = world_of
+        (reads_of F.content F.is_reliable F.faults files.old files.new (names_in given))
+        (writes_of O.written O.is_reliable O.faults out.old out.new) in
+        CanBeDone given world.reads → NoneRose world → (result ≡ 0) ⊎ (result ≡ 5) }
     // and if no read of the three files and no write of the output is one that may fail.
-    ensures reliable { CanBeDone (map string_bytes words.now.items) (F.content files.old)
-        → ((source : Source) → F.is_reliable files.old (name_in (map string_bytes words.now.items) source))
-        → O.is_reliable out.old → (result ≡ 0) ⊎ (result ≡ 5) }
+    ensures reliable { let given = map string_bytes words.now.items in
+        let world = world_of
+        (reads_of F.content F.is_reliable F.faults files.old files.new (names_in given))
+        (writes_of O.written O.is_reliable O.faults out.old out.new) in
+        CanBeDone given world.reads → IsReliable world → (result ≡ 0) ⊎ (result ≡ 5) }
 
     // Every call has an ending: its status, what holds then, and what is said.
-    ensures ending { (outcome : Outcome) × (result ≡ exit_status outcome)
-        × HasCause (map string_bytes words.now.items)
-        (world_of (name_in (map string_bytes words.now.items)) (F.content files.old) (F.is_reliable files.old) (F.faults files.old) (F.faults files.new)
-        (O.written out.old) (O.written out.new) (O.is_reliable out.old) (O.faults out.old) (O.faults out.new)) outcome
-        × Says (E.written err.old) (E.written err.new) (E.faults err.old) (E.faults err.new) (E.wants_memory err.old)
-        (last_words (name_in (map string_bytes words.now.items)) outcome) }
+    ensures ending { let given = map string_bytes words.now.items in
+        let world = world_of
+        (reads_of F.content F.is_reliable F.faults files.old files.new (names_in given))
+        (writes_of O.written O.is_reliable O.faults out.old out.new) in
+        IsEnding given world (Says E.written E.faults E.wants_memory err.old err.new) result }
 {
-    let Some(names) = pair_names(words.as_slice()) else {
-        say(err, USAGE, b"");
+    let Some(names) = Names::of_pair(words.as_slice()) else {
+        say_usage(err);
         return 1;
     };
-    match pair(alloc, names, files, out) {
+    match carry_out(alloc, &names, files, out) {
         Ok(()) => 0,
         Err(fault) => {
-            report(err, names, &fault);
+            report(err, &names, &fault);
             fault.status()
         }
     }
