@@ -1,23 +1,24 @@
 use crate::octets::Octets;
 use ble_base::{ErrCode, Kind, Role, Side, Verdict};
 
-/// What the radio did to a packet, as the schedule says.
+/// What the radio did to a packet, as the schedule says (own).
 #[derive(Drop)]
 pub enum Mark {
     /// It passed unchanged.
     Pass,
     /// It was lost.
     Lost,
-    /// The pattern was added, bit by bit modulo 2, to its octets from place `at` on, where place 0 is
-    /// the first octet of the access address. What reaches past the end of the packet does nothing.
+    /// The pattern, 1 to 264 octets, was added, bit by bit modulo 2, to its octets from place `at` on,
+    /// where place 0 is the first octet of the access address. What reaches past the end of the packet does nothing.
     Damage { at: u16, pattern: Octets },
 }
 
-/// One thing that happened in a run. A turn is a slot of 1.25 ms. `link` is the number of a link: the
-/// n-th CONNECT_IND on the air begins link n, from 1.
+/// One thing that happened in a run (own). A turn is a slot of 1.25 ms. `link` is the number of a link:
+/// the n-th CONNECT_IND on the air begins link n, from 1. A `reason` or `code` is an error code (Core 5.2,
+/// volume 1 part F).
 #[derive(Drop)]
 pub enum Entry {
-    /// A turn begins. `a_on` and `b_on` tell which radios are on; with one controller alone there is no
+    /// A turn begins, in this slot, counted from 0. `a_on` and `b_on` tell which radios are on; with one controller alone there is no
     /// `b_on`.
     Turn {
         slot: u64,
@@ -29,13 +30,15 @@ pub enum Entry {
         side: Side,
         octets: Octets,
     },
-    /// The controller handed this HCI packet up to its host, its H4 indicator first.
+    /// The controller handed this HCI packet up to its host, its H4 indicator first (Core 5.2, volume 4
+    /// part A, section 2).
     Up {
         side: Side,
         octets: Octets,
     },
-    /// A packet went on the air on this channel, 0 to 39. The octets are as sent: the access address, the
-    /// PDU and the CRC. The verdict is that of the other side.
+    /// A packet went on the air on the channel with this index, 0 to 39. The octets are as sent: the
+    /// access address in 4, and then, whitened, the PDU and the CRC in 3 (Core 5.2, volume 6 part B,
+    /// sections 2.1 and 3). The verdict is that of the other side.
     Air {
         side: Side,
         channel: u8,
@@ -43,7 +46,7 @@ pub enum Entry {
         fate: Mark,
         verdict: Verdict,
     },
-    /// The side holds the link from here on, under this connection handle.
+    /// The side holds the link from here on, under this connection handle of 12 bits.
     Opened {
         side: Side,
         link: u64,
@@ -57,7 +60,8 @@ pub enum Entry {
         reason: ErrCode,
     },
     /// A PDU with a payload was fixed as the next to be sent. `number` counts these from 1 for each
-    /// sender and link; `llid` is 1 to 3; the body is the payload before any encryption.
+    /// sender and link; `llid` is 1 to 3 (Core 5.2, volume 6 part B, section 2.4); the body is the payload
+    /// before any encryption.
     Sent {
         side: Side,
         link: u64,
@@ -73,7 +77,7 @@ pub enum Entry {
         llid: u8,
         body: Octets,
     },
-    /// The side entered this connection event, on this data channel.
+    /// The side entered this connection event, counted from 0 without end, on this data channel, 0 to 36.
     Enter {
         side: Side,
         link: u64,

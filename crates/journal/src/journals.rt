@@ -29,7 +29,7 @@ impl Journal {
         }
     }
 
-    /// Adds an entry at the end. An entry that finds no memory is let go.
+    /// Adds an entry at the end. An entry that finds no memory is let go, and the journal stays as it was.
     pub fn push(&mut self, entry: Entry) -> Result<(), AllocError>
         ensures ok { OnOk result (self.new ≡ self.old ++ entry ∷ []) }
         ensures err { OnErr result (self.new ≡ self.old) }

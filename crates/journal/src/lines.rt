@@ -1,178 +1,64 @@
-ghost use Rattle.std.specs.Prelude.{◌≡◌, ◌++◌, [], ◌∷◌, OnOk, IfOk, decimal};
-ghost use Rattle.journal.specs.Words.{side_name, kind_name, verdict_name, hexadecimal, mark_word};
-ghost use Rattle.journal.specs.Text.{words_of, joined, spaced, text};
+ghost use Rattle.std.specs.Prelude.{◌≡◌, ◌++◌, OnOk, IfOk};
+ghost use Rattle.journal.specs.Text.{words_of, joined, text};
 
-use crate::entries::{Entry, Mark};
+use crate::entries::Entry;
 use crate::octets::Octets;
 use crate::words::{
-    kind_word, put_code, put_mark, put_number, put_octets, put_word, radio_word, role_word,
-    side_word, verdict_word,
+    kind_word, put_code, put_mark, put_number, put_octets, put_side, put_word, radio_word,
+    role_word, verdict_word,
 };
-use ble_base::{Kind, Side, Verdict};
 use std::alloc::{AllocError, Global};
 
-/// Begins a line with what happened and the side at which it did.
-fn put_head(text: &mut Vec<u8>, name: &[u8], side: Side) -> Result<(), AllocError>
-    ensures { OnOk result (text.new.items ≡ text.old.items ++ joined (name.now ∷ side_name side ∷ [])) }
-{
-    text.extend_from_slice(name)?;
-    put_word(text, side_word(side))
-}
-
-/// Begins the line of something that happened on a link.
-fn put_link(text: &mut Vec<u8>, name: &[u8], side: Side, link: u64) -> Result<(), AllocError>
-    ensures { OnOk result (text.new.items ≡ text.old.items ++ joined (name.now ∷ side_name side ∷ decimal link ∷ [])) }
-{
-    put_head(text, name, side)?;
-    put_number(text, link)
-}
-
-/// Begins the line of something that happened to a procedure.
-fn put_kind(
-    text: &mut Vec<u8>,
-    name: &[u8],
-    side: Side,
-    link: u64,
-    kind: Kind,
-) -> Result<(), AllocError>
-    ensures { OnOk result (text.new.items ≡ text.old.items
-        ++ joined (name.now ∷ side_name side ∷ decimal link ∷ kind_name kind ∷ [])) }
-{
-    put_link(text, name, side, link)?;
-    put_word(text, kind_word(kind))
-}
-
-/// Writes octets that were fed to a controller or handed up by it.
-fn put_host_octets(
-    text: &mut Vec<u8>,
-    name: &[u8],
-    side: Side,
-    octets: &Octets,
-) -> Result<(), AllocError>
-    ensures { OnOk result (text.new.items ≡ text.old.items
-        ++ joined (name.now ∷ side_name side ∷ hexadecimal octets.now ∷ [])) }
-{
-    put_head(text, name, side)?;
-    put_octets(text, octets.as_slice())
-}
-
-/// Writes a PDU that was sent or taken.
-fn put_pdu(text: &mut Vec<u8>, number: u64, llid: u8, body: &Octets) -> Result<(), AllocError>
-    ensures { OnOk result (text.new.items ≡ text.old.items
-        ++ spaced (decimal number ∷ decimal llid ∷ hexadecimal body.now ∷ [])) }
-{
-    put_number(text, number)?;
-    put_number(text, u64::from(llid))?;
-    put_octets(text, body.as_slice())
-}
-
-/// Writes what became of a packet.
-fn put_flight(
-    text: &mut Vec<u8>,
-    octets: &Octets,
-    fate: &Mark,
-    verdict: Verdict,
-) -> Result<(), AllocError>
-    ensures { OnOk result (text.new.items ≡ text.old.items
-        ++ spaced (hexadecimal octets.now ∷ mark_word fate.now ∷ verdict_name verdict ∷ [])) }
-{
-    put_octets(text, octets.as_slice())?;
-    put_mark(text, fate)?;
-    put_word(text, verdict_word(verdict))
+/// Writes an entry. A row has the entry, its first word, and what writes each further word, in order.
+macro_rules! put_rows {
+    (
+        $text:ident, $entry:ident;
+        $($name:ident { $($field:ident),* } = $first:literal: $($put:ident($value:expr)),*;)*
+    ) => {
+        match $entry {
+            $(Entry::$name { $($field),* } => {
+                $text.extend_from_slice($first)?;
+                $($put($text, $value)?;)*
+                Ok(())
+            })*
+        }
+    };
 }
 
 /// Writes the words of an entry.
 fn put_entry(text: &mut Vec<u8>, entry: &Entry) -> Result<(), AllocError>
     ensures { OnOk result (text.new.items ≡ text.old.items ++ joined (words_of entry.now)) }
 {
-    match entry {
-        Entry::Turn { slot, a_on, b_on } => {
-            text.extend_from_slice(b"turn")?;
-            put_number(text, *slot)?;
-            put_word(text, radio_word(*a_on, *b_on))
-        }
-        Entry::Fed { side, octets } => put_host_octets(text, b"in", *side, octets),
-        Entry::Up { side, octets } => put_host_octets(text, b"up", *side, octets),
-        Entry::Air {
-            side,
-            channel,
-            octets,
-            fate,
-            verdict,
-        } => {
-            put_head(text, b"air", *side)?;
-            put_number(text, u64::from(*channel))?;
-            put_flight(text, octets, fate, *verdict)
-        }
-        Entry::Opened {
-            side,
-            link,
-            handle,
-            role,
-        } => {
-            put_link(text, b"open", *side, *link)?;
-            put_number(text, u64::from(*handle))?;
-            put_word(text, role_word(*role))
-        }
-        Entry::Shut { side, link, reason } => {
-            put_link(text, b"shut", *side, *link)?;
-            put_code(text, *reason)
-        }
-        Entry::Sent {
-            side,
-            link,
-            number,
-            llid,
-            body,
-        } => {
-            put_link(text, b"sent", *side, *link)?;
-            put_pdu(text, *number, *llid, body)
-        }
-        Entry::Took {
-            side,
-            link,
-            number,
-            llid,
-            body,
-        } => {
-            put_link(text, b"took", *side, *link)?;
-            put_pdu(text, *number, *llid, body)
-        }
-        Entry::Enter {
-            side,
-            link,
-            event,
-            channel,
-        } => {
-            put_link(text, b"enter", *side, *link)?;
-            put_number(text, *event)?;
-            put_number(text, u64::from(*channel))
-        }
-        Entry::Applied {
-            side,
-            link,
-            number,
-            event,
-        } => {
-            put_link(text, b"applied", *side, *link)?;
-            put_number(text, *number)?;
-            put_number(text, *event)
-        }
-        Entry::Began { side, link, kind } => put_kind(text, b"began", *side, *link, *kind),
-        Entry::Refused {
-            side,
-            link,
-            kind,
-            code,
-        } => {
-            put_kind(text, b"refused", *side, *link, *kind)?;
-            put_code(text, *code)
-        }
-        Entry::Done { side, link, kind } => put_kind(text, b"done", *side, *link, *kind),
+    put_rows! {
+        text, entry;
+        Turn { slot, a_on, b_on } = b"turn": put_number(*slot), put_word(radio_word(*a_on, *b_on));
+        Fed { side, octets } = b"in": put_side(*side), put_octets(octets.as_slice());
+        Up { side, octets } = b"up": put_side(*side), put_octets(octets.as_slice());
+        Air { side, channel, octets, fate, verdict } = b"air": put_side(*side),
+            put_number(u64::from(*channel)), put_octets(octets.as_slice()), put_mark(fate),
+            put_word(verdict_word(*verdict));
+        Opened { side, link, handle, role } = b"open": put_side(*side), put_number(*link),
+            put_number(u64::from(*handle)), put_word(role_word(*role));
+        Shut { side, link, reason } = b"shut": put_side(*side), put_number(*link), put_code(*reason);
+        Sent { side, link, number, llid, body } = b"sent": put_side(*side), put_number(*link),
+            put_number(*number), put_number(u64::from(*llid)), put_octets(body.as_slice());
+        Took { side, link, number, llid, body } = b"took": put_side(*side), put_number(*link),
+            put_number(*number), put_number(u64::from(*llid)), put_octets(body.as_slice());
+        Enter { side, link, event, channel } = b"enter": put_side(*side), put_number(*link),
+            put_number(*event), put_number(u64::from(*channel));
+        Applied { side, link, number, event } = b"applied": put_side(*side), put_number(*link),
+            put_number(*number), put_number(*event);
+        Began { side, link, kind } = b"began": put_side(*side), put_number(*link),
+            put_word(kind_word(*kind));
+        Refused { side, link, kind, code } = b"refused": put_side(*side), put_number(*link),
+            put_word(kind_word(*kind)), put_code(*code);
+        Done { side, link, kind } = b"done": put_side(*side), put_number(*link),
+            put_word(kind_word(*kind));
     }
 }
 
-/// The text of these entries: a line for each, with its newline.
+/// The text of these entries in ASCII: a line for each, its words parted by one space, and a newline
+/// behind it (own). Where memory is wanting there is no text.
 pub fn write_lines(alloc: Global, entries: &[Entry]) -> Result<Octets, AllocError>
     ensures { IfOk result (λ written. written ≡ text entries.now) }
 {

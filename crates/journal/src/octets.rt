@@ -18,7 +18,7 @@ impl Model for Octets {
 }
 
 impl Octets {
-    /// A copy of these octets.
+    /// A copy of these octets. Where memory is wanting there is none.
     pub fn copy(alloc: Global, octets: &[u8]) -> Result<Self, AllocError>
         ensures { IfOk result (λ copied. copied ≡ octets.now) }
     {
@@ -35,6 +35,7 @@ impl Octets {
     }
 }
 
+/// The octets of a vector, in its order. It takes no memory.
 impl From<Vec<u8>> for Octets {
     ghost from_gives = { λ octets made. made ≡ octets.items };
 

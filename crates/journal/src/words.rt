@@ -10,7 +10,8 @@ use std::alloc::AllocError;
 /// How many octets are written in hexadecimal at once.
 const BLOCK: usize = 32;
 
-pub fn side_word(side: Side) -> &'static [u8]
+/// The word of a side.
+fn side_word(side: Side) -> &'static [u8]
     ensures { result.now ≡ side_name side }
 {
     match side {
@@ -19,6 +20,7 @@ pub fn side_word(side: Side) -> &'static [u8]
     }
 }
 
+/// The word of a role.
 pub fn role_word(role: Role) -> &'static [u8]
     ensures { result.now ≡ role_name role }
 {
@@ -28,6 +30,7 @@ pub fn role_word(role: Role) -> &'static [u8]
     }
 }
 
+/// The word of a control procedure.
 pub fn kind_word(kind: Kind) -> &'static [u8]
     ensures { result.now ≡ kind_name kind }
 {
@@ -43,6 +46,7 @@ pub fn kind_word(kind: Kind) -> &'static [u8]
     }
 }
 
+/// The word of a verdict.
 pub fn verdict_word(verdict: Verdict) -> &'static [u8]
     ensures { result.now ≡ verdict_name verdict }
 {
@@ -54,6 +58,7 @@ pub fn verdict_word(verdict: Verdict) -> &'static [u8]
     }
 }
 
+/// A plus for each radio that is on and a minus for each that is off, A first.
 pub fn radio_word(a_on: bool, b_on: Option<bool>) -> &'static [u8]
     ensures { result.now ≡ radios a_on b_on }
 {
@@ -75,7 +80,14 @@ pub fn put_word(text: &mut Vec<u8>, word: &[u8]) -> Result<(), AllocError>
     text.extend_from_slice(word)
 }
 
-/// Writes a number as a further word.
+/// Writes a side as a further word.
+pub fn put_side(text: &mut Vec<u8>, side: Side) -> Result<(), AllocError>
+    ensures { OnOk result (text.new.items ≡ text.old.items ++ 32 ∷ side_name side) }
+{
+    put_word(text, side_word(side))
+}
+
+/// Writes a number as a further word, in decimal.
 pub fn put_number(text: &mut Vec<u8>, number: u64) -> Result<(), AllocError>
     ensures { OnOk result (text.new.items ≡ text.old.items ++ 32 ∷ decimal number) }
 {
