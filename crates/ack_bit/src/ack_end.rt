@@ -4,7 +4,8 @@ ghost use Rattle.ack_bit.specs.AckBits.{AckBits, first_bits, header_of, is_new, 
 use data_pdu::DataHeader;
 use std::marker::Model;
 
-/// What a received packet says of the PDU that it carries and of the PDU that was last sent.
+/// What a received packet says of the PDU that it carries and of the PDU that was last sent (Core 5.2,
+/// volume 6 part B, section 4.5.9).
 #[derive(Clone, Copy, Debug, PartialEq, Eq, Default)]
 pub struct AckSeen {
     /// The packet carries a new PDU, and not the last one again.
@@ -13,7 +14,8 @@ pub struct AckSeen {
     pub acked: bool,
 }
 
-/// The acknowledgement state of one end of a link. As long as it has sent nothing, an empty PDU counts
+/// The acknowledgement state of one end of a link, transmitSeqNum and nextExpectedSeqNum (Core 5.2,
+/// volume 6 part B, section 4.5.9). As long as it has sent nothing, an empty PDU counts
 /// as sent, so that the first acknowledgement is of that PDU.
 #[derive(Clone, Copy, Debug, PartialEq, Eq)]
 pub struct AckEnd {
@@ -32,7 +34,7 @@ impl Model for AckEnd {
 }
 
 impl AckEnd {
-    /// An end as the link begins.
+    /// An end as the link begins: both numbers are 0.
     pub fn new() -> Self
         ensures { result ≡ first_bits }
     {
@@ -70,7 +72,7 @@ impl AckEnd {
     }
 
     /// The header of the next packet of this end: of the PDU that was last sent as long as that is not
-    /// acknowledged, and of the next one from then on.
+    /// acknowledged, and of the next one from then on. LLID, MD and the length in octets are the caller's.
     pub fn header(&self, llid: u8, md: bool, length: u8) -> DataHeader
         ensures { result ≡ header_of self.now llid md length }
     {
@@ -84,6 +86,7 @@ impl AckEnd {
     }
 }
 
+/// An end as the link begins.
 impl Default for AckEnd {
     ghost is_default = { λ end. end ≡ first_bits };
 

@@ -13,12 +13,12 @@ pub struct DataHeader {
     pub sn: bool,
     /// MD, whether the sender has more data.
     pub md: bool,
-    /// How many octets follow the header, the integrity code among them.
+    /// How many octets follow the header, 0 to 255, the integrity code of a sealed payload among them.
     pub length: u8,
 }
 
-/// The header in these two octets, the first on the air first. Bits 5 to 7 of the first octet, which
-/// are reserved, are ignored.
+/// The header in these two octets, the first on the air first (Core 5.2, volume 6 part B, section 2.4).
+/// Bits 5 to 7 of the first octet, which are reserved, are ignored.
 pub fn read_header(octets: [u8; 2]) -> DataHeader
     ensures header { result ≡ header_in octets }
     ensures two_bits { result.llid < 4 }
@@ -34,7 +34,9 @@ pub fn read_header(octets: [u8; 2]) -> DataHeader
     }
 }
 
-/// The two octets of this header, the first on the air first. The reserved bits are 0.
+/// The two octets of this header, the first on the air first: LLID in bits 0 and 1 of the first, NESN in
+/// bit 2, SN in bit 3, MD in bit 4, and then the length (Core 5.2, volume 6 part B, section 2.4). The
+/// reserved bits are 0.
 pub fn write_header(header: DataHeader) -> [u8; 2]
     requires { header.llid < 4 }
     ensures octets { result ≡ octets_of header }
