@@ -4,6 +4,7 @@ ghost use Rattle.std.specs.Prelude.{◌≡◌, ◌+◌, ◌≤◌, [], ◌∷◌
 ghost use Rattle.aes_block.specs.State.{round_key};
 ghost use Rattle.aes_block.specs.Words.{octets, octets_of, spelled};
 
+/// The word of four octets of a block, from place `at` on, most significant first.
 #[inline(always)]
 fn read_word(block: &[u8; 16], at: usize) -> u32
     requires { at + 4 ≤ 16 }
@@ -12,7 +13,7 @@ fn read_word(block: &[u8; 16], at: usize) -> u32
     u32::from_be_bytes([block[at], block[at + 1], block[at + 2], block[at + 3]])
 }
 
-/// The columns of a block.
+/// The columns of a block: four octets each, one column after another (FIPS 197, section 3.4).
 #[inline(always)]
 pub(crate) fn read(block: &[u8; 16]) -> [u32; 4]
     ensures { octets_of result ≡ block.now }
@@ -39,7 +40,7 @@ pub(crate) fn write(columns: [u32; 4]) -> [u8; 16]
     ]
 }
 
-/// The four words of a round, out of the expanded key.
+/// The four words of a round, 0 to 10, out of the expanded key (FIPS 197, section 5.1.4).
 #[inline(always)]
 pub(crate) fn round_key(words: &[u32; 44], round: usize) -> [u32; 4]
     requires { round ≤ 10 }

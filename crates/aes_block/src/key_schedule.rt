@@ -1,4 +1,4 @@
-//! The key expansion.
+//! The key expansion (FIPS 197, section 5.2).
 
 ghost use Rattle.std.specs.Prelude.{◌≡◌, ◌<◌, ◌≤◌};
 ghost use Rattle.aes_block.specs.KeyExpansion.{addend, key_expansion, rcon};
@@ -43,7 +43,7 @@ fn addend(last: u32, place: usize) -> u32
     }
 }
 
-/// The words of all round keys. The first four are the key.
+/// The words of all eleven round keys, four for each. The first four are the key (FIPS 197, section 5.2).
 pub(crate) fn expand(key: &[u8; 16]) -> [u32; 44]
     ensures key { octets_of result ≡ key.now }
     ensures words { spelled result ≡ key_expansion key.now }

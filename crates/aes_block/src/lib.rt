@@ -1,4 +1,5 @@
-//! AES-128 on single blocks, as FIPS 197 defines it.
+//! AES-128 on single blocks, as FIPS 197 defines it: keys and blocks are 16 octets, most significant
+//! first. Only encryption is here, since the link needs no more.
 #![tactic(auto)]
 
 ghost use Rattle.std.specs.Prelude.{◌≡◌};
@@ -11,7 +12,7 @@ mod tables;
 
 use std::marker::Model;
 
-/// A key of 16 octets takes ten rounds.
+/// A key of 16 octets takes ten rounds (FIPS 197, section 5).
 const LAST_ROUND: usize = 10;
 
 /// A key with its expansion, ready to encrypt blocks. Contracts see the key: 16 octets, most significant first.

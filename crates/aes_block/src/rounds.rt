@@ -21,7 +21,7 @@ fn shifted(first: u32, second: u32, third: u32, fourth: u32) -> [u8; 4]
     ]
 }
 
-/// The S-box on each octet of a column.
+/// The S-box on each octet of a column (FIPS 197, section 5.1.1).
 #[inline(always)]
 pub(crate) fn substituted(column: [u8; 4]) -> u32
     ensures { octets result ≡ map (λ r. sub_byte (slice_index column r)) (range_with_len 0 4) }
@@ -30,7 +30,7 @@ pub(crate) fn substituted(column: [u8; 4]) -> u32
     u32::from_be_bytes([sub_byte(a), sub_byte(b), sub_byte(c), sub_byte(d)])
 }
 
-/// The S-box on each octet of a column, and then MixColumns.
+/// The S-box on each octet of a column, and then MixColumns (FIPS 197, sections 5.1.1 and 5.1.3).
 #[inline(always)]
 fn mixed(column: [u8; 4]) -> u32
     ensures { let s = map (λ r. sub_byte (slice_index column r)) (range_with_len 0 4) in
@@ -43,7 +43,7 @@ fn mixed(column: [u8; 4]) -> u32
         ^ mixed_row(d).rotate_right(24)
 }
 
-/// AddRoundKey.
+/// AddRoundKey (FIPS 197, section 5.1.4).
 #[inline(always)]
 pub(crate) fn add(state: [u32; 4], key: [u32; 4]) -> [u32; 4]
     ensures { octets_of result ≡ add_states (octets_of state) (octets_of key) }
