@@ -33,8 +33,9 @@ impl fmt::Display for Forged {
 
 impl Error for Forged {}
 
-/// The session key, of the long term key and the two parts of the session key diversifier (Core 5.2,
-/// volume 6 part B, section 5.1.3.1). Keys are 16 octets, most significant first.
+/// The session key, of the long term key and the two parts of the session key diversifier, the central's
+/// (SKDm) and the peripheral's (SKDs) (Core 5.2, volume 6 part B, section 5.1.3.1). Keys are 16 octets,
+/// most significant first.
 #[tactic(auto, unfolding(crate::specs::Payload::key_of_session))]
 pub fn session_key(ltk: &[u8; 16], skd_m: u64, skd_s: u64) -> [u8; 16]
     ensures { result ≡ key_of_session ltk.now skd_m skd_s }
@@ -48,9 +49,10 @@ pub fn session_key(ltk: &[u8; 16], skd_m: u64, skd_s: u64) -> [u8; 16]
 }
 
 /// Encrypts a payload of 1 to 251 octets and puts its message integrity check of four octets behind it
-/// (Core 5.2, volume 6 part E, section 2). The session key is 16 octets, most significant first. The IV is
-/// the central's four octets and then the peripheral's, each in the order on the air. The header is the
-/// first octet of the packet.
+/// (Core 5.2, volume 6 part E, section 2; RFC 3610 with M = 4 and L = 2). The session key is 16 octets, most
+/// significant first. The counter is that of the packets of this direction, of 39 bits; `from_central` is
+/// the direction. The IV is the central's four octets and then the peripheral's, each in the order on the
+/// air. The header is the first octet of the packet, whose NESN, SN and MD do not count.
 #[tactic(auto, unfolding(crate::specs::Ccm::sealed))]
 pub fn seal(
     key: &[u8; 16],
@@ -76,8 +78,9 @@ pub fn seal(
     sealed
 }
 
-/// Decrypts a payload of at most 255 octets that `seal` made for this packet. Any other is forged
-/// (Core 5.2, volume 6 part E, section 2).
+/// Decrypts a payload of at most 255 octets that `seal` made with the same key, counter, direction, IV and
+/// header: the answer is the body of 1 to 251 octets. Any other is `Forged`, one of fewer than five octets
+/// too (Core 5.2, volume 6 part E, section 2; RFC 3610, section 2.5).
 pub fn unseal(
     key: &[u8; 16],
     counter: u64,

@@ -22,7 +22,8 @@ const AUTHENTICATED: u8 = 0xE3;
 /// The octets of a message integrity check (MIC).
 const MIC_LEN: usize = 4;
 
-/// The session key and the nonce of one packet.
+/// The session key, expanded, and the nonce of one packet, 13 octets (Core 5.2, volume 6 part E,
+/// section 2.1).
 #[derive(Drop)]
 pub(crate) struct Packet {
     aes: Aes,
@@ -42,6 +43,7 @@ fn numbered(counter: u64, from_central: bool) -> u64
 }
 
 impl Packet {
+    /// The cipher of the packet with this counter in this direction.
     pub(crate) fn new(key: &[u8; 16], counter: u64, from_central: bool, iv: &[u8; 8]) -> Packet
         requires { counter < 2 ^ 39 }
         ensures key { result.aes ≡ key.now }
@@ -67,7 +69,7 @@ impl Packet {
         ]
     }
 
-    /// A block of the key stream.
+    /// A block of the key stream, S_i (RFC 3610, section 2.3).
     #[tactic(auto, unfolding(crate::specs::Ccm::key_block))]
     fn key_block(&self, number: u16) -> [u8; 16]
         ensures { result ≡ key_block self.now.aes self.now.nonce number }
@@ -75,7 +77,7 @@ impl Packet {
         self.aes.encrypt(&self.block(COUNTER_FLAGS, number))
     }
 
-    /// The four octets that authenticate header and body, not yet encrypted.
+    /// The four octets that authenticate header and body, not yet encrypted: T (RFC 3610, section 2.2).
     fn authentication_field(&self, header: u8, body: &[u8]) -> [u8; 4]
         requires { length body.now < 2 ^ 16 }
         ensures { let extra = additional_data header in
@@ -94,7 +96,7 @@ impl Packet {
         [a, b, c, d]
     }
 
-    /// The MIC that stands behind the encrypted body.
+    /// The MIC that stands behind the encrypted body, four octets: U (RFC 3610, section 2.3).
     pub(crate) fn mic(&self, header: u8, body: &[u8]) -> [u8; 4]
         requires { length body.now < 2 ^ 16 }
         ensures { result ≡ mic self.now.aes self.now.nonce (additional_data header) body.now }
@@ -104,7 +106,7 @@ impl Packet {
         [a ^ key[0], b ^ key[1], c ^ key[2], d ^ key[3]]
     }
 
-    /// Encrypts octets, or decrypts them, and appends them.
+    /// Encrypts octets, or decrypts them, and appends them (RFC 3610, sections 2.3 and 2.5).
     pub(crate) fn push_encrypted<const CAP: usize>(
         &self,
         octets: &[u8],
@@ -121,7 +123,7 @@ impl Packet {
         }
     }
 
-    /// Decrypts what stands before the MIC, if the MIC is right.
+    /// Decrypts what stands before the MIC, if the MIC is right (RFC 3610, section 2.5).
     #[tactic(auto, unfolding(crate::specs::Ccm::opened))]
     pub(crate) fn open(&self, header: u8, sealed: &[u8]) -> Result<ArrayVec<u8, 251>, Forged>
         requires { length sealed.now ≤ 255 }

@@ -102,6 +102,7 @@ fn unseals_what_it_sealed_at_each_length(rt: HostRuntime) -> Result<(), Fail> {
     for (octet, value) in body.iter_mut().zip(1u8..) {
         *octet = value;
     }
+    sealed_payloads();
     for len in 1..=251 {
         let sealed = seal(&key, 0x7F_FFFF_FFFF, false, &IV, 0x02, &body[..len]);
         let opened = unseal(&key, 0x7F_FFFF_FFFF, false, &IV, 0x02, sealed.as_slice())?;
