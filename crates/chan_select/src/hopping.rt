@@ -6,7 +6,7 @@ ghost use Rattle.chan_select.specs.Hopping.{unmapped_by_hop, channel_by_hop};
 
 use ble_base::{ChannelMap, EventNo};
 
-/// The channel of an event, for a link with this hop increment.
+/// The data channel of an event, 0 to 36, for a link with this hop increment.
 pub(crate) fn channel_by_hop(hop: u8, event: EventNo, map: &ChannelMap) -> u8
     requires { event.0 < 2 ^ 32 }
     ensures channel { result ≡ channel_by_hop hop event.0 map.now }
@@ -21,7 +21,7 @@ pub(crate) fn channel_by_hop(hop: u8, event: EventNo, map: &ChannelMap) -> u8
     }
 }
 
-/// The channel of an event before remapping.
+/// unmappedChannel: the channel of an event before remapping, 0 to 36.
 fn unmapped_by_hop(hop: u8, event: EventNo) -> u8
     requires { event.0 < 2 ^ 32 }
     ensures channel { result ≡ unmapped_by_hop hop event.0 }

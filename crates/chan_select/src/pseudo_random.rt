@@ -6,7 +6,7 @@ ghost use Rattle.chan_select.specs.PseudoRandom.{channel_identifier, octet_rever
 
 use ble_base::{ChannelMap, EventNo};
 
-/// The channel of an event, for a link with this access address.
+/// The data channel of an event, 0 to 36, for a link with this access address.
 pub(crate) fn channel_by_prn(access: u32, event: EventNo, map: &ChannelMap) -> u8
     ensures channel { result ≡ channel_by_prn access event.0 map.now }
     ensures used { Contains (used_channels map.now) result }
@@ -15,7 +15,7 @@ pub(crate) fn channel_by_prn(access: u32, event: EventNo, map: &ChannelMap) -> u
     channel_of_prn(prn(channel_identifier(access), event.counter()), map)
 }
 
-/// The channel that a pseudo-random number stands for.
+/// The data channel that a pseudo-random number stands for.
 fn channel_of_prn(prn: u16, map: &ChannelMap) -> u8
     ensures channel { result ≡ channel_of_prn prn map.now }
     ensures used { Contains (used_channels map.now) result }
@@ -29,7 +29,7 @@ fn channel_of_prn(prn: u16, map: &ChannelMap) -> u8
     }
 }
 
-/// channelIdentifier of an access address.
+/// channelIdentifier of an access address: its two halves, added bit by bit.
 fn channel_identifier(access: u32) -> u16
     ensures { result ≡ channel_identifier access }
 {
@@ -55,7 +55,7 @@ fn stirred(n: u16, identifier: u16) -> u16
     multiplied_added(permuted(n), identifier)
 }
 
-/// MAM.
+/// MAM: 17 times the number and the identifier, modulo 2^16.
 #[tactic(auto, unfolding(crate::specs::PseudoRandom::multiplied_added))]
 fn multiplied_added(n: u16, identifier: u16) -> u16
     ensures { result ≡ multiplied_added n identifier }

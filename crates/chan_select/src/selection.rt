@@ -7,12 +7,12 @@ use crate::pseudo_random::channel_by_prn;
 use ble_base::{ChannelMap, EventNo};
 use std::marker::Model;
 
-/// How the channels of a link are selected.
+/// How the channels of a link are selected (Core 5.2, volume 6 part B, section 4.5.8).
 #[derive(Clone, Copy, Debug, PartialEq, Eq)]
 pub enum Algorithm {
-    /// Channel selection algorithm #1, with the hop increment.
+    /// Channel selection algorithm #1, with the hop increment (section 4.5.8.2).
     One(u8),
-    /// Channel selection algorithm #2, with the access address.
+    /// Channel selection algorithm #2, with the access address (section 4.5.8.3).
     Two(u32),
 }
 
@@ -57,8 +57,8 @@ impl Selector {
         }
     }
 
-    /// The data channel of a connection event, among those that the map uses. Events are counted
-    /// from 0 without end, and not modulo 65536.
+    /// The data channel of a connection event, 0 to 36, among those that the map uses (Core 5.2,
+    /// volume 6 part B, section 4.5.8). Events are counted from 0 without end, and not modulo 65536.
     #[tactic(auto, unfolding(crate::specs::Channel::channel_of))]
     pub fn channel(&self, event: EventNo, map: &ChannelMap) -> u8
         requires { event.0 < 2 ^ 32 }

@@ -14,6 +14,8 @@ const TWO: u64 = 0x10_0000_0001;
 /// The advertising access address.
 const SAMPLE: u32 = 0x8E89_BED6;
 
+/// Algorithm #2 as in the sample data of Core 5.2, volume 6 part C, section 3, and algorithm #1 as worked out
+/// by hand where its counter wraps.
 #[test]
 fn channels_of_the_sample_data(rt: HostRuntime) -> Result<(), Fail> {
     let all = ChannelMap::new(ALL).ok_or("no map")?;
@@ -40,6 +42,7 @@ fn channels_of_the_sample_data(rt: HostRuntime) -> Result<(), Fail> {
     Ok(())
 }
 
+/// Both algorithms against programs that go by single steps and single bits.
 #[test]
 fn channels_are_those_of_a_plain_program(rt: HostRuntime) -> Result<(), Fail> {
     for bits in [
