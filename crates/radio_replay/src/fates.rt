@@ -4,14 +4,15 @@ ghost use Rattle.radio_replay.specs.Damage.{struck, xored};
 
 use arrayvec::ArrayVec;
 
-/// What the radio does to a packet.
+/// What the radio does to a packet (own).
 #[derive(Debug, PartialEq, Eq, Drop)]
 pub enum Fate {
     /// The packet passes as it is.
     Pass,
     /// The packet is lost.
     Lost,
-    /// The pattern is xored into the octets of the packet from place `at` on, counted from 0.
+    /// The pattern is xored into the octets of the packet from place `at` on, counted from 0 at the first
+    /// octet of the access address. In a schedule the place is 0 to 263, and the pattern 1 to 264 octets.
     Damage { at: u16, pattern: ArrayVec<u8, 264> },
 }
 

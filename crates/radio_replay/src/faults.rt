@@ -1,6 +1,6 @@
 use thiserror::Error;
 
-/// Why a text was not read as a schedule. A line is counted from 1, and a number past 2^32 - 1 stands
+/// Why a text was not read as a schedule (own). A line is counted from 1, and a number past 2^32 - 1 stands
 /// still there.
 #[derive(Clone, Copy, Debug, PartialEq, Eq, Error)]
 pub enum ScheduleFault {

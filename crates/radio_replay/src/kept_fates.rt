@@ -43,18 +43,21 @@ fn copy_of(octets: &[u8]) -> ArrayVec<u8, 264>
 }
 
 impl KeptFate {
+    /// A packet passes as it is.
     pub(crate) fn pass() -> KeptFate
         ensures { result ≡ Fate.Pass }
     {
         KeptFate { kept: Kept::Pass }
     }
 
+    /// A packet is lost.
     pub(crate) fn lost() -> KeptFate
         ensures { result ≡ Fate.Lost }
     {
         KeptFate { kept: Kept::Lost }
     }
 
+    /// A pattern of at most 264 octets is xored in from place `at` on.
     pub(crate) fn damage(at: u16, pattern: Vec<u8>) -> KeptFate
         requires { length pattern.items ≤ 264 }
         ensures { result ≡ Fate.Damage at (record { items = pattern.items }) }

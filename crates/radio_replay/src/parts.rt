@@ -41,6 +41,7 @@ impl<'a> Model for Lines<'a> {
 }
 
 impl<'a> Lines<'a> {
+    /// All lines of a text.
     pub(crate) fn of(text: &'a [u8]) -> Lines<'a>
         ensures { result ≡ lines_of text.now }
     {
@@ -78,6 +79,7 @@ impl<'a> Model for Words<'a> {
 }
 
 impl<'a> Words<'a> {
+    /// All words of a line.
     pub(crate) fn of(line: &'a [u8]) -> Words<'a>
         ensures { result ≡ words_of line.now }
     {

@@ -1,5 +1,5 @@
 //! A schedule, how its text is read, and what is asked of it.
-ghost use Rattle.std.specs.Prelude.{◌≡◌, ◌≤◌, ◌<◌, Ok, Err, IfOk, IfErr, IfSome, OnOk, [], length, slice_get};
+ghost use Rattle.std.specs.Prelude.{◌≡◌, ◌≤◌, ◌<◌, Ok, Err, Some, IfOk, IfErr, IfSome, OnOk, [], length, slice_get};
 ghost use Rattle.std.specs.List.{All};
 ghost use Rattle.std.specs.Option.{option_map};
 ghost use Rattle.radio_replay.specs.Schedule.{Right, Wrong, TooMany, Outside, PastLimit, schedule_of, turns_from, with_line, IsFault, IsLineFault};
@@ -17,10 +17,10 @@ use ble_base::{Config, Side};
 use std::alloc::Global;
 use std::marker::Model;
 
-/// The most turns of a schedule.
+/// The most turns of a schedule (own).
 const MOST_TURNS: usize = 100_000;
 
-/// The schedule of a run: both controllers' settings, and its turns in order. It keeps the allocator
+/// The schedule of a run (own): both controllers' settings, and its turns in order. It keeps the allocator
 /// that it was made with.
 #[derive(Debug, Drop)]
 pub struct Schedule {
@@ -121,13 +121,20 @@ impl Schedule {
         self.turns.len() as u32
     }
 
+    /// A turn, counted from 0.
+    fn turn(&self, turn: u32) -> &KeptTurn
+        requires { turn < length self.now.turns }
+        ensures { slice_get self.now.turns turn ≡ Some result.now }
+    {
+        &self.turns[turn as usize]
+    }
+
     /// Whether the radio of A is on in a turn, counted from 0.
     pub fn a_on(&self, turn: u32) -> bool
         requires { turn < length self.now.turns }
         ensures { IfSome (slice_get self.now.turns turn) (λ t. result ≡ t.a_on) }
     {
-        let turn = &self.turns[turn as usize];
-        turn.a_on
+        self.turn(turn).a_on
     }
 
     /// Whether the radio of B is on in a turn, counted from 0.
@@ -135,8 +142,7 @@ impl Schedule {
         requires { turn < length self.now.turns }
         ensures { IfSome (slice_get self.now.turns turn) (λ t. result ≡ t.b_on) }
     {
-        let turn = &self.turns[turn as usize];
-        turn.b_on
+        self.turn(turn).b_on
     }
 
     /// How many octets of its host's stream A is fed in a turn, counted from 0, or as many as are left;
@@ -145,8 +151,7 @@ impl Schedule {
         requires { turn < length self.now.turns }
         ensures { IfSome (slice_get self.now.turns turn) (λ t. result ≡ t.feed_a) }
     {
-        let turn = &self.turns[turn as usize];
-        turn.feed_a
+        self.turn(turn).feed_a
     }
 
     /// How many octets of its host's stream B is fed in a turn, counted from 0, or as many as are left;
@@ -155,8 +160,7 @@ impl Schedule {
         requires { turn < length self.now.turns }
         ensures { IfSome (slice_get self.now.turns turn) (λ t. result ≡ t.feed_b) }
     {
-        let turn = &self.turns[turn as usize];
-        turn.feed_b
+        self.turn(turn).feed_b
     }
 
     /// What happens to a packet of a turn, both counted from 0. A packet past the fates of its turn passes.
@@ -164,6 +168,6 @@ impl Schedule {
         requires { turn < length self.now.turns }
         ensures { IfSome (slice_get self.now.turns turn) (λ t. result ≡ fate_of t packet) }
     {
-        self.turns[turn as usize].fate(packet)
+        self.turn(turn).fate(packet)
     }
 }

@@ -1,4 +1,4 @@
-use crate::{Fate, Schedule, ScheduleFault};
+use crate::{Fate, Schedule, ScheduleFault, a_run_is_plain_turns, every_schedule_is_read};
 use arrayvec::ArrayVec;
 use std::alloc::Global;
 use std::test::Fail;
@@ -64,6 +64,8 @@ fn every_part_is_read(rt: HostRuntime) -> Result<(), Fail> {
         (true, false, 0, 1_048_576),
         (false, false, 1, 0),
     ];
+    every_schedule_is_read();
+    a_run_is_plain_turns();
     assert_eq!(rt; schedule.turns(), 5);
     for (turn, want) in (0..5).zip(turns) {
         assert_eq!(rt; turn_told(&schedule, turn), Some(want));
