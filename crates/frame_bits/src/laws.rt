@@ -8,7 +8,7 @@ ghost use Rattle.frame_bits.specs.Crc.{crc, crc_octets, generator, multiple, rem
 ghost use Rattle.frame_bits.specs.Whitening.{whitened, whitening_bit};
 
 /// Long division leaves the one polynomial of a degree below 24 that differs from the divided one by a multiple of
-/// the generator.
+/// the generator (Core 5.2, volume 6 part B, section 3.1.1).
 pub fn remainder_is_modulo()
     ensures degree { (n p : ℕ) → p < 2 ^ (24 + n) → remainder n p < 2 ^ 24 }
     ensures some { (n p : ℕ) → (quotient : List ℕ) × (length quotient ≡ n) × All (λ c. c < 2) quotient
