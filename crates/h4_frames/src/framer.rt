@@ -1,4 +1,4 @@
-// The framer: a stage, and the packets of all octets that it was fed.
+//! The framer: a stage, and the packets of all octets that it was fed.
 
 ghost use Rattle.std.specs.Prelude.{◌≡◌, ◌≢◌, ℕ, ◌+◌, ◌↔◌, List, [], ◌∷◌, ◌++◌, length};
 
@@ -6,7 +6,9 @@ use crate::packet::Fed;
 use crate::stage::Stage;
 use std::marker::Model;
 
-/// Takes a host's octets one by one, and gives its packets.
+/// Takes a host's octets one by one, and gives its packets (Bluetooth Core 5.2, volume 4 part A, section 2).
+/// After an octet that begins none that a host may send it looks for the octets of an HCI_Reset, which is
+/// then the next packet (own).
 #[derive(Drop)]
 pub struct Framer {
     stage: Stage,
@@ -28,7 +30,7 @@ impl Framer {
     ghost use Rattle.h4_frames.specs.Frames.{frames, note, IsBetweenPackets};
     ghost use Rattle.h4_frames.specs.Machine.{waits};
 
-    /// A framer that was fed nothing.
+    /// A framer that was fed nothing: it waits for an indicator.
     pub fn new() -> Framer
         ensures { result ≡ waits [] }
     {
@@ -37,7 +39,7 @@ impl Framer {
         }
     }
 
-    /// Takes the next octet, and tells what it brings.
+    /// Takes the next octet, and tells what it brings. Each octet is taken, also one that is no part of a packet.
     pub fn feed(&mut self, octet: u8) -> Fed
         // The packets and losses of all octets so far are those that were given.
         ensures frames { (past : List ℕ) → self.old ≡ waits past

@@ -1,4 +1,4 @@
-// Laws of the frames, for those who keep them in an invariant. The bodies do nothing: the contracts are the laws.
+//! Laws of the frames, for those who keep them in an invariant. The bodies do nothing: the contracts are the laws.
 
 ghost use Rattle.std.specs.Prelude.{◌≡◌, ℕ, ◌≤◌, ◌↔◌, List, ◌++◌, length, map, All};
 ghost use Rattle.std.specs.List.Sorted.{IsStrictlyIncreasing};

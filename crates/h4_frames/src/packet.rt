@@ -1,4 +1,4 @@
-// What a host sends, and what an octet of it brings.
+//! What a host sends, and what an octet of it brings.
 
 use arrayvec::ArrayVec;
 

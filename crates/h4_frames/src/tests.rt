@@ -26,7 +26,7 @@ fn acl(handle: u16, start: bool, length: u16, data: &[u8]) -> Fed {
     })
 }
 
-// What these octets bring to a new framer, each with the count of octets up to its end.
+/// What these octets bring to a new framer, each with the count of octets up to its end.
 fn brought(alloc: Global, octets: &[u8]) -> Result<Vec<(usize, Fed)>, AllocError> {
     let mut framer = Framer::new();
     let mut entries = Vec::new(alloc);
@@ -41,6 +41,10 @@ fn brought(alloc: Global, octets: &[u8]) -> Result<Vec<(usize, Fed)>, AllocError
 
 #[test]
 fn frames_what_a_host_sends(rt: HostRuntime) -> Result<(), Fail> {
+    frames_are_the_division();
+    any_cutting();
+    frames_grow();
+    frames_stand_in_order();
     let alloc = rt.alloc();
     let two_commands = b"\x01\x03\x0c\x00\x01\x01\x10\x02\xaa\xbb";
     let rows: [(&[u8], Vec<(usize, Fed)>); 9] = [
