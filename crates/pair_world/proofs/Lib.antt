@@ -10,3 +10,4 @@ pub mod Opening
 pub mod Reasons
 pub mod Journals
 pub mod Aired
+pub mod Answered

@@ -1,12 +1,14 @@
-//! Laws of runs. The bodies do nothing: the contracts are the laws.
+//! Laws of runs. The bodies only call laws that they stand on: the contracts are the laws.
 ghost use Rattle.std.specs.Prelude.{◌≡◌, ℕ, Bool, Option, None, List, ◌∷◌, ◌++◌, slice_get};
 ghost use Rattle.ble_base.specs.declared.roles.Side.{Side};
 ghost use Rattle.ble_base.specs.declared.verdicts.Verdict.{Verdict};
 ghost use Rattle.journal.specs.declared.entries.Entry.{Entry};
 ghost use Rattle.journal.specs.declared.entries.Entry.TheVariants.{Turn, Air};
 ghost use Rattle.journal.specs.declared.entries.Mark.{Mark};
-ghost use Rattle.pair_world.specs.History.{aired};
-ghost use Rattle.pair_world.specs.Run.{Given, flights, IsJournal, IsRun, EndsUnseen};
+ghost use Rattle.h4_frames.specs.Frames.{frames};
+ghost use Rattle.controller.specs.Answers.{HeardNothing, answers};
+ghost use Rattle.pair_world.specs.History.{aired, fed_to, past_of, told_to};
+ghost use Rattle.pair_world.specs.Run.{Given, public_of, flights, IsTurnEnd, IsJournal, IsRun, EndsUnseen};
 ghost use Rattle.pair_world.specs.Air.{IsAired};
 
 /// A run has one journal: what `run_pair` promises of it leaves no choice, neither of the journal nor of whether and where
@@ -36,3 +38,13 @@ pub fn a_turn_sends_all_that_is_due()
     ensures last { (given : Given) (journal : List Entry) → IsRun given journal
         → slice_get (flights given journal) (aired journal) ≡ None }
 {}
+
+/// Where a side has heard nothing by the end of a turn, its host was told exactly the answers to the packets of the octets
+/// that it was fed, in order, whatever the slots in which they came.
+pub fn a_host_is_answered_in_order()
+    ensures { (given : Given) (journal history rest : List Entry) (side : Side) (slot : ℕ)
+        → IsJournal given journal → journal ≡ history ++ rest → IsTurnEnd rest → HeardNothing (past_of side history)
+        → told_to side history ≡ answers (public_of side given) slot (frames (fed_to side history)) }
+{
+    controller::each_packet_is_answered();
+}

@@ -1,5 +1,5 @@
 use crate::{
-    RunFault, a_run_has_one_journal, a_turn_sends_all_that_is_due, each_packet_on_the_air_is_due,
+    RunFault, a_host_is_answered_in_order, a_run_has_one_journal, a_turn_sends_all_that_is_due, each_packet_on_the_air_is_due,
     run_pair,
 };
 use journal::{Journal, write_lines};
@@ -66,6 +66,7 @@ fn run(alloc: Global, turns: &str) -> Result<String, Fail> {
 #[test]
 fn an_advertisement_is_heard_or_not(rt: HostRuntime) -> Result<(), Fail> {
     let alloc = rt.alloc();
+    a_host_is_answered_in_order();
     a_run_has_one_journal();
     each_packet_on_the_air_is_due();
     a_turn_sends_all_that_is_due();
