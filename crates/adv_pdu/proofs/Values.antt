@@ -9,7 +9,7 @@ use Rattle.wire_fields.proofs.Spelling.{octet_then}
 use Rattle.adv_pdu.specs.declared.pdu.ConnectFields.{ConnectFields}
 use Rattle.adv_pdu.specs.declared.pdu.AdvPdu.{AdvPdu}
 use Rattle.adv_pdu.specs.declared.pdu.AdvPdu.TheVariants.{Ind, Direct, Nonconn, ScanReq, ScanRsp, Connect, ScanInd}
-use Rattle.adv_pdu.specs.Header.{header_octet, has_ch_sel, has_rx_add, is_one}
+use Rattle.adv_pdu.specs.Header.{header_octet, is_one}
 use Rattle.adv_pdu.specs.Pdu.{type_of, ch_sel_of, tx_add_of, rx_add_of, link_fields_of, payload_of, written, IsPdu, IsWithinBits}
 use Rattle.adv_pdu.specs.Reading.{is_payload_length, is_adv_pdu, link_in, number_at, number_of, pdu_of_type, read_of, HasPacket, IsPacket, IsReading, Spells}
 use Rattle.adv_pdu.proofs.Octets.{has_parts, packet_of_pdu, written_kept}

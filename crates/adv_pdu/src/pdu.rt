@@ -5,39 +5,44 @@ use ble_base::Address;
 /// A PDU of an advertising channel (Core 5.2, volume 6 part B, section 2.3).
 ///
 /// `from` is the address of its sender, which stands first in the payload, `to` that of the device that
-/// is meant. Whether an address is random stands in the header: TxAdd for `from`, RxAdd for `to`.
-/// `ch_sel` is ChSel: the sender supports channel selection algorithm #2. `body` is 0 to 31 octets of
-/// advertising or scan response data.
+/// is meant, which stands behind it: six octets each, the least significant first. Whether an address is
+/// random stands in the header: TxAdd for `from`, RxAdd for `to`. `ch_sel` is ChSel: the sender supports
+/// channel selection algorithm #2. `body` is 0 to 31 octets of advertising or scan response data, which
+/// stand behind `from`.
 #[derive(Debug, PartialEq, Eq, Drop)]
 pub enum AdvPdu {
     /// ADV_IND, type 0 (section 2.3.1.1): connectable and scannable undirected advertising.
+    /// Payload of 6 to 37 octets: AdvA and AdvData.
     Ind {
         from: Address,
         ch_sel: bool,
         body: ArrayVec<u8, 31>,
     },
     /// ADV_DIRECT_IND, type 1 (section 2.3.1.2): connectable directed advertising. `to` is TargetA.
+    /// Payload of 12 octets: AdvA and TargetA.
     Direct {
         from: Address,
         to: Address,
         ch_sel: bool,
     },
     /// ADV_NONCONN_IND, type 2 (section 2.3.1.3): undirected advertising, not connectable, not scannable.
+    /// Payload of 6 to 37 octets: AdvA and AdvData.
     Nonconn {
         from: Address,
         body: ArrayVec<u8, 31>,
     },
-    /// SCAN_REQ, type 3 (section 2.3.2.1). `from` is ScanA, `to` is AdvA.
+    /// SCAN_REQ, type 3 (section 2.3.2.1). `from` is ScanA, `to` is AdvA. Payload of 12 octets.
     ScanReq {
         from: Address,
         to: Address,
     },
-    /// SCAN_RSP, type 4 (section 2.3.2.2).
+    /// SCAN_RSP, type 4 (section 2.3.2.2). Payload of 6 to 37 octets: AdvA and ScanRspData.
     ScanRsp {
         from: Address,
         body: ArrayVec<u8, 31>,
     },
-    /// CONNECT_IND, type 5 (section 2.3.3.1). `from` is InitA, `to` is AdvA.
+    /// CONNECT_IND, type 5 (section 2.3.3.1). `from` is InitA, `to` is AdvA. Payload of 34 octets: both, and
+    /// the 22 of the LLData.
     Connect {
         from: Address,
         to: Address,
@@ -45,6 +50,7 @@ pub enum AdvPdu {
         fields: ConnectFields,
     },
     /// ADV_SCAN_IND, type 6 (section 2.3.1.4): scannable undirected advertising.
+    /// Payload of 6 to 37 octets: AdvA and AdvData.
     ScanInd {
         from: Address,
         body: ArrayVec<u8, 31>,

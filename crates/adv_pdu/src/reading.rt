@@ -137,9 +137,9 @@ fn packet_parts(octets: &[u8]) -> Option<(u8, &[u8])>
 }
 
 impl AdvPdu {
-    /// The PDU that these octets are, all of them: what `write` gives for it, but for bits that are ignored.
-    /// Those are bit 4 of the first octet, and ChSel or RxAdd of a type that has none. None where no PDU
-    /// is so written.
+    /// The PDU that these octets are, all of them: what `write` gives for it, but for bits that are ignored
+    /// (Core 5.2, volume 6 part B, section 2.3). Those are bit 4 of the first octet, and ChSel or RxAdd of a type
+    /// that has none. None where no PDU is so written.
     pub fn read(octets: &[u8]) -> Option<AdvPdu>
         // There is a PDU where the type is 0 to 6, the second octet is the number of those behind it, and the
         // type may have so many.

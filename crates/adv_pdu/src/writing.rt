@@ -61,10 +61,17 @@ fn payload(pdu: &AdvPdu) -> ArrayVec<u8, 37>
     payload
 }
 
+/// The second octet of the header: how many octets the payload has.
+fn length_octet(payload: &ArrayVec<u8, 37>) -> u8
+    ensures { result ≡ array_vec_len payload.now }
+{
+    payload.len() as u8
+}
+
 impl AdvPdu {
-    /// The octets of the PDU: the octet of type and flags, the number of octets of the payload, and the
-    /// payload (Core 5.2, volume 6 part B, section 2.3). The reserved bit is 0, and so are ChSel and RxAdd
-    /// of a type that has none.
+    /// The octets of the PDU, 8 to 39, in the order of the air: the octet of type and flags, the number of octets
+    /// of the payload, and the payload (Core 5.2, volume 6 part B, section 2.3). The reserved bit is 0, and so are
+    /// ChSel and RxAdd of a type that has none.
     ///
     /// `read` gives the PDU back from these octets.
     pub fn write(&self) -> ArrayVec<u8, 39>
@@ -79,7 +86,7 @@ impl AdvPdu {
         let payload = payload(self);
         let mut packet = ArrayVec::new();
         put_u8(&mut packet, Header::of(self).octet());
-        put_u8(&mut packet, payload.len() as u8);
+        put_u8(&mut packet, length_octet(&payload));
         put_octets(&mut packet, payload.as_slice());
         packet
     }

@@ -12,8 +12,8 @@ pub returns-clause-octets : goal.returns-clause-octets
 returns-clause-octets c =
     let payload : c.payload-payload.result.items ≡ spelled (payload_of c.args.self.now) =
     c.payload-payload.ensures.items ∙ appended-spelled [] (payload_of c.args.self.now) in
-    two_and_others c.octet.result c.len.result c.as_slice.result.now _ _ _ _ (search rules) (search rules) c.new-packet.ensures c.put_u8.ensures.items c.put_u8-2.ensures.items c.put_octets.ensures.items
-    ∙ rw (c.octet.ensures, c.of.ensures.kind, c.of.ensures.ch_sel, c.of.ensures.tx_add, c.of.ensures.rx_add, c.len.ensures.value, c.as_slice.ensures.value, payload) refl
+    two_and_others c.octet.result c.length_octet.result c.as_slice.result.now _ _ _ _ (search rules) (search rules) c.new-packet.ensures c.put_u8.ensures.items c.put_u8-2.ensures.items c.put_octets.ensures.items
+    ∙ rw (c.octet.ensures, c.of.ensures.kind, c.of.ensures.ch_sel, c.of.ensures.tx_add, c.of.ensures.rx_add, c.length_octet.ensures, c.as_slice.ensures.value, payload) refl
 
 pub returns-clause-no_ignored_bits : goal.returns-clause-no_ignored_bits
 returns-clause-no_ignored_bits c =
