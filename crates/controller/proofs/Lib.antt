@@ -1,5 +1,4 @@
 pub mod Reading
-pub mod Telling
 pub mod Views
 pub mod Acting
 pub mod Taking

@@ -2,6 +2,7 @@
 use Rattle.std.proofs.Common.{◌≡◌, ℕ, List, [], ◌∷◌, length, Some, refl, ap, ◌∙◌, arith}
 use Rattle.ble_base.specs.declared.Verdict.TheVariants.{Good}
 use Rattle.adv_pdu.specs.Pdu.{written}
+use Rattle.adv_pdu.specs.Reading.{read_of}
 use Rattle.air_frame.specs.declared.Heard.{Heard}
 use Rattle.air_frame.specs.declared.Heard.TheVariants.{Whole}
 use Rattle.air_frame.specs.Hearing.{heard_in}
@@ -16,7 +17,7 @@ record Says (public own : List ℕ) : Type 0 where
   says : advertisement_in own (written (advertisement_of public)) ≡ Some (advertisement_from public)
 
 six_say : (own public : List ℕ) → length public ≡ 6 → Says public own
-unfolding advertisement_in
+unfolding advertisement_in read_of
 six_say own (a ∷ b ∷ c ∷ d ∷ e ∷ f ∷ []) six = record {
   form = record { header = omega arith; fits = omega arith; counted = refl };
   says = refl;

@@ -1,13 +1,13 @@
 -- When a scanner listens, and what it reports (Core 5.2, volume 6 part B, section 4.4.3, and volume 4 part E, section 7.7.65.2).
-use Rattle.std.specs.Prelude.{ℕ, ◌+◌, ◌-◌, ◌/◌, ◌%◌, ◌==◌, ◌&&◌, ◌||◌, not, nat_lt, Bool, false, List, [], ◌∷◌, ◌++◌, length, take, drop, slice_index, Option, Some, None, if◌then◌else◌}
+use Rattle.std.specs.Prelude.{ℕ, ◌+◌, ◌-◌, ◌/◌, ◌%◌, ◌==◌, ◌&&◌, not, nat_lt, Bool, false, List, [], ◌∷◌, ◌++◌, length, drop, Option, Some, None, if◌then◌else◌}
 use Rattle.std.specs.Bool.{beq}
 use Rattle.std.specs.List.{list_any}
+use Rattle.std.specs.Option.{option_and_then}
 use Rattle.std.specs.Str.{bytes_eq}
 use Rattle.ble_base.specs.declared.Address.{Address}
 use Rattle.adv_pdu.specs.declared.pdu.AdvPdu.{AdvPdu}
 use Rattle.adv_pdu.specs.declared.pdu.AdvPdu.TheVariants.{Ind, Direct, Nonconn, ScanInd}
-use Rattle.adv_pdu.specs.Header.{is_one}
-use Rattle.adv_pdu.specs.Reading.{is_payload_length}
+use Rattle.adv_pdu.specs.Reading.{read_of}
 use Rattle.hci_evt.specs.declared.event.Event.{Event}
 use Rattle.hci_evt.specs.declared.event.Event.TheVariants.{AdvertisingReport}
 use Rattle.controller.specs.declared.scanners.ReportKind.{ReportKind}
@@ -33,13 +33,6 @@ channel_after slots =
 
 -- ---- what a PDU tells a scanner
 
--- the type of report that a PDU of this type is told by; scan requests, scan responses and connection requests by none,
--- where the scanning is passive
-abbrev pub report_kind : ℕ → Option ReportKind
-report_kind kind =
-    if kind == 0 then Some Undirected else if kind == 1 then Some Directed
-    else if kind == 6 then Some Scannable else if kind == 2 then Some Nonconnectable else None
-
 -- Event_Type of a report
 abbrev pub event_type : ReportKind → ℕ
 event_type Undirected = 0
@@ -47,40 +40,23 @@ event_type Directed = 1
 event_type Scannable = 2
 event_type Nonconnectable = 3
 
--- a directed advertisement is for the device whose address it names
-abbrev pub is_for : List ℕ → ℕ → List ℕ → Bool
-is_for public kind octets =
-    not (kind == 1) || (not (is_one (slice_index octets 0) 7) && bytes_eq (take 6 (drop 8 octets)) public)
+-- a directed advertisement is for the device whose public address it names
+abbrev pub is_named_by : List ℕ → Address → Bool
+is_named_by public target = not target.random && bytes_eq target.octets public
 
-abbrev pub advertisement_with : Option ReportKind → ℕ → List ℕ → Option Advertisement
-advertisement_with None kind octets = None
-advertisement_with (Some report) kind octets =
-    Some (record {
-      kind = report;
-      from = record { random = is_one (slice_index octets 0) 6; octets = take 6 (drop 2 octets) };
-      body = record { items = if kind == 1 then [] else drop 8 octets };
-    })
-
--- the same of a PDU by its parts: its report has the address of the sender and the advertising data
+-- the advertisement that a PDU is to the device with this public address: its report has the address of the sender and the
+-- advertising data. Scan requests, scan responses and connection requests are none, where the scanning is passive
 abbrev pub advertisement_of_pdu : List ℕ → AdvPdu → Option Advertisement
 advertisement_of_pdu public (Ind from ch_sel body) = Some (record { kind = Undirected; from = from; body = body })
 advertisement_of_pdu public (Direct from to ch_sel) =
-    if not to.random && bytes_eq to.octets public then Some (record { kind = Directed; from = from; body = record { items = [] } }) else None
+    if is_named_by public to then Some (record { kind = Directed; from = from; body = record { items = [] } }) else None
 advertisement_of_pdu public (ScanInd from body) = Some (record { kind = Scannable; from = from; body = body })
 advertisement_of_pdu public (Nonconn from body) = Some (record { kind = Nonconnectable; from = from; body = body })
 advertisement_of_pdu public other = None
 
--- the octets are a header and as many octets as its second octet says, which a PDU of this type may have
-abbrev pub is_whole_pdu : List ℕ → Bool
-is_whole_pdu octets =
-    not (nat_lt (length octets) 2) && (length octets == 2 + slice_index octets 1)
-    && is_payload_length (slice_index octets 0 % 16) (slice_index octets 1)
-
--- the advertisement that these octets are to the device of this public address
+-- the same of the octets of a PDU
 unfoldable pub advertisement_in : List ℕ → List ℕ → Option Advertisement
-advertisement_in public octets =
-    if is_whole_pdu octets && is_for public (slice_index octets 0 % 16) octets
-    then advertisement_with (report_kind (slice_index octets 0 % 16)) (slice_index octets 0 % 16) octets else None
+advertisement_in public octets = option_and_then (advertisement_of_pdu public) (read_of octets)
 
 -- ---- duplicates
 

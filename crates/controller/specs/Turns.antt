@@ -1,5 +1,6 @@
 -- What a controller does in a turn: its phases, and what is left behind. Own.
 use Rattle.std.specs.Prelude.{ℕ, zero, suc, ◌+◌, ◌-◌, Bool, List, [], Option, Some, None, if◌then◌else◌}
+use Rattle.std.specs.Option.{option_and_then}
 use Rattle.hci_evt.specs.declared.event.Event.{Event}
 use Rattle.controller.specs.declared.intents.Intent.{Intent}
 use Rattle.controller.specs.declared.intents.Intent.TheVariants.{Send, Listen, Idle}
@@ -60,8 +61,7 @@ scanner_tells scanner None = []
 scanner_tells scanner (Some advertisement) = events_of scanner advertisement
 
 abbrev pub advertisement_heard : List ℕ → Option (List ℕ) → Option Advertisement
-advertisement_heard public None = None
-advertisement_heard public (Some pdu) = advertisement_in public pdu
+advertisement_heard public pdu = option_and_then (advertisement_in public) pdu
 
 -- what a packet says to a controller that does this: a scanner takes advertisements
 abbrev pub advertisement_for : List ℕ → Activity → List ℕ → Option Advertisement

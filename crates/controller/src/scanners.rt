@@ -3,7 +3,7 @@ ghost use Rattle.std.specs.Prelude.{◌≡◌, ◌-◌, ◌∷◌, [], ◌++◌,
 ghost use Rattle.std.specs.List.{list_any};
 ghost use Rattle.std.specs.Str.{bytes_eq};
 ghost use Rattle.std.specs.Option.{option_to_list};
-ghost use Rattle.controller.specs.Scanning.{channel_after, event_type, is_alike, is_withheld, last_16, scanner_after, events_of, advertisement_of_pdu, advertisement_in};
+ghost use Rattle.controller.specs.Scanning.{channel_after, event_type, is_alike, is_named_by, is_withheld, last_16, scanner_after, events_of, advertisement_of_pdu, advertisement_in};
 
 use crate::advertisers::slots_of;
 use adv_pdu::AdvPdu;
@@ -152,7 +152,7 @@ impl Scanner {
 
 /// The address that a directed advertisement names is the public one of this device.
 fn is_own(public: &[u8; 6], address: Address) -> bool
-    ensures { result ≡ (not address.random && bytes_eq address.octets public.now) }
+    ensures { result ≡ is_named_by public.now address }
 {
     !address.random && address.octets == *public
 }
@@ -187,6 +187,7 @@ fn advertisement_of(public: &[u8; 6], pdu: AdvPdu) -> Option<Advertisement>
 }
 
 /// The advertisement that the octets of a PDU are to the device with this public address, if they are one.
+#[tactic(auto, unfolding(crate::specs::Scanning::advertisement_in))]
 pub(crate) fn read_advertisement(public: &[u8; 6], octets: &[u8]) -> Option<Advertisement>
     ensures { result ≡ advertisement_in public.now octets.now }
 {
