@@ -1,4 +1,4 @@
--- A table of numbers, as the lengths of packets by their codes.
+-- A table of numbers, as the lengths of packets by their codes (own).
 use Rattle.std.specs.Prelude.{ℕ, List, [], ◌∷◌, Option, Some, None, ◌==◌, if◌then◌else◌}
 
 -- what the table has beside the first place of this key, if it has the key

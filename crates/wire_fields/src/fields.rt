@@ -4,7 +4,8 @@ ghost use Rattle.wire_fields.specs.Field.{little_endian};
 
 use std::marker::Model;
 
-/// The octets of a packet that are still to be taken, field by field from the front.
+/// The octets of a packet that are still to be taken, field by field from the front (own). Numbers have their
+/// least significant octet first.
 #[derive(Drop)]
 pub struct Fields<'a> {
     rest: &'a [u8],

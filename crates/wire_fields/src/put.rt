@@ -16,7 +16,7 @@ pub fn put_octets<const N: usize>(packet: &mut ArrayVec<u8, N>, octets: &[u8])
     }
 }
 
-/// Appends an octet, the least significant octet first.
+/// Appends an octet.
 pub fn put_u8<const N: usize>(packet: &mut ArrayVec<u8, N>, number: u8)
     requires { array_vec_len packet.old + 1 ≤ N }
     ensures items { packet.new.items ≡ packet.old.items ++ little_endian 1 number }

@@ -31,8 +31,12 @@ fn fields_are_taken_in_order(rt: HostRuntime) -> Result<(), Fail> {
     assert_eq!(rt; fields.u24(), 0x040506);
     assert_eq!(rt; fields.u32(), 0x0708_090A);
     assert_eq!(rt; fields.u40(), 0x0B_0C0D_0E0F);
+    assert_eq!(rt; fields.u64(), 0x1011_1213_1415_1617);
+    assert!(rt; fields.is_empty());
+    let mut fields = Fields::new(&[0x17, 0x16, 0x15, 0x14, 0x13]);
     assert_eq!(rt; fields.octets::<2>(), [0x17, 0x16]);
     assert_eq!(rt; fields.slice(2), [0x15, 0x14].as_slice());
+    assert_eq!(rt; fields.len(), 1);
     assert!(rt; !fields.is_empty());
     Ok(())
 }
