@@ -1,4 +1,5 @@
--- The commands of the host: their opcodes, the layout of their parameters, and the length of these.
+-- The commands of the host: their opcodes, the layout of their parameters, and the length of these (Core 5.2, volume 4
+-- part E, section 7).
 use Rattle.std.specs.Prelude.{◌≡◌, ℕ, ◌+◌, ◌*◌, ◌≤◌, List, [], ◌∷◌, length, map, slice_index, Option, Some, ◌==◌, if◌then◌else◌}
 use Rattle.std.specs.List.{flat_map}
 use Rattle.wire_fields.specs.Field.{Field, number, octets, spelled, AllFit}
@@ -55,6 +56,7 @@ opcode_of (LeReadPhy handle) = 0x2030
 opcode_of (LeSetDefaultPhy all tx rx) = 0x2031
 opcode_of (LeSetPhy handle all tx rx options) = 0x2032
 
+-- a handle and the count of its packets (Core 5.2, volume 4 part E, section 7.3.40)
 abbrev pub handle_count : HandleCount → List Field
 handle_count pair = number 2 pair.handle ∷ number 2 pair.count ∷ []
 
@@ -111,6 +113,7 @@ parameters_of (LeSetDefaultPhy all tx rx) = number 1 all ∷ number 1 tx ∷ num
 parameters_of (LeSetPhy handle all tx rx options) =
     number 2 handle ∷ number 1 all ∷ number 1 tx ∷ number 1 rx ∷ number 2 options ∷ []
 
+-- the octets of the parameters
 abbrev pub written : Command → List ℕ
 written command = spelled (parameters_of command)
 

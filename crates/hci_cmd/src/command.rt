@@ -1,10 +1,12 @@
 //! The commands of the host.
 use arrayvec::ArrayVec;
 
-/// How many ACL data packets of a link the host has taken.
+/// How many ACL data packets of a link the host has taken (Core 5.2, volume 4 part E, section 7.3.40).
 #[derive(Clone, Copy, PartialEq, Eq, Debug, Default)]
 pub struct HandleCount {
+    /// The connection handle of the link.
     pub handle: u16,
+    /// The packets that were taken since the last such command.
     pub count: u16,
 }
 
@@ -12,7 +14,9 @@ pub struct HandleCount {
 ///
 /// The fields of a variant are the parameters in the order in which they stand in the packet.
 /// Numbers, addresses and keys stand with the least significant octet first: octet 0 of an array is
-/// the least significant one.
+/// the least significant one. Nothing but the length is checked here: a number may be any that its
+/// octets can hold, also of a `handle`, of which 12 bits count, or a code with few meanings.
+/// A `latency` is in connection events.
 #[derive(PartialEq, Eq, Debug, Drop)]
 pub enum Command {
     /// Disconnect (section 7.1.6).
@@ -30,7 +34,8 @@ pub enum Command {
     },
     /// Reset (section 7.3.2).
     Reset,
-    /// Set Controller To Host Flow Control (section 7.3.38).
+    /// Set Controller To Host Flow Control (section 7.3.38): bit 0 of `value` for ACL data, bit 1 for
+    /// synchronous data.
     SetHostFlow {
         value: u8,
     },
@@ -63,7 +68,9 @@ pub enum Command {
     LeSetRandomAddress {
         address: [u8; 6],
     },
-    /// LE Set Advertising Parameters (section 7.8.5): `min` and `max` in 0.625 ms.
+    /// LE Set Advertising Parameters (section 7.8.5): the least and the greatest interval in 0.625 ms, the
+    /// kind of advertising, that of the own address and that of the peer's, bit k of `channels` for
+    /// channel 37 + k, and the filter policy.
     LeSetAdvParams {
         min: u16,
         max: u16,
@@ -84,11 +91,12 @@ pub enum Command {
         length: u8,
         octets: [u8; 31],
     },
-    /// LE Set Advertising Enable (section 7.8.9).
+    /// LE Set Advertising Enable (section 7.8.9): 1 for on, 0 for off.
     LeSetAdvEnable {
         value: u8,
     },
-    /// LE Set Scan Parameters (section 7.8.10): interval and window in 0.625 ms.
+    /// LE Set Scan Parameters (section 7.8.10): passive or active, interval and window in 0.625 ms, the kind
+    /// of the own address, and the filter policy.
     LeSetScanParams {
         kind: u8,
         interval: u16,
@@ -96,13 +104,14 @@ pub enum Command {
         own: u8,
         policy: u8,
     },
-    /// LE Set Scan Enable (section 7.8.11).
+    /// LE Set Scan Enable (section 7.8.11): 1 for on, 0 for off, and the same for the filter of duplicates.
     LeSetScanEnable {
         value: u8,
         duplicates: u8,
     },
-    /// LE Create Connection (section 7.8.12): scan interval and window in 0.625 ms, `min` and `max`
-    /// in 1.25 ms, timeout in 10 ms, `lengths` the least and the greatest event length in 0.625 ms.
+    /// LE Create Connection (section 7.8.12): scan interval and window in 0.625 ms, the filter policy, the
+    /// kinds of addresses as for advertising, `min` and `max` in 1.25 ms, timeout in 10 ms, `lengths` the
+    /// least and the greatest event length in 0.625 ms.
     LeCreateConnection {
         scan_interval: u16,
         window: u16,
@@ -155,14 +164,14 @@ pub enum Command {
     LeReadRemoteFeatures {
         handle: u16,
     },
-    /// LE Encrypt (section 7.8.22).
+    /// LE Encrypt (section 7.8.22): the key and the plain text, least significant octet first.
     LeEncrypt {
         key: [u8; 16],
         text: [u8; 16],
     },
     /// LE Rand (section 7.8.23).
     LeRand,
-    /// LE Enable Encryption (section 7.8.24).
+    /// LE Enable Encryption (section 7.8.24): random number, encrypted diversifier and long term key.
     LeEnableEncryption {
         handle: u16,
         rand: u64,
@@ -193,7 +202,7 @@ pub enum Command {
         handle: u16,
         reason: u8,
     },
-    /// LE Set Data Length (section 7.8.33): time in microseconds.
+    /// LE Set Data Length (section 7.8.33): the most octets of a payload, and its time in microseconds.
     LeSetDataLength {
         handle: u16,
         octets: u16,
@@ -205,13 +214,14 @@ pub enum Command {
     LeReadPhy {
         handle: u16,
     },
-    /// LE Set Default PHY (section 7.8.48).
+    /// LE Set Default PHY (section 7.8.48): `all` tells where there is no preference, and `tx` and `rx` have a
+    /// bit for each PHY.
     LeSetDefaultPhy {
         all: u8,
         tx: u8,
         rx: u8,
     },
-    /// LE Set PHY (section 7.8.49).
+    /// LE Set PHY (section 7.8.49): as the default, and the coding that is preferred on the coded PHY.
     LeSetPhy {
         handle: u16,
         all: u8,
@@ -221,9 +231,10 @@ pub enum Command {
     },
 }
 
-/// What an opcode and the octets of its parameters are read as.
+/// What an opcode and the octets of its parameters are read as (own).
 #[derive(PartialEq, Eq, Debug, Drop)]
 pub enum CmdRead {
+    /// This command.
     Known(Command),
     /// No command has the opcode.
     UnknownOpcode,

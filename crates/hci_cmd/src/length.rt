@@ -2,6 +2,9 @@
 ghost use Rattle.std.specs.Prelude.{◌≡◌};
 ghost use Rattle.hci_cmd.specs.Command.{parameter_length};
 
+/// How many octets of parameters the command with this opcode has, where there is such a command. That of
+/// Host Number Of Completed Packets is told by the first of these octets (Core 5.2, volume 4 part E,
+/// section 7.3.40).
 #[tactic(auto, unfolding(crate::specs::Command::parameter_length, crate::specs::Command::fixed_lengths))]
 pub(crate) fn parameter_length(opcode: u16, parameters: &[u8]) -> Option<usize>
     ensures { result ≡ parameter_length opcode parameters.now }

@@ -1,4 +1,5 @@
-//! The commands that a host gives its controller, read from their octets.
+//! The commands that a host gives its controller, read from their octets (Core 5.2, volume 4 part E,
+//! section 7).
 #![tactic(auto)]
 
 mod command;

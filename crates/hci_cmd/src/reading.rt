@@ -8,7 +8,7 @@ use crate::length::parameter_length;
 use crate::rows::command;
 use wire_fields::Fields;
 
-// The length of a packet is one octet (Core 5.2, volume 4 part E, section 5.4.1).
+/// The most octets of parameters: the length of a packet is one octet (Core 5.2, volume 4 part E, section 5.4.1).
 const MOST_OCTETS: usize = 255;
 
 /// The command with this opcode (the group in the upper six bits) whose parameters these octets

@@ -6,7 +6,7 @@ use crate::command::{Command, HandleCount};
 use arrayvec::ArrayVec;
 use wire_fields::Fields;
 
-// Takes one field, by its kind.
+/// Takes one field, by its kind.
 macro_rules! field {
     ($fields:ident pair) => {
         [$fields.u16(), $fields.u16()]
@@ -16,13 +16,14 @@ macro_rules! field {
     };
 }
 
-// A command whose fields are taken one behind another.
+/// A command whose fields are taken one behind another.
 macro_rules! take {
     ($fields:ident, $name:ident: $($kind:ident $field:ident),*) => {
         Command::$name { $($field: field!($fields $kind)),* }
     };
 }
 
+/// Host Number Of Completed Packets: how many handles there are, and then a handle and a count for each.
 fn host_completed(mut fields: Fields) -> Command
     requires len { length fields ≡ 1 + 4 * slice_index fields 0 }
     requires short { length fields ≤ 255 }
@@ -39,7 +40,7 @@ fn host_completed(mut fields: Fields) -> Command
     Command::HostCompleted { counts }
 }
 
-// The commands that are not LE commands: link control, controller and baseband, informational parameters.
+/// The commands that are not LE commands: link control, controller and baseband, informational parameters.
 #[tactic(auto, unfolding(crate::specs::Command::parameter_length, crate::specs::Command::fixed_lengths))]
 fn general_command(opcode: u16, mut fields: Fields) -> Command
     requires group { opcode < 0x2000 }
@@ -62,7 +63,7 @@ fn general_command(opcode: u16, mut fields: Fields) -> Command
     }
 }
 
-// The LE commands of the device, its advertising, scanning and initiating.
+/// The LE commands of the device, its advertising, scanning and initiating.
 #[tactic(auto, unfolding(crate::specs::Command::parameter_length, crate::specs::Command::fixed_lengths))]
 fn device_command(opcode: u16, mut fields: Fields) -> Command
     requires group { (0x2000 ≤ opcode) × (opcode < 0x2013) }
@@ -94,7 +95,7 @@ fn device_command(opcode: u16, mut fields: Fields) -> Command
     }
 }
 
-// The LE commands of links and their encryption.
+/// The LE commands of links and their encryption.
 #[tactic(auto, unfolding(crate::specs::Command::parameter_length, crate::specs::Command::fixed_lengths))]
 fn link_command(opcode: u16, mut fields: Fields) -> Command
     requires group { 0x2013 ≤ opcode }
@@ -124,6 +125,7 @@ fn link_command(opcode: u16, mut fields: Fields) -> Command
     }
 }
 
+/// The command with this opcode, of parameters as long as it has.
 pub(crate) fn command(opcode: u16, fields: Fields) -> Command
     requires { IsWhole opcode fields }
     ensures { Spells result opcode fields.entry }

@@ -1,4 +1,5 @@
--- The events of the controller: their codes, the layout of their parameters, and their bits of the masks.
+-- The events of the controller: their codes, the layout of their parameters, and their bits of the masks (Core 5.2,
+-- volume 4 part E, sections 7.3.1, 7.7 and 7.8.1).
 use Rattle.std.specs.Prelude.{◌≡◌, ℕ, ◌≤◌, List, [], ◌∷◌, length, ⊤}
 use Rattle.wire_fields.specs.Field.{Field, number, octets, spelled, AllFit}
 use Rattle.hci_evt.specs.declared.event.Event.{Event}

@@ -1,4 +1,5 @@
--- How many octets of parameters an event has, told from its code and from what its parameters begin with.
+-- How many octets of parameters an event has, told from its code and from what its parameters begin with (Core 5.2,
+-- volume 4 part E, section 7.7).
 use Rattle.std.specs.Prelude.{◌≡◌, ℕ, ◌+◌, ◌≤◌, max, List, [], ◌∷◌, length, slice_index, Option, Some, None, ◌==◌, nat_le, nat_lt, ◌&&◌, if◌then◌else◌}
 use Rattle.wire_fields.specs.Table.{value_in}
 

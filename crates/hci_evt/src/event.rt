@@ -8,7 +8,9 @@ pub(crate) const INDICATOR: u8 = 4;
 ///
 /// The fields of a variant are the parameters in the order in which they stand in the packet.
 /// Numbers stand with the least significant octet first, and so do addresses: `peer[0]` is the
-/// least significant octet. A number of entries that is always 1 is no field.
+/// least significant octet. A number of entries that is always 1 is no field. A `status`, `reason` or
+/// hardware `code` is any octet, a `latency` is in connection events, and kinds of addresses are codes of
+/// the standard.
 #[derive(PartialEq, Eq, Debug, Drop)]
 pub enum Event {
     /// Disconnection Complete (section 7.7.5).
@@ -44,7 +46,7 @@ pub enum Event {
         number: u8,
         opcode: u16,
     },
-    /// Hardware Error (section 7.7.16).
+    /// Hardware Error (section 7.7.16), with a code that is the controller's own.
     HardwareError {
         code: u8,
     },
@@ -154,8 +156,8 @@ pub enum Event {
 pub enum MaskBit {
     /// The event cannot be masked.
     Always,
-    /// This bit of the event mask.
+    /// This bit of the event mask, 0 to 63.
     Main(u8),
-    /// This bit of the LE event mask, and bit 61 of the event mask.
+    /// This bit of the LE event mask, 0 to 63, and bit 61 of the event mask.
     Meta(u8),
 }

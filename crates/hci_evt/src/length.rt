@@ -2,6 +2,8 @@
 ghost use Rattle.std.specs.Prelude.{◌≡◌};
 ghost use Rattle.hci_evt.specs.Length.{parameter_length, meta_length, report_length};
 
+/// How many octets an advertising report has, its subevent code among them, of one report with at most 31
+/// octets of data: `rest` is what stands behind the subevent code.
 #[tactic(auto, unfolding(crate::specs::Length::report_length))]
 fn report_length(rest: &[u8]) -> Option<usize>
     ensures { result ≡ report_length rest.now }
@@ -13,6 +15,8 @@ fn report_length(rest: &[u8]) -> Option<usize>
     }
 }
 
+/// How many octets of parameters an LE event has, its subevent code among them, where there is such an
+/// event.
 #[tactic(auto, unfolding(crate::specs::Length::meta_length, crate::specs::Length::fixed_meta_lengths))]
 fn meta_length(subevent: u8, rest: &[u8]) -> Option<usize>
     ensures { result ≡ meta_length subevent rest.now }
@@ -31,6 +35,8 @@ fn meta_length(subevent: u8, rest: &[u8]) -> Option<usize>
     }
 }
 
+/// How many octets of parameters the event with this code has, where there is such an event. Some lengths
+/// are told by these octets.
 #[tactic(auto, unfolding(crate::specs::Length::parameter_length, crate::specs::Length::fixed_lengths))]
 pub(crate) fn parameter_length(code: u8, parameters: &[u8]) -> Option<usize>
     ensures { result ≡ parameter_length code parameters.now }

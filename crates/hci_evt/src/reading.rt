@@ -10,13 +10,14 @@ use crate::length::parameter_length;
 use arrayvec::ArrayVec;
 use wire_fields::{Fields, put_octets};
 
-// An event whose fields are taken one behind another.
+/// An event whose fields are taken one behind another.
 macro_rules! take {
     ($fields:ident, $name:ident: $($kind:ident $field:ident),*) => {
         Event::$name { $($field: $fields.$kind()),* }
     };
 }
 
+/// LE Advertising Report, of one report.
 #[tactic(auto, unfolding(crate::specs::Length::report_length))]
 fn advertising_report(mut fields: Fields) -> Event
     requires { report_length fields ≡ Some (1 + length fields) }
@@ -39,6 +40,7 @@ fn advertising_report(mut fields: Fields) -> Event
     }
 }
 
+/// Command Complete: all octets behind the opcode are return parameters.
 fn command_complete(mut fields: Fields) -> Event
     requires { (3 ≤ length fields) × (length fields ≤ 255) }
     ensures { Spells result 0x0E fields.entry }
@@ -54,6 +56,7 @@ fn command_complete(mut fields: Fields) -> Event
     }
 }
 
+/// Number Of Completed Packets, of one handle.
 fn completed_packets(mut fields: Fields) -> Event
     requires handles { slice_index fields 0 ≡ 1 }
     requires len { length fields ≡ 5 }
@@ -63,6 +66,7 @@ fn completed_packets(mut fields: Fields) -> Event
     take!(fields, CompletedPackets: u16 handle, u16 count)
 }
 
+/// The LE event with this subevent code, of what stands behind the code.
 #[tactic(auto, unfolding(crate::specs::Length::meta_length, crate::specs::Length::fixed_meta_lengths, crate::specs::Length::report_length))]
 fn meta_event(subevent: u8, mut fields: Fields) -> Event
     requires { meta_length subevent fields ≡ Some (1 + length fields) }
@@ -90,6 +94,7 @@ fn meta_event(subevent: u8, mut fields: Fields) -> Event
     }
 }
 
+/// The event with this code, of parameters as long as it has.
 #[tactic(auto, unfolding(crate::specs::Length::parameter_length, crate::specs::Length::fixed_lengths))]
 fn event(code: u8, mut fields: Fields) -> Event
     requires whole { parameter_length code fields ≡ Some (length fields) }
@@ -115,7 +120,7 @@ fn event(code: u8, mut fields: Fields) -> Event
     }
 }
 
-// The code and the parameters of a packet that is as long as its code asks for.
+/// The code and the parameters of a packet that is as long as its code asks for.
 fn packet_parts(octets: &[u8]) -> Option<(u8, &[u8])>
     ensures found { IfSome result (λ p. IsPacket octets.now p.0 p.1.now) }
     ensures none { IfNone result
@@ -133,8 +138,8 @@ fn packet_parts(octets: &[u8]) -> Option<(u8, &[u8])>
     Some((*code, parameters))
 }
 
-/// The event whose packet these octets are, all of them: what `write` gives for it. None where no event
-/// is so written.
+/// The event whose packet these octets are, all of them, indicator 4 first: what `write` gives for it. None
+/// where no event is so written (Core 5.2, volume 4 part A, section 2, and part E, section 5.4.4).
 pub fn read(octets: &[u8]) -> Option<Event>
     ensures found { IfSome result (λ event. IsEvent event × (octets.now ≡ written event)) }
     // Nothing else is read from the packet of an event.

@@ -7,12 +7,13 @@ const PUBLIC_A: [u8; 6] = [0x0A, 0x00, 0x00, 0xEE, 0xFF, 0xC0];
 
 const PUBLIC_B: [u8; 6] = [0x0B, 0x00, 0x00, 0xEE, 0xFF, 0xC0];
 
-// The event is written so, and so read.
+/// The event is written so, and so read.
 fn expect_packet(rt: &impl Abort, event: Event, packet: &[u8]) {
     assert_eq!(rt; write(&event).as_slice(), packet);
     assert_eq!(rt; read(packet), Some(event));
 }
 
+/// These octets in a vector of that capacity.
 fn holding<const N: usize>(rt: &impl Abort, octets: &[u8]) -> ArrayVec<u8, N> {
     let mut held = ArrayVec::new();
     assert!(rt; held.try_extend_from_slice(octets).is_ok());
@@ -63,49 +64,45 @@ fn answers_to_commands(rt: HostRuntime) {
 
 #[test]
 fn events_without_a_subevent(rt: HostRuntime) {
-    expect_packet(&rt, Event::HardwareError { code: 1 }, &[4, 0x10, 1, 1]);
-    expect_packet(
-        &rt,
-        Event::BufferOverflow { link_kind: 1 },
-        &[4, 0x1A, 1, 1],
-    );
-    expect_packet(
-        &rt,
-        Event::CompletedPackets {
-            handle: 0,
-            count: 1,
-        },
-        &[4, 0x13, 5, 1, 0, 0, 1, 0],
-    );
-    expect_packet(
-        &rt,
-        Event::DisconnectionComplete {
-            status: 0,
-            handle: 0,
-            reason: 0x3E,
-        },
-        &[4, 0x05, 4, 0, 0, 0, 0x3E],
-    );
-    expect_packet(
-        &rt,
-        Event::EncryptionChange {
-            status: 6,
-            handle: 0,
-            enabled: 0,
-        },
-        &[4, 0x08, 4, 6, 0, 0, 0],
-    );
-    expect_packet(
-        &rt,
-        Event::RemoteVersion {
-            status: 0,
-            handle: 0,
-            version: 0x0B,
-            company: 0xFFFF,
-            sub: 1,
-        },
-        &[4, 0x0C, 8, 0, 0, 0, 0x0B, 0xFF, 0xFF, 1, 0],
-    );
+    for (event, packet) in [
+        (Event::HardwareError { code: 1 }, [4, 0x10, 1, 1].as_slice()),
+        (Event::BufferOverflow { link_kind: 1 }, &[4, 0x1A, 1, 1]),
+        (
+            Event::CompletedPackets {
+                handle: 0,
+                count: 1,
+            },
+            &[4, 0x13, 5, 1, 0, 0, 1, 0],
+        ),
+        (
+            Event::DisconnectionComplete {
+                status: 0,
+                handle: 0,
+                reason: 0x3E,
+            },
+            &[4, 0x05, 4, 0, 0, 0, 0x3E],
+        ),
+        (
+            Event::EncryptionChange {
+                status: 6,
+                handle: 0,
+                enabled: 0,
+            },
+            &[4, 0x08, 4, 6, 0, 0, 0],
+        ),
+        (
+            Event::RemoteVersion {
+                status: 0,
+                handle: 0,
+                version: 0x0B,
+                company: 0xFFFF,
+                sub: 1,
+            },
+            &[4, 0x0C, 8, 0, 0, 0, 0x0B, 0xFF, 0xFF, 1, 0],
+        ),
+    ] {
+        expect_packet(&rt, event, packet);
+    }
 }
 
 #[test]
@@ -179,68 +176,66 @@ fn connections_and_reports(rt: HostRuntime) {
 
 #[test]
 fn events_of_a_link(rt: HostRuntime) {
-    expect_packet(
-        &rt,
-        Event::UpdateComplete {
-            status: 0,
-            handle: 0,
-            interval: 24,
-            latency: 0,
-            timeout: 100,
-        },
-        &[4, 0x3E, 10, 0x03, 0, 0, 0, 0x18, 0, 0, 0, 0x64, 0],
-    );
-    expect_packet(
-        &rt,
-        Event::KeyRequest {
-            handle: 0,
-            rand: 0,
-            ediv: 0,
-        },
-        &[4, 0x3E, 13, 0x05, 0, 0, 0, 0, 0, 0, 0, 0, 0, 0, 0, 0],
-    );
-    expect_packet(
-        &rt,
-        Event::ParamRequest {
-            handle: 0,
-            min: 32,
-            max: 32,
-            latency: 0,
-            timeout: 72,
-        },
-        &[4, 0x3E, 11, 0x06, 0, 0, 0x20, 0, 0x20, 0, 0, 0, 0x48, 0],
-    );
-    expect_packet(
-        &rt,
-        Event::LengthChange {
-            handle: 0,
-            tx_octets: 251,
-            tx_time: 2120,
-            rx_octets: 27,
-            rx_time: 328,
-        },
-        &[
-            4, 0x3E, 11, 0x07, 0, 0, 0xFB, 0, 0x48, 0x08, 0x1B, 0, 0x48, 0x01,
-        ],
-    );
-    expect_packet(
-        &rt,
-        Event::PhyComplete {
-            status: 0x23,
-            handle: 0,
-            tx: 1,
-            rx: 1,
-        },
-        &[4, 0x3E, 6, 0x0C, 0x23, 0, 0, 1, 1],
-    );
-    expect_packet(
-        &rt,
-        Event::ChannelSelection {
-            handle: 0,
-            algorithm: 1,
-        },
-        &[4, 0x3E, 4, 0x14, 0, 0, 1],
-    );
+    for (event, packet) in [
+        (
+            Event::UpdateComplete {
+                status: 0,
+                handle: 0,
+                interval: 24,
+                latency: 0,
+                timeout: 100,
+            },
+            [4, 0x3E, 10, 0x03, 0, 0, 0, 0x18, 0, 0, 0, 0x64, 0].as_slice(),
+        ),
+        (
+            Event::KeyRequest {
+                handle: 0,
+                rand: 0,
+                ediv: 0,
+            },
+            &[4, 0x3E, 13, 0x05, 0, 0, 0, 0, 0, 0, 0, 0, 0, 0, 0, 0],
+        ),
+        (
+            Event::ParamRequest {
+                handle: 0,
+                min: 32,
+                max: 32,
+                latency: 0,
+                timeout: 72,
+            },
+            &[4, 0x3E, 11, 0x06, 0, 0, 0x20, 0, 0x20, 0, 0, 0, 0x48, 0],
+        ),
+        (
+            Event::LengthChange {
+                handle: 0,
+                tx_octets: 251,
+                tx_time: 2120,
+                rx_octets: 27,
+                rx_time: 328,
+            },
+            &[
+                4, 0x3E, 11, 0x07, 0, 0, 0xFB, 0, 0x48, 0x08, 0x1B, 0, 0x48, 0x01,
+            ],
+        ),
+        (
+            Event::PhyComplete {
+                status: 0x23,
+                handle: 0,
+                tx: 1,
+                rx: 1,
+            },
+            &[4, 0x3E, 6, 0x0C, 0x23, 0, 0, 1, 1],
+        ),
+        (
+            Event::ChannelSelection {
+                handle: 0,
+                algorithm: 1,
+            },
+            &[4, 0x3E, 4, 0x14, 0, 0, 1],
+        ),
+    ] {
+        expect_packet(&rt, event, packet);
+    }
 }
 
 #[test]

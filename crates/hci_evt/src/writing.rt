@@ -7,8 +7,8 @@ use crate::event::{Event, INDICATOR};
 use arrayvec::ArrayVec;
 use wire_fields::{put_octets, put_u8, put_u16, put_u64};
 
-// Appends one field, by its kind: `rest` is octets to the end, and `sized` octets have their number
-// before them.
+/// Appends one field, by its kind: `rest` is octets to the end, and `sized` octets have their number
+/// before them.
 macro_rules! put {
     ($packet:ident u8 $field:ident) => {
         put_u8(&mut $packet, *$field)
@@ -31,8 +31,8 @@ macro_rules! put {
     };
 }
 
-// Appends the fields of an event. Each row has an event, the octets that always stand first, and the
-// fields in order.
+/// Appends the fields of an event. Each row has an event, the octets that always stand first, and the
+/// fields in order.
 macro_rules! put_rows {
     (
         $event:ident, $packet:ident;
@@ -47,6 +47,7 @@ macro_rules! put_rows {
     };
 }
 
+/// The parameters of the event: the subevent code of an LE event, and then the fields.
 fn parameters(event: &Event) -> ArrayVec<u8, 255>
     ensures items { result.items ≡ appended [] (parameters_of event.now) }
     ensures fits { AllFit (parameters_of event.now) }
@@ -81,6 +82,7 @@ fn parameters(event: &Event) -> ArrayVec<u8, 255>
     packet
 }
 
+/// The event code.
 fn code(event: &Event) -> u8
     ensures { result ≡ code_of event.now }
 {
