@@ -1,4 +1,4 @@
--- How a schedule keeps a fate.
+-- How a schedule keeps a fate (own).
 use Rattle.std.specs.Prelude.{◌≤◌, length}
 use Rattle.std.specs.Bool.{⊤}
 use Rattle.radio_replay.specs.declared.fates.Fate.{Fate}

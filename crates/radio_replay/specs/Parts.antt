@@ -1,4 +1,4 @@
--- What is left of a text of which parts were taken.
+-- What is left of a text of which parts were taken (own).
 use Rattle.std.specs.Prelude.{ℕ, ◌==◌, List, [], ◌∷◌, Option, Some, None}
 use Rattle.std.specs.List.{slice_split}
 

@@ -1,4 +1,4 @@
--- What a contract sees of a schedule.
+-- What a contract sees of a schedule (own).
 use Rattle.std.specs.Prelude.{ℕ, ◌≤◌, Bool, List, slice_index_or}
 use Rattle.ble_base.specs.declared.Config.{Config}
 use Rattle.radio_replay.specs.declared.fates.Fate.{Fate}
