@@ -1,7 +1,8 @@
-/// What became of a packet at a receiver that listened for it.
+/// What becomes of a packet at the other side (own).
 #[derive(Clone, Copy, Debug, PartialEq, Eq, Default)]
 pub enum Verdict {
-    /// Nothing with the expected access address was heard.
+    /// Nothing that begins with the expected access address was heard: the packet was lost, its access address is
+    /// another, or nobody listened on its channel.
     #[default]
     Missed,
     /// The access address was right, and the rest no whole PDU with its CRC.

@@ -1,5 +1,5 @@
 //! Packets on the air.
-ghost use Rattle.std.specs.Prelude.{◌≡◌, ℕ, ◌+◌, ◌<◌, List, length, slice_get, IfOk, IfErr, OnOk, Some};
+ghost use Rattle.std.specs.Prelude.{◌≡◌, ℕ, ◌+◌, ◌^◌, ◌<◌, List, length, slice_get, IfOk, IfErr, OnOk, Some};
 ghost use Rattle.std.specs.Option.{option_copied};
 ghost use Rattle.controller.specs.Past.{Input, view_of, intent_of};
 ghost use Rattle.controller.specs.State.{acting, listened};
@@ -91,7 +91,7 @@ pub(crate) fn fly(
     listens: &Intent,
     journal: &mut Journal,
 ) -> Result<bool, Stop>
-    requires few { turn.old.packets < 1000 }
+    requires few { turn.old.packets + 1 < 2 ^ 32 }
     requires turn { turn.old.number < length turn.old.schedule.now.turns }
     ensures ok { IfOk result (λ good. (plan : Plan) (phase : ℕ) (public : List ℕ) (past : List Input)
         → slice_get turn.old.schedule.now.turns turn.old.number ≡ Some plan

@@ -21,7 +21,7 @@ pub enum RunFault {
         turn: u64,
         /// The place of the packet among those of the turn, counted from 1.
         packet: u32,
-        /// Its octets as sent.
+        /// Its octets as sent: the access address, least significant octet first, then, whitened, the PDU and the CRC.
         sent: Octets,
         /// Its octets as they would be heard.
         heard: Octets,
@@ -78,10 +78,11 @@ fn run_turns(
     Ok(journal)
 }
 
-/// Runs two controllers over the streams of their hosts and a schedule, and gives the journal of the run.
-/// The octets that the schedule leaves unfed are not part of it.
+/// Runs two controllers over the streams of their hosts and a schedule, and gives the journal of the run (own). `a` and `b` are
+/// the H4 octets of the two hosts, in the order in which they are fed; those that the schedule leaves unfed are not part of it.
 ///
-/// Answers `Unseen` exactly where a fate changes a packet that is due and the changed one would be judged good.
+/// Answers `Unseen` exactly where a fate changes a packet that is due and the changed one would be judged good, and `Memory`
+/// where there is no memory.
 pub fn run_pair(alloc: Global, a: &[u8], b: &[u8], schedule: &Schedule) -> Result<Journal, RunFault>
     ensures ok { IfOk result (IsRun (given_of a.now b.now schedule.now)) }
     ensures err { IfErr result (IsRunFault (given_of a.now b.now schedule.now)) }

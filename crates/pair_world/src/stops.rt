@@ -8,7 +8,9 @@ pub(crate) enum Stop {
     Unseen {
         /// Its place among the packets of the turn, counted from 1.
         packet: u32,
+        /// Its octets as sent, in the order of the air.
         sent: Octets,
+        /// Its octets as they would be heard.
         heard: Octets,
     },
     /// There is no memory.

@@ -1,6 +1,6 @@
 use crate::{
-    RunFault, a_host_is_answered_in_order, a_run_has_one_journal, a_turn_sends_all_that_is_due, each_packet_on_the_air_is_due,
-    run_pair,
+    RunFault, a_host_is_answered_in_order, a_run_has_one_journal, a_turn_sends_all_that_is_due,
+    each_packet_on_the_air_is_due, run_pair,
 };
 use journal::{Journal, write_lines};
 use radio_replay::Schedule;
@@ -24,6 +24,16 @@ const SCANS: [u8; 18] = [
     0x01, 0x00,
 ];
 
+/// The packet of the advertisement on channel 37.
+const SENT: [u8; 15] = [
+    0xd6, 0xbe, 0x89, 0x8e, 0x8f, 0xd4, 0x5d, 0xa1, 0x3d, 0x49, 0x99, 0x70, 0xf8, 0x4a, 0xda,
+];
+
+/// The same with 01c0b401 xored into its last four octets, which is a change that the CRC does not see.
+const HEARD: [u8; 15] = [
+    0xd6, 0xbe, 0x89, 0x8e, 0x8f, 0xd4, 0x5d, 0xa1, 0x3d, 0x49, 0x99, 0x71, 0x38, 0xfe, 0xdb,
+];
+
 /// What the turn adds up to the radio.
 const FED: &str = "in a 0106200f200020000300000000000000000700010a200101
 up a 040e0401062000
@@ -42,25 +52,11 @@ fn text_of(alloc: Global, journal: &Journal) -> Result<String, AllocError> {
     Ok(text)
 }
 
-/// The text of the run in which A advertises and B scans, by these turn lines.
-fn run(alloc: Global, turns: &str) -> Result<String, Fail> {
+/// The run in which A advertises and B scans, by these turn lines.
+fn run(alloc: Global, turns: &str) -> Result<Result<Journal, RunFault>, Fail> {
     let text = format!(in alloc; "{SIDES}{turns}")?;
     let schedule = Schedule::read(alloc, text.as_bytes())?;
-    match run_pair(alloc, &ADVERTISES, &SCANS, &schedule) {
-        Ok(journal) => Ok(text_of(alloc, &journal)?),
-        Err(
-            RunFault::Unseen {
-                turn,
-                packet,
-                journal,
-                ..
-            },
-        ) => {
-            let front = text_of(alloc, &journal)?;
-            Ok(format!(in alloc; "{front}unseen {turn} {packet}\n")?)
-        }
-        Err(RunFault::Memory) => Err(Fail::from("no memory")),
-    }
+    Ok(run_pair(alloc, &ADVERTISES, &SCANS, &schedule))
 }
 
 #[test]
@@ -76,27 +72,41 @@ fn an_advertisement_is_heard_or_not(rt: HostRuntime) -> Result<(), Fail> {
             "turn 0 ++\n",
             "air a 37 d6be898e8fd45da13d499970f84ada . good\nup b 043e0c020103000a0000eeffc0007f\n",
         ),
-        (
-            "t ++ a24 b18 x\n",
-            "turn 0 ++\n",
-            "air a 37 d6be898e8fd45da13d499970f84ada x missed\n",
-        ),
-        (
-            "t ++ a24 b18 e6:01\n",
-            "turn 0 ++\n",
-            "air a 37 d6be898e8fd45da13d499970f84ada e6:01 broken\n",
-        ),
-        (
-            "t +- a24 b18\n",
-            "turn 0 +-\n",
-            "air a 37 d6be898e8fd45da13d499970f84ada . missed\n",
-        ),
         ("t -+ a24 b18\n", "turn 0 -+\n", ""),
-        ("t ++ a24 b18 e11:01c0b401\n", "turn 0 ++\n", "unseen 0 1\n"),
     ];
     for (turns, head, tail) in rows {
+        let Ok(journal) = run(alloc, turns)? else {
+            return Err(Fail::from("no whole run"));
+        };
         let want = format!(in alloc; "{head}{FED}{tail}")?;
-        assert_eq!(rt; run(alloc, turns)?.as_str(), want.as_str(), "{turns}");
+        assert_eq!(rt;
+            text_of(alloc, &journal)?.as_str(),
+            want.as_str(),
+            "{turns}"
+        );
     }
+    Ok(())
+}
+
+#[test]
+fn damage_that_fits_the_crc_ends_the_run(rt: HostRuntime) -> Result<(), Fail> {
+    let alloc = rt.alloc();
+    let Err(
+        RunFault::Unseen {
+            turn,
+            packet,
+            sent,
+            heard,
+            journal,
+        },
+    ) = run(alloc, "t ++ a24 b18 e11:01c0b401\n")?
+    else {
+        return Err(Fail::from("no unseen damage"));
+    };
+    assert_eq!(rt; (turn, packet), (0, 1));
+    assert_eq!(rt; sent.as_slice(), SENT.as_slice());
+    assert_eq!(rt; heard.as_slice(), HEARD.as_slice());
+    let want = format!(in alloc; "turn 0 ++\n{FED}")?;
+    assert_eq!(rt; text_of(alloc, &journal)?.as_str(), want.as_str());
     Ok(())
 }

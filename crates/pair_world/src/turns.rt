@@ -1,5 +1,5 @@
 //! One turn of a run.
-ghost use Rattle.std.specs.Prelude.{◌≡◌, ℕ, suc, ◌+◌, ◌*◌, ◌<◌, ◌≤◌, [], length, slice_get, Some, OnOk, IfOk, IfErr};
+ghost use Rattle.std.specs.Prelude.{◌≡◌, ℕ, suc, ◌+◌, ◌*◌, ◌^◌, ◌<◌, ◌≤◌, [], length, slice_get, Some, OnOk, IfOk, IfErr};
 ghost use Rattle.ble_base.specs.declared.roles.Side.TheVariants.{A, B};
 ghost use Rattle.radio_replay.specs.Script.{Turn as Plan};
 ghost use Rattle.pair_world.specs.Run.{Given};
@@ -37,7 +37,7 @@ fn run_phase(
     out: &mut Outbox,
     journal: &mut Journal,
 ) -> Result<Wanted, Stop>
-    requires few { turn.old.packets < 500 }
+    requires few { turn.old.packets + 2 < 2 ^ 32 }
     requires turn { turn.old.number < length turn.old.schedule.now.turns }
     requires empty { out.old.items ≡ [] }
     requires sides { (pair.old.a.side ≡ A) × (pair.old.b.side ≡ B) }
