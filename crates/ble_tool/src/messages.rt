@@ -9,6 +9,10 @@ use crate::names::Names;
 use itoa::Buffer;
 use outside::{Sink, SinkFault};
 
+/// The exit status where the words are no command's.
+const NO_COMMAND: u8 = 1;
+
+/// How the program is called.
 const USAGE: &[u8] = b"usage: ble pair A B SCHEDULE, ble make NUMBER, ble solo HOST AIR";
 
 /// How many octets are put in hexadecimal at once.
@@ -135,11 +139,13 @@ fn say_unseen<E: Sink>(err: &mut E, turn: u64, packet: u32, sent: &[u8], heard: 
     let _ = put_unseen_line(err, turn, packet, sent, heard);
 }
 
-/// Says how the program is called.
-pub fn say_usage<E: Sink>(err: &mut E)
-    ensures { Says E.written E.faults E.wants_memory err.old err.new usage_line }
+/// Says how the program is called, and gives the exit status that goes with it.
+pub fn refuse_words<E: Sink>(err: &mut E) -> u8
+    ensures status { result ≡ 1 }
+    ensures said { Says E.written E.faults E.wants_memory err.old err.new usage_line }
 {
     say(err, USAGE, b"");
+    NO_COMMAND
 }
 
 /// Says why a command did not do its work.

@@ -6,7 +6,7 @@ ghost use Rattle.ble_tool.specs.Words.{is_pair, names_in};
 ghost use Rattle.ble_tool.specs.World.{world_of, reads_of, writes_of};
 
 use crate::faults::Fault;
-use crate::messages::{report, say_usage};
+use crate::messages::{refuse_words, report};
 use crate::names::Names;
 use crate::pairs::pair;
 use outside::{Files, Sink};
@@ -74,8 +74,7 @@ pub fn ble_tool<F: Files, O: Sink, E: Sink>(
         IsEnding given world (Says E.written E.faults E.wants_memory err.old err.new) result }
 {
     let Some(names) = Names::of_pair(words.as_slice()) else {
-        say_usage(err);
-        return 1;
+        return refuse_words(err);
     };
     match carry_out(alloc, &names, files, out) {
         Ok(()) => 0,

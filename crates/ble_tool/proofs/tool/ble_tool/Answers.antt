@@ -11,9 +11,9 @@ use Rattle.ble_tool.proofs.tool.ble_tool.Goals as goal
 pub returns-in_default-clause-ending : goal.returns-in_default-clause-ending
 returns-in_default-clause-ending g c = record {
   outcome = NoCommand;
-  is_status = refl;
+  is_status = c.refuse_words.ensures.status;
   has_cause = (rw c.as_slice.ensures.value at c.in_default.ensures.none, refl);
-  is_said = c.say_usage.ensures;
+  is_said = c.refuse_words.ensures.said;
 }
 
 pub returns-in-Ok-clause-ending : goal.returns-in-Ok-clause-ending
