@@ -1,6 +1,8 @@
--- A host that hears nothing from the air is told the answers to its packets.
-use Rattle.std.proofs.Common.{◌≡◌, ℕ, ◌+◌, ◌==◌, Bool, true, false, Option, Some, None, is_some, List, [], ◌∷◌, ◌++◌, length, cond, refl, ap, sym, ◌∙◌, subst}
+-- A host is told the answers to its packets.
+use Rattle.std.proofs.Common.{◌≡◌, ℕ, ◌+◌, ◌==◌, map, Bool, true, false, Option, Some, None, is_some, List, [], ◌∷◌, ◌++◌, length, cond, refl, ap, sym, ◌∙◌, subst}
+use Rattle.std.specs.Prelude.{not, ◌&&◌}
 use Rattle.std.proofs.lemmas.List.{length_push}
+use Rattle.std.proofs.lemmas.List.Elements.{filter-append}
 use Rattle.h4_frames.specs.declared.packet.HostPacket.TheVariants.{Command as HostCommand, Acl}
 use Rattle.h4_frames.specs.declared.packet.Fed.{Fed}
 use Rattle.h4_frames.specs.declared.packet.Fed.TheVariants.{More, Packet, LostSync}
@@ -12,17 +14,21 @@ use Rattle.hci_cmd.specs.declared.command.Command.TheVariants.{SetEventMask, Res
 use Rattle.hci_cmd.specs.declared.command.CmdRead.{CmdRead}
 use Rattle.hci_cmd.specs.declared.command.CmdRead.TheVariants.{Known, UnknownOpcode, BadLength}
 use Rattle.hci_evt.specs.declared.event.Event.{Event}
+use Rattle.hci_evt.specs.declared.event.Event.TheVariants.{HardwareError}
 use Rattle.hci_evt.specs.Event.{written}
+use Rattle.wire_fields.specs.Field.{little_endian}
 use Rattle.controller.specs.declared.advertisers.Advertiser.{Advertiser}
+use Rattle.controller.specs.declared.scanners.Advertisement.{Advertisement}
 use Rattle.controller.specs.declared.scanners.Scanner.{Scanner}
 use Rattle.controller.specs.declared.devices.Device.{Device}
 use Rattle.controller.specs.Advertising.{fresh}
-use Rattle.controller.specs.Answers.{octets_of, HeardNothing, IsAnswerTo, answers, answers_from}
+use Rattle.controller.specs.Answers.{octets_of, HeardNothing, IsAnswerTo, answers, answers_from, is_le_event, without_le_events}
 use Rattle.controller.specs.Commands.{command_in}
-use Rattle.controller.specs.Masks.{told}
-use Rattle.controller.specs.Past.{Input, Turned, Given, Heard, View, brought, first_view, see, told_by, told_from}
+use Rattle.controller.specs.Masks.{has_bit, le_mask, told}
+use Rattle.controller.specs.Scanning.{is_withheld, report_event}
+use Rattle.controller.specs.Past.{Input, Turned, Given, Heard, View, activity_of, brought, first_view, see, tells, told_by, told_from}
 use Rattle.controller.specs.Table.{advertiser_by, answer_to, complete, device_after, done_by, events_for, initial, obeyed, returned, scanner_by, status_of}
-use Rattle.controller.specs.Turns.{behind_turn, serve}
+use Rattle.controller.specs.Turns.{advertisement_for, behind_turn, device_hears, device_tells, serve}
 use Rattle.controller.proofs.Taking.{is_brought}
 
 -- ---- devices that answer alike
@@ -189,18 +195,99 @@ answered_from slot view device (Given octet ∷ past) none alike =
     (length_push view.octets octet)
     ∙ answers_note view.public slot device (length view.octets + 1) fed (entries_from (length view.octets + 1) feds)
 
+-- ---- the same beside what is heard
+
+-- an answer is no LE event
+read_kept : (public : List ℕ) (device : Device) (opcode mask : ℕ) (read : CmdRead)
+    → without_le_events (told mask (answer_to public device opcode read ∷ [])) ≡ told mask (answer_to public device opcode read ∷ [])
+unfolding little_endian
+read_kept public device opcode mask (Known command) = refl
+read_kept public device opcode mask BadLength = refl
+read_kept public device opcode mask UnknownOpcode = refl
+
+loss_kept : (passed : Bool) → without_le_events (map written (cond passed (HardwareError 0x01 ∷ []) [])) ≡ map written (cond passed (HardwareError 0x01 ∷ []) [])
+unfolding little_endian
+loss_kept true = refl
+loss_kept false = refl
+
+answers_kept : (public : List ℕ) (device : Device) (fed : Fed)
+    → without_le_events (told device.mask (events_for public device fed)) ≡ told device.mask (events_for public device fed)
+answers_kept public device (Packet (HostCommand opcode body)) = read_kept public device opcode device.mask (command_in opcode body.items)
+answers_kept public device (Packet (Acl handle start count body)) = refl
+answers_kept public device LostSync = loss_kept (has_bit device.mask 15)
+answers_kept public device More = refl
+
+-- a report is one
+report_dropped : (advertisement : Advertisement) (passed : Bool)
+    → without_le_events (map written (cond passed (report_event advertisement ∷ []) [])) ≡ []
+unfolding little_endian
+report_dropped advertisement true = refl
+report_dropped advertisement false = refl
+
+reports_dropped : (advertisement : Advertisement) (mask : ℕ) (withheld : Bool)
+    → without_le_events (told mask (cond withheld [] (report_event advertisement ∷ []))) ≡ []
+reports_dropped advertisement mask true = refl
+reports_dropped advertisement mask false = report_dropped advertisement (has_bit mask 61 && has_bit le_mask 1)
+
+heard_dropped : (mask : ℕ) (scanner : Option Scanner) (advertisement : Option Advertisement)
+    → without_le_events (told mask (device_tells scanner advertisement)) ≡ []
+heard_dropped mask None advertisement = refl
+heard_dropped mask (Some scanner) None = refl
+heard_dropped mask (Some scanner) (Some advertisement) = reports_dropped advertisement mask (is_withheld scanner advertisement)
+
+-- what is heard changes no answer
+hear_alike : (device : Device) (scanner : Option Scanner) (advertisement : Option Advertisement) → Alike (device_hears device scanner advertisement) device
+hear_alike device None advertisement = alike_self device
+hear_alike device (Some scanner) advertisement = record { mask_is = refl; parameters_are = refl; advertises = refl }
+
+told_behind : (first rest : List (List ℕ)) → without_le_events (first ++ rest) ≡ without_le_events first ++ without_le_events rest
+told_behind first rest = filter-append (λ packet. not (is_le_event packet)) first rest
+
+kept_from : (slot : ℕ) (view : View) (device : Device) (past : List Input) → Alike view.device device
+    → without_le_events (told_from view past)
+    ≡ answers_from view.public slot device (entries_from (length view.octets) (feds_from view.octets (octets_of past)))
+unfolding feds_from
+kept_from slot view device [] alike = refl
+kept_from slot view device (Turned at on ∷ past) alike =
+    kept_from slot (see view (Turned at on)) device past (alike_then _ view.device _ (turn_alike view.slot view.on view.device) alike)
+kept_from slot view device (Heard packet ∷ past) alike =
+    let heard = advertisement_for view.public (activity_of view) packet in
+    let later = kept_from slot (see view (Heard packet)) device past (alike_then _ view.device _ (hear_alike view.device view.device.scanner heard) alike) in
+    told_behind (tells view (Heard packet)) (told_from (see view (Heard packet)) past)
+    ∙ (λ i. heard_dropped view.device.mask view.device.scanner heard i ++ later i)
+kept_from slot view device (Given octet ∷ past) alike =
+    let fed = brought view.octets octet in
+    let later = kept_from slot (see view (Given octet)) (device_after slot device fed) past
+    (after_alike slot view.slot view.device device fed alike) in
+    let feds = feds_from (view.octets ++ octet ∷ []) (octets_of past) in
+    told_behind (tells view (Given octet)) (told_from (see view (Given octet)) past)
+    ∙ (λ i. (answers_kept view.public view.device fed ∙ told_alike view.public view.device device fed alike) i ++ later i)
+    ∙ ap (λ (n : ℕ). told device.mask (events_for view.public device fed) ++ answers_from view.public slot (device_after slot device fed) (entries_from n feds))
+    (length_push view.octets octet)
+    ∙ answers_note view.public slot device (length view.octets + 1) fed (entries_from (length view.octets + 1) feds)
+
+-- ---- from the start
+
 no_frames : frames [] ≡ []
 unfolding frames
 no_frames = refl
 
+cut_at_start : (octets : List ℕ) → frames octets ≡ entries_from 0 (feds_from [] octets)
+cut_at_start octets =
+    let feds = feds_from [] octets in
+    frames_cut [] octets feds (are_brought [] octets) ∙ ap (λ entries. entries ++ entries_from 0 feds) no_frames
+
 pub answered : (public : List ℕ) (slot : ℕ) (past : List Input) → HeardNothing past → told_by public past ≡ answers public slot (frames (octets_of past))
 unfolding told_by answers
 answered public slot past none =
-    let feds = feds_from [] (octets_of past) in
-    let cut : frames (octets_of past) ≡ entries_from 0 feds =
-    frames_cut [] (octets_of past) feds (are_brought [] (octets_of past)) ∙ ap (λ entries. entries ++ entries_from 0 feds) no_frames in
     answered_from slot (first_view public) initial past none (alike_self initial)
-    ∙ ap (answers_from public slot initial) (sym cut)
+    ∙ ap (answers_from public slot initial) (sym (cut_at_start (octets_of past)))
+
+pub kept : (public : List ℕ) (slot : ℕ) (past : List Input) → without_le_events (told_by public past) ≡ answers public slot (frames (octets_of past))
+unfolding told_by answers
+kept public slot past =
+    kept_from slot (first_view public) initial past (alike_self initial)
+    ∙ ap (answers_from public slot initial) (sym (cut_at_start (octets_of past)))
 
 -- ---- one answer
 

@@ -1,5 +1,6 @@
--- The answers to a host's packets (Core 5.2, volume 4 part E, sections 7.7.14 to 7.7.16): what a host is told while nothing is heard from the air.
-use Rattle.std.specs.Prelude.{◌≡◌, ℕ, List, [], ◌∷◌, ◌++◌, ⊤}
+-- The answers to a host's packets (Core 5.2, volume 4 part E, sections 7.7.14 to 7.7.16): what a host is told besides LE events.
+use Rattle.std.specs.Prelude.{◌≡◌, ℕ, ◌==◌, not, Bool, List, [], ◌∷◌, ◌++◌, slice_index, ⊤}
+use Rattle.std.specs.List.{filter}
 use Rattle.h4_frames.specs.declared.packet.Fed.{Fed}
 use Rattle.hci_evt.specs.declared.event.Event.{Event}
 use Rattle.hci_evt.specs.declared.event.Event.TheVariants.{CommandComplete, CommandStatus}
@@ -21,6 +22,14 @@ HeardNothing [] = ⊤
 HeardNothing (Turned slot on ∷ past) = HeardNothing past
 HeardNothing (Given octet ∷ past) = HeardNothing past
 HeardNothing (Heard packet ∷ past) = ⊥
+
+-- an LE event, which answers no command: its code is 3E (section 7.7.65)
+abbrev pub is_le_event : List ℕ → Bool
+is_le_event packet = slice_index packet 1 == 0x3E
+
+-- the packets that are none
+abbrev pub without_le_events : List (List ℕ) → List (List ℕ)
+without_le_events packets = filter (λ packet. not (is_le_event packet)) packets
 
 -- the event says that the command with this opcode was taken, and that one further command may be sent
 abbrev pub IsAnswerTo : ℕ → Event → Type 0

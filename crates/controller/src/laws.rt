@@ -11,7 +11,7 @@ ghost use Rattle.controller.specs.declared.advertisers.AdvParams.{AdvParams};
 ghost use Rattle.controller.specs.declared.devices.Activity.TheVariants.{Scans};
 ghost use Rattle.controller.specs.declared.devices.Device.{Device};
 ghost use Rattle.controller.specs.Advertising.{fresh, place_of, slots_of};
-ghost use Rattle.controller.specs.Answers.{HeardNothing, IsAnswerTo, answers, octets_of};
+ghost use Rattle.controller.specs.Answers.{HeardNothing, IsAnswerTo, answers, octets_of, without_le_events};
 ghost use Rattle.controller.specs.Events.{advertiser_after, left_on, place_by};
 ghost use Rattle.controller.specs.Masks.{has_bit, told};
 ghost use Rattle.controller.specs.Packets.{advertisement_on, verdict_on};
@@ -45,13 +45,15 @@ pub fn an_advertisement_is_understood()
     air_frame::laws::packet_tells_its_pdu();
 }
 
-/// As long as nothing is heard from the air, a host is told exactly the answers to its packets, in order, whatever the
-/// slots in which they come and the turns between them. A command has one answer, which says its opcode and that one
+/// A host is told exactly the answers to its packets, in order, whatever the slots in which they come and the turns between
+/// them: as long as nothing is heard from the air these alone, and beside them LE events alone. A command has one answer, which says its opcode and that one
 /// further command may be sent; ACL data has none; and a loss of synchronisation is told as Hardware Error, which is
 /// bit 15 of the mask.
 pub fn each_packet_is_answered()
     ensures told { (public : List ℕ) (slot : ℕ) (past : List Input) → HeardNothing past
         → told_by public past ≡ answers public slot (frames (octets_of past)) }
+    ensures beside { (public : List ℕ) (slot : ℕ) (past : List Input)
+        → without_le_events (told_by public past) ≡ answers public slot (frames (octets_of past)) }
     ensures command { (public : List ℕ) (device : Device) (opcode : ℕ) (parameters : List ℕ)
         → (event : Event)
         × (told device.mask (events_for public device (Packet (Command opcode (record { items = parameters })))) ≡ written event ∷ [])
