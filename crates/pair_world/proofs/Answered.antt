@@ -1,15 +1,15 @@
--- What a host is told that heard nothing from the air.
-use Rattle.std.proofs.Common.{◌≡◌, ℕ, List, [], ◌∷◌, ◌++◌, map, refl, ap, ◌∙◌, append_assoc, append-nil, subst, sym}
+-- What a host is told of its packets.
+use Rattle.std.proofs.Common.{◌≡◌, ℕ, List, [], ◌∷◌, ◌++◌, map, refl, ap, ◌∙◌}
 use Rattle.ble_base.specs.declared.roles.Side.{Side}
 use Rattle.ble_base.specs.declared.roles.Side.TheVariants.{A, B}
 use Rattle.ble_base.specs.declared.verdicts.Verdict.{Verdict}
 use Rattle.ble_base.specs.declared.verdicts.Verdict.TheVariants.{Missed, Broken, Forged, Good}
 use Rattle.ble_base.specs.Side.{other_side}
 use Rattle.journal.specs.declared.entries.Entry.{Entry}
-use Rattle.journal.specs.declared.entries.Entry.TheVariants.{Turn, Fed, Up, Air}
+use Rattle.journal.specs.declared.entries.Entry.TheVariants.{Turn, Fed, Air}
 use Rattle.h4_frames.specs.Frames.{frames}
 use Rattle.controller.specs.Past.{Input, Turned, Given as GivenOctet, Heard, told_by}
-use Rattle.controller.specs.Answers.{HeardNothing, answers, octets_of}
+use Rattle.controller.specs.Answers.{HeardNothing, answers, octets_of, without_le_events}
 use Rattle.pair_world.specs.History.{of_side, heard_if, came_in, fed_in, fed_to, told_to, past_of}
 use Rattle.pair_world.specs.Run.{Given, public_of, IsTurnEnd, IsJournal}
 
@@ -60,4 +60,12 @@ pub answered : ((public : List ℕ) (slot : ℕ) (past : List Input) → HeardNo
 answered law given journal history rest side slot is parts end nothing =
     (is.up_to_date history rest parts end).told side
     ∙ law (public_of side given) slot (past_of side history) nothing
+    ∙ ap (λ octets. answers (public_of side given) slot (frames octets)) (octets_of-past side history)
+
+pub kept : ((public : List ℕ) (slot : ℕ) (past : List Input) → without_le_events (told_by public past) ≡ answers public slot (frames (octets_of past)))
+    → (given : Given) (journal history rest : List Entry) (side : Side) (slot : ℕ) → IsJournal given journal → journal ≡ history ++ rest → IsTurnEnd rest
+    → without_le_events (told_to side history) ≡ answers (public_of side given) slot (frames (fed_to side history))
+kept law given journal history rest side slot is parts end =
+    ap without_le_events ((is.up_to_date history rest parts end).told side)
+    ∙ law (public_of side given) slot (past_of side history)
     ∙ ap (λ octets. answers (public_of side given) slot (frames octets)) (octets_of-past side history)

@@ -1,5 +1,5 @@
 -- What is so of a packet on the air. Own.
-use Rattle.std.specs.Prelude.{◌≡◌, ℕ, List, Some, slice_get}
+use Rattle.std.specs.Prelude.{◌≡◌, ◌≢◌, ℕ, ◌+◌, List, Some, slice_get}
 use Rattle.ble_base.specs.declared.roles.Side.{Side}
 use Rattle.ble_base.specs.declared.verdicts.Verdict.{Verdict}
 use Rattle.ble_base.specs.declared.verdicts.Verdict.TheVariants.{Good}
@@ -23,3 +23,16 @@ pub record IsAired (given : Given) (history : List Entry) (side : Side) (channel
   pub verdict_is : verdict ≡ verdict_of given history flight
   -- what is judged good was not changed
   pub unchanged : verdict ≡ Good → struck (fate_at given history) octets ≡ octets
+
+-- behind this history the next packet, at this place of its turn, counted from 1, is changed by its fate into what would be judged good
+pub record IsUnseenNext (given : Given) (history : List Entry) (packet : ℕ) (sent heard : List ℕ) : Type 0 where
+  pub flight : Flight
+  -- it is the next of those that the turn calls for
+  pub is_next : slice_get (flights given history) (aired history) ≡ Some flight
+  pub packet_is : packet ≡ aired history + 1
+  pub sent_is : sent ≡ flight.octets
+  -- what is heard is what its fate, the next of the turn, leaves of it
+  pub heard_is : heard ≡ struck (fate_at given history) sent
+  pub differs : heard ≢ sent
+  -- and the verdict of the other side on it is good
+  pub verdict_is : verdict_of given history flight ≡ Good

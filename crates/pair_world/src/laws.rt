@@ -6,10 +6,10 @@ ghost use Rattle.journal.specs.declared.entries.Entry.{Entry};
 ghost use Rattle.journal.specs.declared.entries.Entry.TheVariants.{Turn, Air};
 ghost use Rattle.journal.specs.declared.entries.Mark.{Mark};
 ghost use Rattle.h4_frames.specs.Frames.{frames};
-ghost use Rattle.controller.specs.Answers.{HeardNothing, answers};
+ghost use Rattle.controller.specs.Answers.{HeardNothing, answers, without_le_events};
 ghost use Rattle.pair_world.specs.History.{aired, fed_to, past_of, told_to};
 ghost use Rattle.pair_world.specs.Run.{Given, public_of, flights, IsTurnEnd, IsJournal, IsRun, EndsUnseen};
-ghost use Rattle.pair_world.specs.Air.{IsAired};
+ghost use Rattle.pair_world.specs.Air.{IsAired, IsUnseenNext};
 
 /// A run has one journal: what `run_pair` promises of it leaves no choice, neither of the journal nor of whether and where
 /// unseen damage ends the run.
@@ -30,6 +30,13 @@ pub fn each_packet_on_the_air_is_due()
         → IsAired given history side channel octets fate verdict }
 {}
 
+/// The packet whose damage ends a run is the next of those that its turn calls for; it is named with its turn and its place;
+/// what would be heard is what its fate leaves of it, differs from it, and has the verdict good of the other side.
+pub fn an_unseen_packet_is_due()
+    ensures { (given : Given) (turn packet : ℕ) (sent heard : List ℕ) (journal : List Entry)
+        → EndsUnseen given turn packet sent heard journal → IsUnseenNext given journal packet sent heard }
+{}
+
 /// Where a turn is over, all the packets that it calls for were on the air.
 pub fn a_turn_sends_all_that_is_due()
     ensures turn { (given : Given) (journal history rest : List Entry) (slot : ℕ) (a : Bool) (b : Option Bool)
@@ -39,12 +46,15 @@ pub fn a_turn_sends_all_that_is_due()
         → slice_get (flights given journal) (aired journal) ≡ None }
 {}
 
-/// Where a side has heard nothing by the end of a turn, its host was told exactly the answers to the packets of the octets
-/// that it was fed, in order, whatever the slots in which they came.
+/// Where a turn is over, a host was told exactly the answers to the packets of the octets that its side was fed, in order,
+/// whatever the slots in which they came: these alone, where the side has heard nothing, and beside them LE events alone.
 pub fn a_host_is_answered_in_order()
-    ensures { (given : Given) (journal history rest : List Entry) (side : Side) (slot : ℕ)
+    ensures alone { (given : Given) (journal history rest : List Entry) (side : Side) (slot : ℕ)
         → IsJournal given journal → journal ≡ history ++ rest → IsTurnEnd rest → HeardNothing (past_of side history)
         → told_to side history ≡ answers (public_of side given) slot (frames (fed_to side history)) }
+    ensures beside { (given : Given) (journal history rest : List Entry) (side : Side) (slot : ℕ)
+        → IsJournal given journal → journal ≡ history ++ rest → IsTurnEnd rest
+        → without_le_events (told_to side history) ≡ answers (public_of side given) slot (frames (fed_to side history)) }
 {
     controller::each_packet_is_answered();
 }

@@ -15,7 +15,7 @@ mod turns;
 
 pub use crate::laws::{
     a_host_is_answered_in_order, a_run_has_one_journal, a_turn_sends_all_that_is_due,
-    each_packet_on_the_air_is_due,
+    an_unseen_packet_is_due, each_packet_on_the_air_is_due,
 };
 pub use crate::runs::{RunFault, run_pair};
 pub use ble_base::{Config, Side};

@@ -1,6 +1,6 @@
 use crate::{
     RunFault, a_host_is_answered_in_order, a_run_has_one_journal, a_turn_sends_all_that_is_due,
-    each_packet_on_the_air_is_due, run_pair,
+    an_unseen_packet_is_due, each_packet_on_the_air_is_due, run_pair,
 };
 use journal::{Journal, write_lines};
 use radio_replay::Schedule;
@@ -91,6 +91,7 @@ fn an_advertisement_is_heard_or_not(rt: HostRuntime) -> Result<(), Fail> {
 #[test]
 fn damage_that_fits_the_crc_ends_the_run(rt: HostRuntime) -> Result<(), Fail> {
     let alloc = rt.alloc();
+    an_unseen_packet_is_due();
     let Err(
         RunFault::Unseen {
             turn,
