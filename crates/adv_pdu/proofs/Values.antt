@@ -3,7 +3,7 @@ use Rattle.std.proofs.Common.{◌≡◌, ℕ, zero, suc, ◌+◌, ◌*◌, ◌/�
 use Rattle.std.proofs.lemmas.Bool.{eqb-true}
 use Rattle.std.proofs.lemmas.Bool.Decides.{nat_tests}
 use Rattle.std.proofs.lemmas.List.{drop_at, get_or-drop, take_at}
-use Rattle.wire_fields.specs.Field.{little_endian, spelled, AllFit}
+use Rattle.wire_fields.specs.Field.{little_endian, spelled, AllFit, number_of}
 use Rattle.wire_fields.proofs.LittleEndian.{length-little_endian}
 use Rattle.wire_fields.proofs.Spelling.{octet_then}
 use Rattle.adv_pdu.specs.declared.pdu.ConnectFields.{ConnectFields}
@@ -11,7 +11,7 @@ use Rattle.adv_pdu.specs.declared.pdu.AdvPdu.{AdvPdu}
 use Rattle.adv_pdu.specs.declared.pdu.AdvPdu.TheVariants.{Ind, Direct, Nonconn, ScanReq, ScanRsp, Connect, ScanInd}
 use Rattle.adv_pdu.specs.Header.{header_octet, is_one}
 use Rattle.adv_pdu.specs.Pdu.{type_of, ch_sel_of, tx_add_of, rx_add_of, link_fields_of, payload_of, written, IsPdu, IsWithinBits}
-use Rattle.adv_pdu.specs.Reading.{is_payload_length, is_adv_pdu, link_in, number_at, number_of, pdu_of_type, read_of, HasPacket, IsPacket, IsReading, Spells}
+use Rattle.adv_pdu.specs.Reading.{is_payload_length, is_adv_pdu, link_in, number_at, pdu_of_type, read_of, HasPacket, IsPacket, IsReading, Spells}
 use Rattle.adv_pdu.proofs.Octets.{has_parts, packet_of_pdu, written_kept}
 use Rattle.adv_pdu.proofs.Places.{reading_is}
 use Rattle.adv_pdu.proofs.Rows.{kept_own}

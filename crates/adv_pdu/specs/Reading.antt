@@ -1,7 +1,7 @@
 -- Which octets are an advertising channel PDU (Core 5.2, volume 6 part B, section 2.3).
 use Rattle.std.specs.Prelude.{◌≡◌, ℕ, ◌+◌, ◌*◌, ◌/◌, ◌%◌, ◌==◌, ◌&&◌, ◌||◌, Bool, List, [], ◌∷◌, length, take, drop, slice_index, nat_le, Option, Some, None, IfSome, IsTrue, if◌then◌else◌}
 use Rattle.ble_base.specs.declared.addresses.Address.{Address}
-use Rattle.wire_fields.specs.Field.{spelled}
+use Rattle.wire_fields.specs.Field.{number_of, spelled}
 use Rattle.adv_pdu.specs.declared.pdu.ConnectFields.{ConnectFields}
 use Rattle.adv_pdu.specs.declared.pdu.AdvPdu.{AdvPdu}
 use Rattle.adv_pdu.specs.declared.pdu.AdvPdu.TheVariants.{Ind, Direct, Nonconn, ScanReq, ScanRsp, Connect, ScanInd}
@@ -69,11 +69,6 @@ sender_in octets = address_at 2 6 octets
 
 abbrev pub target_in : List ℕ → Address
 target_in octets = address_at 8 7 octets
-
--- the number that octets are, the least significant first
-abbrev pub number_of : List ℕ → ℕ
-number_of [] = 0
-number_of (octet ∷ octets) = octet + 256 * number_of octets
 
 -- the number of so many octets from this place on
 abbrev pub number_at : ℕ → ℕ → List ℕ → ℕ

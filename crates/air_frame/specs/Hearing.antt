@@ -15,7 +15,7 @@ MatchHeard (Whole pdu) not_ours broken whole = whole pdu.items
 abbrev pub IsWhole : Heard → List ℕ → Type 0
 IsWhole heard pdu = MatchHeard heard ⊥ ⊥ (λ octets. octets ≡ pdu)
 
--- what is heard of octets on a channel index, for an access address and with an initial CRC: nothing that is meant for the
+-- what is heard of octets on a channel index, for an access address and with an initial CRC (the three answers are own): nothing that is meant for the
 -- listener where they do not begin with the access address (section 2.1.2), and behind it the PDU whose packet they are
 -- (sections 3.1.1 and 3.2)
 unfoldable pub heard_in : ℕ → ℕ → ℕ → List ℕ → Heard

@@ -4,14 +4,14 @@ use Rattle.std.proofs.Common.{◌≡◌, ℕ, zero, suc, ◌+◌, ◌*◌, ◌%�
 use Rattle.std.proofs.Math.Nat.{pow-suc}
 use Rattle.std.proofs.lemmas.Bool.Decides.{eqb_tells}
 use Rattle.std.proofs.lemmas.List.{drop_all, drop_more, length-drop, length-take-le}
-use Rattle.wire_fields.specs.Field.{little_endian, AllFit}
+use Rattle.wire_fields.specs.Field.{little_endian, AllFit, number_of}
 use Rattle.wire_fields.proofs.Spelling.{octet_then}
 use Rattle.hci_cmd.specs.Command.{opcode_of, parameters_of, written, parameter_length, fixed_lengths, IsCommand, IsOpcode, IsWhole}
 use Rattle.hci_cmd.specs.declared.command.Command.{Command}
 use Rattle.hci_cmd.specs.declared.command.Command.TheVariants.{SetEventMask, Reset, ReadBdAddr, LeSetAdvEnable, LeSetScanEnable}
 use Rattle.hci_cmd.specs.declared.command.CmdRead.{CmdRead}
 use Rattle.hci_cmd.specs.declared.command.CmdRead.TheVariants.{Known, BadLength}
-use Rattle.controller.specs.Commands.{adv_params_in, command_in, number_of, sized}
+use Rattle.controller.specs.Commands.{adv_params_in, command_in, sized}
 
 -- what `read` says of a command of this length
 pub record Reads (opcode : ℕ) (octets : List ℕ) (result : CmdRead) : Type 0 where

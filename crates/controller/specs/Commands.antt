@@ -1,14 +1,11 @@
--- Which commands are carried out, and how their parameters stand in the packet (Core 5.2, volume 4 part E, sections 7.3, 7.4 and 7.8).
+-- Which commands are carried out, and at which places their parameters stand (Core 5.2, volume 4 part E, sections 7.3, 7.4 and 7.8):
+-- the layouts of hci_cmd, field by field.
 use Rattle.std.specs.Prelude.{ℕ, ◌+◌, ◌*◌, ◌==◌, List, [], ◌∷◌, length, take, drop, slice_index, if◌then◌else◌}
+use Rattle.wire_fields.specs.Field.{number_of}
 use Rattle.hci_cmd.specs.declared.command.Command.{Command}
 use Rattle.hci_cmd.specs.declared.command.Command.TheVariants.{SetEventMask, Reset, ReadBdAddr, LeSetAdvParams, LeSetAdvEnable, LeSetScanEnable}
 use Rattle.hci_cmd.specs.declared.command.CmdRead.{CmdRead}
 use Rattle.hci_cmd.specs.declared.command.CmdRead.TheVariants.{Known, UnknownOpcode, BadLength}
-
--- the number that these octets are, the least significant first
-abbrev pub number_of : List ℕ → ℕ
-number_of [] = 0
-number_of (octet ∷ octets) = octet + 256 * number_of octets
 
 -- the number of two octets at this place
 abbrev pub two_octets : ℕ → List ℕ → ℕ

@@ -142,7 +142,7 @@ abbrev pub device_after : ℕ → Device → Fed → Device
 device_after slot device (Packet (HostCommand opcode body)) = obeyed slot device (command_in opcode body.items)
 device_after slot device other = device
 
--- the events that it calls for, as far as no mask holds them back (a loss: section 7.7.16)
+-- the events that it calls for, as far as no mask holds them back (a loss: section 7.7.16; its number 01 is own)
 abbrev pub events_for : List ℕ → Device → Fed → List Event
 events_for public device (Packet (HostCommand opcode body)) = answer_to public device opcode (command_in opcode body.items) ∷ []
 events_for public device (Packet (Acl handle start count body)) = []

@@ -39,8 +39,8 @@ activity slot on device = if on then advertising slot device device.advertiser e
 
 -- ---- the three phases of a turn
 
--- an advertiser sends on its channel, then listens there, then is idle; a scanner listens on its channel first (Core 5.2,
--- volume 6 part B, section 4.4.2)
+-- an advertiser sends on its channel, then listens there, then is idle; a scanner listens on its channel first (own; what each
+-- sends is that of Core 5.2, volume 6 part B, sections 4.4.2 and 4.4.3)
 abbrev pub intent_in : ℕ → List ℕ → Activity → Intent
 intent_in zero public (Advertises channel) = Send channel (record { items = advertisement_on public channel })
 intent_in zero public (Scans channel) = Listen channel

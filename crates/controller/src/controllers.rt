@@ -32,7 +32,8 @@ enum Doing {
 /// A controller.
 ///
 /// Its calls come in this order: octets of the host between turns; then, for each turn, `begin_turn`, then `heard`
-/// or `unheard` once for each of three phases, then `end_turn`. Each call adds its notes to an outbox.
+/// or `unheard` once for each of three phases, then `end_turn`. A call that
+/// tells the host something adds a note to an outbox, which has room for one.
 #[derive(Drop)]
 pub struct Controller {
     public: [u8; 6],
@@ -158,7 +159,8 @@ impl Controller {
         self.intent()
     }
 
-    /// What becomes of octets that are on the air in the phase that comes next: missed, where it does not listen.
+    /// What becomes of octets that are on the air in the phase that comes next: missed, where it does not listen. The octets are
+    /// those of a packet in the order of the air, without preamble (Core 5.2, volume 6 part B, section 2.1).
     pub fn judge(&self, octets: &[u8]) -> Verdict
         ensures { (phase : ℕ) (public : List ℕ) (past : List Input) → self.now ≡ acting phase public past
             → result ≡ verdict_of (listened (intent_of phase (view_of public past))) octets.now }
@@ -179,7 +181,8 @@ impl Controller {
         read_advertisement(&self.public, pdu(channel, octets)?.as_slice())
     }
 
-    /// Takes a packet that was heard in this phase, and gives what is wanted in the next one.
+    /// Takes a packet that was heard in this phase, its octets in the order of the air, without preamble (Core 5.2, volume 6
+    /// part B, section 2.1), and gives what is wanted in the next one.
     pub fn heard(&mut self, octets: &[u8], out: &mut Outbox) -> Intent
         requires room { array_vec_len out.old < 64 }
         ensures acts { (phase channel : ℕ) (public : List ℕ) (past : List Input) → self.old ≡ acting phase public past

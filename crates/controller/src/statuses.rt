@@ -16,6 +16,12 @@ use hci_evt::Event;
 /// How many further commands the host may send.
 const FURTHER_COMMANDS: u8 = 1;
 
+/// The code of the Hardware Error that tells a loss of synchronisation (own).
+const LOST_SYNC: u8 = 0x01;
+
+/// Advertising_Type of high duty cycle directed advertising (section 7.8.5), which is not supported.
+const HIGH_DUTY_DIRECTED: u8 = 1;
+
 /// Whether an advertising interval is 20 ms to 10.24 s.
 fn is_interval(units: u16) -> bool
     ensures { result ≡ is_interval units }
@@ -63,6 +69,7 @@ struct AdvRequest {
 }
 
 impl Device {
+    /// The refusals of section 7.8.5, the first that holds.
     fn set_adv_params_status(&self, asked: AdvRequest) -> ErrCode
         ensures { result.0 ≡ set_adv_params_status self.now asked.min asked.max asked.kind asked.own asked.peer_kind
             asked.channels asked.policy }
@@ -73,12 +80,14 @@ impl Device {
         if !is_interval(asked.min) || !is_interval(asked.max) || asked.min > asked.max {
             return ErrCode::INVALID_HCI_PARAMETERS;
         }
-        if asked.kind == 1 {
+        if asked.kind == HIGH_DUTY_DIRECTED {
             return ErrCode::UNSUPPORTED_FEATURE_OR_PARAMETER;
         }
+        // Types end at 4.
         if asked.kind > 4 {
             return ErrCode::INVALID_HCI_PARAMETERS;
         }
+        // Addresses that the controller would make.
         if asked.own == 2 || asked.own == 3 {
             return ErrCode::UNSUPPORTED_FEATURE_OR_PARAMETER;
         }
@@ -229,7 +238,7 @@ impl Device {
     {
         match fed {
             Fed::More | Fed::Packet(HostPacket::Acl { .. }) => None,
-            Fed::LostSync => Some(Event::HardwareError { code: 0x01 }),
+            Fed::LostSync => Some(Event::HardwareError { code: LOST_SYNC }),
             Fed::Packet(HostPacket::Command { opcode, body }) => {
                 let read = read_command(*opcode, body.as_slice());
                 let answer = self.answer(public, *opcode, &read);

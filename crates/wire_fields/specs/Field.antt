@@ -1,11 +1,17 @@
--- The fields of a packet, and the octets in which they stand on the wire.
-use Rattle.std.specs.Prelude.{◌≡◌, ℕ, zero, suc, ◌%◌, ◌/◌, ◌<◌, ◌^◌, List, [], ◌∷◌, ◌++◌, length}
+-- The fields of a packet, and the octets in which they stand on the wire (Core 5.2, volume 4 part E, section 5.2, and volume 6
+-- part B, section 1.2; lists of fields are own).
+use Rattle.std.specs.Prelude.{◌≡◌, ℕ, zero, suc, ◌+◌, ◌*◌, ◌%◌, ◌/◌, ◌<◌, ◌^◌, List, [], ◌∷◌, ◌++◌, length}
 use Rattle.std.specs.List.{AllByRecursion}
 
 -- the lowest octets of a number, the least significant first (Core 5.2, volume 4 part E, section 5.2)
 unfoldable pub little_endian : ℕ → ℕ → List ℕ
 little_endian zero x = []
 little_endian (suc n) x = x % 256 ∷ little_endian n (x / 256)
+
+-- the number that these octets are, the least significant first
+abbrev pub number_of : List ℕ → ℕ
+number_of [] = 0
+number_of (octet ∷ octets) = octet + 256 * number_of octets
 
 -- a number that takes so many octets, or so many octets as they stand
 pub data Field : Type 0 where
