@@ -412,3 +412,22 @@ fn says_that_a_file_is_too_long(rt: HostRuntime) -> Result<(), Fail> {
     }
     Ok(())
 }
+
+#[test]
+fn says_which_file_cannot_be_read(rt: HostRuntime) -> Result<(), Fail> {
+    let alloc = rt.alloc();
+    let rows = [
+        (1, "cannot read a.bin\n"),
+        (2, "cannot read b.bin\n"),
+        (3, "cannot read schedule\n"),
+    ];
+    for (call, err) in rows {
+        let mut files = files_of(alloc, b"\x01\x03\x0c\x00", b"", "t ++ a4\n")?;
+        files.fail_at(call)?;
+        let ending = run(alloc, PAIR, &mut files, false)?;
+        assert_eq!(rt; ending.status, 2);
+        assert_eq!(rt; ending.out.octets(), b"".as_slice());
+        assert_eq!(rt; ending.err.octets(), err.as_bytes());
+    }
+    Ok(())
+}
