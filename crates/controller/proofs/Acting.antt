@@ -4,7 +4,7 @@ use Rattle.std.specs.Option.{option_to_list}
 use Rattle.hci_evt.specs.declared.event.Event.{Event}
 use Rattle.controller.specs.declared.intents.Intent.{Intent}
 use Rattle.controller.specs.declared.controllers.Doing.{Doing}
-use Rattle.controller.specs.declared.advertisers.AdvParams.{AdvParams}
+use Rattle.controller.specs.declared.advertisers.AdvertisingParameters.{AdvertisingParameters}
 use Rattle.controller.specs.declared.advertisers.Advertiser.{Advertiser}
 use Rattle.controller.specs.declared.scanners.Advertisement.{Advertisement}
 use Rattle.controller.specs.declared.scanners.Scanner.{Scanner}
@@ -138,7 +138,7 @@ advertising-hears : (slot : ℕ) (device : Device) (scanner : Option Scanner) (h
     → advertising slot (device_hears device scanner heard) advertiser ≡ advertising slot device advertiser
 advertising-hears slot device scanner heard None is = scanning-hears slot device scanner heard is
 advertising-hears slot device scanner heard (Some advertiser) is =
-    ap (λ (parameters : AdvParams). advertising_at slot (device_hears device scanner heard) (place_of parameters slot advertiser)) (parameters-hears device scanner heard)
+    ap (λ (parameters : AdvertisingParameters). advertising_at slot (device_hears device scanner heard) (place_of parameters slot advertiser)) (parameters-hears device scanner heard)
     ∙ place-hears slot device scanner heard (place_of device.parameters slot advertiser) is
 
 pub activity-hears : (slot : ℕ) (on : Bool) (device : Device) (heard : Option Advertisement)

@@ -4,7 +4,7 @@ use Rattle.std.proofs.Math.Nat.{suc-mod, mod-eq_of_lt, mod-lt, mod-le, mod_self,
 use Rattle.std.proofs.lemmas.Bool.{cases_lt, ne_eqb}
 use Rattle.std.proofs.lemmas.Bool.Decides.{nat_tests}
 use Rattle.controller.specs.declared.advertisers.Advertiser.{Advertiser}
-use Rattle.controller.specs.declared.advertisers.AdvParams.{AdvParams}
+use Rattle.controller.specs.declared.advertisers.AdvertisingParameters.{AdvertisingParameters}
 use Rattle.controller.specs.declared.devices.Device.{Device}
 use Rattle.controller.specs.Advertising.{begun_by, fresh, place_behind, place_in_event, place_of, slots_of}
 use Rattle.controller.specs.Events.{advertiser_after, left_on, place_by}
@@ -52,11 +52,11 @@ begun interval start slots place next long low (within is less) =
 begun interval start slots place next long low (anew is whole) = rw is (ap Some (omega arith))
 
 -- the place of an advertiser that is left on, and where its last event began
-record Keeps (parameters : AdvParams) (start slots : ℕ) : Type 0 where
+record Keeps (parameters : AdvertisingParameters) (start slots : ℕ) : Type 0 where
   place_is : place_of parameters (start + slots) (advertiser_after parameters start slots) ≡ place_by (slots_of parameters.interval) slots
   begun_is : (advertiser_after parameters start (suc slots)).event_slot ≡ Some (start + (slots - slots % slots_of parameters.interval))
 
-keeps : (parameters : AdvParams) (start slots : ℕ) → 3 ≤ slots_of parameters.interval → Keeps parameters start slots
+keeps : (parameters : AdvertisingParameters) (start slots : ℕ) → 3 ≤ slots_of parameters.interval → Keeps parameters start slots
 keeps parameters start zero long = record {
   place_is = rw (zero-mod (slots_of parameters.interval)) refl;
   begun_is = ap Some (omega arith);
@@ -76,7 +76,7 @@ keeps parameters start (suc slots) long =
           ∙ begun interval start slots (slots % interval) (suc slots % interval) long low next;
     }
 
-pub keeps_place : (parameters : AdvParams) (start slots : ℕ) → 3 ≤ slots_of parameters.interval
+pub keeps_place : (parameters : AdvertisingParameters) (start slots : ℕ) → 3 ≤ slots_of parameters.interval
     → place_of parameters (start + slots) (advertiser_after parameters start slots) ≡ place_by (slots_of parameters.interval) slots
 keeps_place parameters start slots long = (keeps parameters start slots long).place_is
 

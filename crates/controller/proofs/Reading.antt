@@ -11,7 +11,7 @@ use Rattle.hci_cmd.specs.declared.command.Command.{Command}
 use Rattle.hci_cmd.specs.declared.command.Command.TheVariants.{SetEventMask, Reset, ReadBdAddr, LeSetAdvEnable, LeSetScanEnable}
 use Rattle.hci_cmd.specs.declared.command.CmdRead.{CmdRead}
 use Rattle.hci_cmd.specs.declared.command.CmdRead.TheVariants.{Known, BadLength}
-use Rattle.controller.specs.Commands.{adv_params_in, command_in, sized}
+use Rattle.controller.specs.Commands.{advertising_parameters_in, command_in, sized}
 
 -- what `read` says of a command of this length
 pub record Reads (opcode : ℕ) (octets : List ℕ) (result : CmdRead) : Type 0 where
@@ -115,10 +115,10 @@ scan_enable_is octets small len = record {
 }
 
 params_spelled : (a b c d e f g h i j k l m n o : ℕ) → a < 256 → b < 256 → c < 256 → d < 256 → e < 256 → f < 256 → g < 256 → n < 256 → o < 256
-    → written (adv_params_in (a ∷ b ∷ c ∷ d ∷ e ∷ f ∷ g ∷ h ∷ i ∷ j ∷ k ∷ l ∷ m ∷ n ∷ o ∷ [])) ≡ a ∷ b ∷ c ∷ d ∷ e ∷ f ∷ g ∷ h ∷ i ∷ j ∷ k ∷ l ∷ m ∷ n ∷ o ∷ []
+    → written (advertising_parameters_in (a ∷ b ∷ c ∷ d ∷ e ∷ f ∷ g ∷ h ∷ i ∷ j ∷ k ∷ l ∷ m ∷ n ∷ o ∷ [])) ≡ a ∷ b ∷ c ∷ d ∷ e ∷ f ∷ g ∷ h ∷ i ∷ j ∷ k ∷ l ∷ m ∷ n ∷ o ∷ []
 params_spelled a b c d e f g h i j k l m n o sa sb sc sd se sf sg sn so = simp (two_then, octet_then)
 
-params_is : (octets : List ℕ) → AreOctets octets → length octets ≡ 15 → SpelledBy (adv_params_in octets) 0x2006 octets
+params_is : (octets : List ℕ) → AreOctets octets → length octets ≡ 15 → SpelledBy (advertising_parameters_in octets) 0x2006 octets
 params_is octets small len =
     let places = all_places 15 octets len in record {
       fits = (
@@ -126,7 +126,7 @@ params_is octets small len =
         (omega (arith, small 2, small 3), (small 4, (small 5, (small 6, (length-take-le 6 (drop 7 octets) (omega (arith, length-drop 7 octets)), (small 13, (small 14, tt))))))),
       );
       opcode_is = refl;
-      octets_are = subst (λ (xs : List ℕ). written (adv_params_in xs) ≡ xs) (sym places) (params_spelled _ _ _ _ _ _ _ _ _ _ _ _ _ _ _ (small 0) (small 1) (small 2) (small 3) (small 4) (small 5) (small 6) (small 13) (small 14));
+      octets_are = subst (λ (xs : List ℕ). written (advertising_parameters_in xs) ≡ xs) (sym places) (params_spelled _ _ _ _ _ _ _ _ _ _ _ _ _ _ _ (small 0) (small 1) (small 2) (small 3) (small 4) (small 5) (small 6) (small 13) (small 14));
     }
 
 -- ---- all of them

@@ -1,7 +1,7 @@
 -- When an advertiser sends (Core 5.2, volume 6 part B, section 4.4.2), in slots of 1.25 ms. Own: an event takes one slot for each channel.
 use Rattle.std.specs.Prelude.{ℕ, ◌+◌, ◌-◌, ◌/◌, ◌==◌, nat_lt, nat_le, Bool, Option, Some, None, if◌then◌else◌}
 use Rattle.controller.specs.declared.advertisers.Advertiser.{Advertiser}
-use Rattle.controller.specs.declared.advertisers.AdvParams.{AdvParams}
+use Rattle.controller.specs.declared.advertisers.AdvertisingParameters.{AdvertisingParameters}
 use Rattle.controller.specs.Masks.{has_bit}
 
 -- units of 0.625 ms in slots, rounded up (own)
@@ -29,14 +29,14 @@ begun_by slot None begun = begun
 begun_by slot (Some place) begun = if place == 0 then Some slot else begun
 
 -- the place in its event at which an advertiser holds or takes this slot
-abbrev pub place_of : AdvParams → ℕ → Advertiser → Option ℕ
+abbrev pub place_of : AdvertisingParameters → ℕ → Advertiser → Option ℕ
 place_of parameters slot advertiser = place_in_event (slots_of parameters.interval) slot advertiser.event_slot
 
 -- the advertiser once it was served in this slot
-abbrev pub served_in : AdvParams → ℕ → Advertiser → Advertiser
+abbrev pub served_in : AdvertisingParameters → ℕ → Advertiser → Advertiser
 served_in parameters slot advertiser =
     record advertiser { event_slot = begun_by slot (place_of parameters slot advertiser) advertiser.event_slot }
 
 -- whether the channel of this place, 37, 38 or 39, is one that the advertiser uses
-abbrev pub is_used : AdvParams → ℕ → Bool
+abbrev pub is_used : AdvertisingParameters → ℕ → Bool
 is_used parameters place = has_bit parameters.channels place

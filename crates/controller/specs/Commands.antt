@@ -16,8 +16,8 @@ abbrev pub sized : ℕ → List ℕ → Command → CmdRead
 sized count parameters command = if length parameters == count then Known command else BadLength
 
 -- LE Set Advertising Parameters (section 7.8.5)
-abbrev pub adv_params_in : List ℕ → Command
-adv_params_in octets =
+abbrev pub advertising_parameters_in : List ℕ → Command
+advertising_parameters_in octets =
     LeSetAdvParams (two_octets 0 octets) (two_octets 2 octets) (slice_index octets 4) (slice_index octets 5) (slice_index octets 6)
     (take 6 (drop 7 octets)) (slice_index octets 13) (slice_index octets 14)
 
@@ -27,7 +27,7 @@ command_in opcode octets =
     if opcode == 0x0C01 then sized 8 octets (SetEventMask (number_of octets))
     else if opcode == 0x0C03 then sized 0 octets Reset
     else if opcode == 0x1009 then sized 0 octets ReadBdAddr
-    else if opcode == 0x2006 then sized 15 octets (adv_params_in octets)
+    else if opcode == 0x2006 then sized 15 octets (advertising_parameters_in octets)
     else if opcode == 0x200A then sized 1 octets (LeSetAdvEnable (slice_index octets 0))
     else if opcode == 0x200C then sized 2 octets (LeSetScanEnable (slice_index octets 0) (slice_index octets 1))
     else UnknownOpcode

@@ -1,13 +1,13 @@
 -- Advertising events over time (Core 5.2, volume 6 part B, section 4.4.2.2): an advertiser that is left on. Own: that no delay is added.
 use Rattle.std.specs.Prelude.{ℕ, zero, suc, ◌+◌, ◌%◌, nat_lt, true, Option, Some, None, if◌then◌else◌}
 use Rattle.controller.specs.declared.advertisers.Advertiser.{Advertiser}
-use Rattle.controller.specs.declared.advertisers.AdvParams.{AdvParams}
+use Rattle.controller.specs.declared.advertisers.AdvertisingParameters.{AdvertisingParameters}
 use Rattle.controller.specs.declared.devices.Device.{Device}
 use Rattle.controller.specs.Advertising.{fresh, served_in}
 use Rattle.controller.specs.Turns.{behind_turn}
 
 -- the advertiser so many slots behind the one in which it was turned on, where its radio was on in each of them
-abbrev pub advertiser_after : AdvParams → ℕ → ℕ → Advertiser
+abbrev pub advertiser_after : AdvertisingParameters → ℕ → ℕ → Advertiser
 advertiser_after parameters start zero = fresh
 advertiser_after parameters start (suc slots) = served_in parameters (start + slots) (advertiser_after parameters start slots)
 

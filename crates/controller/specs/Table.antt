@@ -9,8 +9,8 @@ use Rattle.hci_cmd.specs.declared.command.CmdRead.{CmdRead}
 use Rattle.hci_cmd.specs.declared.command.CmdRead.TheVariants.{Known, UnknownOpcode, BadLength}
 use Rattle.hci_evt.specs.declared.event.Event.{Event}
 use Rattle.hci_evt.specs.declared.event.Event.TheVariants.{CommandComplete, CommandStatus, HardwareError}
-use Rattle.controller.specs.declared.advertisers.AdvKind.{AdvKind}
-use Rattle.controller.specs.declared.advertisers.AdvKind.TheVariants.{Undirected, Directed, Scannable, Nonconnectable}
+use Rattle.controller.specs.declared.advertisers.AdvertisingKind.{AdvertisingKind}
+use Rattle.controller.specs.declared.advertisers.AdvertisingKind.TheVariants.{Undirected, Directed, Scannable, Nonconnectable}
 use Rattle.controller.specs.declared.devices.Device.{Device}
 use Rattle.controller.specs.Advertising.{fresh}
 use Rattle.controller.specs.Commands.{command_in}
@@ -26,8 +26,8 @@ first_refusal (row ∷ rows) = if row.0 then row.1 else first_refusal rows
 abbrev pub is_interval : ℕ → Bool
 is_interval units = nat_le 0x0020 units && nat_le units 0x4000
 
-abbrev pub set_adv_params_status : Device → ℕ → ℕ → ℕ → ℕ → ℕ → ℕ → ℕ → ℕ
-set_adv_params_status device min max kind own peer_kind channels policy =
+abbrev pub set_advertising_parameters_status : Device → ℕ → ℕ → ℕ → ℕ → ℕ → ℕ → ℕ → ℕ
+set_advertising_parameters_status device min max kind own peer_kind channels policy =
     first_refusal (
     -- command disallowed: it is advertising
     (is_some device.advertiser, 0x0C)
@@ -45,10 +45,10 @@ set_adv_params_status device min max kind own peer_kind channels policy =
     ∷ (nat_lt 3 policy, 0x12)
     ∷ [])
 
-abbrev pub kind_of : ℕ → AdvKind
+abbrev pub kind_of : ℕ → AdvertisingKind
 kind_of kind = if kind == 0 then Undirected else if kind == 2 then Scannable else if kind == 3 then Nonconnectable else Directed
 
-abbrev pub is_nonconnectable : AdvKind → Bool
+abbrev pub is_nonconnectable : AdvertisingKind → Bool
 is_nonconnectable Nonconnectable = true
 is_nonconnectable other = false
 
@@ -59,8 +59,8 @@ abbrev pub turns_on : ℕ → Bool → Bool
 turns_on value is_on = (value == 1) && not is_on
 
 -- no random address can be set yet, and advertising is not connectable and not scannable yet (own)
-abbrev pub set_adv_enable_status : Device → ℕ → ℕ
-set_adv_enable_status device value =
+abbrev pub set_advertising_enable_status : Device → ℕ → ℕ
+set_advertising_enable_status device value =
     first_refusal (
     (nat_lt 1 value, 0x12)
     ∷ (turns_on value (is_some device.advertiser) && device.parameters.own_is_random, 0x12)
@@ -77,8 +77,8 @@ set_scan_enable_status value duplicates = first_refusal ((nat_lt 1 value || nat_
 -- the status of a command: 00 where it is carried out
 abbrev pub status_of : Device → Command → ℕ
 status_of device (LeSetAdvParams min max kind own peer_kind peer channels policy) =
-    set_adv_params_status device min max kind own peer_kind channels policy
-status_of device (LeSetAdvEnable value) = set_adv_enable_status device value
+    set_advertising_parameters_status device min max kind own peer_kind channels policy
+status_of device (LeSetAdvEnable value) = set_advertising_enable_status device value
 status_of device (LeSetScanEnable value duplicates) = set_scan_enable_status value duplicates
 status_of device other = 0x00
 

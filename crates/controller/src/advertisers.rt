@@ -4,9 +4,12 @@ ghost use Rattle.controller.specs.Advertising.{slots_of, place_of, is_used, serv
 
 use crate::masks::has_bit;
 
+/// The first of the three advertising channels (Core 5.2, volume 6 part B, section 1.4.1).
+pub(crate) const FIRST_ADVERTISING_CHANNEL: u8 = 37;
+
 /// The kinds of advertising (Core 5.2, volume 6 part B, section 4.4.2).
 #[derive(Clone, Copy, Debug, PartialEq, Eq)]
-pub(crate) enum AdvKind {
+pub(crate) enum AdvertisingKind {
     /// Connectable and scannable, to anyone.
     Undirected,
     /// Connectable, to one device.
@@ -19,10 +22,10 @@ pub(crate) enum AdvKind {
 
 /// What the host sets of advertising (Core 5.2, volume 4 part E, section 7.8.5).
 #[derive(Clone, Copy, Debug, PartialEq, Eq)]
-pub(crate) struct AdvParams {
+pub(crate) struct AdvertisingParameters {
     /// The least interval, in units of 0.625 ms.
     pub interval: u16,
-    pub kind: AdvKind,
+    pub kind: AdvertisingKind,
     /// Whether the own address is the random one, and not the public one.
     pub own_is_random: bool,
     /// Bits 0, 1 and 2 for the channels 37, 38 and 39.
@@ -43,7 +46,7 @@ pub(crate) fn slots_of(units: u16) -> u64
     (u64::from(units) + 1) / 2
 }
 
-impl AdvParams {
+impl AdvertisingParameters {
     /// The place in its event, 0 to 2, at which an advertiser with these parameters holds or takes a slot.
     pub(crate) fn place(&self, slot: u64, advertiser: &Advertiser) -> Option<u8>
         ensures value { result ≡ place_of self.now slot advertiser.now }
@@ -72,7 +75,7 @@ impl AdvParams {
 
 impl Advertiser {
     /// Notes that it is served in this slot, if it is.
-    pub(crate) fn serve(&mut self, parameters: &AdvParams, slot: u64)
+    pub(crate) fn serve(&mut self, parameters: &AdvertisingParameters, slot: u64)
         ensures { self.new ≡ served_in parameters.now slot self.old }
     {
         if parameters.place(slot, self) == Some(0) {

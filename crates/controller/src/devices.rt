@@ -5,7 +5,9 @@ ghost use Rattle.controller.specs.Table.{initial};
 ghost use Rattle.controller.specs.Turns.{activity, behind_turn, scanning, device_hears, device_tells};
 ghost use Rattle.controller.specs.State.{HasChannel, doing_in};
 
-use crate::advertisers::{AdvKind, AdvParams, Advertiser};
+use crate::advertisers::{
+    Advertiser, AdvertisingKind, AdvertisingParameters, FIRST_ADVERTISING_CHANNEL,
+};
 use crate::scanners::{Advertisement, Scanner};
 use hci_evt::Event;
 
@@ -14,7 +16,7 @@ use hci_evt::Event;
 pub(crate) struct Device {
     /// The mask of events: bit n lets some through (Core 5.2, volume 4 part E, section 7.3.1).
     pub mask: u64,
-    pub parameters: AdvParams,
+    pub parameters: AdvertisingParameters,
     /// The advertiser, where advertising is on.
     pub advertiser: Option<Advertiser>,
     /// The scanner, where scanning is on.
@@ -39,9 +41,9 @@ impl Device {
     {
         Device {
             mask: 0x0000_1FFF_FFFF_FFFF,
-            parameters: AdvParams {
+            parameters: AdvertisingParameters {
                 interval: 0x0800,
-                kind: AdvKind::Undirected,
+                kind: AdvertisingKind::Undirected,
                 own_is_random: false,
                 channels: 7,
             },
@@ -79,7 +81,7 @@ impl Device {
         match self.parameters.place(slot, advertiser) {
             None => self.scanning(slot),
             Some(place) if self.parameters.uses(place) => Activity::Advertises {
-                channel: 37 + place,
+                channel: FIRST_ADVERTISING_CHANNEL + place,
             },
             Some(_) => Activity::Rests,
         }

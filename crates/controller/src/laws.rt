@@ -7,7 +7,7 @@ ghost use Rattle.h4_frames.specs.Frames.{frames};
 ghost use Rattle.hci_evt.specs.declared.event.Event.{Event};
 ghost use Rattle.hci_evt.specs.declared.event.Event.TheVariants.{HardwareError};
 ghost use Rattle.hci_evt.specs.Event.{written};
-ghost use Rattle.controller.specs.declared.advertisers.AdvParams.{AdvParams};
+ghost use Rattle.controller.specs.declared.advertisers.AdvertisingParameters.{AdvertisingParameters};
 ghost use Rattle.controller.specs.declared.devices.Activity.TheVariants.{Scans};
 ghost use Rattle.controller.specs.declared.devices.Device.{Device};
 ghost use Rattle.controller.specs.Advertising.{fresh, place_of, slots_of};
@@ -69,7 +69,7 @@ pub fn each_packet_is_answered()
 /// each interval and in no others. In these it sends on the channels that it uses and is idle on the others, and between
 /// events a scanner has the radio. An interval that a host may set has 16 slots or more.
 pub fn an_advertiser_keeps_its_interval()
-    ensures place { (parameters : AdvParams) (start slots : ℕ) → 3 ≤ slots_of parameters.interval
+    ensures place { (parameters : AdvertisingParameters) (start slots : ℕ) → 3 ≤ slots_of parameters.interval
         → place_of parameters (start + slots) (advertiser_after parameters start slots)
         ≡ place_by (slots_of parameters.interval) slots }
     ensures activity { (device : Device) (start slots : ℕ) → device.advertiser ≡ Some fresh → 3 ≤ slots_of device.parameters.interval

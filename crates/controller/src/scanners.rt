@@ -5,7 +5,7 @@ ghost use Rattle.std.specs.Str.{bytes_eq};
 ghost use Rattle.std.specs.Option.{option_to_list};
 ghost use Rattle.controller.specs.Scanning.{channel_after, event_type, is_alike, is_named_by, is_withheld, last_16, scanner_after, events_of, advertisement_of_pdu, advertisement_in};
 
-use crate::advertisers::slots_of;
+use crate::advertisers::{FIRST_ADVERTISING_CHANNEL, slots_of};
 use adv_pdu::AdvPdu;
 use arrayvec::ArrayVec;
 use ble_base::Address;
@@ -101,7 +101,7 @@ impl Scanner {
         let behind = slot.saturating_sub(self.since);
         let interval = slots_of(SCAN_INTERVAL);
         if behind % interval < slots_of(SCAN_WINDOW) {
-            Some(37 + (behind / interval % 3) as u8)
+            Some(FIRST_ADVERTISING_CHANNEL + (behind / interval % 3) as u8)
         } else {
             None
         }

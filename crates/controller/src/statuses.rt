@@ -1,9 +1,9 @@
 //! What a command answers and changes.
 ghost use Rattle.std.specs.Prelude.{◌≡◌, ◌≤◌, length};
 ghost use Rattle.std.specs.Option.{option_to_list};
-ghost use Rattle.controller.specs.Table.{is_interval, set_adv_params_status, set_adv_enable_status, turns_on, is_nonconnectable, kind_of, status_of, done_by, obeyed, advertiser_by, scanner_by, returned, complete, answer_to, device_after, events_for};
+ghost use Rattle.controller.specs.Table.{is_interval, set_advertising_parameters_status, set_advertising_enable_status, turns_on, is_nonconnectable, kind_of, status_of, done_by, obeyed, advertiser_by, scanner_by, returned, complete, answer_to, device_after, events_for};
 
-use crate::advertisers::{AdvKind, AdvParams, Advertiser};
+use crate::advertisers::{Advertiser, AdvertisingKind, AdvertisingParameters};
 use crate::commands::read_command;
 use crate::devices::Device;
 use crate::scanners::Scanner;
@@ -36,29 +36,29 @@ fn turns_on(value: u8, is_on: bool) -> bool
     value == 1 && !is_on
 }
 
-impl AdvKind {
+impl AdvertisingKind {
     /// The kind of an Advertising_Type.
-    fn of(kind: u8) -> AdvKind
+    fn of(kind: u8) -> AdvertisingKind
         ensures { result ≡ kind_of kind }
     {
         match kind {
-            0 => AdvKind::Undirected,
-            2 => AdvKind::Scannable,
-            3 => AdvKind::Nonconnectable,
-            _ => AdvKind::Directed,
+            0 => AdvertisingKind::Undirected,
+            2 => AdvertisingKind::Scannable,
+            3 => AdvertisingKind::Nonconnectable,
+            _ => AdvertisingKind::Directed,
         }
     }
 
     fn is_nonconnectable(self) -> bool
         ensures { result ≡ is_nonconnectable self }
     {
-        matches!(self, AdvKind::Nonconnectable)
+        matches!(self, AdvertisingKind::Nonconnectable)
     }
 }
 
 /// What LE Set Advertising Parameters asks for, but for the peer's address, which only directed advertising needs.
 #[derive(Clone, Copy)]
-struct AdvRequest {
+struct AdvertisingRequest {
     min: u16,
     max: u16,
     kind: u8,
@@ -70,8 +70,8 @@ struct AdvRequest {
 
 impl Device {
     /// The refusals of section 7.8.5, the first that holds.
-    fn set_adv_params_status(&self, asked: AdvRequest) -> ErrCode
-        ensures { result.0 ≡ set_adv_params_status self.now asked.min asked.max asked.kind asked.own asked.peer_kind
+    fn set_advertising_parameters_status(&self, asked: AdvertisingRequest) -> ErrCode
+        ensures { result.0 ≡ set_advertising_parameters_status self.now asked.min asked.max asked.kind asked.own asked.peer_kind
             asked.channels asked.policy }
     {
         if self.advertiser.is_some() {
@@ -102,8 +102,8 @@ impl Device {
         ErrCode::SUCCESS
     }
 
-    fn set_adv_enable_status(&self, value: u8) -> ErrCode
-        ensures { result.0 ≡ set_adv_enable_status self.now value }
+    fn set_advertising_enable_status(&self, value: u8) -> ErrCode
+        ensures { result.0 ≡ set_advertising_enable_status self.now value }
     {
         let turns_on = turns_on(value, self.advertiser.is_some());
         if value > 1 || turns_on && self.parameters.own_is_random {
@@ -129,7 +129,7 @@ impl Device {
                 channels,
                 policy,
                 ..
-            } => self.set_adv_params_status(AdvRequest {
+            } => self.set_advertising_parameters_status(AdvertisingRequest {
                 min: *min,
                 max: *max,
                 kind: *kind,
@@ -138,7 +138,7 @@ impl Device {
                 channels: *channels,
                 policy: *policy,
             }),
-            Command::LeSetAdvEnable { value } => self.set_adv_enable_status(*value),
+            Command::LeSetAdvEnable { value } => self.set_advertising_enable_status(*value),
             Command::LeSetScanEnable { value, duplicates } if *value > 1 || *duplicates > 1 => {
                 ErrCode::INVALID_HCI_PARAMETERS
             }
@@ -186,9 +186,9 @@ impl Device {
                 channels,
                 ..
             } => {
-                self.parameters = AdvParams {
+                self.parameters = AdvertisingParameters {
                     interval: *min,
-                    kind: AdvKind::of(*kind),
+                    kind: AdvertisingKind::of(*kind),
                     own_is_random: *own == 1,
                     channels: *channels,
                 };

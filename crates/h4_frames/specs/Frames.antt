@@ -1,5 +1,6 @@
 -- The packets of all octets that a host sent, and the loss of synchronisation.
--- The packets: Bluetooth Core 5.2, volume 4 part A, section 2. Own: that a search for an HCI_Reset ends a loss.
+-- The packets: Bluetooth Core 5.2, volume 4 part A, section 2. That an HCI_Reset ends a loss: section 4; own: that it does so
+-- wherever its octets begin.
 use Rattle.std.specs.Prelude.{◌≡◌, ℕ, zero, suc, ◌+◌, nat_eq, if◌then◌else◌, List, [], ◌∷◌, ◌++◌, length, drop, Option, Some, None}
 use Rattle.std.specs.List.{starts_with}
 use Rattle.h4_frames.specs.declared.packet.HostPacket.{HostPacket}

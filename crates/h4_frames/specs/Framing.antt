@@ -1,5 +1,6 @@
 -- How a host's octets divide into packets, in the words of the transport: Bluetooth Core 5.2, volume 4 part A, section 2.
--- The layouts of the packets: volume 4 part E, sections 5.4.1 and 5.4.2. Own: that a search for an HCI_Reset ends a loss.
+-- The layouts of the packets: volume 4 part E, sections 5.4.1 and 5.4.2. That an HCI_Reset ends a loss: volume 4 part A, section 4;
+-- own: that it does so wherever its octets begin.
 use Rattle.std.specs.Prelude.{◌≡◌, ℕ, ◌+◌, false, List, [], ◌∷◌, ◌++◌, length, take}
 use Rattle.h4_frames.specs.declared.packet.HostPacket.{HostPacket}
 use Rattle.h4_frames.specs.declared.packet.HostPacket.TheVariants.{Command, Acl}

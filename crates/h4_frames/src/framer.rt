@@ -8,7 +8,7 @@ use std::marker::Model;
 
 /// Takes a host's octets one by one, and gives its packets (Bluetooth Core 5.2, volume 4 part A, section 2).
 /// After an octet that begins none that a host may send it looks for the octets of an HCI_Reset, which is
-/// then the next packet (own).
+/// then the next packet (section 4; own: wherever they begin).
 #[derive(Drop)]
 pub struct Framer {
     stage: Stage,
