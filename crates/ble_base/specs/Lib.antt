@@ -1,3 +1,4 @@
+pub mod Bits
 pub mod ChannelMap
 pub mod Instant
 pub mod Note

@@ -3,6 +3,7 @@
 #![tactic(auto)]
 
 mod addresses;
+mod bits;
 mod channel_map;
 mod instants;
 mod notes;
@@ -15,6 +16,7 @@ mod tests;
 mod verdicts;
 
 pub use crate::addresses::Address;
+pub use crate::bits::has_bit;
 pub use crate::channel_map::ChannelMap;
 pub use crate::instants::instant_gap;
 pub use crate::notes::{Note, Outbox};
