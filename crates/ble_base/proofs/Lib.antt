@@ -1,1 +1,2 @@
+-- Lemmas on the channels that a map uses.
 pub mod UsedChannels

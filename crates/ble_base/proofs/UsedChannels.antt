@@ -55,21 +55,21 @@ ones_from (suc k) a n h =
     (ones_step (n / 2 ^ a) ∙ ap (λ m. bit_at n a + count_ones m) next ∙ ap (λ m. bit_at n a + m) rest
     ∙ digit_counted (bit_at n a) a (used_from n (a + 1) k) (bit_at-lt n a))
 
--- the used channels of a number of 37 bits are as many as its bits that are 1
+-- a number of 37 bits has one used channel for each bit that is 1
 pub length-used_channels : (n : ℕ) → n < 2 ^ 37 → length (used_channels n) ≡ count_ones n
 length-used_channels n h =
     let all : n / 2 ^ 0 ≡ n = omega arith in
     rw (used_from-all n) (sym (ones_from 37 0 n (omega arith)) ∙ ap count_ones all)
 
--- and 37 at most
+-- it has at most 37
 pub length-used_channels_le : (n : ℕ) → n < 2 ^ 37 → length (used_channels n) ≤ 37
 length-used_channels_le n h = rw (length-used_channels n h) (ones-le 37 n h)
 
--- what has 37 bits, two of which are 1, is a map
+-- a number of 37 bits with two bits that are 1 is a map
 pub IsMap-from_ones : (n : ℕ) → n < 2 ^ 37 → 2 ≤ count_ones n → IsMap n
 IsMap-from_ones n h two = record { data_channels_only = h; two_or_more = rw (length-used_channels n h) two }
 
--- so is the number with all 37
+-- the number with all 37 bits is a map
 pub IsMap-all : IsMap (2 ^ 37 - 1)
 IsMap-all = IsMap-from_ones (2 ^ 37 - 1) (omega arith) (omega (arith, ones-ones 37))
 
@@ -119,11 +119,11 @@ used_from-listed (suc k) n a c h =
 pub listed_if_used : (n c : ℕ) → c < 37 → bit_at n c ≡ 1 → Contains (used_channels n) c
 listed_if_used n c h used = rw (used_from-all n) (listed_from 37 n 0 c used (omega arith) (omega arith))
 
--- and each in the list is a data channel that is used
+-- each channel in the list is a data channel that is used
 pub used_if_listed : (n c : ℕ) → Contains (used_channels n) c → (c < 37) × (bit_at n c ≡ 1)
 used_if_listed n c h = used_from-listed 37 n 0 c (rw (used_from-all n) at h)
 
--- what a map uses is a data channel
+-- a used channel is a data channel
 pub used-lt : (n c : ℕ) → n < 2 ^ 37 → bit_at n c ≡ 1 → c < 37
 used-lt n c h used = elim (cases_lt c 37) [ inl below ↦ below | inr above ↦ absurd (omega (arith, bit_at_above n 37 c h above, used)) ]
 

@@ -1,3 +1,5 @@
+//! Device addresses.
+
 /// A device address (Core 5.2, volume 6 part B, section 1.3).
 #[derive(Clone, Copy, Debug, PartialEq, Eq, Default)]
 pub struct Address {

@@ -1,13 +1,17 @@
+//! Channel maps: which data channels a link uses.
+
 ghost use Rattle.std.specs.Prelude.{◌≡◌, ◌<◌, ◌≤◌, ◌^◌, ◌-◌, ◌⊎◌, ◌↔◌, ℕ, false, length, IsTrue, IsSome, IfSome, IsNone, Contains, slice_index};
 ghost use Rattle.std.specs.Int.{bit_at};
 ghost use Rattle.ble_base.specs.ChannelMap.{used_channels, IsMap};
 
+use crate::has_bit;
 use std::marker::Model;
 
 /// How many data channels there are: 0 to 36 (Core 5.2, volume 6 part B, section 1.4.1).
 pub const DATA_CHANNELS: u8 = 37;
 
-/// Which data channels a link uses (Core 5.2, volume 6 part B, section 4.5.8.1): at least two of them.
+/// Which data channels a link uses (Core 5.2, volume 6 part B, section 4.5.8.1): at least two of
+/// them.
 #[derive(Clone, Copy, Debug, PartialEq, Eq)]
 pub struct ChannelMap {
     bits: u64,
@@ -27,8 +31,8 @@ impl Model for ChannelMap {
 }
 
 impl ChannelMap {
-    /// The map that uses channel k where bit k is 1. There is none where a bit from 37 up is 1, or
-    /// fewer than two bits are.
+    /// The map that uses channel k exactly if bit k is 1. None if a bit from 37 up is 1 or if fewer
+    /// than two bits are 1.
     pub fn new(bits: u64) -> Option<Self>
         ensures valid { IsSome result ↔ IsMap bits }
         ensures value { IfSome result (λ map. map ≡ bits) }
@@ -41,7 +45,7 @@ impl ChannelMap {
         }
     }
 
-    /// The map as a number: bit k is 1 where channel k is used.
+    /// The map as a number: bit k is 1 exactly if channel k is used.
     pub fn bits(&self) -> u64
         ensures value { result ≡ self.now }
         ensures map { IsMap result }
@@ -49,7 +53,7 @@ impl ChannelMap {
         self.bits
     }
 
-    /// Whether the map uses this channel. It uses none from 37 up.
+    /// Whether the map uses this channel; false from 37 up.
     pub fn uses(&self, channel: u8) -> bool
         ensures bit { IsTrue result ↔ (bit_at self.now channel ≡ 1) }
         ensures listed { IsTrue result ↔ Contains (used_channels self.now) channel }
@@ -100,7 +104,7 @@ fn is_map(bits: u64) -> bool
 fn is_bit_set(bits: u64, channel: u8) -> bool
     ensures { IsTrue result ↔ ((channel < 37) × (bit_at bits channel ≡ 1)) }
 {
-    channel < DATA_CHANNELS && (bits >> channel) & 1 == 1
+    channel < DATA_CHANNELS && has_bit(bits, channel)
 }
 
 /// The place of the bit with this index among those of the low 37 that are 1.

@@ -1,3 +1,5 @@
+//! The control procedures of a link.
+
 /// A control procedure of a link (Core 5.2, volume 6 part B, section 5.1).
 #[derive(Clone, Copy, Debug, PartialEq, Eq, Default)]
 pub enum Kind {

@@ -1,3 +1,4 @@
+//! The two sides of a run, and the two roles on a link.
 ghost use Rattle.std.specs.Prelude.{◌≡◌};
 ghost use Rattle.ble_base.specs.Side.{other_side};
 
@@ -21,8 +22,8 @@ impl Side {
     }
 }
 
-/// What a device is on a link (Core 5.2, volume 6 part B, section 1.1): the central, there called the
-/// master, began it; the peripheral, there called the slave, took the CONNECT_IND.
+/// The role of a device on a link (Core 5.2, volume 6 part B, section 1.1). The central, there
+/// called the master, sent the CONNECT_IND; the peripheral, there called the slave, received it.
 #[derive(Clone, Copy, Debug, PartialEq, Eq, Default)]
 pub enum Role {
     #[default]

@@ -1,3 +1,4 @@
+//! Tests of what no contract says.
 use crate::{
     Address, ChannelMap, Config, ErrCode, EventNo, Kind, Note, Outbox, Role, Side, SlotNo, Verdict,
     instant_gap,
@@ -37,8 +38,40 @@ fn map_is_walked(rt: HostRuntime) -> Result<(), Fail> {
     Ok(())
 }
 
+/// The numbers of Core 5.2, volume 1 part F, section 1.3.
 #[test]
-fn gaps_go_round(rt: HostRuntime) {
+fn error_codes_have_their_numbers(rt: HostRuntime) {
+    for (code, number) in [
+        (ErrCode::SUCCESS, 0),
+        (ErrCode::UNKNOWN_HCI_COMMAND, 1),
+        (ErrCode::UNKNOWN_CONNECTION_IDENTIFIER, 2),
+        (ErrCode::PIN_OR_KEY_MISSING, 6),
+        (ErrCode::MEMORY_CAPACITY_EXCEEDED, 7),
+        (ErrCode::CONNECTION_TIMEOUT, 8),
+        (ErrCode::CONNECTION_LIMIT_EXCEEDED, 9),
+        (ErrCode::CONNECTION_ALREADY_EXISTS, 11),
+        (ErrCode::COMMAND_DISALLOWED, 12),
+        (ErrCode::LIMITED_RESOURCES, 13),
+        (ErrCode::UNSUPPORTED_FEATURE_OR_VALUE, 17),
+        (ErrCode::INVALID_HCI_PARAMETERS, 18),
+        (ErrCode::REMOTE_USER_TERMINATED, 19),
+        (ErrCode::TERMINATED_BY_LOCAL_HOST, 22),
+        (ErrCode::UNSUPPORTED_REMOTE_FEATURE, 26),
+        (ErrCode::INVALID_LL_PARAMETERS, 30),
+        (ErrCode::LL_RESPONSE_TIMEOUT, 34),
+        (ErrCode::LL_PROCEDURE_COLLISION, 35),
+        (ErrCode::INSTANT_PASSED, 40),
+        (ErrCode::DIFFERENT_TRANSACTION_COLLISION, 42),
+        (ErrCode::UNACCEPTABLE_PARAMETERS, 59),
+        (ErrCode::MIC_FAILURE, 61),
+        (ErrCode::CONNECTION_NOT_ESTABLISHED, 62),
+    ] {
+        assert_eq!(rt; code, ErrCode(number));
+    }
+}
+
+#[test]
+fn gaps_wrap_round(rt: HostRuntime) {
     for (instant, now, gap) in [(7, 7, 0), (6, 7, 65535), (0, 65535, 1), (10, 4, 6)] {
         assert_eq!(rt; instant_gap(instant, now), gap);
     }
@@ -48,7 +81,7 @@ fn gaps_go_round(rt: HostRuntime) {
 }
 
 #[test]
-fn words_stand_in_vectors(rt: HostRuntime) {
+fn shared_types_fit_in_vectors(rt: HostRuntime) {
     let mut notes = Outbox::new();
     notes.push(Note::Up(ArrayVec::new()));
     notes.push(Note::Opened {

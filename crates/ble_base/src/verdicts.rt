@@ -1,13 +1,15 @@
-/// What becomes of a packet at the other side (own).
+//! Verdicts on packets.
+
+/// What the other side receives of a packet (our choice).
 #[derive(Clone, Copy, Debug, PartialEq, Eq, Default)]
 pub enum Verdict {
-    /// Nothing that begins with the expected access address was heard: the packet was lost, its access address is
-    /// another, or nobody listened on its channel.
+    /// Nothing with the expected access address was received: the packet was lost, its access
+    /// address was another, or the other side did not listen on its channel.
     #[default]
     Missed,
-    /// The access address was right, and the rest no whole PDU with its CRC.
+    /// The access address was right; the rest was not a whole PDU with its CRC.
     Broken,
-    /// The CRC was right, and the integrity code of the sealed payload was not.
+    /// The CRC was right; the message integrity check of the encrypted payload was not.
     Forged,
     /// The PDU was received.
     Good,

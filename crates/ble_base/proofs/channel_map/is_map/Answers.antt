@@ -1,3 +1,4 @@
+-- Proof of `channel_map::is_map`.
 use Rattle.std.proofs.Common.{arith}
 use Rattle.std.proofs.lemmas.Bool.Decides.{nat_tests}
 use Rattle.ble_base.proofs.UsedChannels.{length-used_channels, IsMap-from_ones}

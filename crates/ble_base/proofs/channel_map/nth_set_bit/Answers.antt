@@ -1,3 +1,4 @@
+-- Proof of `channel_map::nth_set_bit`.
 use Rattle.std.proofs.Common.{◌≡◌, ◌≢◌, true}
 use Rattle.std.specs.Int.{bit_at}
 use Rattle.ble_base.proofs.UsedChannels.{ahead_at_first, ahead_found, ahead_past_used, ahead_past_unused, ahead_nowhere}

@@ -1,3 +1,4 @@
+-- Invariants of `channel_map::nth_set_bit`.
 use Rattle.ble_base.proofs.UsedChannels.{IsAhead}
 use Rattle.ble_base.proofs.channel_map.nth_set_bit.Given as goal
 

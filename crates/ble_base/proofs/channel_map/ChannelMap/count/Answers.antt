@@ -1,3 +1,4 @@
+-- Proof of `channel_map::ChannelMap::count`.
 use Rattle.std.proofs.Common.{sym}
 use Rattle.ble_base.proofs.UsedChannels.{length-used_channels, length-used_channels_le}
 use Rattle.ble_base.proofs.channel_map.ChannelMap.count.Goals as goal

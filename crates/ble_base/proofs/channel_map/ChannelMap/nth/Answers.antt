@@ -1,3 +1,4 @@
+-- Proof of `channel_map::ChannelMap::nth`.
 use Rattle.std.proofs.Common.{◌<◌, length}
 use Rattle.ble_base.specs.ChannelMap.{used_channels}
 use Rattle.std.proofs.lemmas.List.Elements.{Contains-get_or}

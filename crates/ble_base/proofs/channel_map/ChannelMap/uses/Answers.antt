@@ -1,3 +1,4 @@
+-- Proof of `channel_map::ChannelMap::uses`.
 use Rattle.ble_base.proofs.UsedChannels.{listed_if_used, used_if_listed, used-lt}
 use Rattle.ble_base.proofs.channel_map.ChannelMap.uses.Goals as goal
 

@@ -1,3 +1,4 @@
+-- Proof of `channel_map::ChannelMapDefault::default`.
 use Rattle.ble_base.proofs.UsedChannels.{IsMap-all}
 use Rattle.ble_base.proofs.channel_map.ChannelMapDefault.default.Goals as goal
 

@@ -1,10 +1,10 @@
-ghost use Rattle.std.specs.Prelude.{◌≡◌, ◌^◌, ◌%◌};
+//! Error codes.
 
 /// An error code (Core 5.2, volume 1 part F).
 #[derive(Clone, Copy, Debug, PartialEq, Eq, Default)]
 pub struct ErrCode(pub u8);
 
-/// The codes that this controller gives, each with its name in the list (Core 5.2, volume 1 part F, section 1.3).
+/// The codes that this controller gives, each by its name in the list of error codes.
 impl ErrCode {
     /// Success.
     pub const SUCCESS: Self = ErrCode(0x00);
@@ -24,14 +24,20 @@ impl ErrCode {
     /// Connection Timeout.
     pub const CONNECTION_TIMEOUT: Self = ErrCode(0x08);
 
+    /// Connection Limit Exceeded.
+    pub const CONNECTION_LIMIT_EXCEEDED: Self = ErrCode(0x09);
+
+    /// Connection Already Exists.
+    pub const CONNECTION_ALREADY_EXISTS: Self = ErrCode(0x0B);
+
     /// Command Disallowed.
     pub const COMMAND_DISALLOWED: Self = ErrCode(0x0C);
 
     /// Connection Rejected due to Limited Resources.
-    pub const CONNECTION_REJECTED_LIMITED_RESOURCES: Self = ErrCode(0x0D);
+    pub const LIMITED_RESOURCES: Self = ErrCode(0x0D);
 
     /// Unsupported Feature or Parameter Value.
-    pub const UNSUPPORTED_FEATURE_OR_PARAMETER: Self = ErrCode(0x11);
+    pub const UNSUPPORTED_FEATURE_OR_VALUE: Self = ErrCode(0x11);
 
     /// Invalid HCI Command Parameters.
     pub const INVALID_HCI_PARAMETERS: Self = ErrCode(0x12);
@@ -61,29 +67,11 @@ impl ErrCode {
     pub const DIFFERENT_TRANSACTION_COLLISION: Self = ErrCode(0x2A);
 
     /// Unacceptable Connection Parameters.
-    pub const UNACCEPTABLE_CONNECTION_PARAMETERS: Self = ErrCode(0x3B);
+    pub const UNACCEPTABLE_PARAMETERS: Self = ErrCode(0x3B);
 
     /// Connection Terminated due to MIC Failure.
     pub const MIC_FAILURE: Self = ErrCode(0x3D);
 
     /// Connection Failed to be Established / Synchronization Timeout.
-    pub const CONNECTION_FAILED_TO_BE_ESTABLISHED: Self = ErrCode(0x3E);
+    pub const CONNECTION_NOT_ESTABLISHED: Self = ErrCode(0x3E);
 }
-
-/// The number of a connection event of one link, counted from 0 without end. What the specification
-/// counts, connEventCounter, is this number modulo 65536 (Core 5.2, volume 6 part B, section 4.5.1).
-#[derive(Clone, Copy, Debug, PartialEq, Eq, PartialOrd, Ord, Default)]
-pub struct EventNo(pub u64);
-
-impl EventNo {
-    /// connEventCounter, the 16-bit counter of the connection event.
-    pub fn counter(self) -> u16
-        ensures { result ≡ self.0 % 2 ^ 16 }
-    {
-        (self.0 % 65536) as u16
-    }
-}
-
-/// The number of a slot of 1.25 ms, counted from 0 at the start of the run.
-#[derive(Clone, Copy, Debug, PartialEq, Eq, PartialOrd, Ord, Default)]
-pub struct SlotNo(pub u64);
