@@ -6,12 +6,12 @@ use Rattle.std.proofs.lemmas.List.{length_push, length-map, map_push, get_or_app
 use Rattle.std.proofs.lemmas.List.Elements.{All-push, All-weaker}
 use Rattle.h4_frames.specs.declared.packet.Fed.{Fed}
 use Rattle.h4_frames.specs.declared.packet.Fed.TheVariants.{More, Packet, LostSync}
-use Rattle.h4_frames.specs.Frames.{frames, rest, note, entries_from, AreBrought}
+use Rattle.h4_frames.specs.Frames.{frames, rest, frame_entry, frame_entries, AreResults}
 use Rattle.h4_frames.proofs.Steps.{fed_of}
 use Rattle.h4_frames.proofs.Feeding.{frames_step}
 
-pub frames_cut : (past octets : List ℕ) (brought : List Fed) → AreBrought past octets brought
-    → frames (past ++ octets) ≡ frames past ++ entries_from (length past) brought
+pub frames_cut : (past octets : List ℕ) (results : List Fed) → AreResults past octets results
+    → frames (past ++ octets) ≡ frames past ++ frame_entries (length past) results
 frames_cut past [] [] are = rw (append-nil past, append-nil (frames past)) refl
 frames_cut past [] (fed ∷ more) are = absurd are
 frames_cut past (x ∷ xs) [] are = absurd are
@@ -25,11 +25,11 @@ frames_more past [] = ([], rw (append-nil past, append-nil (frames past)) refl)
 frames_more past (x ∷ xs) =
     let later = frames_more (past ++ x ∷ []) xs in
     let same : past ++ x ∷ xs ≡ (past ++ x ∷ []) ++ xs = simp append_assoc in (
-      note (length past + 1) (fed_of (rest past) x) ++ later.0,
+      frame_entry (length past + 1) (fed_of (rest past) x) ++ later.0,
       rw (same, later.1, frames_step past x) (simp append_assoc),
     )
 
--- the frames end within so many octets, one behind the other
+-- the frames end within n octets, one after the other
 pub record ArePlaced (n : ℕ) (entries : List (ℕ × Fed)) : Type 0 where
   pub within : All (λ entry. entry.0 ≤ n) entries
   pub in_order : IsStrictlyIncreasing (map (λ entry. entry.0) entries)
@@ -61,7 +61,7 @@ placed_add n entries fed placed =
           rw (get_or-map (λ (entry : ℕ × Fed). entry.0) entries k (0, fed) d low) (omega (arith, placed.within k (0, fed) low))));
     }
 
-placed_push : (n : ℕ) (entries : List (ℕ × Fed)) (fed : Fed) → ArePlaced n entries → ArePlaced (n + 1) (entries ++ note (n + 1) fed)
+placed_push : (n : ℕ) (entries : List (ℕ × Fed)) (fed : Fed) → ArePlaced n entries → ArePlaced (n + 1) (entries ++ frame_entry (n + 1) fed)
 placed_push n entries More placed =
     rw append-nil
     (record {

@@ -1,3 +1,4 @@
+-- The lemmas of this crate, lowest first.
 pub mod Finders
 pub mod Steps
 pub mod Searches

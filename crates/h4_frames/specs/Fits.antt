@@ -1,4 +1,4 @@
--- What every stage of a framer keeps. Own.
+-- The invariant of the stages of a framer (our choice).
 use Rattle.std.specs.Prelude.{◌<◌, length}
 use Rattle.h4_frames.specs.declared.stage.Stage.{Stage}
 use Rattle.h4_frames.specs.declared.stage.Stage.TheVariants.{Indicator, CommandHead, AclHead, CommandBody, AclBody, Search}

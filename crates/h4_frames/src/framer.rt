@@ -1,4 +1,4 @@
-//! The framer: a stage, and the packets of all octets that it was fed.
+//! The framer: its stage, and the packets of all octets that it was fed.
 
 ghost use Rattle.std.specs.Prelude.{◌≡◌, ◌≢◌, ℕ, ◌+◌, ◌↔◌, List, [], ◌∷◌, ◌++◌, length};
 
@@ -6,9 +6,9 @@ use crate::packet::Fed;
 use crate::stage::Stage;
 use std::marker::Model;
 
-/// Takes a host's octets one by one, and gives its packets (Bluetooth Core 5.2, volume 4 part A, section 2).
-/// After an octet that begins none that a host may send it looks for the octets of an HCI_Reset, which is
-/// then the next packet (section 4; own: wherever they begin).
+/// Takes a host's octets one by one and gives its packets (Core 5.2, volume 4 part A, section 2).
+/// After an octet that cannot begin a packet of a host it searches for the octets of an HCI_Reset,
+/// which is then the next packet (section 4; that they may begin anywhere is our choice).
 #[derive(Drop)]
 pub struct Framer {
     stage: Stage,
@@ -27,26 +27,27 @@ impl Model for Framer {
 }
 
 impl Framer {
-    ghost use Rattle.h4_frames.specs.Frames.{frames, note, IsBetweenPackets};
-    ghost use Rattle.h4_frames.specs.Machine.{waits};
+    ghost use Rattle.h4_frames.specs.Frames.{frames, frame_entry, IsBetweenPackets};
+    ghost use Rattle.h4_frames.specs.Machine.{framer_after};
 
-    /// A framer that was fed nothing: it waits for an indicator.
+    /// A framer that was fed nothing. It waits for an indicator.
     pub fn new() -> Framer
-        ensures { result ≡ waits [] }
+        ensures { result ≡ framer_after [] }
     {
         Framer {
             stage: Stage::Indicator,
         }
     }
 
-    /// Takes the next octet, and tells what it brings. Each octet is taken, also one that is no part of a packet.
+    /// Takes the next octet and gives its result. An octet that is not part of a packet is taken
+    /// too.
     pub fn feed(&mut self, octet: u8) -> Fed
-        // The packets and losses of all octets so far are those that were given.
-        ensures frames { (past : List ℕ) → self.old ≡ waits past
-            → frames (past ++ octet ∷ []) ≡ frames past ++ note (length past + 1) result }
-        ensures waits { (past : List ℕ) → self.old ≡ waits past → self.new ≡ waits (past ++ octet ∷ []) }
-
-        ensures lost { (past : List ℕ) → self.old ≡ waits past
+        // The packets and losses of all octets so far are the results that were given.
+        ensures frames { (past : List ℕ) → self.old ≡ framer_after past
+            → frames (past ++ octet ∷ []) ≡ frames past ++ frame_entry (length past + 1) result }
+        ensures framer_after { (past : List ℕ) → self.old ≡ framer_after past
+            → self.new ≡ framer_after (past ++ octet ∷ []) }
+        ensures lost { (past : List ℕ) → self.old ≡ framer_after past
             → ((result ≡ Fed.LostSync) ↔ (IsBetweenPackets past × (octet ≢ 1) × (octet ≢ 2))) }
     {
         self.stage.step(octet)

@@ -1,6 +1,6 @@
-//! The host's half of H4, the UART transport of HCI: Bluetooth Core 5.2, volume 4 part A, section 2.
+//! The host's half of H4, the UART transport of HCI (Core 5.2, volume 4 part A, section 2).
 //!
-//! A [`Framer`] is fed a host's octets one by one, however they were cut on their way, and tells where a packet ends.
+//! A [`Framer`] is fed a host's octets one by one and gives each packet at its last octet.
 #![tactic(auto)]
 
 mod framer;
@@ -12,5 +12,5 @@ mod stage;
 mod tests;
 
 pub use framer::Framer;
-pub use laws::{any_cutting, frames_are_the_division, frames_grow, frames_stand_in_order};
+pub use laws::{frames_are_in_order, frames_are_the_division, frames_grow, results_are_the_frames};
 pub use packet::{Fed, HostPacket};

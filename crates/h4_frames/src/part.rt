@@ -1,12 +1,14 @@
-//! Packets whose head has come, and whose octets are on their way.
+//! Packets whose head is complete and whose octets are still coming.
 
 ghost use Rattle.std.specs.Prelude.{◌≡◌, IfNone};
 ghost use Rattle.h4_frames.specs.Parts.{HasRoom, command_with, whole_command, IsOpen, acl_with, whole_acl};
 
 use crate::packet::HostPacket;
 use arrayvec::ArrayVec;
+use ble_base::PAYLOAD_OCTETS;
+use wire_fields::put_octets;
 
-/// A command, and how many of its parameter octets are left.
+/// A command, and the number of its parameter octets that are left.
 #[derive(Drop)]
 pub struct CommandPart {
     pub opcode: u16,
@@ -16,27 +18,27 @@ pub struct CommandPart {
     pub body: ArrayVec<u8, 255>,
 }
 
-/// ACL data, and how many of its octets are left.
+/// ACL data, and the number of its octets that are left.
 #[derive(Drop)]
 pub struct AclPart {
     pub handle: u16,
     pub start: bool,
-    /// How many octets of data the packet has.
+    /// The number of data octets of the packet.
     pub length: u16,
     /// 1 to `length`.
     pub left: u16,
-    /// The data so far, in the order sent, or the first 251 octets of it.
-    pub body: ArrayVec<u8, 251>,
+    /// The data so far, in the order sent, or the first [`PAYLOAD_OCTETS`] of it.
+    pub body: ArrayVec<u8, PAYLOAD_OCTETS>,
 }
 
 impl CommandPart {
-    /// Takes the next parameter octet, and gives the command where that is the last.
+    /// Takes the next parameter octet, and gives the command if that is the last.
     pub fn push(&mut self, octet: u8) -> Option<HostPacket>
         requires { HasRoom self.old }
         ensures whole { result ≡ whole_command (command_with self.old octet) }
         ensures grown { IfNone result (self.new ≡ command_with self.old octet) }
     {
-        self.body.push(octet);
+        put_octets(&mut self.body, &[octet]);
         self.left -= 1;
         if self.left > 0 {
             return None;
@@ -49,14 +51,14 @@ impl CommandPart {
 }
 
 impl AclPart {
-    /// Takes the next octet of data, and gives the packet where that is the last.
+    /// Takes the next octet of data, and gives the packet if that is the last.
     pub fn push(&mut self, octet: u8) -> Option<HostPacket>
         requires { IsOpen self.old }
         ensures whole { result ≡ whole_acl (acl_with self.old octet) }
         ensures grown { IfNone result (self.new ≡ acl_with self.old octet) }
     {
         if !self.body.is_full() {
-            self.body.push(octet);
+            put_octets(&mut self.body, &[octet]);
         }
         self.left -= 1;
         if self.left > 0 {

@@ -1,33 +1,37 @@
+//! Tests of what no contract says: the packets of written-out octets.
+ghost use Rattle.std.specs.Prelude.{◌≤◌, length};
+
 use super::*;
 use arrayvec::ArrayVec;
 use std::alloc::{AllocError, Global};
 use std::test::Fail;
+use wire_fields::put_octets;
 
 const RESET: u16 = 0x0C03;
 
-fn command(opcode: u16, parameters: &[u8]) -> Fed {
+fn command(opcode: u16, parameters: &[u8]) -> Fed
+    requires { length parameters.now ≤ 255 }
+{
     let mut body = ArrayVec::new();
-    for octet in parameters {
-        let _ = body.try_push(*octet);
-    }
+    put_octets(&mut body, parameters);
     Fed::Packet(HostPacket::Command { opcode, body })
 }
 
-fn acl(handle: u16, start: bool, length: u16, data: &[u8]) -> Fed {
+fn acl(handle: u16, start: bool, count: u16, data: &[u8]) -> Fed
+    requires { length data.now ≤ 251 }
+{
     let mut body = ArrayVec::new();
-    for octet in data {
-        let _ = body.try_push(*octet);
-    }
+    put_octets(&mut body, data);
     Fed::Packet(HostPacket::Acl {
         handle,
         start,
-        length,
+        length: count,
         body,
     })
 }
 
-/// What these octets bring to a new framer, each with the count of octets up to its end.
-fn brought(alloc: Global, octets: &[u8]) -> Result<Vec<(usize, Fed)>, AllocError> {
+/// The results of a new framer for these octets, each with the number of octets up to its end.
+fn results(alloc: Global, octets: &[u8]) -> Result<Vec<(usize, Fed)>, AllocError> {
     let mut framer = Framer::new();
     let mut entries = Vec::new(alloc);
     for (place, octet) in octets.iter().enumerate() {
@@ -42,9 +46,9 @@ fn brought(alloc: Global, octets: &[u8]) -> Result<Vec<(usize, Fed)>, AllocError
 #[test]
 fn frames_what_a_host_sends(rt: HostRuntime) -> Result<(), Fail> {
     frames_are_the_division();
-    any_cutting();
+    results_are_the_frames();
     frames_grow();
-    frames_stand_in_order();
+    frames_are_in_order();
     let alloc = rt.alloc();
     let two_commands = b"\x01\x03\x0c\x00\x01\x01\x10\x02\xaa\xbb";
     let rows: [(&[u8], Vec<(usize, Fed)>); 9] = [
@@ -89,7 +93,7 @@ fn frames_what_a_host_sends(rt: HostRuntime) -> Result<(), Fail> {
         ),
     ];
     for (octets, entries) in rows {
-        assert_eq!(rt; brought(alloc, octets)?, entries, "at {octets:?}");
+        assert_eq!(rt; results(alloc, octets)?, entries, "at {octets:?}");
     }
     Ok(())
 }
@@ -101,7 +105,7 @@ fn keeps_the_first_251_octets(rt: HostRuntime) -> Result<(), Fail> {
     let mut octets = b"\x02\x01\x10\x2c\x01".to_vec(alloc)?;
     octets.extend_from_slice(&data)?;
     let entries = vec![in alloc; (305, acl(1, false, 300, &data[..251]))]?;
-    assert_eq!(rt; brought(alloc, &octets)?, entries);
+    assert_eq!(rt; results(alloc, &octets)?, entries);
     Ok(())
 }
 

@@ -1,3 +1,4 @@
+-- Proof of `laws::frames_are_the_division`.
 use Rattle.h4_frames.proofs.Framings.{division}
 use Rattle.h4_frames.proofs.laws.frames_are_the_division.Goals as goal
 

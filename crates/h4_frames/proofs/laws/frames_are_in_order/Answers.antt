@@ -1,5 +1,6 @@
+-- Proof of `laws::frames_are_in_order`.
 use Rattle.h4_frames.proofs.Growing.{frames-placed}
-use Rattle.h4_frames.proofs.laws.frames_stand_in_order.Goals as goal
+use Rattle.h4_frames.proofs.laws.frames_are_in_order.Goals as goal
 
 pub returns-clause-within : goal.returns-clause-within
 returns-clause-within c = λ octets. (frames-placed octets).within
