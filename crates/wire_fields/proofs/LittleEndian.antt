@@ -1,9 +1,10 @@
--- The octets of a number, against what std says of the bytes of its integers.
-use Rattle.std.proofs.Common.{◌≡◌, ℕ, zero, suc, ◌/◌, ◌<◌, List, [], ◌∷◌, ◌++◌, length, get_or, take, refl, sym, ap, subst, ◌∙◌, arith}
+-- The octets of a number: what std says of the bytes of its integers, and the number that octets are.
+use Rattle.std.proofs.Common.{◌≡◌, ℕ, zero, suc, ◌+◌, ◌*◌, ◌%◌, ◌/◌, ◌<◌, ◌^◌, List, [], ◌∷◌, ◌++◌, length, get_or, take, drop, refl, sym, ap, subst, ◌∙◌, arith}
 use Rattle.std.specs.Int.{w16, w32, w64, to_le_bytes, from_le_bytes}
-use Rattle.std.proofs.Math.Nat.{div-div-eq-div-mul}
+use Rattle.std.proofs.Math.Nat.{div-div-eq-div-mul, pow-suc}
+use Rattle.std.proofs.lemmas.List.{drop_at, take_at}
 use Rattle.std.proofs.lemmas.Nat.{le_bytes_2, le_bytes_4, le_bytes_8}
-use Rattle.wire_fields.specs.Field.{little_endian}
+use Rattle.wire_fields.specs.Field.{little_endian, number_of}
 
 pub length-little_endian : (n x : ℕ) → length (little_endian n x) ≡ n
 unfolding little_endian
@@ -54,7 +55,7 @@ read_8 s front rest x e len small value = e ∙ ap (λ (t : List ℕ). t ++ rest
 
 -- ---- the lowest octets of a wider number
 
--- a list of so many octets is that of its elements
+-- a list of three or five octets is that of its elements
 list_3 : (xs : List ℕ) → length xs ≡ 3 → xs ≡ get_or xs 0 0 ∷ get_or xs 1 0 ∷ get_or xs 2 0 ∷ []
 list_3 (a ∷ b ∷ c ∷ []) len = refl
 list_3 [] len = absurd (omega arith)
@@ -110,3 +111,62 @@ pub octet_1 : (s front rest : List ℕ) → s ≡ front ++ rest → length front
 octet_1 s [] rest e len = absurd (omega arith)
 octet_1 s (x ∷ []) rest e len = e
 octet_1 s (x ∷ y ∷ front) rest e len = absurd (omega arith)
+
+-- ---- the number that octets are
+
+-- all are octets
+abbrev pub AreOctets : List ℕ → Type 0
+AreOctets octets = (i : ℕ) → get_or octets i 0 < 256
+
+-- ---- numbers of several octets
+
+pub number_of-little_endian : (n x : ℕ) → x < 256 ^ n → number_of (little_endian n x) ≡ x
+unfolding little_endian
+number_of-little_endian zero x fits = omega arith
+number_of-little_endian (suc n) x fits =
+    let high : x / 256 < 256 ^ n = omega arith in
+    let rest : number_of (little_endian n (x / 256)) ≡ x / 256 = number_of-little_endian n (x / 256) high in
+    omega arith
+
+pub little_endian-number_of : (octets : List ℕ) → AreOctets octets → little_endian (length octets) (number_of octets) ≡ octets
+unfolding little_endian
+little_endian-number_of [] small = refl
+little_endian-number_of (octet ∷ octets) small =
+    let here : octet < 256 = small 0 in
+    let low : (octet + 256 * number_of octets) % 256 ≡ octet = omega arith in
+    let high : (octet + 256 * number_of octets) / 256 ≡ number_of octets = omega arith in
+    let rest : little_endian (length octets) ((octet + 256 * number_of octets) / 256) ≡ octets = ap (little_endian (length octets)) high ∙ little_endian-number_of octets (λ i. small (suc i)) in
+    λ i. low i ∷ rest i
+
+pub number_of-fits : (octets : List ℕ) → AreOctets octets → number_of octets < 256 ^ length octets
+number_of-fits [] small = omega arith
+number_of-fits (octet ∷ octets) small =
+    let rest = number_of-fits octets (λ i. small (suc i)) in
+    let here : octet < 256 = small 0 in
+    omega (arith, pow-suc 256 (length octets))
+
+-- ---- one field at the front
+
+-- a number and what is after it, by place
+pub number_taken : (n x : ℕ) (octets rest : List ℕ) → octets ≡ little_endian n x ++ rest → x < 256 ^ n → number_of (take n octets) ≡ x
+number_taken n x octets rest is fits =
+    ap (λ (s : List ℕ). number_of (take n s)) is ∙ ap number_of (take_at (little_endian n x) rest n (length-little_endian n x)) ∙ number_of-little_endian n x fits
+
+pub number_left : (n x : ℕ) (octets rest : List ℕ) → octets ≡ little_endian n x ++ rest → drop n octets ≡ rest
+number_left n x octets rest is = ap (drop n) is ∙ drop_at (little_endian n x) rest n (length-little_endian n x)
+
+pub octets_taken : (n : ℕ) (field octets rest : List ℕ) → octets ≡ field ++ rest → length field ≡ n → take n octets ≡ field
+octets_taken n field octets rest is len = ap (take n) is ∙ take_at field rest n len
+
+pub octets_left : (n : ℕ) (field octets rest : List ℕ) → octets ≡ field ++ rest → length field ≡ n → drop n octets ≡ rest
+octets_left n field octets rest is len = ap (drop n) is ∙ drop_at field rest n len
+
+-- an array at the front, and what is after it
+pub array_taken : (n : ℕ) (field octets rest : List ℕ) → octets ≡ field ++ rest → length field ≡ n → field ≡ take n octets
+array_taken n field octets rest is len = sym (octets_taken n field octets rest is len)
+
+pub array_left : (n : ℕ) (field octets rest : List ℕ) → octets ≡ field ++ rest → length field ≡ n → rest ≡ drop n octets
+array_left n field octets rest is len = sym (octets_left n field octets rest is len)
+
+-- for the function that takes an array
+pub ruleset array_front = (array_taken, array_left)

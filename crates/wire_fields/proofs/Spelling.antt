@@ -16,7 +16,7 @@ pub appended-spelled : (before : List ℕ) (fields : List Field) → appended be
 appended-spelled before [] = sym (append-nil before)
 appended-spelled before (field ∷ fields) = appended-spelled (before ++ octets_of field) fields ∙ append_assoc before (octets_of field) (spelled fields)
 
--- two lists that begin with as many octets
+-- two lists that begin with lists of one length
 pub front_is : (a b s t : List ℕ) → length a ≡ length b → a ++ s ≡ b ++ t → (a ≡ b) × (s ≡ t)
 front_is [] [] s t len e = (refl, e)
 front_is (x ∷ a) (y ∷ b) s t len e =
@@ -77,7 +77,7 @@ fields_are (f ∷ fs) (g ∷ gs) b ff fg e =
 fields_are [] (g ∷ gs) b ff fg e = absurd cc
 fields_are (f ∷ fs) [] b ff fg e = absurd cc
 
--- ---- what stands at a place
+-- ---- the value at a place
 
 abbrev pub number_at : ℕ → List Field → ℕ
 number_at k [] = 0

@@ -1,5 +1,5 @@
--- The fields of a packet, and the octets in which they stand on the wire (Core 5.2, volume 4 part E, section 5.2, and volume 6
--- part B, section 1.2; lists of fields are own).
+-- The fields of a packet and their octets (Core 5.2, volume 4 part E, section 5.2, and volume 6 part B, section 1.2;
+-- lists of fields are our choice).
 use Rattle.std.specs.Prelude.{◌≡◌, ℕ, zero, suc, ◌+◌, ◌*◌, ◌%◌, ◌/◌, ◌<◌, ◌^◌, List, [], ◌∷◌, ◌++◌, length}
 use Rattle.std.specs.List.{AllByRecursion}
 
@@ -13,7 +13,7 @@ abbrev pub number_of : List ℕ → ℕ
 number_of [] = 0
 number_of (octet ∷ octets) = octet + 256 * number_of octets
 
--- a number that takes so many octets, or so many octets as they stand
+-- a number of n octets, or n octets that are no number
 pub data Field : Type 0 where
   number : ℕ → ℕ → Field
   octets : ℕ → List ℕ → Field
@@ -22,22 +22,22 @@ abbrev pub octets_of : Field → List ℕ
 octets_of (number n x) = little_endian n x
 octets_of (octets n xs) = xs
 
--- the octets of the fields, one field behind another
+-- the octets of the fields, one field after another
 abbrev pub spelled : List Field → List ℕ
 spelled [] = []
 spelled (field ∷ fields) = octets_of field ++ spelled fields
 
--- these octets, and behind them those of the fields
+-- these octets, and after them those of the fields
 abbrev pub appended : List ℕ → List Field → List ℕ
 appended before [] = before
 appended before (field ∷ fields) = appended (before ++ octets_of field) fields
 
--- how many octets a field takes
+-- the number of octets that a field takes
 abbrev pub width : Field → ℕ
 width (number n x) = n
 width (octets n xs) = n
 
--- the number is one that so many octets can hold, or there are so many octets
+-- the number fits its n octets, or there are n octets
 abbrev pub FitsWidth : Field → Type 0
 FitsWidth (number n x) = x < 256 ^ n
 FitsWidth (octets n xs) = length xs ≡ n

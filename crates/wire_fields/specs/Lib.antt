@@ -1,2 +1,4 @@
 pub mod Field
+pub mod Layout
+pub mod Kind
 pub mod Table

@@ -1,11 +1,12 @@
 //! Taking fields from the front of a packet.
-ghost use Rattle.std.specs.Prelude.{◌≡◌, ◌↔◌, ◌≤◌, ◌+◌, ◌^◌, ◌<◌, ◌∷◌, ◌++◌, IsTrue, length};
-ghost use Rattle.wire_fields.specs.Field.{little_endian};
+ghost use Rattle.std.specs.Prelude.{◌≡◌, ◌↔◌, ◌≤◌, ◌+◌, ◌^◌, ◌<◌, ◌==◌, ◌∷◌, ◌++◌, IsTrue, length};
+ghost use Rattle.std.specs.Prelude.{take, drop};
+ghost use Rattle.wire_fields.specs.Field.{little_endian, number_of};
 
 use std::marker::Model;
 
-/// The octets of a packet that are still to be taken, field by field from the front (own). Numbers have their
-/// least significant octet first.
+/// The octets of a packet that are still to be taken, field by field from the front. Numbers have
+/// their least significant octet first.
 #[derive(Drop)]
 pub struct Fields<'a> {
     rest: &'a [u8],
@@ -28,7 +29,7 @@ impl<'a> Fields<'a> {
         Fields { rest: octets }
     }
 
-    /// How many octets are left.
+    /// The number of octets that are left.
     pub fn len(&self) -> usize
         ensures { result ≡ length self.now }
     {
@@ -42,9 +43,18 @@ impl<'a> Fields<'a> {
         self.rest.is_empty()
     }
 
-    /// The next `count` octets as they stand.
+    /// Whether this number of octets is left.
+    pub fn has_exactly(&self, count: usize) -> bool
+        ensures { result ≡ (length self.now == count) }
+    {
+        self.rest.len() == count
+    }
+
+    /// The next `count` octets, unchanged.
     pub fn slice(&mut self, count: usize) -> &'a [u8]
         requires { count ≤ length self.old }
+        ensures value { result.now ≡ take count self.old }
+        ensures new { self.new ≡ drop count self.old }
         ensures taken { self.old ≡ result.now ++ self.new }
         ensures len { length result.now ≡ count }
         ensures rest { length self.new + count ≡ length self.old }
@@ -54,8 +64,8 @@ impl<'a> Fields<'a> {
         front
     }
 
-    /// The next `N` octets as they stand.
-    pub fn octets<const N: usize>(&mut self) -> [u8; N]
+    // The next `N` octets, those of a number.
+    fn front<const N: usize>(&mut self) -> [u8; N]
         requires { N ≤ length self.old }
         ensures taken { self.old ≡ result ++ self.new }
         ensures rest { length self.new + N ≡ length self.old }
@@ -69,63 +79,87 @@ impl<'a> Fields<'a> {
         }
     }
 
+    /// The next `N` octets, unchanged.
+    #[tactic(auto, using(crate::proofs::LittleEndian::array_front))]
+    pub fn octets<const N: usize>(&mut self) -> [u8; N]
+        requires { N ≤ length self.old }
+        ensures value { result ≡ take N self.old }
+        ensures new { self.new ≡ drop N self.old }
+        ensures taken { self.old ≡ result ++ self.new }
+        ensures rest { length self.new + N ≡ length self.old }
+    {
+        self.front()
+    }
+
     /// The next octet.
     pub fn u8(&mut self) -> u8
         requires { 1 ≤ length self.old }
+        ensures value { result ≡ number_of (take 1 self.old) }
+        ensures new { self.new ≡ drop 1 self.old }
         ensures taken { self.old ≡ little_endian 1 result ++ self.new }
         ensures octet { self.old ≡ result ∷ self.new }
         ensures rest { length self.new + 1 ≡ length self.old }
     {
-        let [octet] = self.octets::<1>();
+        let [octet] = self.front::<1>();
         octet
     }
 
     /// The next number of two octets.
     pub fn u16(&mut self) -> u16
         requires { 2 ≤ length self.old }
+        ensures value { result ≡ number_of (take 2 self.old) }
+        ensures new { self.new ≡ drop 2 self.old }
         ensures taken { self.old ≡ little_endian 2 result ++ self.new }
         ensures rest { length self.new + 2 ≡ length self.old }
     {
-        u16::from_le_bytes(self.octets())
+        u16::from_le_bytes(self.front())
     }
 
     /// The next number of three octets.
     pub fn u24(&mut self) -> u32
         requires { 3 ≤ length self.old }
+        ensures value { result ≡ number_of (take 3 self.old) }
+        ensures new { self.new ≡ drop 3 self.old }
         ensures taken { self.old ≡ little_endian 3 result ++ self.new }
         ensures rest { length self.new + 3 ≡ length self.old }
         ensures fits { result < 2 ^ 24 }
     {
-        let [a, b, c] = self.octets::<3>();
+        let [a, b, c] = self.front::<3>();
         u32::from_le_bytes([a, b, c, 0])
     }
 
     /// The next number of four octets.
     pub fn u32(&mut self) -> u32
         requires { 4 ≤ length self.old }
+        ensures value { result ≡ number_of (take 4 self.old) }
+        ensures new { self.new ≡ drop 4 self.old }
         ensures taken { self.old ≡ little_endian 4 result ++ self.new }
         ensures rest { length self.new + 4 ≡ length self.old }
     {
-        u32::from_le_bytes(self.octets())
+        u32::from_le_bytes(self.front())
     }
 
     /// The next number of five octets.
     pub fn u40(&mut self) -> u64
         requires { 5 ≤ length self.old }
+        ensures value { result ≡ number_of (take 5 self.old) }
+        ensures new { self.new ≡ drop 5 self.old }
         ensures taken { self.old ≡ little_endian 5 result ++ self.new }
         ensures rest { length self.new + 5 ≡ length self.old }
         ensures fits { result < 2 ^ 40 }
     {
-        let [a, b, c, d, e] = self.octets::<5>();
+        let [a, b, c, d, e] = self.front::<5>();
         u64::from_le_bytes([a, b, c, d, e, 0, 0, 0])
     }
 
     /// The next number of eight octets.
     pub fn u64(&mut self) -> u64
         requires { 8 ≤ length self.old }
+        ensures value { result ≡ number_of (take 8 self.old) }
+        ensures new { self.new ≡ drop 8 self.old }
         ensures taken { self.old ≡ little_endian 8 result ++ self.new }
         ensures rest { length self.new + 8 ≡ length self.old }
     {
-        u64::from_le_bytes(self.octets())
+        u64::from_le_bytes(self.front())
     }
 }

@@ -1,5 +1,5 @@
-//! Fields of packets: numbers of a few octets, the least significant octet first, and runs of octets (Core 5.2,
-//! volume 4 part E, section 5.2, and volume 6 part B, section 1.2).
+//! Fields of packets: numbers of a few octets, the least significant octet first, and octets that
+//! are no number (Core 5.2, volume 4 part E, section 5.2, and volume 6 part B, section 1.2).
 #![tactic(auto)]
 
 mod fields;

@@ -5,7 +5,7 @@ ghost use Rattle.wire_fields.specs.Field.{little_endian};
 
 use arrayvec::ArrayVec;
 
-/// Appends these octets as they stand.
+/// Appends these octets, unchanged.
 pub fn put_octets<const N: usize>(packet: &mut ArrayVec<u8, N>, octets: &[u8])
     requires { array_vec_len packet.old + length octets.now ≤ N }
     ensures items { packet.new.items ≡ packet.old.items ++ octets.now }

@@ -1,3 +1,4 @@
+//! Fields of each width, appended and taken.
 use super::*;
 use arrayvec::ArrayVec;
 use std::test::Fail;
