@@ -5,7 +5,7 @@ use Rattle.std.specs.List.{range_with_len}
 use Rattle.std.proofs.lemmas.List.FromFn.{get_or-map-range_with_len}
 use Rattle.frame_bits.specs.AirBits.{octet_bits, lowest_first}
 use Rattle.frame_bits.specs.Crc.{polynomial, remainder}
-use Rattle.frame_bits.specs.Whitening.{bits_behind, whitening_bit, whitening_octet}
+use Rattle.frame_bits.specs.Whitening.{next_mask, whitening_bit, mask_of}
 use Rattle.frame_bits.specs.declared.crc.TheConstants.{REMAINDERS}
 
 -- two functions with the same first n values
@@ -45,13 +45,13 @@ entering mask = bit_xor (mask / 2) (mask / 32)
 abbrev pub fed_back : ℕ → ℕ
 fed_back mask = bit_xor (bit_xor (entering mask) (entering mask * 8 % 256)) (entering mask * 64 % 256)
 
-pub next_mask_is : (mask : ℕ) → mask < 256 → bit_xor (fed_back mask) (fed_back mask * 128 % 256) ≡ bits_behind mask
-unfolding bits_behind
-next_mask_is = same_at (λ mask. bit_xor (fed_back mask) (fed_back mask * 128 % 256)) bits_behind 256 refl
+pub next_mask_is : (mask : ℕ) → mask < 256 → bit_xor (fed_back mask) (fed_back mask * 128 % 256) ≡ next_mask mask
+unfolding next_mask
+next_mask_is = same_at (λ mask. bit_xor (fed_back mask) (fed_back mask * 128 % 256)) next_mask 256 refl
 
 pub first_mask_is : (channel : ℕ) → channel < 40
-    → bits_behind (bit_xor (bit_or 64 channel) (bit_or 64 channel / 16) * 2 % 256) ≡ whitening_octet channel 0
-unfolding bits_behind whitening_octet whitening_bit
+    → next_mask (bit_xor (bit_or 64 channel) (bit_or 64 channel / 16) * 2 % 256) ≡ mask_of channel 0
+unfolding next_mask mask_of whitening_bit
 first_mask_is =
-    same_at (λ channel. bits_behind (bit_xor (bit_or 64 channel) (bit_or 64 channel / 16) * 2 % 256))
-    (λ channel. whitening_octet channel 0) 40 refl
+    same_at (λ channel. next_mask (bit_xor (bit_or 64 channel) (bit_or 64 channel / 16) * 2 % 256))
+    (λ channel. mask_of channel 0) 40 refl

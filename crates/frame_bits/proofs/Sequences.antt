@@ -7,7 +7,7 @@ use Rattle.std.proofs.lemmas.List.{append-nil, append_assoc, drop_all, drop_more
 use Rattle.std.proofs.lemmas.List.FromFn.{get_or-map-range_with_len}
 use Rattle.std.proofs.lemmas.Nat.Bits.{bit_at-lt}
 use Rattle.frame_bits.specs.AirBits.{lowest_first}
-use Rattle.frame_bits.specs.Whitening.{bits_behind, start_position, whitened, whitened_from, whitening_bit, whitening_octet}
+use Rattle.frame_bits.specs.Whitening.{next_mask, start_position, whitening_of, whitening_from, whitening_bit, mask_of}
 use Rattle.frame_bits.proofs.BitLists.{AreBits, lowest_first-bit}
 
 start_position-lt : (channel k : ℕ) → start_position channel k < 2 ^ 1
@@ -43,11 +43,11 @@ whitening_bit-next channel n k =
     ap (whitening_bit channel) (omega arith) ∙ recurrence channel (n + k)
     ∙ ap (λ t. bit_xor (whitening_bit channel (n + k)) (whitening_bit channel t)) (omega arith)
 
-bits_behind-bits : (b : ℕ → ℕ) (octet : ℕ) → ((k : ℕ) → k < 8 → bit_at octet k ≡ b k)
+next_mask-bits : (b : ℕ → ℕ) (octet : ℕ) → ((k : ℕ) → k < 8 → bit_at octet k ≡ b k)
     → ((k : ℕ) → b (7 + k) ≡ bit_xor (b k) (b (4 + k)))
-    → bits_behind octet ≡ lowest_first (map (λ k. b (8 + k)) (range_with_len 0 8))
-unfolding bits_behind
-bits_behind-bits b octet are next =
+    → next_mask octet ≡ lowest_first (map (λ k. b (8 + k)) (range_with_len 0 8))
+unfolding next_mask
+next_mask-bits b octet are next =
     let one = are 1 (omega arith) in
     let two = are 2 (omega arith) in
     let three = are 3 (omega arith) in
@@ -71,20 +71,20 @@ bits_behind-bits b octet are next =
     λ i. lowest_first (eight i ∷ nine i ∷ ten i ∷ eleven i ∷ twelve i ∷ thirteen i ∷ fourteen i ∷ fifteen i ∷ [])
 
 -- bit k of octet i is bit 8 * i + k
-pub whitening_octet-bit : (channel i k : ℕ) → k < 8 → bit_at (whitening_octet channel i) k ≡ whitening_bit channel (8 * i + k)
-unfolding whitening_octet
-whitening_octet-bit channel i k lt =
+pub mask_of-bit : (channel i k : ℕ) → k < 8 → bit_at (mask_of channel i) k ≡ whitening_bit channel (8 * i + k)
+unfolding mask_of
+mask_of-bit channel i k lt =
     let b = λ (j : ℕ). whitening_bit channel (8 * i + j) in
     let small = λ (j : ℕ). whitening_bit-lt channel (8 * i + j) in
     let all : AreBits (map b (range_with_len 0 8)) =
     (small 0, (small 1, (small 2, (small 3, (small 4, (small 5, (small 6, (small 7, tt)))))))) in
     lowest_first-bit (map b (range_with_len 0 8)) all k ∙ get_or-map-range_with_len b 0 8 k k 0 lt (omega arith)
 
-pub whitening_octet-next : (channel i : ℕ) → bits_behind (whitening_octet channel i) ≡ whitening_octet channel (i + 1)
-unfolding whitening_octet
-whitening_octet-next channel i =
+pub mask_of-next : (channel i : ℕ) → next_mask (mask_of channel i) ≡ mask_of channel (i + 1)
+unfolding mask_of
+mask_of-next channel i =
     let place : (k : ℕ) → 8 * i + (8 + k) ≡ 8 * (i + 1) + k = λ k. omega arith in
-    bits_behind-bits (λ k. whitening_bit channel (8 * i + k)) (whitening_octet channel i) (whitening_octet-bit channel i)
+    next_mask-bits (λ k. whitening_bit channel (8 * i + k)) (mask_of channel i) (mask_of-bit channel i)
     (whitening_bit-next channel (8 * i))
     ∙ octet_at (λ k. 8 * i + (8 + k)) (λ k. 8 * (i + 1) + k) place
   where
@@ -92,48 +92,48 @@ whitening_octet-next channel i =
         → lowest_first (map (λ k. whitening_bit channel (f k)) (range_with_len 0 8)) ≡ lowest_first (map (λ k. whitening_bit channel (g k)) (range_with_len 0 8))
     octet_at f g same = λ j. lowest_first (map (λ k. whitening_bit channel (same k j)) (range_with_len 0 8))
 
-pub length-whitened_from : (channel i : ℕ) (octets : List ℕ) → length (whitened_from channel i octets) ≡ length octets
-length-whitened_from channel i [] = refl
-length-whitened_from channel i (octet ∷ octets) = ap suc (length-whitened_from channel (i + 1) octets)
+pub length-whitening_from : (channel i : ℕ) (octets : List ℕ) → length (whitening_from channel i octets) ≡ length octets
+length-whitening_from channel i [] = refl
+length-whitening_from channel i (octet ∷ octets) = ap suc (length-whitening_from channel (i + 1) octets)
 
-pub whitened_from-push : (channel i : ℕ) (octets : List ℕ) (octet : ℕ)
-    → whitened_from channel i (octets ++ octet ∷ []) ≡ whitened_from channel i octets ++ bit_xor octet (whitening_octet channel (i + length octets)) ∷ []
-whitened_from-push channel i [] octet = ap (λ n. bit_xor octet (whitening_octet channel n) ∷ []) (sym (add-zero i))
-whitened_from-push channel i (first ∷ octets) octet =
+pub whitening_from-push : (channel i : ℕ) (octets : List ℕ) (octet : ℕ)
+    → whitening_from channel i (octets ++ octet ∷ []) ≡ whitening_from channel i octets ++ bit_xor octet (mask_of channel (i + length octets)) ∷ []
+whitening_from-push channel i [] octet = ap (λ n. bit_xor octet (mask_of channel n) ∷ []) (sym (add-zero i))
+whitening_from-push channel i (first ∷ octets) octet =
     let place : i + 1 + length octets ≡ i + suc (length octets) = omega arith in
-    ap (λ rest. bit_xor first (whitening_octet channel i) ∷ rest)
-    (whitened_from-push channel (i + 1) octets octet
-    ∙ ap (λ n. whitened_from channel (i + 1) octets ++ bit_xor octet (whitening_octet channel n) ∷ []) place)
+    ap (λ rest. bit_xor first (mask_of channel i) ∷ rest)
+    (whitening_from-push channel (i + 1) octets octet
+    ∙ ap (λ n. whitening_from channel (i + 1) octets ++ bit_xor octet (mask_of channel n) ∷ []) place)
 
 -- octets of which the first n are whitened
-abbrev pub whitened_to : ℕ → ℕ → List ℕ → List ℕ
-whitened_to channel n octets = whitened channel (take n octets) ++ drop n octets
+abbrev pub whitening_to : ℕ → ℕ → List ℕ → List ℕ
+whitening_to channel n octets = whitening_of channel (take n octets) ++ drop n octets
 
-pub whitened_to-none : (channel : ℕ) (octets : List ℕ) → octets ≡ whitened_to channel 0 octets
-unfolding whitened
-whitened_to-none channel octets = refl
+pub whitening_to-none : (channel : ℕ) (octets : List ℕ) → octets ≡ whitening_to channel 0 octets
+unfolding whitening_of
+whitening_to-none channel octets = refl
 
-pub whitened_to-all : (channel n : ℕ) (octets : List ℕ) → length octets ≤ n → whitened_to channel n octets ≡ whitened channel octets
-whitened_to-all channel n octets le =
-    (λ i. whitened channel (take_all n octets le i) ++ drop_all n octets le i) ∙ append-nil (whitened channel octets)
+pub whitening_to-all : (channel n : ℕ) (octets : List ℕ) → length octets ≤ n → whitening_to channel n octets ≡ whitening_of channel octets
+whitening_to-all channel n octets le =
+    (λ i. whitening_of channel (take_all n octets le i) ++ drop_all n octets le i) ∙ append-nil (whitening_of channel octets)
 
 -- one octet more, the one at n
-pub whitened_to-next : (channel n mask : ℕ) (now octets : List ℕ) → n < length octets
-    → now ≡ whitened_to channel n octets → mask ≡ whitening_octet channel n
-    → set now n (bit_xor (get_or now n 0) mask) ≡ whitened_to channel (n + 1) octets
-unfolding whitened
-whitened_to-next channel n mask now octets lt so_far is =
+pub whitening_to-next : (channel n mask : ℕ) (now octets : List ℕ) → n < length octets
+    → now ≡ whitening_to channel n octets → mask ≡ mask_of channel n
+    → set now n (bit_xor (get_or now n 0) mask) ≡ whitening_to channel (n + 1) octets
+unfolding whitening_of
+whitening_to-next channel n mask now octets lt so_far is =
     let octet = get_or octets n 0 in
-    let front = whitened_from channel 0 (take n octets) in
+    let front = whitening_from channel 0 (take n octets) in
     let rest = drop (n + 1) octets in
-    let len : length front ≡ n = length-whitened_from channel 0 (take n octets) ∙ length-take-le n octets (omega arith) in
+    let len : length front ≡ n = length-whitening_from channel 0 (take n octets) ∙ length-take-le n octets (omega arith) in
     let place : n ≡ 0 + length (take n octets) = omega (arith, length-take-le n octets (omega arith)) in
     let before : now ≡ front ++ octet ∷ rest = so_far ∙ ap (λ xs. front ++ xs) (drop_more octets n 0 lt) in
     let read : get_or now n 0 ≡ octet = ap (λ xs. get_or xs n 0) before ∙ get_or_at front octet rest 0 n len in
-    let written : bit_xor (get_or now n 0) mask ≡ bit_xor octet (whitening_octet channel (0 + length (take n octets))) =
-    λ i. bit_xor (read i) ((is ∙ ap (whitening_octet channel) place) i) in
+    let written : bit_xor (get_or now n 0) mask ≡ bit_xor octet (mask_of channel (0 + length (take n octets))) =
+    λ i. bit_xor (read i) ((is ∙ ap (mask_of channel) place) i) in
     (λ i. set (before i) n (written i))
-    ∙ set_at front octet rest (bit_xor octet (whitening_octet channel (0 + length (take n octets)))) n len
-    ∙ sym (append_assoc front (bit_xor octet (whitening_octet channel (0 + length (take n octets))) ∷ []) rest)
+    ∙ set_at front octet rest (bit_xor octet (mask_of channel (0 + length (take n octets)))) n len
+    ∙ sym (append_assoc front (bit_xor octet (mask_of channel (0 + length (take n octets))) ∷ []) rest)
     ∙ ap (λ all. all ++ rest)
-    (sym (whitened_from-push channel 0 (take n octets) octet) ∙ ap (whitened_from channel 0) (sym (take_more octets n 0 lt)))
+    (sym (whitening_from-push channel 0 (take n octets) octet) ∙ ap (whitening_from channel 0) (sym (take_more octets n 0 lt)))

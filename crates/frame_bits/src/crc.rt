@@ -3,8 +3,9 @@
 ghost use Rattle.std.specs.Prelude.{◌≡◌, ◌*◌, ◌^◌, ◌<◌, [], ◌∷◌};
 ghost use Rattle.frame_bits.specs.Crc.{crc, crc_octets, remainder};
 
-/// The CRC of a PDU: what the register holds after its octets, each of them least significant bit first, where it
-/// began with `init`. Position k of the register is bit k (Core 5.2, volume 6 part B, section 3.1.1).
+/// The CRC of a PDU: the value of the 24-bit register that started from `init`, after all octets,
+/// each taken least significant bit first. Position k of the register is bit k of the result
+/// (Core 5.2, volume 6 part B, section 3.1.1).
 pub fn crc24(init: u32, octets: &[u8]) -> u32
     requires { init < 2 ^ 24 }
     ensures crc { result ≡ crc init octets.now }
@@ -17,8 +18,8 @@ pub fn crc24(init: u32, octets: &[u8]) -> u32
     register
 }
 
-/// The CRC as it is sent, position 23 first: three octets, each of them least significant bit first
-/// (Core 5.2, volume 6 part B, section 1.2).
+/// The CRC as three octets on the air, each sent least significant bit first, so that position 23
+/// of the register is sent first and position 0 last (Core 5.2, volume 6 part B, section 1.2).
 pub fn crc_octets(crc: u32) -> [u8; 3]
     requires { crc < 2 ^ 24 }
     ensures { result ≡ crc_octets crc }
@@ -31,7 +32,8 @@ pub fn crc_octets(crc: u32) -> [u8; 3]
     ]
 }
 
-/// The register after one more octet. The eight positions that leave it and the octet choose what is added.
+/// The register after one more octet. The sum of that octet and of the eight positions that leave
+/// the register selects the remainder that is added.
 fn one_octet_on(register: u32, octet: u8) -> u32
     requires { register < 2 ^ 24 }
     ensures crc { result ≡ crc register (octet ∷ []) }
@@ -41,14 +43,14 @@ fn one_octet_on(register: u32, octet: u8) -> u32
     ((register << 8) & 0x00ff_ffff) ^ remainder_of(leaving)
 }
 
-/// What the generator leaves of the polynomial of `top` times x^24.
+/// The remainder of the polynomial `top` times x^24 modulo the generator.
 fn remainder_of(top: u8) -> u32
     ensures { result ≡ remainder 8 (top * 2 ^ 24) }
 {
     REMAINDERS[top as usize]
 }
 
-/// What the generator leaves of each polynomial of a degree below 8, times x^24.
+/// The remainder of each polynomial of a degree below 8, times x^24, modulo the generator.
 static REMAINDERS: [u32; 256] = [
     0x00000, 0x0065b, 0x00cb6, 0x00aed, 0x0196c, 0x01f37, 0x015da, 0x01381, 0x032d8, 0x03483,
     0x03e6e, 0x03835, 0x02bb4, 0x02def, 0x02702, 0x02159, 0x065b0, 0x063eb, 0x06906, 0x06f5d,

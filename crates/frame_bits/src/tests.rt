@@ -27,7 +27,7 @@ fn sums_as_worked_out(rt: HostRuntime) {
     }
 }
 
-/// The register of the CRC after one more bit: what leaves position 23 is added to the bit, and fed back.
+/// The register of the CRC after one more bit: the sum of that bit and of position 23 is fed back.
 fn crc_one_bit_on(register: u32, bit: u32) -> u32 {
     let feedback = (register >> 23) & 1 ^ bit & 1;
     let moved = (register << 1) & 0xff_ffff;

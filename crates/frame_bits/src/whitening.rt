@@ -1,13 +1,14 @@
 //! Data whitening (Core 5.2, volume 6 part B, section 3.2).
 
 ghost use Rattle.std.specs.Prelude.{◌≡◌, ◌<◌};
-ghost use Rattle.frame_bits.specs.Whitening.{bits_behind, whitened, whitening_octet};
+ghost use Rattle.frame_bits.specs.Whitening.{mask_of, next_mask, whitening_of};
 
-/// Adds the whitening sequence of a channel index to octets, from its first bit on. The least significant bit of the
-/// first octet comes first (Core 5.2, volume 6 part B, section 3.2).
+/// Adds the whitening sequence of a channel index to the octets, in place. Bit 0 of the sequence
+/// goes to the least significant bit of the first octet (Core 5.2, volume 6 part B, section 3.2).
+/// To whiten whitened octets gives the octets back.
 pub fn whiten(channel: u8, octets: &mut [u8])
     requires { channel < 40 }
-    ensures { octets.new ≡ whitened channel octets.old }
+    ensures { octets.new ≡ whitening_of channel octets.old }
 {
     let mut mask = first_mask(channel);
     for octet in octets.iter_mut() {
@@ -16,19 +17,19 @@ pub fn whiten(channel: u8, octets: &mut [u8])
     }
 }
 
-/// The first eight bits of the sequence of a channel index. The register has position 6 in its lowest bit and
-/// position 0 in bit 6; shifting it back gives the seven bits that would stand before the first one.
+/// The first eight bits of the sequence of a channel index. `register` has position 6 in its lowest
+/// bit and position 0 in bit 6. Stepped back, it gives the seven bits that precede the sequence.
 fn first_mask(channel: u8) -> u8
     requires { channel < 40 }
-    ensures { result ≡ whitening_octet channel 0 }
+    ensures { result ≡ mask_of channel 0 }
 {
     let register = 0x40 | channel;
     next_mask((register ^ (register >> 4)) << 1)
 }
 
-/// The eight bits behind these eight: each bit is the sum of those of seven and of three before it.
+/// The next eight bits of the sequence: each is the sum of the bits seven and three places before.
 fn next_mask(mask: u8) -> u8
-    ensures { result ≡ bits_behind mask }
+    ensures { result ≡ next_mask mask }
 {
     let entering = (mask >> 1) ^ (mask >> 5);
     let fed_back = entering ^ (entering << 3) ^ (entering << 6);

@@ -1,5 +1,5 @@
-use Rattle.frame_bits.proofs.WhiteBits.{air_bits-whitened}
+use Rattle.frame_bits.proofs.WhiteBits.{air_bits-whitening_of}
 use Rattle.frame_bits.proofs.laws.whitening_goes_bit_by_bit.Goals as goal
 
 pub returns : goal.returns
-returns c = air_bits-whitened
+returns c = air_bits-whitening_of
