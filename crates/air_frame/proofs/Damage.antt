@@ -4,7 +4,7 @@ use Rattle.std.specs.List.{All, range_with_len}
 use lib.Bits.{xor_assoc, xor_self, xor_zero_r}
 use Rattle.std.proofs.lemmas.List.FromFn.{length-map-range_with_len}
 use Rattle.frame_bits.specs.AirBits.{air_bits, sums, DiffersWithin}
-use Rattle.frame_bits.specs.Whitening.{whitened, whitening_bit}
+use Rattle.frame_bits.specs.Whitening.{whitening_of, whitening_bit}
 use Rattle.air_frame.specs.Packet.{on_air, with_crc}
 use Rattle.air_frame.proofs.Bodies.{length-with_crc}
 
@@ -63,10 +63,10 @@ IsSeen = (init start : ℕ) (sent heard : List ℕ) → init < 2 ^ 24 → length
 
 abbrev pub GoesBitByBit : Type 0
 GoesBitByBit = (channel : ℕ) (octets : List ℕ)
-    → air_bits (whitened channel octets) ≡ sums (air_bits octets) (map (whitening_bit channel) (range_with_len 0 (8 * length octets)))
+    → air_bits (whitening_of channel octets) ≡ sums (air_bits octets) (map (whitening_bit channel) (range_with_len 0 (8 * length octets)))
 
 abbrev pub KeepsLength : Type 0
-KeepsLength = (channel : ℕ) (octets : List ℕ) → length (whitened channel octets) ≡ length octets
+KeepsLength = (channel : ℕ) (octets : List ℕ) → length (whitening_of channel octets) ≡ length octets
 
 pub short_damage : IsSeen → GoesBitByBit → KeepsLength → (channel access init start : ℕ) (sent octets heard : List ℕ) → init < 2 ^ 24
     → All (λ octet. octet < 2 ^ 8) sent → All (λ octet. octet < 2 ^ 8) heard

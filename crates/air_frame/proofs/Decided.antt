@@ -1,29 +1,23 @@
 -- What is heard, by its definition.
-use Rattle.std.proofs.Common.{◌≡◌, ◌≢◌, ℕ, Bool, true, false, List, take, refl, ap, ◌∙◌, arith}
+use Rattle.std.proofs.Common.{◌≡◌, ◌≢◌, ℕ, Bool, true, false, List, take, refl, ap, ◌∙◌}
 use Rattle.std.specs.Bool.{Decides}
 use Rattle.std.specs.Str.{bytes_eq}
-use Rattle.std.proofs.lemmas.Bool.Decides.{Decides-and, nat_tests}
+use Rattle.std.proofs.lemmas.Bool.Decides.{Decides-and}
 use Rattle.std.proofs.lemmas.Slice.Eq.{bytes_eq-Decides}
 use Rattle.air_frame.specs.declared.Heard.{Heard}
 use Rattle.air_frame.specs.declared.Heard.TheVariants.{NotOurs, Broken, Whole}
 use Rattle.air_frame.specs.Hearing.{heard_in}
-use Rattle.air_frame.specs.Packet.{access_octets, is_packet, is_pdu, on_air, pdu_in, IsPdu}
+use Rattle.air_frame.specs.Packet.{access_octets, is_packet, on_air, pdu_in, IsPdu}
 use Rattle.air_frame.proofs.Bodies.{Answers, NoPdu}
 
--- a packet tells the PDU in it
+-- the PDU in the packet of a PDU is that PDU
 abbrev pub TellsPdu : Type 0
 TellsPdu = (channel access init : ℕ) (pdu : List ℕ) → pdu_in channel (on_air channel access init pdu) ≡ pdu
-
-is_pdu-Decides : (pdu : List ℕ) → Decides (is_pdu pdu) (IsPdu pdu)
-is_pdu-Decides pdu = (
-  λ holds. record { header = grind (arith, nat_tests); fits = grind (arith, nat_tests); counted = grind (arith, nat_tests) },
-  λ form. let header = form.header in let fits = form.fits in let counted = form.counted in grind (arith, nat_tests),
-)
 
 is_packet-Decides : (channel access init : ℕ) (octets : List ℕ)
     → Decides (is_packet channel access init octets) (IsPdu (pdu_in channel octets) × (octets ≡ on_air channel access init (pdu_in channel octets)))
 is_packet-Decides channel access init octets =
-    Decides-and _ _ (is_pdu-Decides (pdu_in channel octets)) (bytes_eq-Decides octets (on_air channel access init (pdu_in channel octets)))
+    Decides-and _ _ ((λ holds. holds), (λ holds. holds)) (bytes_eq-Decides octets (on_air channel access init (pdu_in channel octets)))
 
 not_true : (r : Bool) → (r ≡ true → ⊥) → r ≡ false
 not_true true fails = absurd (fails refl)
@@ -43,9 +37,9 @@ is_broken : (channel access init : ℕ) (octets : List ℕ) → take 4 octets �
     → Broken ≡ heard_in channel access init octets
 unfolding heard_in
 is_broken channel access init octets front none =
-    let spoilt : is_packet channel access init octets ≡ false =
+    let broken : is_packet channel access init octets ≡ false =
     not_true _ (λ holds. let is = (is_packet-Decides channel access init octets).0 holds in none (pdu_in channel octets) is.0 is.1) in
-    rw (begins access octets front, spoilt) refl
+    rw (begins access octets front, broken) refl
 
 pub is_whole : (channel access init : ℕ) (octets pdu : List ℕ) → TellsPdu → IsPdu pdu → octets ≡ on_air channel access init pdu
     → Whole (record { items = pdu }) ≡ heard_in channel access init octets
@@ -56,7 +50,7 @@ is_whole channel access init octets pdu tells form is =
     (is_packet-Decides channel access init octets).1 (rw inside (form, is)) in
     rw (begins access octets (ap (take 4) is), packet, inside) refl
 
--- each of a listener's answers is the one by the definition
+-- each answer of a listener is the one by the definition
 pub answer_is : (channel access init : ℕ) (octets : List ℕ) (r : Heard) → TellsPdu → Answers channel access init octets r → r ≡ heard_in channel access init octets
 answer_is channel access init octets NotOurs tells h = is_not_ours channel access init octets h
 answer_is channel access init octets Broken tells h = is_broken channel access init octets h.0 h.1

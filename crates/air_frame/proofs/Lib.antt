@@ -1,3 +1,4 @@
 pub mod Bodies
 pub mod Damage
 pub mod Decided
+pub mod Forms

@@ -1,26 +1,30 @@
 //! From the octets of a packet to what a listener makes of them.
 
-ghost use Rattle.std.specs.Prelude.{◌≡◌, ◌≢◌, ℕ, ◌+◌, ◌-◌, ◌^◌, ◌<◌, ◌≤◌, ◌↔◌, List, length, take, drop, IsTrue, IfSome, IfNone};
+ghost use Rattle.std.specs.Prelude.{◌≡◌, ◌≢◌, ℕ, ◌+◌, ◌-◌, ◌^◌, ◌<◌, ◌≤◌, ◌↔◌};
+ghost use Rattle.std.specs.Prelude.{List, length, take, drop, IsTrue, IfSome, IfNone};
 ghost use Rattle.air_frame.specs.Hearing.{heard_in, IsWhole, MatchHeard};
 ghost use Rattle.air_frame.specs.Packet.{access_octets, on_air, with_crc, IsPdu};
 ghost use Rattle.frame_bits.specs.Crc.{crc, crc_octets};
-ghost use Rattle.frame_bits.specs.Whitening.{whitened};
+ghost use Rattle.frame_bits.specs.Whitening.{whitening_of};
 
 use crate::Heard;
-use crate::octets::{LONGEST, append};
+use crate::building::LONGEST_BODY;
 use arrayvec::ArrayVec;
 use frame_bits::{crc_octets, crc24, whiten};
+use wire_fields::put_octets;
 
-/// What a listener on this channel index, for this access address and with this initial CRC, makes of the octets of
-/// a packet, as many as there may be, in the order of the air and without preamble (Core 5.2, volume 6 part B,
-/// sections 2.1, 3.1.1 and 3.2). A length octet, or a CRC, that does not fit the octets makes the packet broken.
+/// What a listener on this channel index, for this access address and with this initial CRC, makes
+/// of the octets of a packet. The octets are in the order of the air, without preamble, and of any
+/// number (Core 5.2, volume 6 part B, sections 2.1, 3.1.1 and 3.2). A packet whose length octet or
+/// whose CRC does not fit its octets is `Broken`.
 pub fn unframe(channel: u8, access: u32, init: u32, octets: &[u8]) -> Heard
     requires channel { channel < 40 }
     requires init { init < 2 ^ 24 }
     ensures not_ours { (result ≡ Heard.NotOurs) ↔ (take 4 octets.now ≢ access_octets access) }
     ensures broken { (result ≡ Heard.Broken) ↔ ((take 4 octets.now ≡ access_octets access)
         × ((pdu : List ℕ) → IsPdu pdu → octets.now ≢ on_air channel access init pdu)) }
-    ensures whole { (pdu : List ℕ) → IsWhole result pdu ↔ (IsPdu pdu × (octets.now ≡ on_air channel access init pdu)) }
+    ensures whole { (pdu : List ℕ)
+        → IsWhole result pdu ↔ (IsPdu pdu × (octets.now ≡ on_air channel access init pdu)) }
     // The same by a definition that computes.
     ensures heard { result ≡ heard_in channel access init octets.now }
 {
@@ -29,7 +33,7 @@ pub fn unframe(channel: u8, access: u32, init: u32, octets: &[u8]) -> Heard
     addressed(channel, access, init, octets)
 }
 
-/// As `unframe`, a fact for each answer.
+/// As `unframe`, with one fact for each answer.
 fn addressed(channel: u8, access: u32, init: u32, octets: &[u8]) -> Heard
     requires channel { channel < 40 }
     requires init { init < 2 ^ 24 }
@@ -44,19 +48,20 @@ fn addressed(channel: u8, access: u32, init: u32, octets: &[u8]) -> Heard
     }
 }
 
-/// What the octets behind the access address are.
+/// What the octets after the access address are.
 fn dewhitened(channel: u8, init: u32, octets: &[u8]) -> Heard
     requires channel { channel < 40 }
     requires init { init < 2 ^ 24 }
-    ensures { MatchHeard result ⊥ ((pdu : List ℕ) → IsPdu pdu → octets.now ≢ whitened channel (with_crc init pdu))
-        (λ pdu. IsPdu pdu × (octets.now ≡ whitened channel (with_crc init pdu))) }
+    ensures { MatchHeard result ⊥
+        ((pdu : List ℕ) → IsPdu pdu → octets.now ≢ whitening_of channel (with_crc init pdu))
+        (λ pdu. IsPdu pdu × (octets.now ≡ whitening_of channel (with_crc init pdu))) }
 {
     frame_bits::laws::whitening_is_linear();
-    if octets.len() > LONGEST {
+    if octets.len() > LONGEST_BODY {
         return Heard::Broken;
     }
-    let mut body = ArrayVec::<u8, LONGEST>::new();
-    append(&mut body, octets);
+    let mut body = ArrayVec::<u8, LONGEST_BODY>::new();
+    put_octets(&mut body, octets);
     whiten(channel, body.as_mut_slice());
     checked(init, body.as_slice())
 }
@@ -77,7 +82,8 @@ fn checked(init: u32, octets: &[u8]) -> Heard
     }
 }
 
-/// The octets of a PDU, and the three of the CRC behind them: the last three, whatever the length octet says.
+/// The octets of a PDU, and the three octets of its CRC: always the last three, whatever the length
+/// octet says.
 fn pdu_and_crc(octets: &[u8]) -> Option<(&[u8], &[u8; 3])>
     ensures pdu { IfSome result (λ parts. parts.0.now ≡ take (length octets.now - 3) octets.now) }
     ensures crc { IfSome result (λ parts. parts.1.now ≡ drop (length octets.now - 3) octets.now) }
@@ -86,7 +92,7 @@ fn pdu_and_crc(octets: &[u8]) -> Option<(&[u8], &[u8; 3])>
     octets.split_last_chunk::<3>()
 }
 
-/// Whether the octets are a PDU in form.
+/// Whether the octets have the form of a PDU.
 fn is_pdu(octets: &[u8]) -> bool
     ensures { IsTrue result ↔ IsPdu octets.now }
 {
@@ -107,6 +113,6 @@ fn whole(pdu: &[u8]) -> Heard
     ensures { IsWhole result pdu.now }
 {
     let mut octets = ArrayVec::new();
-    append(&mut octets, pdu);
+    put_octets(&mut octets, pdu);
     Heard::Whole(octets)
 }

@@ -1,5 +1,5 @@
-//! Packets by the plain rules of the standard on lists of bits, apart from all code that is proved, and `build` and
-//! `unframe` held against them. A bit is 0 or 1, and bits stand in the order of the air.
+//! `build` and `unframe` compared with a second program: the rules of the standard, bit by bit,
+//! with no call of the proved code. A bit is 0 or 1, and lists of bits are in the order of the air.
 
 use super::*;
 use std::test::Fail;
@@ -19,19 +19,22 @@ const PACKETS: [(u8, (u32, u32), &[u8]); 8] = [
     (37, (u32::MAX, 1), &[3, 10, 9, 8, 7, 6, 5, 4, 3, 2, 1, 0]),
 ];
 
-/// x^24 + x^10 + x^9 + x^6 + x^4 + x^3 + x + 1, highest power first (Core 5.2, volume 6 part B, section 3.1.1).
+/// x^24 + x^10 + x^9 + x^6 + x^4 + x^3 + x + 1, highest power first (Core 5.2, volume 6 part B,
+/// section 3.1.1).
 const GENERATOR: [u8; 25] = [
     1, 0, 0, 0, 0, 0, 0, 0, 0, 0, 0, 0, 0, 0, 1, 1, 0, 0, 1, 0, 1, 1, 0, 1, 1,
 ];
 
-/// The bit at a place of octets, the least significant of each octet first (section 1.2), and 0 behind their end.
+/// The bit at a place of octets, the least significant of each octet first (section 1.2), and 0
+/// after their end.
 fn bit_of(octets: &[u8], place: usize) -> u8 {
     let octet = octets.get(place / 8).copied().unwrap_or(0);
     (octet >> (place % 8)) & 1
 }
 
-/// The n bits of a PDU, and behind them the 24 of its CRC, highest power first: what long division by the generator
-/// leaves of P*x^24 + init*x^n, where the first bit of the PDU is the highest power in P (section 3.1.1).
+/// The n bits of a PDU, and after them the 24 bits of its CRC, highest power first: the remainder
+/// of P*x^24 + init*x^n in long division, where the first bit of the PDU is the highest power in P
+/// (section 3.1.1).
 fn pdu_and_crc(init: u32, pdu: &[u8]) -> [u8; 120] {
     let mut bits = [0; 120];
     for place in 0..120usize {
@@ -48,8 +51,9 @@ fn pdu_and_crc(init: u32, pdu: &[u8]) -> [u8; 120] {
     bits
 }
 
-/// The whitening sequence of x^7 + x^4 + 1: each bit is the sum of those of seven and of three before it. Positions 6 to
-/// 0 of the register come first: the channel index, least significant bit first, and 1 (section 3.2).
+/// The whitening sequence of x^7 + x^4 + 1: each bit is the sum of the bits seven and three places
+/// before. The first seven of the former are positions 6 to 0 of the register: the channel index,
+/// least significant bit first, and 1 (section 3.2).
 fn whitening(channel: u8) -> [u8; 120] {
     let register = 0x40 + channel % 0x40;
     let mut white = [0; 120];
@@ -62,7 +66,7 @@ fn whitening(channel: u8) -> [u8; 120] {
     white
 }
 
-/// The packet, and behind it octets that mean nothing.
+/// The packet, and after it octets with no meaning.
 fn packet(channel: u8, access: u32, init: u32, pdu: &[u8]) -> [u8; 19] {
     let (bits, white) = (pdu_and_crc(init, pdu), whitening(channel));
     let mut octets = [0; 19];
@@ -85,9 +89,9 @@ fn packets_are_as_the_plain_rules_say(rt: HostRuntime) -> Result<(), Fail> {
         let heard = unframe(channel, access, init, &octets[..count]);
         assert_eq!(rt; heard, Heard::Whole(ArrayVec::try_from(pdu)?), "of {pdu:?}");
         for place in 0..8 * count {
-            let mut spoilt = octets;
-            spoilt[place / 8] ^= 1 << (place % 8);
-            let heard = unframe(channel, access, init, &spoilt[..count]);
+            let mut damaged = octets;
+            damaged[place / 8] ^= 1 << (place % 8);
+            let heard = unframe(channel, access, init, &damaged[..count]);
             let want = match place {
                 0..32 => Heard::NotOurs,
                 _ => Heard::Broken,

@@ -1,4 +1,4 @@
-//! A packet that was worked out by hand, and what is heard of it whole and spoilt.
+//! A packet worked out by hand, and what a listener makes of it, whole and damaged.
 
 use super::*;
 use std::test::Fail;
@@ -9,7 +9,7 @@ const PDU: [u8; 2] = [0x01, 0x00];
 
 const PACKET: [u8; 9] = [0xd6, 0xbe, 0x89, 0x8e, 0x8c, 0xd2, 0xe3, 0xf0, 0x8a];
 
-/// Packets with another access address, and one that ends within it.
+/// Packets with another access address, and two that end before its four octets.
 const OF_OTHERS: [&[u8]; 3] = [
     &[0xd7, 0xbe, 0x89, 0x8e, 0x8c, 0xd2, 0xe3, 0xf0, 0x8a],
     &[0xd6, 0xbe, 0x89],
@@ -17,7 +17,7 @@ const OF_OTHERS: [&[u8]; 3] = [
 ];
 
 /// The packet with an octet changed, too short, and too long.
-const SPOILT: [&[u8]; 5] = [
+const DAMAGED: [&[u8]; 5] = [
     &[0xd6, 0xbe, 0x89, 0x8e, 0x8c, 0xd2, 0xe3, 0xf0, 0x8b],
     &[0xd6, 0xbe, 0x89, 0x8e, 0x8d, 0xd2, 0xe3, 0xf0, 0x8a],
     &[0xd6, 0xbe, 0x89, 0x8e, 0x8c, 0xd2, 0xe3, 0xf0],
@@ -35,6 +35,7 @@ fn builds_as_worked_out(rt: HostRuntime) {
 
 #[test]
 fn hears_as_worked_out(rt: HostRuntime) -> Result<(), Fail> {
+    laws::pdu_form_is_a_count();
     laws::packet_tells_its_pdu();
     laws::short_damage_is_never_whole();
     assert_eq!(rt;
@@ -48,7 +49,7 @@ fn hears_as_worked_out(rt: HostRuntime) -> Result<(), Fail> {
             "{octets:?}"
         );
     }
-    for octets in SPOILT {
+    for octets in DAMAGED {
         assert_eq!(rt;
             unframe(37, ADVERTISING, 0, octets),
             Heard::Broken,

@@ -1,5 +1,5 @@
--- The CRC of a PDU (Core 5.2, volume 6 part B, section 3.1.1). A polynomial over GF(2) is written as the number whose bit
--- i is the coefficient of x^i. So addition is `bit_xor`, and x^n times a polynomial is 2^n times its number.
+-- The CRC of a PDU (Core 5.2, volume 6 part B, section 3.1.1). A polynomial over GF(2) is written as the number whose
+-- bit i is the coefficient of x^i. So addition is `bit_xor`, and x^n times a polynomial is 2^n times its number.
 use Rattle.std.specs.Prelude.{ℕ, zero, suc, ◌+◌, ◌-◌, ◌*◌, ◌^◌, List, [], ◌∷◌, length, map, bit_xor}
 use Rattle.std.specs.Int.{bit_at}
 use Rattle.std.specs.List.{range_with_len}

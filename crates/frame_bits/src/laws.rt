@@ -52,12 +52,13 @@ pub fn short_change_is_seen()
 
 /// Bit t of the sequence is added to bit t of the octets on the air.
 pub fn whitening_goes_bit_by_bit()
-    ensures { (channel : ℕ) (octets : List ℕ) → air_bits (whitening_of channel octets)
-        ≡ sums (air_bits octets) (map (whitening_bit channel) (range_with_len 0 (8 * length octets))) }
+    ensures { (channel : ℕ) (octets : List ℕ)
+        → air_bits (whitening_of channel octets) ≡ sums (air_bits octets)
+        (map (whitening_bit channel) (range_with_len 0 (8 * length octets))) }
 {}
 
-/// Whitening keeps the number of octets and undoes itself. A change of the octets is the same change
-/// of the whitened octets.
+/// Whitening keeps the number of octets and undoes itself. A change of the octets is the same
+/// change of the whitened octets.
 pub fn whitening_is_linear()
     ensures length { (channel : ℕ) (octets : List ℕ)
         → length (whitening_of channel octets) ≡ length octets }
