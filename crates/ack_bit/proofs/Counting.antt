@@ -1,7 +1,7 @@
 -- The bits of one end are the counts of what it saw, modulo 2.
 use Rattle.std.proofs.Common.{◌≡◌, ℕ, zero, suc, ◌+◌, ◌%◌, ◌<◌, Bool, true, false, not, cond, eqb, ◌&&◌, zero-add, List, [], ◌∷◌, refl, ◌∙◌, sym, arith}
-use Rattle.ack_bit.specs.AckBits.{AckBits, acknowledges, is_new, receive_of, first_bits}
-use Rattle.ack_bit.specs.AckNumbers.{Arrival, bits_after, acked_in, accepted_in}
+use Rattle.ack_bit.specs.AckBits.{AckBits, acknowledges, is_new, receive_of, first_bits, is_odd}
+use Rattle.ack_bit.specs.AckNumbers.{Arrival, bits_after, ack_count, accept_count}
 
 -- a bit that was flipped n times
 abbrev pub flipped : Bool → ℕ → Bool
@@ -12,7 +12,7 @@ odd_next zero m h e = rw e refl
 odd_next (suc zero) m h e = rw e refl
 odd_next (suc (suc r)) m h e = absurd (omega arith)
 
-odd-one_more : (n : ℕ) → eqb ((1 + n) % 2) 1 ≡ not (eqb (n % 2) 1)
+pub odd-one_more : (n : ℕ) → eqb ((1 + n) % 2) 1 ≡ not (eqb (n % 2) 1)
 odd-one_more n = odd_next (n % 2) ((1 + n) % 2) (omega arith) (omega arith)
 
 not_twice : (b : Bool) → b ≡ not (not b)
@@ -30,20 +30,20 @@ flipped-step true false n = rw (zero-add n) refl
 flipped-step false true n = sym (odd-one_more n)
 flipped-step false false n = rw (zero-add n) refl
 
-sn-flipped : (bits : AckBits) (ps : List Arrival) → (bits_after bits ps).sn ≡ flipped bits.sn (acked_in bits ps)
+sn-flipped : (bits : AckBits) (ps : List Arrival) → (bits_after bits ps).sn ≡ flipped bits.sn (ack_count bits ps)
 sn-flipped bits [] = flipped-none bits.sn
 sn-flipped bits (p ∷ ps) =
     sn-flipped (receive_of bits p.header p.room) ps
-    ∙ flipped-step bits.sn (acknowledges bits p.header) (acked_in (receive_of bits p.header p.room) ps)
+    ∙ flipped-step bits.sn (acknowledges bits p.header) (ack_count (receive_of bits p.header p.room) ps)
 
-nesn-flipped : (bits : AckBits) (ps : List Arrival) → (bits_after bits ps).nesn ≡ flipped bits.nesn (accepted_in bits ps)
+nesn-flipped : (bits : AckBits) (ps : List Arrival) → (bits_after bits ps).nesn ≡ flipped bits.nesn (accept_count bits ps)
 nesn-flipped bits [] = flipped-none bits.nesn
 nesn-flipped bits (p ∷ ps) =
     nesn-flipped (receive_of bits p.header p.room) ps
-    ∙ flipped-step bits.nesn (is_new bits p.header && p.room) (accepted_in (receive_of bits p.header p.room) ps)
+    ∙ flipped-step bits.nesn (is_new bits p.header && p.room) (accept_count (receive_of bits p.header p.room) ps)
 
-pub sn-counts : (ps : List Arrival) → (bits_after first_bits ps).sn ≡ eqb (acked_in first_bits ps % 2) 1
+pub sn-counts : (ps : List Arrival) → (bits_after first_bits ps).sn ≡ is_odd (ack_count first_bits ps)
 sn-counts ps = sn-flipped first_bits ps
 
-pub nesn-counts : (ps : List Arrival) → (bits_after first_bits ps).nesn ≡ eqb (accepted_in first_bits ps % 2) 1
+pub nesn-counts : (ps : List Arrival) → (bits_after first_bits ps).nesn ≡ is_odd (accept_count first_bits ps)
 nesn-counts ps = nesn-flipped first_bits ps

@@ -1,2 +1,5 @@
+-- The lemmas of this crate.
 pub mod Counting
-pub mod Direction
+pub mod Directions
+pub mod Links
+pub mod Nonempties

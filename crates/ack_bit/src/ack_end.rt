@@ -1,22 +1,24 @@
+//! The acknowledgement state of one end of a link.
+
 ghost use Rattle.std.specs.Prelude.{◌≡◌, ◌↔◌, ℕ, Bool, ◌&&◌, not, IsTrue};
-ghost use Rattle.ack_bit.specs.AckBits.{AckBits, first_bits, header_of, is_new, seen_of, receive_of};
+ghost use Rattle.ack_bit.specs.AckBits.{first_bits, header_of, is_new, seen_of, receive_of};
 
 use data_pdu::DataHeader;
 use std::marker::Model;
 
-/// What a received packet says of the PDU that it carries and of the PDU that was last sent (Core 5.2,
-/// volume 6 part B, section 4.5.9).
+/// What a received packet says of the PDU that it carries, and of the PDU that was sent last (Core
+/// 5.2, volume 6 part B, section 4.5.9).
 #[derive(Clone, Copy, Debug, PartialEq, Eq, Default)]
 pub struct AckSeen {
-    /// The packet carries a new PDU, and not the last one again.
+    /// The packet carries a new PDU, not the one before it again.
     pub fresh: bool,
-    /// The packet acknowledges the PDU that was last sent.
+    /// The packet acknowledges the PDU that was sent last.
     pub acked: bool,
 }
 
-/// The acknowledgement state of one end of a link, transmitSeqNum and nextExpectedSeqNum (Core 5.2,
-/// volume 6 part B, section 4.5.9). As long as it has sent nothing, an empty PDU counts
-/// as sent, so that the first acknowledgement is of that PDU.
+/// The acknowledgement state of one end of a link: transmitSeqNum and nextExpectedSeqNum (Core 5.2,
+/// volume 6 part B, section 4.5.9). Until it sends its first PDU, an empty PDU counts as sent, and
+/// the first acknowledgement is of that PDU (our choice).
 #[derive(Clone, Copy, Debug, PartialEq, Eq)]
 pub struct AckEnd {
     sn: bool,
@@ -34,7 +36,7 @@ impl Model for AckEnd {
 }
 
 impl AckEnd {
-    /// An end as the link begins: both numbers are 0.
+    /// An end when the link begins: both numbers are 0.
     pub fn new() -> Self
         ensures { result ≡ first_bits }
     {
@@ -52,8 +54,8 @@ impl AckEnd {
         header.sn == self.nesn
     }
 
-    /// Receives a packet with this header. `room` says whether its PDU can be kept, as that of a control
-    /// PDU always can; without room the PDU is not accepted, and the peer sends it again.
+    /// Receives a packet with this header. `room` says whether its PDU can be kept; a control PDU
+    /// always can. Without room the PDU is not accepted, and the peer sends it again.
     pub fn receive(&mut self, header: DataHeader, room: bool) -> AckSeen
         ensures bits { self.new ≡ receive_of self.old header room }
         ensures seen { result ≡ seen_of self.old header }
@@ -71,8 +73,9 @@ impl AckEnd {
         seen
     }
 
-    /// The header of the next packet of this end: of the PDU that was last sent as long as that is not
-    /// acknowledged, and of the next one from then on. LLID, MD and the length in octets are the caller's.
+    /// The header of the next packet of this end: of the PDU that was sent last until it is
+    /// acknowledged, and of the next PDU after that. The caller gives LLID, MD and the length in
+    /// octets.
     pub fn header(&self, llid: u8, md: bool, length: u8) -> DataHeader
         ensures { result ≡ header_of self.now llid md length }
     {
@@ -86,7 +89,7 @@ impl AckEnd {
     }
 }
 
-/// An end as the link begins.
+/// An end when the link begins.
 impl Default for AckEnd {
     ghost is_default = { λ end. end ≡ first_bits };
 

@@ -3,9 +3,8 @@
 #![tactic(auto)]
 
 mod ack_end;
-mod laws;
+pub mod laws;
 #[cfg(test)]
 mod tests;
 
 pub use crate::ack_end::{AckEnd, AckSeen};
-pub use crate::laws::{bits_say_what_was_accepted, each_pdu_once_and_in_order, numbers_are_counts};

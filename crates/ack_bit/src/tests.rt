@@ -1,6 +1,7 @@
-use crate::{
-    AckEnd, AckSeen, bits_say_what_was_accepted, each_pdu_once_and_in_order, numbers_are_counts,
-};
+//! An exchange by hand, and each law once.
+
+use crate::laws::*;
+use crate::{AckEnd, AckSeen};
 use data_pdu::DataHeader;
 
 fn packet(nesn: bool, sn: bool) -> DataHeader {
@@ -15,7 +16,8 @@ fn packet(nesn: bool, sn: bool) -> DataHeader {
 
 #[test]
 fn bits_go_as_in_an_exchange(rt: HostRuntime) {
-    // NESN and SN of what arrives, and whether there is room; what it says; NESN and SN of what goes out then.
+    // NESN and SN of the packet that arrives, and whether there is room; what it says; NESN and SN
+    // of the packet that is sent then.
     let rows = [
         ((false, false, true), (true, false), (true, false)),
         ((false, false, true), (false, false), (true, false)),
@@ -33,7 +35,16 @@ fn bits_go_as_in_an_exchange(rt: HostRuntime) {
         assert_eq!(rt; end.receive(header, room), AckSeen { fresh, acked });
         assert_eq!(rt; end.header(1, false, 0), packet(next_nesn, next_sn));
     }
-    each_pdu_once_and_in_order::<u8>();
-    bits_say_what_was_accepted::<u8>();
+}
+
+#[test]
+fn laws_hold_of_any_pdu() {
     numbers_are_counts();
+    ends_stay_in_step::<u8>();
+    each_pdu_at_most_once_and_in_order::<u8>();
+    bits_are_counts::<u8>();
+    packets_carry_the_last_pdu_sent::<u8>();
+    bits_say_what_was_accepted::<u8>();
+    arrival_acknowledges_all_accepted::<u8>();
+    nonempty_pdus_at_most_once_and_in_order::<u8>();
 }

@@ -1,4 +1,5 @@
-use Rattle.ack_bit.proofs.Counting.{sn-counts, nesn-counts}
+-- The proof of the law `numbers_are_counts`.
+use Rattle.ack_bit.proofs.Counting.{nesn-counts, sn-counts}
 use Rattle.ack_bit.proofs.laws.numbers_are_counts.Goals as goal
 
 pub returns-clause-sn : goal.returns-clause-sn
