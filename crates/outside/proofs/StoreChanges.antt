@@ -3,7 +3,7 @@ use Rattle.std.proofs.Common.{◌≡◌, ◌≢◌, ℕ, true, false, List, [], 
 use Rattle.std.specs.List.{position}
 use Rattle.std.specs.Str.{bytes_eq}
 use Rattle.outside.specs.Count.{one_more}
-use Rattle.outside.specs.Calls.{Calls, fails_next}
+use Rattle.outside.specs.Calls.{Calls, next_fails}
 use Rattle.outside.specs.FileStore.{StoredFile, FileStore, content_of, faults_of, read_fails, faults_after_read, NeverFails}
 use Rattle.outside.proofs.CallNumbers.{none_fails_next}
 use Rattle.outside.proofs.FilesByName.{name_cases, name_is_itself, name_differs, file_at, no_file, file_of-set, file_of_push}
@@ -19,7 +19,7 @@ pub record IsCounted (old new : FileStore) (name other : List ℕ) : Type 0 wher
 pub fault_counted : (held : List StoredFile) (others : ℕ) (reads later : Calls) (name : List ℕ) (i : ℕ) (y d : StoredFile)
     → position (λ file. bytes_eq file.name name) held ≡ Some i → y.name ≡ (get_or held i d).name
     → y.content ≡ (get_or held i d).content → y.faults ≡ one_more (get_or held i d).faults
-    → fails_next reads ≡ true → (other : List ℕ)
+    → next_fails reads ≡ true → (other : List ℕ)
     → IsCounted (store held others reads) (store (set held i y) others later) name other
 fault_counted held others reads later name i y d at same_name same_content more fails other =
     let here = file_at held name i d at in
@@ -37,7 +37,7 @@ other_counted held others reads later name at other =
 
 -- a read that does not fail
 pub none_counted : (held : List StoredFile) (others : ℕ) (reads later : Calls) (name : List ℕ) (i : ℕ) (d : StoredFile)
-    → position (λ file. bytes_eq file.name name) held ≡ Some i → fails_next reads ≡ false → (other : List ℕ)
+    → position (λ file. bytes_eq file.name name) held ≡ Some i → next_fails reads ≡ false → (other : List ℕ)
     → faults_of (store held others later) other ≡ faults_after_read (store held others reads) name other
 none_counted held others reads later name i d at fails other =
     let here = file_at held name i d at in

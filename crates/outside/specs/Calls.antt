@@ -1,4 +1,4 @@
--- Calls that are counted, and those of them that are to fail (own).
+-- Calls that are counted, and which of them are to fail (our choice).
 use Rattle.std.specs.Prelude.{ℕ, ◌<◌, ◌==◌, Bool, List, All}
 use Rattle.std.specs.List.{list_any}
 use Rattle.outside.specs.Count.{one_more}
@@ -13,10 +13,10 @@ abbrev pub next_call : Calls → ℕ
 next_call calls = one_more calls.made
 
 -- whether the next call is to fail
-abbrev pub fails_next : Calls → Bool
-fails_next calls = list_any (λ call. call == next_call calls) calls.failing
+abbrev pub next_fails : Calls → Bool
+next_fails calls = list_any (λ call. call == next_call calls) calls.failing
 
--- one call later
+-- the calls once the next one was made
 abbrev pub after_call : Calls → Calls
 after_call calls = record calls { made = next_call calls }
 

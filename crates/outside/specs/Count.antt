@@ -1,10 +1,10 @@
--- Counts of faults, which never fall and stand still at the end of their type (own).
+-- Counts of faults: a count never falls, and stays at 2^64 - 1 once it is there (our choice).
 use Rattle.std.specs.Prelude.{ℕ, ◌+◌, ◌-◌, ◌^◌, ◌≤◌, min}
 
--- one more
+-- the count after one more fault
 abbrev pub one_more : ℕ → ℕ
 one_more count = min (count + 1) (2 ^ 64 - 1)
 
--- the count has risen, or stands at the end of its type
-abbrev pub Rose : ℕ → ℕ → Type 0
-Rose before now = one_more before ≤ now
+-- the count has risen, or is at its end
+abbrev pub HasRisen : ℕ → ℕ → Type 0
+HasRisen before now = one_more before ≤ now

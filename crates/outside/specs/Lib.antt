@@ -1,5 +1,7 @@
 pub mod Count
-pub mod Told
+pub mod Known
+pub mod Growth
+pub mod SystemFault
 pub mod Calls
 pub mod FileStore
 pub mod SinkStore

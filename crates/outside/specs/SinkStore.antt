@@ -1,4 +1,4 @@
--- What a sink in memory is seen as (own).
+-- A sink in memory, as contracts see it (our choice).
 use Rattle.std.specs.Prelude.{ℕ, List}
 use Rattle.outside.specs.Calls.{Calls}
 

@@ -1,3 +1,4 @@
+//! Which calls of a stand-in in memory are to fail.
 ghost use Rattle.std.specs.Prelude.{◌≡◌, [], ◌∷◌, ◌++◌, OnOk, OnErr};
 
 use std::alloc::{AllocError, Global};
@@ -19,8 +20,9 @@ impl Model for CallPlan {
 }
 
 impl CallPlan {
-    ghost use Rattle.outside.specs.Calls.{fails_next, after_call};
+    ghost use Rattle.outside.specs.Calls.{next_fails, after_call};
 
+    /// No call was made, and none is to fail.
     pub(crate) fn new(alloc: Global) -> CallPlan
         ensures { result ≡ record { made = 0; failing = [] } }
     {
@@ -30,9 +32,10 @@ impl CallPlan {
         }
     }
 
-    /// Adds the number of a call that is to fail.
+    /// Adds the number of a call that is to fail, counted from 1.
     pub(crate) fn fail_at(&mut self, call: u64) -> Result<(), AllocError>
-        ensures ok { OnOk result (self.new ≡ record self.old { failing = self.old.failing ++ call ∷ [] }) }
+        ensures ok { OnOk result
+            (self.new ≡ record self.old { failing = self.old.failing ++ call ∷ [] }) }
         ensures err { OnErr result (self.new ≡ self.old) }
     {
         self.failing.push(call)?;
@@ -41,7 +44,7 @@ impl CallPlan {
 
     /// Counts a call, and says whether it is to fail.
     pub(crate) fn next_fails(&mut self) -> bool
-        ensures answer { result ≡ fails_next self.old }
+        ensures answer { result ≡ next_fails self.old }
         ensures counted { self.new ≡ after_call self.old }
     {
         self.made = self.made.saturating_add(1);

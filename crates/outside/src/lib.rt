@@ -1,4 +1,4 @@
-//! Files and sinks: all that the program reads and writes outside itself.
+//! Files and sinks: all that the program reads and writes.
 #![tactic(auto)]
 
 mod call_plan;

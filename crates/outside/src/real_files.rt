@@ -1,21 +1,25 @@
-ghost use Rattle.std.specs.Prelude.{◌≡◌, ◌<◌, ◌≤◌, None, length, take, IfOk, IfSome, IsNone, IsErrOf};
+//! The files of the system.
+ghost use Rattle.std.specs.Prelude.{◌≡◌, ◌≢◌, ◌<◌, ◌≤◌, ◌↔◌, ◌+◌, None, Ok, Err, length, take, nat_le};
+ghost use Rattle.std.specs.Prelude.{IfOk, IfErr, IsErrOf, if◌then◌else◌};
 ghost use Rattle.outside.specs.Count.{one_more};
-ghost use Rattle.outside.specs.Told.{WhereTold};
+ghost use Rattle.outside.specs.Known.{WhereKnown};
+ghost use Rattle.outside.specs.SystemFault.{fault_of};
 
 use crate::files::{FileFault, Files};
 use std::alloc::Global;
 use std::io::{ErrorKind, Read};
 use std::marker::Model;
-use std::{fs, io, rt};
+use std::{fs, rt};
 
 /// The room that a read begins with, in octets.
 const FIRST_ROOM: usize = 65_536;
 
-/// The files of the system. They tell nothing of their content, and count the reads that failed, of
-/// all names together.
+/// The files of the system. Their content is not known to contracts, and one count of faults is that
+/// of every name.
 ///
-/// Contracts see them as that count. At most one octet past its limit is read of a file, so a read
-/// ends whatever the file gives. A missing file and a directory are faults.
+/// Contracts see them as that count. A name is opened as it is. At most one octet past its limit is
+/// read of a file, so a read ends even where the file does not. A missing file and a directory are
+/// faults.
 #[derive(Drop)]
 pub struct RealFiles<'a, R> {
     system: &'a R,
@@ -52,53 +56,78 @@ impl<R: rt::Files> Files for RealFiles<'_, R> {
         ensures same { ¬ IsErrOf result FileFault.Failed → self.new ≡ self.old }
         ensures counts { self.old ≤ self.new }
     {
-        match read_named(self.system, alloc, name, limit) {
-            Ok(Some(octets)) => Ok(octets),
-            Ok(None) => Err(FileFault::TooLong),
-            Err(e) if e.kind() == ErrorKind::OutOfMemory => Err(FileFault::Memory),
-            Err(_) => {
-                self.faults = self.faults.saturating_add(1);
-                Err(FileFault::Failed)
-            }
+        let answer = read_named(self.system, alloc, name, limit);
+        if let Err(FileFault::Failed) = answer {
+            self.faults = self.faults.saturating_add(1);
         }
+        answer
     }
 }
 
-/// The content of a file, or `None` where it is longer than the limit.
+/// Reads a whole file of the system, of at most `limit` octets.
 fn read_named<R: rt::Files>(
     system: &R,
     alloc: Global,
     name: &str,
     limit: u32,
-) -> io::Result<Option<Vec<u8>>>
-    ensures { IfOk result (λ content. IfSome content (λ octets. length octets.items ≤ limit)) }
+) -> Result<Vec<u8>, FileFault>
+    ensures { IfOk result (λ octets. length octets.items ≤ limit) }
 {
-    let file = fs::File::open(system, name)?;
-    read_whole(file, alloc, limit)
-}
-
-/// All that a reader has left, or `None` where that is more than `limit` octets.
-#[tactic(auto, using(crate::proofs::Fronts::whole_front))]
-fn read_whole<R: Read + Drop>(reader: R, alloc: Global, limit: u32) -> io::Result<Option<Vec<u8>>>
-    ensures fits { IfOk result (λ content. IfSome content (λ octets. length octets.items ≤ limit)) }
-    ensures whole { IfOk result (λ content. IfSome content (λ octets.
-        WhereTold (R.remaining reader) (λ c. octets.items ≡ c))) }
-    ensures too_long { IfOk result (λ content. IsNone content
-        → WhereTold (R.remaining reader) (λ c. limit < length c)) }
-{
-    let octets = read_front(reader, alloc, u64::from(limit) + 1)?;
-    if octets.len() > limit as usize {
-        return Ok(None);
+    match fs::File::open(system, name) {
+        Ok(file) => read_whole(file, alloc, limit),
+        Err(error) => Err(fault_of(error.kind())),
     }
-    Ok(Some(octets))
 }
 
-/// The first `most` octets of a reader, or all if there are fewer. No more are read, so this ends
-/// whatever the reader gives.
-fn read_front<R: Read + Drop>(reader: R, alloc: Global, most: u64) -> io::Result<Vec<u8>>
-    ensures { IfOk result (λ octets. WhereTold (R.remaining reader) (λ c. octets.items ≡ take most c)) }
+/// Reads all that a reader has left, of at most `limit` octets. At most one octet more is read.
+#[tactic(auto, using(crate::proofs::Fronts::whole_front))]
+pub(crate) fn read_whole<R: Read + Drop>(
+    reader: R,
+    alloc: Global,
+    limit: u32,
+) -> Result<Vec<u8>, FileFault>
+    ensures fits { IfOk result (λ octets. length octets.items ≤ limit) }
+    ensures whole { IfOk result (λ octets.
+        WhereKnown (R.remaining reader) (λ c. octets.items ≡ c)) }
+    ensures too_long { IsErrOf result FileFault.TooLong
+        → WhereKnown (R.remaining reader) (λ c. limit < length c) }
+{
+    let front = read_front(reader, alloc, u64::from(limit) + 1)?;
+    answer_of(front, limit)
+}
+
+/// What a read answers, where these are the first octets of the file, up to one past the limit.
+fn answer_of(front: Vec<u8>, limit: u32) -> Result<Vec<u8>, FileFault>
+    ensures { result
+        ≡ (if nat_le (length front.items) limit then Ok front else Err FileFault.TooLong) }
+{
+    if front.len() > limit as usize {
+        return Err(FileFault::TooLong);
+    }
+    Ok(front)
+}
+
+/// Reads the first `most` octets of a reader, or all if there are fewer. No more are read, so this
+/// ends whatever the reader gives.
+fn read_front<R: Read + Drop>(reader: R, alloc: Global, most: u64) -> Result<Vec<u8>, FileFault>
+    ensures ok { IfOk result (λ octets.
+        WhereKnown (R.remaining reader) (λ c. octets.items ≡ take most c)) }
+    ensures err { IfErr result (λ fault. fault ≢ FileFault.TooLong) }
 {
     let mut octets = Vec::with_capacity(alloc, FIRST_ROOM)?;
-    reader.take(most).read_to_end(&mut octets)?;
-    Ok(octets)
+    match reader.take(most).read_to_end(&mut octets) {
+        Ok(_) => Ok(octets),
+        Err(error) => Err(fault_of(error.kind())),
+    }
+}
+
+/// Why a file was not read, where the system's error is of this kind: `Memory` exactly where the
+/// system says so, and `Failed` everywhere else.
+pub(crate) fn fault_of(kind: ErrorKind) -> FileFault
+    ensures { result ≡ fault_of kind }
+{
+    match kind {
+        ErrorKind::OutOfMemory => FileFault::Memory,
+        _ => FileFault::Failed,
+    }
 }

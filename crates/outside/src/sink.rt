@@ -1,7 +1,9 @@
+//! The trait of all that the program writes: octets, in order.
 ghost use Rattle.std.specs.Prelude.{◌≡◌, ℕ, ◌≤◌, List, Option, OnOk, OnErr, IsErrOf};
-ghost use Rattle.outside.specs.Count.{Rose};
-ghost use Rattle.outside.specs.Told.{GrewBy, GrewByPrefix};
+ghost use Rattle.outside.specs.Count.{HasRisen};
+ghost use Rattle.outside.specs.Growth.{HasGrownBy, HasGrownByPrefix};
 
+use std::alloc::AllocError;
 use thiserror::Error;
 
 /// Why octets were not written.
@@ -10,16 +12,27 @@ pub enum SinkFault {
     /// The write failed, and the count of faults rose.
     #[error("the octets could not be written")]
     Failed,
-    /// There is no memory for the octets.
+    /// An allocation for the octets failed.
     #[error("no memory")]
     Memory,
 }
 
+/// A failed allocation is `Memory`.
+impl From<AllocError> for SinkFault {
+    ghost use Rattle.outside.specs.declared.sink.SinkFault.TheVariants.{Memory};
+
+    ghost from_gives = { λ _ fault. fault ≡ Memory };
+
+    fn from(_error: AllocError) -> SinkFault {
+        SinkFault::Memory
+    }
+}
+
 /// What takes octets.
 ///
-/// `written` is all that was written so far, where an implementation tells it. `faults` counts the
-/// writes that failed. `is_reliable` says that no write fails from now on, and `wants_memory` that a
-/// write may find no memory.
+/// `written` is all that was written so far, where an implementation makes it known. `faults` counts
+/// the writes that failed. `is_reliable` says that no write fails from now on, and `wants_memory`
+/// that a write may need an allocation.
 pub trait Sink {
     ghost written: { Self → Option (List ℕ) };
 
@@ -29,18 +42,20 @@ pub trait Sink {
 
     ghost wants_memory: { Self → Type 0 };
 
-    /// Writes all of the octets, or a prefix of them before an `Err`.
+    /// Writes all of the octets. After an `Err` a prefix of them was written.
     fn put(&mut self, octets: &[u8]) -> Result<(), SinkFault>
-        ensures ok { OnOk result (GrewBy (written self.old) (written self.new) octets.now) }
-        ensures err { OnErr result (GrewByPrefix (written self.old) (written self.new) octets.now) }
-        ensures failed { IsErrOf result SinkFault.Failed → Rose (faults self.old) (faults self.new) }
+        ensures ok { OnOk result (HasGrownBy (written self.old) (written self.new) octets.now) }
+        ensures err { OnErr result
+            (HasGrownByPrefix (written self.old) (written self.new) octets.now) }
+        ensures failed { IsErrOf result SinkFault.Failed
+            → HasRisen (faults self.old) (faults self.new) }
         ensures counts { faults self.old ≤ faults self.new }
 
-        // Only a sink that may want memory answers so, and no call makes one of another.
+        // Only a sink that may need an allocation answers `Memory`, and no other sink becomes one.
         ensures memory { IsErrOf result SinkFault.Memory → wants_memory self.old }
         ensures same_memory { wants_memory self.new → wants_memory self.old }
 
-        // A reliable sink does not fail, and stays so.
+        // A write to a reliable sink does not fail, and the sink stays reliable.
         ensures reliable { is_reliable self.old → ¬ IsErrOf result SinkFault.Failed }
         ensures no_fault { is_reliable self.old → faults self.new ≡ faults self.old }
         ensures stays_reliable { is_reliable self.old → is_reliable self.new };

@@ -2,7 +2,7 @@ use Rattle.std.proofs.Common.{rules, ◌≡◌, true, false, Some, None, ◌∙�
 use Rattle.std.specs.List.{position}
 use Rattle.std.specs.Str.{bytes_eq}
 use Rattle.outside.specs.Count.{one_more}
-use Rattle.outside.specs.Calls.{fails_next}
+use Rattle.outside.specs.Calls.{next_fails}
 use Rattle.outside.specs.FileStore.{StoredFile}
 use Rattle.outside.proofs.FilesByName.{file_at, no_file, file_of-set}
 use Rattle.outside.proofs.StoreChanges.{fault_counted, other_counted, none_counted}
@@ -25,7 +25,7 @@ returns-in-Some-clause-contents c =
     let at : position (λ (file : StoredFile). bytes_eq file.name c.args.name.now) c.self.inside.held.items ≡ Some c.in-Some.place = search rules in
     let is = c.count_fault.ensures.counted in
     let old = c.index_mut.ensures.value in
-    let fails : fails_next c.self.inside.reads ≡ true = search rules in
+    let fails : next_fails c.self.inside.reads ≡ true = search rules in
     rw (← c.self.view_is)
     (λ other. (fault_counted c.self.inside.held.items c.self.inside.others c.self.inside.reads c.next_fails-fails.new.self c.args.name.now c.in-Some.place
     c.count_fault.new.self c.index_mut.result.now at
@@ -39,7 +39,7 @@ returns-in-Some-clause-faults c =
     let at : position (λ (file : StoredFile). bytes_eq file.name c.args.name.now) c.self.inside.held.items ≡ Some c.in-Some.place = search rules in
     let is = c.count_fault.ensures.counted in
     let old = c.index_mut.ensures.value in
-    let fails : fails_next c.self.inside.reads ≡ true = search rules in
+    let fails : next_fails c.self.inside.reads ≡ true = search rules in
     rw (← c.self.view_is)
     (λ other. (fault_counted c.self.inside.held.items c.self.inside.others c.self.inside.reads c.next_fails-fails.new.self c.args.name.now c.in-Some.place
     c.count_fault.new.self c.index_mut.result.now at
@@ -69,19 +69,26 @@ pub returns-in-Some-2-clause-too_long : goal.returns-in-Some-2-clause-too_long
 returns-in-Some-2-clause-too_long c =
     let at : position (λ (file : StoredFile). bytes_eq file.name c.args.name.now) c.self.inside.held.items ≡ Some c.in-Some.place = search rules in
     let here = file_at c.self.inside.held.items c.args.name.now c.in-Some.place c.index.result.now at in
-    rw (← c.self.view_is) (λ e. grind (arith, here, c.index.ensures, c.read.ensures.too_long.0 e))
+    let fails : next_fails c.self.inside.reads ≡ false = search rules in
+    rw (← c.self.view_is) (grind (arith, here, fails, c.index.ensures, c.read.ensures.too_long))
+
+pub returns-in-None-clause-too_long : goal.returns-in-None-clause-too_long
+returns-in-None-clause-too_long c =
+    let at : position (λ (file : StoredFile). bytes_eq file.name c.args.name.now) c.self.inside.held.items ≡ None = search rules in
+    let none = no_file c.self.inside.held.items c.args.name.now at in
+    rw (← c.self.view_is) (grind (arith, none))
 
 pub returns-in-Some-2-clause-failed : goal.returns-in-Some-2-clause-failed
 returns-in-Some-2-clause-failed c =
     let at : position (λ (file : StoredFile). bytes_eq file.name c.args.name.now) c.self.inside.held.items ≡ Some c.in-Some.place = search rules in
     let here = file_at c.self.inside.held.items c.args.name.now c.in-Some.place c.index.result.now at in
-    let fails : fails_next c.self.inside.reads ≡ false = search rules in
+    let fails : next_fails c.self.inside.reads ≡ false = search rules in
     rw (← c.self.view_is) (grind (arith, here, fails, c.read.ensures.not_failed))
 
 pub returns-in-Some-2-clause-faults : goal.returns-in-Some-2-clause-faults
 returns-in-Some-2-clause-faults c =
     let at : position (λ (file : StoredFile). bytes_eq file.name c.args.name.now) c.self.inside.held.items ≡ Some c.in-Some.place = search rules in
-    let fails : fails_next c.self.inside.reads ≡ false = search rules in
+    let fails : next_fails c.self.inside.reads ≡ false = search rules in
     rw (← c.self.view_is)
     (none_counted c.self.inside.held.items c.self.inside.others c.self.inside.reads c.next_fails-fails.new.self c.args.name.now c.in-Some.place
     c.index.result.now at fails)

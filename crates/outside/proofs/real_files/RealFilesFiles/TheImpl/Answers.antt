@@ -1,15 +1,15 @@
 use Rattle.std.proofs.Common.{arith, Result, Ok, Err, refl, IfOk}
 use Rattle.outside.proofs.real_files.RealFilesFiles.TheImpl.Goals as goal
 
--- content that is not told says nothing
-not_told : {T E : Type 0} (r : Result T E) → IfOk r (λ _. Unit {0})
-not_told (Ok x) = tt
-not_told (Err e) = tt
+-- unknown content says nothing
+not_known : {T E : Type 0} (r : Result T E) → IfOk r (λ _. Unit {0})
+not_known (Ok x) = tt
+not_known (Err e) = tt
 
 pub read_file-tells : goal.read_file-tells
 read_file-tells g c = record {
   fits = c.ensures.fits;
-  ok = not_told c.result;
+  ok = not_known c.result;
   too_long = λ _. tt;
   failed = λ e. omega (arith, c.ensures.failed e);
   contents = λ _. refl;
