@@ -1,6 +1,8 @@
-ghost use Rattle.std.specs.Prelude.{◌≡◌, ◌<◌, ◌%◌, ◌↔◌, [], ◌∷◌, slice_index, IsTrue};
-ghost use Rattle.std.specs.Int.{bit_at};
-ghost use Rattle.data_pdu.specs.Header.{octets_of, header_in};
+//! The header of a data channel PDU (Core 5.2, volume 6 part B, section 2.4).
+ghost use Rattle.std.specs.Prelude.{◌≡◌, ◌<◌, ◌%◌, [], ◌∷◌, slice_index};
+ghost use Rattle.data_pdu.specs.Header.{octets_of, header_in, counts_as_empty};
+
+use ble_base::has_bit;
 
 /// The header of a data channel PDU (Core 5.2, volume 6 part B, section 2.4).
 #[derive(Clone, Copy, Debug, PartialEq, Eq, Default)]
@@ -13,30 +15,43 @@ pub struct DataHeader {
     pub sn: bool,
     /// MD, whether the sender has more data.
     pub md: bool,
-    /// How many octets follow the header, 0 to 255, the integrity code of a sealed payload among them.
+    /// The number of octets after the header, 0 to 255, including the integrity code of a sealed payload.
     pub length: u8,
 }
 
-/// The header in these two octets, the first on the air first (Core 5.2, volume 6 part B, section 2.4).
-/// Bits 5 to 7 of the first octet, which are reserved, are ignored.
+impl DataHeader {
+    /// Whether the PDU of this header counts as empty: its LLID is 0 or it has no octet. Such a PDU is
+    /// acknowledged and otherwise ignored (Core 5.2, volume 6 part B, section 2.4; that LLID 0, and LLID 2
+    /// or 3 without an octet, count as empty is our choice).
+    pub fn counts_as_empty(&self) -> bool
+        ensures { result ≡ counts_as_empty self.now }
+    {
+        self.llid == 0 || self.length == 0
+    }
+}
+
+/// The header in these two octets, in the order in which they are transmitted (Core 5.2, volume 6 part B,
+/// section 2.4). Bits 5 to 7 of the first octet, which are reserved, are ignored: `write_header` gives the
+/// same octets with these bits 0.
 pub fn read_header(octets: [u8; 2]) -> DataHeader
     ensures header { result ≡ header_in octets }
     ensures two_bits { result.llid < 4 }
     ensures kept { octets_of result ≡ slice_index octets 0 % 32 ∷ slice_index octets 1 ∷ [] }
 {
     let [first, length] = octets;
+    let flags = u64::from(first);
     DataHeader {
         llid: first % 4,
-        nesn: is_bit_set(first, 2),
-        sn: is_bit_set(first, 3),
-        md: is_bit_set(first, 4),
+        nesn: has_bit(flags, 2),
+        sn: has_bit(flags, 3),
+        md: has_bit(flags, 4),
         length,
     }
 }
 
-/// The two octets of this header, the first on the air first: LLID in bits 0 and 1 of the first, NESN in
-/// bit 2, SN in bit 3, MD in bit 4, and then the length (Core 5.2, volume 6 part B, section 2.4). The
-/// reserved bits are 0.
+/// The two octets of this header, in the order in which they are transmitted: LLID in bits 0 and 1 of the
+/// first, NESN in bit 2, SN in bit 3, MD in bit 4, and then the length (Core 5.2, volume 6 part B, section
+/// 2.4). The reserved bits 5 to 7 are 0. `read_header` gives the header back.
 pub fn write_header(header: DataHeader) -> [u8; 2]
     requires { header.llid < 4 }
     ensures octets { result ≡ octets_of header }
@@ -44,12 +59,4 @@ pub fn write_header(header: DataHeader) -> [u8; 2]
 {
     let flags = 4 * u8::from(header.nesn) + 8 * u8::from(header.sn) + 16 * u8::from(header.md);
     [header.llid + flags, header.length]
-}
-
-/// Whether this bit of an octet is 1.
-fn is_bit_set(octet: u8, place: u8) -> bool
-    requires { place < 8 }
-    ensures { IsTrue result ↔ (bit_at octet place ≡ 1) }
-{
-    (octet >> place) & 1 == 1
 }

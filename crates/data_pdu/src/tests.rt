@@ -1,3 +1,4 @@
+//! Worked rows of the header.
 use crate::{DataHeader, read_header, write_header};
 
 #[test]
@@ -59,4 +60,20 @@ fn headers_are_read_and_written(rt: HostRuntime) {
         assert_eq!(rt; write_header(header), octets);
     }
     assert_eq!(rt; read_header([0xEF, 0x05]), read_header([0x0F, 0x05]));
+}
+
+#[test]
+fn reserved_and_bare_pdus_count_as_empty(rt: HostRuntime) {
+    let rows = [
+        ([0x00, 0x05], true),
+        ([0x01, 0x00], true),
+        ([0x01, 0x01], false),
+        ([0x02, 0x00], true),
+        ([0x02, 0x1B], false),
+        ([0x03, 0x00], true),
+        ([0x03, 0x01], false),
+    ];
+    for (octets, empty) in rows {
+        assert_eq!(rt; read_header(octets).counts_as_empty(), empty);
+    }
 }
