@@ -1,1 +1,4 @@
 pub mod Header
+pub mod Layouts
+pub mod Ranges
+pub mod Reading
