@@ -1,0 +1,3 @@
+-- Lemmas on the values of cells.
+pub mod Numbers
+pub mod Soundness
