@@ -1,6 +1,6 @@
 #!/usr/bin/env bash
-# Measures the parts that the program does not call yet: ciphers and channel selection, at the whole load and at
-# half of it. Needs the toolchain and python3. The program that it measures is parts.txt, built in a folder of its own.
+# Measures the parts that the program does not call yet, at the whole load and at half of it.
+# Needs the toolchain and python3. The program that it measures is parts.txt, built in a folder of its own.
 set -e
 cd "$(dirname "$0")/.."
 folder=$(mktemp -d)

@@ -17,8 +17,8 @@ OFF_AND_ON = bytes.fromhex("010a200100") + ON
 # LE events let through, and scanning turned on: 18 octets.
 SCANS = bytes.fromhex("01010c08ffffffffff1f0020" "010c20020100")
 
-# Runs a program and writes its status, its seconds and its peak memory in octets. It is small itself: what a process takes before it
-# becomes the program counts as the program's.
+# Runs a program and writes its status, its seconds and its peak memory in octets. It is small itself, because the memory
+# that a process takes before it becomes the program counts as the program's.
 STARTER = """
 import os, sys, time
 begun = time.monotonic()
@@ -31,7 +31,7 @@ print(status, time.monotonic() - begun, usage.ru_maxrss * 1024, file=sys.stderr)
 
 
 class Load:
-    """What a run is given, and how many turns and packets on the air its journal must have."""
+    """The input of a run, and how many turns and packets on the air its journal must have."""
 
     def __init__(self, a, b, turns, count, packets):
         self.a = a
@@ -42,7 +42,7 @@ class Load:
 
 
 def one_turn(octets):
-    """So many octets of Resets, fed in one turn."""
+    """Resets of this many octets, fed in one turn."""
     return Load(RESET * (octets // 4), b"", b"t ++ a%d\n" % octets, 1, 0)
 
 
@@ -52,14 +52,14 @@ def ten_a_turn(turns):
 
 
 def on_air(turns):
-    """An advertiser that is turned off and on again in each turn, and so sends in each, and a scanner."""
+    """An advertiser that is turned off and on again in each turn, so that it transmits in each, and a scanner."""
     a = PARAMETERS + OFF_AND_ON * turns
     first = b"t ++ a%d b%d\n" % (len(PARAMETERS + OFF_AND_ON), len(SCANS))
     return Load(a, SCANS, first + b"t ++ a10\n" * (turns - 1), turns, turns)
 
 
 def advertising(turns):
-    """An advertiser at its least interval, and a scanner, with nothing fed behind the first turn."""
+    """An advertiser at its least interval, and a scanner, with nothing fed after the first turn."""
     a = PARAMETERS + ON
     packets = sum(1 for slot in range(turns) if slot % 16 < 3)
     return Load(a, SCANS, b"t ++ a%d b%d\nrun %d\n" % (len(a), len(SCANS), turns - 1), turns, packets)
@@ -71,14 +71,14 @@ def idle(turns):
 
 
 def long_lines(octets):
-    """A schedule of so many octets of turn lines with fates."""
+    """A schedule of turn lines with fates, of this many octets."""
     line = b"t ++ . x e0:00\n"
     turns = (octets - len(HEAD)) // len(line)
     return Load(b"", b"", line * turns, turns, 0)
 
 
 def check(load, journal):
-    """The journal has the turns and the packets that the load calls for."""
+    """Checks that the journal has the turns and the packets of the load."""
     turns = packets = 0
     with open(journal, "rb") as file:
         for line in file:
