@@ -3,18 +3,21 @@
 # Needs the toolchain and python3. The program that it measures is parts.txt, built in a folder of its own.
 set -e
 cd "$(dirname "$0")/.."
+# The crates that parts.txt calls, and those that they depend on.
+called="aes_block ble_base ccm_link chan_select"
+below=""
 folder=$(mktemp -d)
 trap 'rm -rf "$folder"' EXIT
 mkdir -p "$folder/crates/parts_bench/src"
-for crate in aes_block ble_base ccm_link chan_select; do
+for crate in $called $below; do
   mkdir "$folder/crates/$crate"
   for part in src specs proofs; do
     if [ -d "crates/$crate/$part" ]; then cp -r "crates/$crate/$part" "$folder/crates/$crate/"; fi
   done
+  grep "^$crate:" crates.txt >>"$folder/crates.txt"
 done
 cp bench/parts.txt "$folder/crates/parts_bench/src/main.rt"
-grep -E '^(aes_block|ble_base|ccm_link|chan_select):' crates.txt >"$folder/crates.txt"
-echo 'parts_bench: aes_block ble_base ccm_link chan_select arrayvec' >>"$folder/crates.txt"
+echo "parts_bench: $called arrayvec" >>"$folder/crates.txt"
 (cd "$folder/crates/parts_bench" && rt run -- blocks 1) >/dev/null 2>&1 || {
   echo "the program did not build" >&2
   exit 1
