@@ -1,0 +1,7 @@
+pub mod View
+pub mod Links
+pub mod Refusals
+pub mod Status
+pub mod Unbuilt
+pub mod Changes
+pub mod Noted

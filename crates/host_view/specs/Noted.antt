@@ -1,0 +1,85 @@
+-- How what a controller notes of itself changes the view (our choice: the view follows the notes).
+use Rattle.std.specs.Prelude.{ℕ, ◌+◌, ◌*◌, ◌%◌, ◌==◌, ◌&&◌, ◌<◌, ◌≡◌, Bool, true, false, List, slice_index, slice_set, Some, None, ⊤, if◌then◌else◌}
+use Rattle.ble_base.specs.declared.addresses.Address.{Address}
+use Rattle.ble_base.specs.declared.roles.Role.{Role}
+use Rattle.ble_base.specs.declared.roles.Role.TheVariants.{Central, Peripheral}
+use Rattle.ble_base.specs.declared.notes.Note.{Note}
+use Rattle.ble_base.specs.declared.notes.Note.TheVariants.{Up, Opened, Shut, Refused, Done}
+use Rattle.host_view.specs.declared.links.Asked.{Asked}
+use Rattle.host_view.specs.declared.links.Link.{Link}
+use Rattle.host_view.specs.declared.changes.LinkChange.TheVariants.{Answered, Key, Parameters, HandedUp}
+use Rattle.host_view.specs.View.{View}
+use Rattle.host_view.specs.Links.{link_in}
+use Rattle.host_view.specs.Changes.{on_link, changed_by}
+
+-- a link as it is opened: nothing was asked for on it yet
+abbrev pub opened_link : Role → Address → Address → Link
+opened_link role own peer = record {
+  role = role;
+  own = own;
+  peer = peer;
+  disconnecting = false;
+  asked = record { update = false; request = false; phy = false; features = false; version = false; length = false; encrypt = false };
+  waits_for_key = false;
+  waits_for_parameters = false;
+  outstanding = 0;
+}
+
+-- a central stops initiating as its link is opened, and a peripheral stops advertising
+-- (Core 5.2, volume 6 part B, sections 4.4.2.3 and 4.4.4)
+abbrev pub stopped_by : Role → View → View
+stopped_by Central view = record view { initiating = None }
+stopped_by Peripheral view = record view { advertising = record view.advertising { on = false } }
+
+abbrev pub with_link : ℕ → Link → View → View
+with_link handle link view = record (stopped_by link.role view) { links = slice_set view.links handle (Some link) }
+
+abbrev pub without_link : ℕ → View → View
+without_link handle view = record view { links = slice_set view.links handle None }
+
+-- a link is opened under a handle that the controller can hold and that no open link has
+abbrev pub HasPlace : View → Note → Type 0
+HasPlace view (Opened handle role own peer) = (handle < view.limit) × (link_in view.links handle ≡ None)
+HasPlace view other = ⊤
+
+-- ---- packets to the host (Core 5.2, volume 4 part A, section 2, and part E, sections 5.4 and 7.7.65)
+
+-- the number of two octets at this place
+abbrev pub two_octets : ℕ → List ℕ → ℕ
+two_octets place octets = slice_index octets place + 256 * slice_index octets (place + 1)
+
+-- ACL data: the handle is in the low 12 bits of the two octets after the indicator
+abbrev pub is_acl_data : List ℕ → Bool
+is_acl_data octets = slice_index octets 0 == 2
+
+abbrev pub acl_handle : List ℕ → ℕ
+acl_handle octets = two_octets 1 octets % 4096
+
+-- an LE event with this subevent code, whose handle is next
+abbrev pub is_le_event : ℕ → List ℕ → Bool
+is_le_event code octets = (slice_index octets 0 == 4) && ((slice_index octets 1 == 0x3E) && (slice_index octets 3 == code))
+
+abbrev pub event_handle : List ℕ → ℕ
+event_handle octets = two_octets 4 octets
+
+-- data counts as outstanding while flow control is on
+abbrev pub handed_up : List ℕ → View → View
+handed_up octets view =
+    if view.flow.on then on_link (acl_handle octets) (changed_by HandedUp) view else view
+
+-- a request for a key, or for connection parameters, waits for the host (sections 7.7.65.5 and 7.7.65.6)
+abbrev pub after_packet : List ℕ → View → View
+after_packet octets view =
+    if is_acl_data octets then handed_up octets view
+    else if is_le_event 0x05 octets then on_link (event_handle octets) (changed_by (Key true)) view
+    else if is_le_event 0x06 octets then on_link (event_handle octets) (changed_by (Parameters true)) view
+    else view
+
+-- the view after a note
+unfoldable pub view_noted : View → Note → View
+view_noted view (Up packet) = after_packet packet.items view
+view_noted view (Opened handle role own peer) = with_link handle (opened_link role own peer) view
+view_noted view (Shut handle reason) = without_link handle view
+view_noted view (Refused handle kind code) = on_link handle (changed_by (Answered kind)) view
+view_noted view (Done handle kind) = on_link handle (changed_by (Answered kind)) view
+view_noted view other = view

@@ -1,0 +1,58 @@
+-- What a controller knows of its host's settings and of its links, as far as the status of a command depends on it
+-- (Core 5.2, volume 4 part E, section 7).
+use Rattle.std.specs.Prelude.{ℕ, Bool, true, false, List, [], ◌∷◌, Option, Some, None}
+use Rattle.ble_base.specs.declared.addresses.Address.{Address}
+use Rattle.host_view.specs.declared.links.Link.{Link}
+use Rattle.host_view.specs.declared.view.Advertising.{Advertising}
+use Rattle.host_view.specs.declared.view.Scanning.{Scanning}
+use Rattle.host_view.specs.declared.view.HostFlow.{HostFlow}
+
+pub record View : Type 0 where
+  -- how many links the controller can hold
+  pub limit : ℕ
+  -- the masks of events and of LE events (sections 7.3.1 and 7.8.1)
+  pub mask : ℕ
+  pub le_mask : ℕ
+  -- the random address, once the host set one (section 7.8.4)
+  pub random : Option (List ℕ)
+  pub advertising : Advertising
+  pub scanning : Scanning
+  -- the filter policy of the initiator, while there is one (section 7.8.12)
+  pub initiating : Option ℕ
+  -- the accept list (section 7.8.16)
+  pub accepted : List Address
+  pub flow : HostFlow
+  -- the open link of each handle, from 0 on
+  pub links : List (Option Link)
+  -- there is an access address for another link
+  pub has_address : Bool
+
+-- what advertising, scanning and flow control are set to as a controller starts (sections 7.8.5, 7.8.10 and 7.3.38)
+abbrev pub first_advertising : Advertising
+first_advertising = record { on = false; kind = 0; own = 0; policy = 0 }
+
+abbrev pub first_scanning : Scanning
+first_scanning = record { on = false; own = 0; policy = 0 }
+
+abbrev pub first_flow : HostFlow
+first_flow = record { on = false; acl_length = 251; acl_count = 65535 }
+
+-- no link is open
+abbrev pub no_links : List (Option Link)
+no_links = None ∷ None ∷ None ∷ None ∷ None ∷ None ∷ []
+
+-- a controller as it starts, and after a Reset, by how many links it can hold (sections 7.3.1, 7.3.2 and 7.8.1)
+abbrev pub first_view : ℕ → Bool → View
+first_view limit has_address = record {
+  limit = limit;
+  mask = 0x00001FFFFFFFFFFF;
+  le_mask = 0x1F;
+  random = None;
+  advertising = first_advertising;
+  scanning = first_scanning;
+  initiating = None;
+  accepted = [];
+  flow = first_flow;
+  links = no_links;
+  has_address = has_address;
+}

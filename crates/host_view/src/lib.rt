@@ -1,0 +1,24 @@
+//! What a controller knows of its host's settings and of its links, as far as the status of a command
+//! depends on it (Core 5.2, volume 4 part E, section 7): the view, the status of each command in it, and
+//! how accepted commands and notes change it.
+#![tactic(auto)]
+
+mod accepted;
+mod advertising;
+mod changes;
+mod connecting;
+mod flow;
+mod link_commands;
+mod links;
+mod noted;
+mod refusals;
+mod scanning;
+mod statuses;
+#[cfg(test)]
+mod tests;
+mod unbuilt;
+mod view;
+
+pub use crate::links::{Asked, Link};
+pub use crate::statuses::status;
+pub use crate::view::{ACCEPT_LIST_SIZE, Advertising, HostFlow, HostView, MOST_LINKS, Scanning};

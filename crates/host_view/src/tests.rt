@@ -1,0 +1,109 @@
+//! The statuses of the table of commands, row by row, and what accepted commands and notes change.
+use super::*;
+use ble_base::{Address, Kind, Note, Role};
+use hci_cmd::Command;
+use std::process::Abort;
+
+const PEER: Address = Address {
+    random: false,
+    octets: [1, 2, 3, 4, 5, 6],
+};
+
+/// A view in which this link is open.
+fn view_with_link(role: Role) -> HostView {
+    let mut view = HostView::new(3);
+    view.note(&Note::Opened {
+        handle: 0,
+        role,
+        own: Address::default(),
+        peer: PEER,
+    });
+    view
+}
+
+fn expect_status(rt: &impl Abort, view: &HostView, command: Command, code: u8) {
+    let status = status(view, &command);
+    assert_eq!(rt; status.0, code, "{command:?}");
+}
+
+#[test]
+fn advertising(rt: HostRuntime) {
+    let view = HostView::new(3);
+    for (min, max, kind, own, peer_kind, channels, policy, code) in [
+        (0x20, 0x4000, 4, 1, 1, 7, 3, 0x00),
+        (0x1F, 0x4000, 1, 2, 2, 0, 4, 0x12),
+        (0x20, 0x4001, 1, 2, 2, 0, 4, 0x12),
+        (0x41, 0x40, 1, 2, 2, 0, 4, 0x12),
+        (0x20, 0x20, 1, 2, 2, 0, 4, 0x11),
+        (0x20, 0x20, 5, 2, 2, 0, 4, 0x12),
+        (0x20, 0x20, 2, 3, 2, 0, 4, 0x11),
+        (0x20, 0x20, 2, 4, 2, 0, 4, 0x12),
+        (0x20, 0x20, 2, 1, 2, 0, 4, 0x12),
+        (0x20, 0x20, 2, 1, 1, 0, 4, 0x12),
+        (0x20, 0x20, 2, 1, 1, 8, 4, 0x12),
+        (0x20, 0x20, 2, 1, 1, 7, 4, 0x12),
+    ] {
+        let command = Command::LeSetAdvParams {
+            min,
+            max,
+            kind,
+            own,
+            peer_kind,
+            peer: [0; 6],
+            channels,
+            policy,
+        };
+        expect_status(&rt, &view, command, code);
+    }
+}
+
+#[test]
+fn links(rt: HostRuntime) {
+    let none = HostView::new(3);
+    let central = view_with_link(Role::Central);
+    let mut leaving = view_with_link(Role::Peripheral);
+    for (command, unknown, open) in [
+        (Command::LeReadPhy { handle: 0 }, 0x02, 0x00),
+        (Command::LeReadChannelMap { handle: 0 }, 0x02, 0x00),
+        (Command::LeKeyNegative { handle: 0 }, 0x02, 0x0C),
+        (
+            Command::Disconnect {
+                handle: 0,
+                reason: 0x16,
+            },
+            0x02,
+            0x12,
+        ),
+    ] {
+        let status_of_none = status(&none, &command);
+        assert_eq!(rt; status_of_none.0, unknown, "{command:?}");
+        expect_status(&rt, &central, command, open);
+    }
+    leaving.note(&Note::Shut {
+        handle: 0,
+        reason: ble_base::ErrCode::CONNECTION_TIMEOUT,
+    });
+    expect_status(&rt, &leaving, Command::LeReadPhy { handle: 0 }, 0x02);
+}
+
+#[test]
+fn a_key_is_asked_for_and_given(rt: HostRuntime) {
+    let mut view = view_with_link(Role::Peripheral);
+    let mut request = arrayvec::ArrayVec::new();
+    for octet in [4, 0x3E, 13, 5, 0, 0, 1, 2, 3, 4, 5, 6, 7, 8, 9, 10] {
+        request.push(octet);
+    }
+    view.note(&Note::Up(request));
+    let reply = Command::LeKeyNegative { handle: 0 };
+    let answer = status(&view, &reply);
+    assert_eq!(rt; answer.0, 0x00);
+    if answer.0 == 0 {
+        view.command(&reply);
+    }
+    expect_status(&rt, &view, reply, 0x0C);
+    view.note(&Note::Done {
+        handle: 0,
+        kind: Kind::Phy,
+    });
+    view.address_left(false);
+}

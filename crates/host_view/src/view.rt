@@ -1,0 +1,139 @@
+//! The view: the settings of the host, and the links that are open.
+ghost use Rattle.std.specs.Prelude.{◌≡◌, ◌≤◌, true};
+ghost use Rattle.host_view.specs.View.{first_view};
+
+use crate::links::Link;
+use arrayvec::ArrayVec;
+use ble_base::Address;
+use std::marker::Model;
+
+/// The most links of a controller.
+pub const MOST_LINKS: usize = 6;
+
+/// How many addresses the accept list holds (Core 5.2, volume 4 part E, section 7.8.14).
+pub const ACCEPT_LIST_SIZE: usize = 8;
+
+/// Advertising: whether it is on, and what LE Set Advertising Parameters set last, by the codes of the
+/// standard (Core 5.2, volume 4 part E, section 7.8.5).
+#[derive(Clone, Copy, Debug, PartialEq, Eq)]
+pub struct Advertising {
+    pub on: bool,
+    /// Advertising_Type.
+    pub kind: u8,
+    /// Own_Address_Type: 0 for the public address, 1 for the random one.
+    pub own: u8,
+    /// Advertising_Filter_Policy.
+    pub policy: u8,
+}
+
+/// Scanning: whether it is on, and what LE Set Scan Parameters set last (Core 5.2, volume 4 part E, section
+/// 7.8.10).
+#[derive(Clone, Copy, Debug, PartialEq, Eq)]
+pub struct Scanning {
+    pub on: bool,
+    /// Own_Address_Type: 0 for the public address, 1 for the random one.
+    pub own: u8,
+    /// Scanning_Filter_Policy.
+    pub policy: u8,
+}
+
+/// Flow control towards the host (Core 5.2, volume 4 part E, sections 7.3.38 and 7.3.39).
+#[derive(Clone, Copy, Debug, PartialEq, Eq)]
+pub struct HostFlow {
+    /// Whether it is on for ACL data.
+    pub on: bool,
+    /// The most octets of data in an ACL packet to the host.
+    pub acl_length: u16,
+    /// The most ACL packets that the host holds.
+    pub acl_count: u16,
+}
+
+/// What a controller knows of its host's settings and of its links, as far as the status of a command
+/// depends on it.
+#[derive(Debug, Drop)]
+pub struct HostView {
+    pub(crate) limit: u16,
+    pub(crate) mask: u64,
+    pub(crate) le_mask: u64,
+    pub(crate) random: Option<[u8; 6]>,
+    pub(crate) advertising: Advertising,
+    pub(crate) scanning: Scanning,
+    pub(crate) initiating: Option<u8>,
+    pub(crate) accepted: ArrayVec<Address, 8>,
+    pub(crate) flow: HostFlow,
+    pub(crate) links: [Option<Link>; 6],
+    pub(crate) has_address: bool,
+}
+
+impl Model for HostView {
+    ghost use Rattle.std.specs.Prelude.{◌≤◌};
+    ghost use Rattle.host_view.specs.View.{View};
+
+    ghost Value = { View };
+
+    ghost invariant = { λ v. v.limit ≤ 6 };
+
+    ghost view = { λ v. record {
+      limit = v.limit;
+      mask = v.mask;
+      le_mask = v.le_mask;
+      random = v.random;
+      advertising = v.advertising;
+      scanning = v.scanning;
+      initiating = v.initiating;
+      accepted = v.accepted.items;
+      flow = v.flow;
+      links = v.links;
+      has_address = v.has_address;
+    } };
+}
+
+impl HostView {
+    /// The view of a controller that can hold this number of links, with all defaults and no link.
+    pub(crate) fn initial(limit: u16, has_address: bool) -> HostView
+        requires { limit ≤ 6 }
+        ensures { result ≡ first_view limit has_address }
+    {
+        HostView {
+            limit,
+            mask: 0x0000_1FFF_FFFF_FFFF,
+            le_mask: 0x1F,
+            random: None,
+            advertising: Advertising {
+                on: false,
+                kind: 0,
+                own: 0,
+                policy: 0,
+            },
+            scanning: Scanning {
+                on: false,
+                own: 0,
+                policy: 0,
+            },
+            initiating: None,
+            accepted: ArrayVec::new(),
+            flow: HostFlow {
+                on: false,
+                acl_length: 251,
+                acl_count: u16::MAX,
+            },
+            links: [None; 6],
+            has_address,
+        }
+    }
+
+    /// The view of a controller that starts and can hold this number of links.
+    pub fn new(links: u16) -> HostView
+        requires { (1 ≤ links) × (links ≤ 6) }
+        ensures { result ≡ first_view links true }
+    {
+        HostView::initial(links, true)
+    }
+
+    /// Whether there is an access address for another link.
+    pub fn address_left(&mut self, left: bool)
+        ensures { self.new ≡ record self.old { has_address = left } }
+    {
+        self.has_address = left;
+    }
+}
