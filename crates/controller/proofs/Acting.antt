@@ -16,7 +16,7 @@ use Rattle.controller.specs.Masks.{told}
 use Rattle.controller.specs.Past.{Input, Heard, activity_of, intent_of, see, tells, view_of}
 use Rattle.controller.specs.Scanning.{channel_after, is_withheld}
 use Rattle.controller.specs.State.{State, Acts, acting, acting_at, advertisement_by, doing_in, heard_on, listened, ready, wanted, IsTurn}
-use Rattle.controller.specs.Turns.{activity, advertisement_for, advertising, advertising_at, behind_turn, device_hears, device_tells, intent_in, scanner_hears, scanning, scans_on, serve}
+use Rattle.controller.specs.Turns.{activity, advertisement_for, advertising, advertising_at, after_turn, device_hears, device_tells, intent_in, scanner_hears, scanning, scans_on, serve}
 use Rattle.controller.proofs.Views.{view_of-more}
 
 -- ---- what is done is what is wanted
@@ -62,14 +62,14 @@ acts_next phase public past old intent next was goes wants =
 -- ---- a turn begins
 
 pub acts_first : (public : List ℕ) (past : List Input) (slot : ℕ) (on : Bool) (old : State) (device : Device) (intent : Intent) (done : Doing)
-    → old ≡ ready public past → IsTurn slot on (view_of public past) → device ≡ behind_turn slot on old.device
+    → old ≡ ready public past → IsTurn slot on (view_of public past) → device ≡ after_turn slot on old.device
     → done ≡ doing_in 0 (activity slot on old.device) → intent ≡ wanted old.public done
     → Acts 0 public past (record old { next_slot = slot + 1; device = device; doing = done }) intent
 unfolding ready acting
 acts_first public past slot on old device intent done was turn served does wants =
     let view = view_of public past in
     let kept : old.device ≡ view.device = ap (λ (s : State). s.device) was in
-    let served_is : device ≡ behind_turn view.slot view.on view.device = served ∙ (λ i. behind_turn (sym turn.slot_is i) (sym turn.on_is i) (kept i)) in
+    let served_is : device ≡ after_turn view.slot view.on view.device = served ∙ (λ i. after_turn (sym turn.slot_is i) (sym turn.on_is i) (kept i)) in
     let does_is : done ≡ doing_in 0 (activity_of view) = does ∙ (λ i. doing_in 0 (activity (sym turn.slot_is i) (sym turn.on_is i) (kept i))) in
     acts 0 public past (record old { next_slot = slot + 1; device = device; doing = done }) intent
     (λ i. record (was i) { next_slot = sym turn.next_is i; device = served_is i; doing = does_is i }) wants
@@ -162,8 +162,8 @@ scanner-serve slot device None = refl
 scanner-serve slot device (Some advertiser) = refl
 
 turn-hears : (slot : ℕ) (on : Bool) (device : Device) (heard : Option Advertisement)
-    → behind_turn slot on (device_hears device device.scanner heard) ≡ device_hears (behind_turn slot on device) (behind_turn slot on device).scanner heard
-unfolding behind_turn
+    → after_turn slot on (device_hears device device.scanner heard) ≡ device_hears (after_turn slot on device) (after_turn slot on device).scanner heard
+unfolding after_turn
 turn-hears slot false device heard = refl
 turn-hears slot true device heard =
     ap (serve slot (device_hears device device.scanner heard)) (advertiser-hears device device.scanner heard)
@@ -184,22 +184,22 @@ acts_heard phase channel public past packet old now heard device next intent sam
     let was = same ∙ begun in
     let seen = see view (Heard packet) in
     let heard_is = read_as phase channel public past packet now heard begun on is in
-    let device_is : device ≡ behind_turn seen.slot seen.on seen.device =
+    let device_is : device ≡ after_turn seen.slot seen.on seen.device =
     hears ∙ (λ i. device_hears (was i).device (was i).device.scanner (heard_is i)) ∙ sym (turn-hears view.slot view.on view.device _) in
     let next_is : next ≡ doing_in (suc phase) (activity_of seen) =
     goes phase (activity_of view) (ap (λ (s : State). s.doing) was) ∙ ap (doing_in (suc phase)) (sym (activity-hears view.slot view.on view.device _)) in
     acts (suc phase) public (past ++ Heard packet ∷ []) (record old { device = device; doing = next }) intent
     ((λ i. record (was i) { device = device_is i; doing = next_is i }) ∙ ap (acting_at (suc phase)) (sym (view_of-more public past (Heard packet)))) wants
 
--- ---- and is told
+-- ---- and the host receives
 
 mask-serve : (slot : ℕ) (device : Device) (advertiser : Option Advertiser) → (serve slot device advertiser).mask ≡ device.mask
 mask-serve slot device None = refl
 mask-serve slot device (Some advertiser) = refl
 
 -- a turn changes neither the mask nor the scanner
-turn_keeps : (slot : ℕ) (on : Bool) (device : Device) → ((behind_turn slot on device).mask ≡ device.mask) × ((behind_turn slot on device).scanner ≡ device.scanner)
-unfolding behind_turn
+turn_keeps : (slot : ℕ) (on : Bool) (device : Device) → ((after_turn slot on device).mask ≡ device.mask) × ((after_turn slot on device).scanner ≡ device.scanner)
+unfolding after_turn
 turn_keeps slot false device = (refl, refl)
 turn_keeps slot true device = (mask-serve slot device device.advertiser, scanner-serve slot device device.advertiser)
 

@@ -1,4 +1,4 @@
--- A host is told the answers to its packets.
+-- A host receives the answers to its packets.
 use Rattle.std.proofs.Common.{◌≡◌, ℕ, ◌+◌, ◌==◌, map, Bool, true, false, Option, Some, None, is_some, List, [], ◌∷◌, ◌++◌, length, cond, refl, ap, sym, ◌∙◌, subst}
 use Rattle.std.specs.Prelude.{not, ◌&&◌}
 use Rattle.std.proofs.lemmas.List.{length_push}
@@ -6,7 +6,7 @@ use Rattle.std.proofs.lemmas.List.Elements.{filter-append}
 use Rattle.h4_frames.specs.declared.packet.HostPacket.TheVariants.{Command as HostCommand, Acl}
 use Rattle.h4_frames.specs.declared.packet.Fed.{Fed}
 use Rattle.h4_frames.specs.declared.packet.Fed.TheVariants.{More, Packet, LostSync}
-use Rattle.h4_frames.specs.Frames.{frames, note, entries_from, AreBrought}
+use Rattle.h4_frames.specs.Frames.{frames, frame_entry, frame_entries, AreResults}
 use Rattle.h4_frames.proofs.Feeding.{frames_step}
 use Rattle.h4_frames.proofs.Growing.{frames_cut}
 use Rattle.hci_cmd.specs.declared.command.Command.{Command}
@@ -24,11 +24,12 @@ use Rattle.controller.specs.declared.devices.Device.{Device}
 use Rattle.controller.specs.Advertising.{fresh}
 use Rattle.controller.specs.Answers.{octets_of, HeardNothing, IsAnswerTo, answers, answers_from, is_le_event, without_le_events}
 use Rattle.controller.specs.Commands.{command_in}
-use Rattle.controller.specs.Masks.{has_bit, le_mask, told}
+use Rattle.ble_base.specs.Bits.{has_bit}
+use Rattle.controller.specs.Masks.{le_mask, told}
 use Rattle.controller.specs.Scanning.{is_withheld, report_event}
 use Rattle.controller.specs.Past.{Input, Turned, Given, Heard, View, activity_of, brought, first_view, see, tells, told_by, told_from}
 use Rattle.controller.specs.Table.{advertiser_by, answer_to, complete, device_after, done_by, events_for, initial, obeyed, returned, scanner_by, status_of}
-use Rattle.controller.specs.Turns.{advertisement_for, behind_turn, device_hears, device_tells, serve}
+use Rattle.controller.specs.Turns.{advertisement_for, after_turn, device_hears, device_tells, serve}
 use Rattle.controller.proofs.Taking.{is_brought}
 
 -- ---- devices that answer alike
@@ -82,7 +83,7 @@ told_alike : (public : List ℕ) (one other : Device) (fed : Fed) → Alike one 
 told_alike public one other fed alike =
     ap (told one.mask) (events_alike public one other fed alike) ∙ ap (λ (mask : ℕ). told mask (events_for public other fed)) alike.mask_is
 
--- ---- and are alike behind that
+-- ---- and are alike after that
 
 advertiser_with : (one other : Device) (off on : Bool) → Alike one other
     → Alike (cond off (record one { advertiser = None }) (cond on one (record one { advertiser = Some fresh })))
@@ -146,8 +147,8 @@ serve_alike slot device None is = alike_self device
 serve_alike slot device (Some advertiser) is =
     record { mask_is = refl; parameters_are = refl; advertises = ap is_some (sym is) }
 
-turn_alike : (slot : ℕ) (on : Bool) (device : Device) → Alike (behind_turn slot on device) device
-unfolding behind_turn
+turn_alike : (slot : ℕ) (on : Bool) (device : Device) → Alike (after_turn slot on device) device
+unfolding after_turn
 turn_alike slot true device = serve_alike slot device device.advertiser refl
 turn_alike slot false device = alike_self device
 
@@ -157,20 +158,20 @@ feds_from : List ℕ → List ℕ → List Fed
 feds_from before [] = []
 feds_from before (octet ∷ octets) = brought before octet ∷ feds_from (before ++ octet ∷ []) octets
 
-are_brought : (before octets : List ℕ) → AreBrought before octets (feds_from before octets)
+are_brought : (before octets : List ℕ) → AreResults before octets (feds_from before octets)
 unfolding feds_from
 are_brought before [] = tt
 are_brought before (octet ∷ octets) =
     let step = frames_step before octet in
     let is = is_brought before octet _ step in (
-      subst (λ (fed : Fed). frames (before ++ octet ∷ []) ≡ frames before ++ note (length before + 1) fed) is step,
+      subst (λ (fed : Fed). frames (before ++ octet ∷ []) ≡ frames before ++ frame_entry (length before + 1) fed) is step,
       are_brought (before ++ octet ∷ []) octets,
     )
 
 -- an octet that brings nothing gets no answer
 answers_note : (public : List ℕ) (slot : ℕ) (device : Device) (place : ℕ) (fed : Fed) (entries : List (ℕ × Fed))
     → told device.mask (events_for public device fed) ++ answers_from public slot (device_after slot device fed) entries
-    ≡ answers_from public slot device (note place fed ++ entries)
+    ≡ answers_from public slot device (frame_entry place fed ++ entries)
 answers_note public slot device place More entries = refl
 answers_note public slot device place LostSync entries = refl
 answers_note public slot device place (Packet packet) entries = refl
@@ -178,7 +179,7 @@ answers_note public slot device place (Packet packet) entries = refl
 -- ---- all of it
 
 answered_from : (slot : ℕ) (view : View) (device : Device) (past : List Input) → HeardNothing past → Alike view.device device
-    → told_from view past ≡ answers_from view.public slot device (entries_from (length view.octets) (feds_from view.octets (octets_of past)))
+    → told_from view past ≡ answers_from view.public slot device (frame_entries (length view.octets) (feds_from view.octets (octets_of past)))
 unfolding feds_from
 answered_from slot view device [] none alike = refl
 answered_from slot view device (Turned at on ∷ past) none alike =
@@ -191,11 +192,11 @@ answered_from slot view device (Given octet ∷ past) none alike =
     (after_alike slot view.slot view.device device fed alike) in
     let feds = feds_from (view.octets ++ octet ∷ []) (octets_of past) in
     (λ i. told_alike view.public view.device device fed alike i ++ later i)
-    ∙ ap (λ (n : ℕ). told device.mask (events_for view.public device fed) ++ answers_from view.public slot (device_after slot device fed) (entries_from n feds))
+    ∙ ap (λ (n : ℕ). told device.mask (events_for view.public device fed) ++ answers_from view.public slot (device_after slot device fed) (frame_entries n feds))
     (length_push view.octets octet)
-    ∙ answers_note view.public slot device (length view.octets + 1) fed (entries_from (length view.octets + 1) feds)
+    ∙ answers_note view.public slot device (length view.octets + 1) fed (frame_entries (length view.octets + 1) feds)
 
--- ---- the same beside what is heard
+-- ---- the same where something is heard
 
 -- an answer is no LE event
 read_kept : (public : List ℕ) (device : Device) (opcode mask : ℕ) (read : CmdRead)
@@ -240,12 +241,12 @@ hear_alike : (device : Device) (scanner : Option Scanner) (advertisement : Optio
 hear_alike device None advertisement = alike_self device
 hear_alike device (Some scanner) advertisement = record { mask_is = refl; parameters_are = refl; advertises = refl }
 
-told_behind : (first rest : List (List ℕ)) → without_le_events (first ++ rest) ≡ without_le_events first ++ without_le_events rest
-told_behind first rest = filter-append (λ packet. not (is_le_event packet)) first rest
+told_after : (first rest : List (List ℕ)) → without_le_events (first ++ rest) ≡ without_le_events first ++ without_le_events rest
+told_after first rest = filter-append (λ packet. not (is_le_event packet)) first rest
 
 kept_from : (slot : ℕ) (view : View) (device : Device) (past : List Input) → Alike view.device device
     → without_le_events (told_from view past)
-    ≡ answers_from view.public slot device (entries_from (length view.octets) (feds_from view.octets (octets_of past)))
+    ≡ answers_from view.public slot device (frame_entries (length view.octets) (feds_from view.octets (octets_of past)))
 unfolding feds_from
 kept_from slot view device [] alike = refl
 kept_from slot view device (Turned at on ∷ past) alike =
@@ -253,18 +254,18 @@ kept_from slot view device (Turned at on ∷ past) alike =
 kept_from slot view device (Heard packet ∷ past) alike =
     let heard = advertisement_for view.public (activity_of view) packet in
     let later = kept_from slot (see view (Heard packet)) device past (alike_then _ view.device _ (hear_alike view.device view.device.scanner heard) alike) in
-    told_behind (tells view (Heard packet)) (told_from (see view (Heard packet)) past)
+    told_after (tells view (Heard packet)) (told_from (see view (Heard packet)) past)
     ∙ (λ i. heard_dropped view.device.mask view.device.scanner heard i ++ later i)
 kept_from slot view device (Given octet ∷ past) alike =
     let fed = brought view.octets octet in
     let later = kept_from slot (see view (Given octet)) (device_after slot device fed) past
     (after_alike slot view.slot view.device device fed alike) in
     let feds = feds_from (view.octets ++ octet ∷ []) (octets_of past) in
-    told_behind (tells view (Given octet)) (told_from (see view (Given octet)) past)
+    told_after (tells view (Given octet)) (told_from (see view (Given octet)) past)
     ∙ (λ i. (answers_kept view.public view.device fed ∙ told_alike view.public view.device device fed alike) i ++ later i)
-    ∙ ap (λ (n : ℕ). told device.mask (events_for view.public device fed) ++ answers_from view.public slot (device_after slot device fed) (entries_from n feds))
+    ∙ ap (λ (n : ℕ). told device.mask (events_for view.public device fed) ++ answers_from view.public slot (device_after slot device fed) (frame_entries n feds))
     (length_push view.octets octet)
-    ∙ answers_note view.public slot device (length view.octets + 1) fed (entries_from (length view.octets + 1) feds)
+    ∙ answers_note view.public slot device (length view.octets + 1) fed (frame_entries (length view.octets + 1) feds)
 
 -- ---- from the start
 
@@ -272,10 +273,10 @@ no_frames : frames [] ≡ []
 unfolding frames
 no_frames = refl
 
-cut_at_start : (octets : List ℕ) → frames octets ≡ entries_from 0 (feds_from [] octets)
+cut_at_start : (octets : List ℕ) → frames octets ≡ frame_entries 0 (feds_from [] octets)
 cut_at_start octets =
     let feds = feds_from [] octets in
-    frames_cut [] octets feds (are_brought [] octets) ∙ ap (λ entries. entries ++ entries_from 0 feds) no_frames
+    frames_cut [] octets feds (are_brought [] octets) ∙ ap (λ entries. entries ++ frame_entries 0 feds) no_frames
 
 pub answered : (public : List ℕ) (slot : ℕ) (past : List Input) → HeardNothing past → told_by public past ≡ answers public slot (frames (octets_of past))
 unfolding told_by answers

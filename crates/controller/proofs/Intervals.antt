@@ -6,9 +6,9 @@ use Rattle.std.proofs.lemmas.Bool.Decides.{nat_tests}
 use Rattle.controller.specs.declared.advertisers.Advertiser.{Advertiser}
 use Rattle.controller.specs.declared.advertisers.AdvertisingParameters.{AdvertisingParameters}
 use Rattle.controller.specs.declared.devices.Device.{Device}
-use Rattle.controller.specs.Advertising.{begun_by, fresh, place_behind, place_in_event, place_of, slots_of}
+use Rattle.controller.specs.Advertising.{begun_by, fresh, place_after, place_in_event, place_of, slots_of}
 use Rattle.controller.specs.Events.{advertiser_after, left_on, place_by}
-use Rattle.controller.specs.Turns.{activity, advertising_at, behind_turn}
+use Rattle.controller.specs.Turns.{activity, advertising_at, after_turn}
 
 -- a slot later it is one place later in its interval, or at the beginning of the next one
 data Follows (interval place next : ℕ) : Type 0 where
@@ -27,15 +27,15 @@ follows interval slots long =
           anew (step ∙ ap (λ (n : ℕ). n % interval) whole ∙ mod_self interval) whole
     ]
 
--- the place of a slot behind one that is at a place of its interval, where its event began at place 0 of that
+-- the place of a slot after one that is at a place of its interval, where its event began at place 0 of that
 placed : (interval start slots place next : ℕ) → 3 ≤ interval → place ≤ slots → Follows interval place next
-    → place_behind interval (start + suc slots) (start + (slots - place)) ≡ cond (nat_lt next 3) (Some next) None
+    → place_after interval (start + suc slots) (start + (slots - place)) ≡ cond (nat_lt next 3) (Some next) None
 placed interval start slots place next long low (within is less) =
-    let behind : (start + suc slots) - (start + (slots - place)) ≡ next = omega arith in
-    rw behind (grind (arith, nat_tests))
+    let elapsed : (start + suc slots) - (start + (slots - place)) ≡ next = omega arith in
+    rw elapsed (grind (arith, nat_tests))
 placed interval start slots place next long low (anew is whole) =
-    let behind : (start + suc slots) - (start + (slots - place)) ≡ interval = omega arith in
-    rw (behind, is) (grind (arith, nat_tests))
+    let elapsed : (start + suc slots) - (start + (slots - place)) ≡ interval = omega arith in
+    rw (elapsed, is) (grind (arith, nat_tests))
 
 -- only at place 0 an event begins
 begun_before : (slot next : ℕ) (is_event : Bool) (was : Option ℕ) → (next == 0) ≡ false → begun_by slot (cond is_event (Some next) None) was ≡ was
@@ -84,9 +84,9 @@ keeps_place parameters start slots long = (keeps parameters start slots long).pl
 
 left_on_is : (start slots : ℕ) (device : Device) → device.advertiser ≡ Some fresh
     → left_on start slots device ≡ record device { advertiser = Some (advertiser_after device.parameters start slots) }
-unfolding behind_turn
+unfolding after_turn
 left_on_is start zero device is = λ i. record device { advertiser = is i }
-left_on_is start (suc slots) device is = ap (behind_turn (start + slots) true) (left_on_is start slots device is)
+left_on_is start (suc slots) device is = ap (after_turn (start + slots) true) (left_on_is start slots device is)
 
 advertising_with : (slot : ℕ) (device : Device) (advertiser : Option Advertiser) (place : Option ℕ)
     → advertising_at slot (record device { advertiser = advertiser }) place ≡ advertising_at slot device place

@@ -5,8 +5,8 @@ use Rattle.ble_base.specs.declared.notes.Note.{Note}
 use Rattle.h4_frames.specs.declared.packet.Fed.{Fed}
 use Rattle.h4_frames.specs.declared.packet.Fed.TheVariants.{More, Packet, LostSync}
 use Rattle.h4_frames.specs.declared.stage.Stage.{Stage}
-use Rattle.h4_frames.specs.Frames.{frames, note}
-use Rattle.h4_frames.specs.Machine.{waits}
+use Rattle.h4_frames.specs.Frames.{frames, frame_entry}
+use Rattle.h4_frames.specs.Machine.{framer_after}
 use Rattle.controller.specs.declared.devices.Device.{Device}
 use Rattle.controller.specs.Masks.{told}
 use Rattle.controller.specs.Past.{Input, Given, brought, first_of, notes_of, tells, view_of}
@@ -14,21 +14,21 @@ use Rattle.controller.specs.State.{State, ready, ready_at}
 use Rattle.controller.specs.Table.{device_after, events_for}
 use Rattle.controller.proofs.Views.{view_of-more}
 
-first-note : (place : ℕ) (fed : Fed) → first_of (note place fed) ≡ fed
+first-note : (place : ℕ) (fed : Fed) → first_of (frame_entry place fed) ≡ fed
 first-note place More = refl
 first-note place (Packet packet) = refl
 first-note place LostSync = refl
 
 -- what a framer gives for an octet is what the octet brings
 abbrev Feeds : Stage → ℕ → Fed → Type 0
-Feeds stage octet fed = (octets : List ℕ) → stage ≡ waits octets → frames (octets ++ octet ∷ []) ≡ frames octets ++ note (length octets + 1) fed
+Feeds stage octet fed = (octets : List ℕ) → stage ≡ framer_after octets → frames (octets ++ octet ∷ []) ≡ frames octets ++ frame_entry (length octets + 1) fed
 
-pub is_brought : (octets : List ℕ) (octet : ℕ) (fed : Fed) → frames (octets ++ octet ∷ []) ≡ frames octets ++ note (length octets + 1) fed → fed ≡ brought octets octet
+pub is_brought : (octets : List ℕ) (octet : ℕ) (fed : Fed) → frames (octets ++ octet ∷ []) ≡ frames octets ++ frame_entry (length octets + 1) fed → fed ≡ brought octets octet
 unfolding brought
 is_brought octets octet fed grown =
     sym (ap (λ entries. first_of (drop (length (frames octets)) entries)) grown
-    ∙ ap first_of (drop_at (frames octets) (note (length octets + 1) fed) (length (frames octets)) refl)
-    ∙ first-note (length octets + 1) fed)
+    ∙ ap first_of (drop_at (frames octets) (frame_entry (length octets + 1) fed) (length (frames octets)) refl)
+    ∙ first-frame_entry (length octets + 1) fed)
 
 fed_is : (public : List ℕ) (past : List Input) (octet : ℕ) (old : State) (fed : Fed) → old ≡ ready public past → Feeds old.framer octet fed
     → fed ≡ brought (view_of public past).octets octet
@@ -38,7 +38,7 @@ fed_is public past octet old fed was feeds =
 
 pub ready_given : (public : List ℕ) (past : List Input) (octet : ℕ) (old : State) (fed : Fed) (framer : Stage) (device : Device)
     → old ≡ ready public past → Feeds old.framer octet fed
-    → ((octets : List ℕ) → old.framer ≡ waits octets → framer ≡ waits (octets ++ octet ∷ []))
+    → ((octets : List ℕ) → old.framer ≡ framer_after octets → framer ≡ framer_after (octets ++ octet ∷ []))
     → device ≡ device_after old.next_slot old.device fed
     → record old { framer = framer; device = device } ≡ ready public (past ++ Given octet ∷ [])
 unfolding ready

@@ -19,7 +19,7 @@ record Says (public own : List ℕ) : Type 0 where
 six_say : (own public : List ℕ) → length public ≡ 6 → Says public own
 unfolding advertisement_in read_of
 six_say own (a ∷ b ∷ c ∷ d ∷ e ∷ f ∷ []) six = record {
-  form = record { header = omega arith; fits = omega arith; counted = refl };
+  form = refl;
   says = refl;
 }
 six_say own [] six = absurd (omega arith)

@@ -1,10 +1,10 @@
--- What a controller holds and told by its past, with one more thing that comes.
+-- What a controller holds and has sent to its host by its past, with one more input.
 use Rattle.std.proofs.Common.{◌≡◌, ℕ, Bool, List, [], ◌∷◌, ◌++◌, refl, ap, sym, ◌∙◌, append-nil, append_assoc}
-use Rattle.h4_frames.specs.Machine.{waits}
+use Rattle.h4_frames.specs.Machine.{framer_after}
 use Rattle.controller.specs.declared.controllers.Doing.TheVariants.{Rests as Waits}
 use Rattle.controller.specs.Past.{Input, Turned, View, first_view, see, tells, told_by, told_from, view_from, view_of}
 use Rattle.controller.specs.State.{ready, ready_at, rested}
-use Rattle.controller.specs.Turns.{behind_turn}
+use Rattle.controller.specs.Turns.{after_turn}
 
 view_from-more : (view : View) (past : List Input) (input : Input) → view_from view (past ++ input ∷ []) ≡ see (view_from view past) input
 view_from-more view [] input = refl
@@ -22,7 +22,7 @@ told_from-more view (first ∷ past) input =
     ap (λ rest. tells view first ++ rest) (told_from-more (see view first) past input)
     ∙ sym (append_assoc (tells view first) (told_from (see view first) past) (tells (view_from (see view first) past) input))
 
--- and is told behind what was told
+-- and is sent after what was sent
 pub told_by-more : (public : List ℕ) (past : List Input) (input : Input)
     → told_by public (past ++ input ∷ []) ≡ told_by public past ++ tells (view_of public past) input
 unfolding told_by view_of
@@ -36,9 +36,9 @@ rested-ready public past slot on is =
     let view = view_of public past in
     (λ i. record {
       public = view.public;
-      framer = waits view.octets;
+      framer = framer_after view.octets;
       next_slot = sym is i;
-      device = behind_turn view.slot view.on view.device;
+      device = after_turn view.slot view.on view.device;
       doing = Waits;
     })
     ∙ ap ready_at (sym (view_of-more public past (Turned slot on)))

@@ -1,4 +1,4 @@
--- The answers to a host's packets (Core 5.2, volume 4 part E, sections 7.7.14 to 7.7.16): what a host is told besides LE events.
+-- The answers to a host's packets (Core 5.2, volume 4 part E, sections 7.7.14 to 7.7.16): what a host receives besides LE events.
 use Rattle.std.specs.Prelude.{◌≡◌, ℕ, ◌==◌, not, Bool, List, [], ◌∷◌, ◌++◌, slice_index, ⊤}
 use Rattle.std.specs.List.{filter}
 use Rattle.h4_frames.specs.declared.packet.Fed.{Fed}
@@ -37,7 +37,7 @@ IsAnswerTo opcode (CommandComplete number answered fields) = (number ≡ 1) × (
 IsAnswerTo opcode (CommandStatus status number answered) = (number ≡ 1) × (answered ≡ opcode)
 IsAnswerTo opcode other = ⊥
 
--- what a device tells of these packets and losses of synchronisation, one behind another, where all of them come in one slot
+-- what a device answers to these packets and losses of synchronisation, one after another, where all of them come in one slot
 abbrev pub answers_from : List ℕ → ℕ → Device → List (ℕ × Fed) → List (List ℕ)
 answers_from public slot device [] = []
 answers_from public slot device (entry ∷ entries) =

@@ -21,7 +21,7 @@ advertising_parameters_in octets =
     LeSetAdvParams (two_octets 0 octets) (two_octets 2 octets) (slice_index octets 4) (slice_index octets 5) (slice_index octets 6)
     (take 6 (drop 7 octets)) (slice_index octets 13) (slice_index octets 14)
 
--- the command of an opcode and its parameters, where it is carried out; all others are unknown to this controller (own)
+-- the command of an opcode and its parameters, where it is carried out; all others are unknown to this controller (our choice)
 unfoldable pub command_in : ℕ → List ℕ → CmdRead
 command_in opcode octets =
     if opcode == 0x0C01 then sized 8 octets (SetEventMask (number_of octets))

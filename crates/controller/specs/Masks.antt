@@ -1,6 +1,6 @@
--- Masks of events: which of them a host is told (Core 5.2, volume 4 part E, sections 7.3.1 and 7.8.1).
-use Rattle.std.specs.Prelude.{ℕ, ◌==◌, ◌&&◌, Bool, true, List, map}
-use Rattle.std.specs.Int.{bit_at}
+-- Masks of events: which of them a host receives (Core 5.2, volume 4 part E, sections 7.3.1 and 7.8.1).
+use Rattle.std.specs.Prelude.{ℕ, ◌&&◌, Bool, true, List, map}
+use Rattle.ble_base.specs.Bits.{has_bit}
 use Rattle.std.specs.List.{filter}
 use Rattle.hci_evt.specs.declared.event.Event.{Event}
 use Rattle.hci_evt.specs.declared.event.MaskBit.{MaskBit}
@@ -10,10 +10,6 @@ use Rattle.hci_evt.specs.Event.{mask_bit_of, written}
 -- the mask of LE events, which no command sets yet
 abbrev pub le_mask : ℕ
 le_mask = 0x1F
-
--- a bit of a mask is 1
-abbrev pub has_bit : ℕ → ℕ → Bool
-has_bit mask bit = bit_at mask bit == 1
 
 -- an LE event needs its own bit, and that of all LE events, which is 61
 abbrev pub passes : ℕ → MaskBit → Bool

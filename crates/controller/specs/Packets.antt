@@ -31,7 +31,7 @@ verdict_by NotOurs = Missed
 verdict_by Faulty = Broken
 verdict_by (Whole pdu) = Good
 
--- what a listener on the channel makes of octets (the verdicts are own): missed where they do not begin with the access address, broken where they are
+-- what a listener on the channel makes of octets (the verdicts are our choice): missed where they do not begin with the access address, broken where they are
 -- the packet of no PDU
 unfoldable pub verdict_on : ℕ → List ℕ → Verdict
 verdict_on channel octets = verdict_by (heard_on_channel channel octets)

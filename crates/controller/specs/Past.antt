@@ -1,4 +1,4 @@
--- A controller by its past: all that came to it, in order. Own.
+-- A controller by its past, which is all that came to it, in order (our choice).
 use Rattle.std.specs.Prelude.{ℕ, ◌+◌, Bool, false, List, [], ◌∷◌, ◌++◌, length, map, drop}
 use Rattle.ble_base.specs.declared.notes.Note.{Note}
 use Rattle.ble_base.specs.declared.notes.Note.TheVariants.{Up}
@@ -10,7 +10,7 @@ use Rattle.controller.specs.declared.devices.Device.{Device}
 use Rattle.controller.specs.declared.devices.Activity.{Activity}
 use Rattle.controller.specs.Masks.{told}
 use Rattle.controller.specs.Table.{initial, device_after, events_for}
-use Rattle.controller.specs.Turns.{activity, intent_in, advertisement_for, device_hears, device_tells, behind_turn}
+use Rattle.controller.specs.Turns.{activity, intent_in, advertisement_for, device_hears, device_tells, after_turn}
 
 -- what comes to a controller
 pub data Input : Type 0 where
@@ -33,7 +33,7 @@ pub record View : Type 0 where
   pub next : ℕ
   pub device : Device
 
--- ---- what an octet of the host brings behind those before it
+-- ---- what an octet of the host completes after those before it
 
 abbrev pub first_of : List (ℕ × Fed) → Fed
 first_of [] = More
@@ -50,7 +50,7 @@ activity_of view = activity view.slot view.on view.device
 -- what comes changes what it holds
 abbrev pub see : View → Input → View
 see view (Turned slot on) =
-    record view { slot = slot; on = on; next = slot + 1; device = behind_turn view.slot view.on view.device }
+    record view { slot = slot; on = on; next = slot + 1; device = after_turn view.slot view.on view.device }
 see view (Given octet) =
     record view {
       octets = view.octets ++ octet ∷ [];
@@ -59,7 +59,7 @@ see view (Given octet) =
 see view (Heard packet) =
     record view { device = device_hears view.device view.device.scanner (advertisement_for view.public (activity_of view) packet) }
 
--- and is told to the host: the packets
+-- and sends packets to the host
 abbrev pub tells : View → Input → List (List ℕ)
 tells view (Turned slot on) = []
 tells view (Given octet) = told view.device.mask (events_for view.public view.device (brought view.octets octet))
@@ -83,7 +83,7 @@ abbrev pub told_from : View → List Input → List (List ℕ)
 told_from view [] = []
 told_from view (input ∷ inputs) = tells view input ++ told_from (see view input) inputs
 
--- all that its host is told by then
+-- all that its host has been sent by then
 unfoldable pub told_by : List ℕ → List Input → List (List ℕ)
 told_by public past = told_from (first_view public) past
 

@@ -24,14 +24,14 @@ scan_interval = 0x0010
 abbrev pub scan_window : ℕ
 scan_window = 0x0010
 
--- the channel on which a scanner listens so many slots behind its start: one of three for each interval, in turn, at the
--- beginning of which the window stands (own)
+-- the channel on which a scanner listens this number of slots after its start: one of three for each interval, in turn, at the
+-- beginning of which the window is (our choice)
 abbrev pub channel_after : ℕ → Option ℕ
 channel_after slots =
     if nat_lt (slots % slots_of scan_interval) (slots_of scan_window)
     then Some (37 + slots / slots_of scan_interval % 3) else None
 
--- ---- what a PDU tells a scanner
+-- ---- what a PDU says to a scanner
 
 -- Event_Type of a report
 abbrev pub event_type : ReportKind → ℕ
@@ -74,7 +74,7 @@ abbrev pub last_16 : List Report → List Report
 last_16 reports = drop (length reports - 16) reports
 
 -- a duplicate is a report of a type and address that are among the last 16 reported since scanning began; where they are
--- filtered it is withheld (own)
+-- filtered it is withheld (our choice)
 abbrev pub is_withheld : Scanner → Advertisement → Bool
 is_withheld scanner advertisement = scanner.filters_duplicates && list_any (λ report. is_alike report (report_of advertisement)) scanner.recent.items
 
@@ -87,12 +87,12 @@ scanner_after scanner advertisement =
 abbrev pub address_kind : Address → ℕ
 address_kind address = if address.random then 1 else 0
 
--- the signal strength is not told: 7F (volume 4 part E, section 7.7.65.2)
+-- the signal strength is not known: 7F (volume 4 part E, section 7.7.65.2)
 abbrev pub report_event : Advertisement → Event
 report_event advertisement =
     AdvertisingReport (event_type advertisement.kind) (address_kind advertisement.from) advertisement.from.octets advertisement.body 0x7F
 
--- the event that this calls for
+-- the event that reports this
 abbrev pub events_of : Scanner → Advertisement → List Event
 events_of scanner advertisement = if is_withheld scanner advertisement then [] else report_event advertisement ∷ []
 

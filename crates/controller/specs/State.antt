@@ -1,7 +1,7 @@
--- What a controller keeps between its calls, by its past. Own.
+-- What a controller keeps between its calls, by its past (our choice).
 use Rattle.std.specs.Prelude.{◌≡◌, ℕ, zero, suc, ◌+◌, ◌<◌, Bool, List, Option, Some, None, ⊤}
 use Rattle.h4_frames.specs.declared.stage.Stage.{Stage}
-use Rattle.h4_frames.specs.Machine.{waits}
+use Rattle.h4_frames.specs.Machine.{framer_after}
 use Rattle.controller.specs.declared.intents.Intent.{Intent}
 use Rattle.controller.specs.declared.intents.Intent.TheVariants.{Send, Listen, Idle}
 use Rattle.controller.specs.declared.controllers.Doing.{Doing}
@@ -11,7 +11,7 @@ use Rattle.controller.specs.declared.devices.Activity.{Activity}
 use Rattle.controller.specs.declared.devices.Activity.TheVariants.{Advertises, Scans, Rests}
 use Rattle.controller.specs.declared.scanners.Advertisement.{Advertisement}
 use Rattle.controller.specs.Packets.{advertisement_on, pdu_heard}
-use Rattle.controller.specs.Turns.{behind_turn, advertisement_heard}
+use Rattle.controller.specs.Turns.{after_turn, advertisement_heard}
 use Rattle.controller.specs.Past.{Input, View, activity_of, view_of, intent_of}
 
 pub record State : Type 0 where
@@ -74,16 +74,16 @@ pub record IsTurn (slot : ℕ) (on : Bool) (view : View) : Type 0 where
 -- a turn began, and octets of the host may come
 abbrev pub ready_at : View → State
 ready_at view =
-    record { public = view.public; framer = waits view.octets; next_slot = view.slot; device = view.device; doing = Waits }
+    record { public = view.public; framer = framer_after view.octets; next_slot = view.slot; device = view.device; doing = Waits }
 
 -- in a phase of the turn
 abbrev pub acting_at : ℕ → View → State
 acting_at phase view =
     record {
       public = view.public;
-      framer = waits view.octets;
+      framer = framer_after view.octets;
       next_slot = view.next;
-      device = behind_turn view.slot view.on view.device;
+      device = after_turn view.slot view.on view.device;
       doing = doing_in phase (activity_of view);
     }
 
@@ -92,9 +92,9 @@ abbrev pub rested_at : View → State
 rested_at view =
     record {
       public = view.public;
-      framer = waits view.octets;
+      framer = framer_after view.octets;
       next_slot = view.next;
-      device = behind_turn view.slot view.on view.device;
+      device = after_turn view.slot view.on view.device;
       doing = Waits;
     }
 

@@ -58,7 +58,7 @@ is_nonconnectable other = false
 abbrev pub turns_on : ℕ → Bool → Bool
 turns_on value is_on = (value == 1) && not is_on
 
--- no random address can be set yet, and advertising is not connectable and not scannable yet (own)
+-- no random address can be set yet, and advertising is not connectable and not scannable yet (our choice)
 abbrev pub set_advertising_enable_status : Device → ℕ → ℕ
 set_advertising_enable_status device value =
     first_refusal (
@@ -82,7 +82,7 @@ status_of device (LeSetAdvEnable value) = set_advertising_enable_status device v
 status_of device (LeSetScanEnable value duplicates) = set_scan_enable_status value duplicates
 status_of device other = 0x00
 
--- a controller as it starts, and behind a Reset (sections 7.3.1, 7.3.2 and 7.8.5)
+-- a controller as it starts, and after a Reset (sections 7.3.1, 7.3.2 and 7.8.5)
 abbrev pub initial : Device
 initial = record {
   mask = 0x00001FFFFFFFFFFF;
@@ -105,7 +105,7 @@ scanner_by slot device value duplicates =
     else if is_some device.scanner then device
     else record device { scanner = Some (record { since = slot; filters_duplicates = (duplicates == 1); recent = record { items = [] } }) }
 
--- what a command that is carried out in this slot leaves behind
+-- the device after a command that is carried out in this slot
 abbrev pub done_by : ℕ → Device → Command → Device
 done_by slot device (SetEventMask mask) = record device { mask = mask }
 done_by slot device Reset = initial
@@ -137,12 +137,12 @@ obeyed slot device other = device
 
 -- ---- what an octet of the host brings
 
--- the device behind a packet or a loss of synchronisation; no link is open, so data is dropped
+-- the device after a packet or a loss of synchronisation; no link is open, so data is dropped
 abbrev pub device_after : ℕ → Device → Fed → Device
 device_after slot device (Packet (HostCommand opcode body)) = obeyed slot device (command_in opcode body.items)
 device_after slot device other = device
 
--- the events that it calls for, as far as no mask holds them back (a loss: section 7.7.16; its number 01 is own)
+-- the events that answer it, before the masks are applied (a loss: section 7.7.16; its number 01 is our choice)
 abbrev pub events_for : List ℕ → Device → Fed → List Event
 events_for public device (Packet (HostCommand opcode body)) = answer_to public device opcode (command_in opcode body.items) ∷ []
 events_for public device (Packet (Acl handle start count body)) = []

@@ -1,4 +1,4 @@
--- What a controller does in a turn: its phases, and what is left behind. Own.
+-- What a controller does in a turn: its phases, and its state after them (our choice).
 use Rattle.std.specs.Prelude.{ℕ, zero, suc, ◌+◌, ◌-◌, Bool, List, [], Option, Some, None, if◌then◌else◌}
 use Rattle.std.specs.Option.{option_and_then}
 use Rattle.hci_evt.specs.declared.event.Event.{Event}
@@ -33,13 +33,13 @@ abbrev pub advertising : ℕ → Device → Option Advertiser → Activity
 advertising slot device None = scanning slot device.scanner
 advertising slot device (Some advertiser) = advertising_at slot device (place_of device.parameters slot advertiser)
 
--- what it does in a slot, with its radio on or off (own)
+-- what it does in a slot, with its radio on or off (our choice)
 unfoldable pub activity : ℕ → Bool → Device → Activity
 activity slot on device = if on then advertising slot device device.advertiser else Rests
 
 -- ---- the three phases of a turn
 
--- an advertiser sends on its channel, then listens there, then is idle; a scanner listens on its channel first (own; what each
+-- an advertiser sends on its channel, then listens there, then is idle; a scanner listens on its channel first (our choice; what each
 -- sends is that of Core 5.2, volume 6 part B, sections 4.4.2 and 4.4.3)
 abbrev pub intent_in : ℕ → List ℕ → Activity → Intent
 intent_in zero public (Advertises channel) = Send channel (record { items = advertisement_on public channel })
@@ -83,6 +83,6 @@ abbrev pub serve : ℕ → Device → Option Advertiser → Device
 serve slot device None = device
 serve slot device (Some advertiser) = record device { advertiser = Some (served_in device.parameters slot advertiser) }
 
--- the device behind a turn: its advertiser was served, if the radio was on
-unfoldable pub behind_turn : ℕ → Bool → Device → Device
-behind_turn slot on device = if on then serve slot device device.advertiser else device
+-- the device after a turn: its advertiser was served, if the radio was on
+unfoldable pub after_turn : ℕ → Bool → Device → Device
+after_turn slot on device = if on then serve slot device device.advertiser else device

@@ -2,7 +2,7 @@
 ghost use Rattle.std.specs.Prelude.{◌≡◌, ◌<◌, IfSome};
 ghost use Rattle.controller.specs.Advertising.{slots_of, place_of, is_used, served_in};
 
-use crate::masks::has_bit;
+use ble_base::has_bit;
 
 /// The first of the three advertising channels (Core 5.2, volume 6 part B, section 1.4.1).
 pub(crate) const FIRST_ADVERTISING_CHANNEL: u8 = 37;
@@ -55,10 +55,10 @@ impl AdvertisingParameters {
         let Some(begun) = advertiser.event_slot else {
             return Some(0);
         };
-        let behind = slot.saturating_sub(begun);
-        if behind < 3 {
-            Some(behind as u8)
-        } else if behind >= slots_of(self.interval) {
+        let elapsed = slot.saturating_sub(begun);
+        if elapsed < 3 {
+            Some(elapsed as u8)
+        } else if elapsed >= slots_of(self.interval) {
             Some(0)
         } else {
             None

@@ -33,7 +33,7 @@ enum Doing {
 ///
 /// Its calls come in this order: octets of the host between turns; then, for each turn, `begin_turn`, then `heard`
 /// or `unheard` once for each of three phases, then `end_turn`. A call that
-/// tells the host something adds a note to an outbox, which has room for one.
+/// sends the host something adds a note to an outbox, which has room for one.
 #[derive(Drop)]
 pub struct Controller {
     public: [u8; 6],
@@ -67,7 +67,7 @@ impl Doing {
         }
     }
 
-    /// What is done in the phase behind this one.
+    /// What is done in the phase after this one.
     fn next(self) -> Doing
         ensures doing { (phase : ℕ) (activity : Activity) → self ≡ doing_in phase activity → result ≡ doing_in (suc phase) activity }
         ensures channel { HasChannel self → HasChannel result }
@@ -91,7 +91,7 @@ impl Doing {
 
 impl Controller {
     /// A controller that was fed nothing, with this public address, least significant octet first.
-    #[tactic(auto, unfolding(crate::specs::State::rested, crate::specs::Past::view_of, crate::specs::Turns::behind_turn))]
+    #[tactic(auto, unfolding(crate::specs::State::rested, crate::specs::Past::view_of, crate::specs::Turns::after_turn))]
     pub fn new(public: [u8; 6]) -> Controller
         ensures { result ≡ rested public [] }
     {
@@ -119,7 +119,7 @@ impl Controller {
         self.take(&fed, out);
     }
 
-    /// Takes what an octet of the host brought, and tells the host what it calls for.
+    /// Takes what an octet of the host completed, and answers it.
     fn take(&mut self, fed: &Fed, out: &mut Outbox)
         requires room { array_vec_len out.old < 64 }
         ensures state { self.new ≡ record self.old { device = device_after self.old.next_slot self.old.device fed.now } }

@@ -2,7 +2,7 @@
 ghost use Rattle.std.specs.Prelude.{◌≡◌};
 ghost use Rattle.std.specs.Option.{option_to_list};
 ghost use Rattle.controller.specs.Table.{initial};
-ghost use Rattle.controller.specs.Turns.{activity, behind_turn, scanning, device_hears, device_tells};
+ghost use Rattle.controller.specs.Turns.{activity, after_turn, scanning, device_hears, device_tells};
 ghost use Rattle.controller.specs.State.{HasChannel, doing_in};
 
 use crate::advertisers::{
@@ -35,7 +35,7 @@ pub(crate) enum Activity {
 }
 
 impl Device {
-    /// A device as it starts, and behind a Reset.
+    /// A device as it starts, and after a Reset.
     pub(crate) fn initial() -> Device
         ensures { result ≡ initial }
     {
@@ -88,9 +88,9 @@ impl Device {
     }
 
     /// Notes that the advertiser was served in this slot, if it was.
-    #[tactic(auto, unfolding(crate::specs::Turns::behind_turn))]
+    #[tactic(auto, unfolding(crate::specs::Turns::after_turn))]
     pub(crate) fn serve(&mut self, slot: u64, on: bool)
-        ensures { self.new ≡ behind_turn slot on self.old }
+        ensures { self.new ≡ after_turn slot on self.old }
     {
         if !on {
             return;

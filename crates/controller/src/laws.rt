@@ -1,5 +1,6 @@
-//! Laws of a controller. The bodies only call laws that they stand on: the contracts are the laws.
+//! Laws of a controller. The bodies only call the laws that they rest on: the contracts are the laws.
 ghost use Rattle.std.specs.Prelude.{◌≡◌, ℕ, ◌+◌, ◌≤◌, Bool, true, List, [], ◌∷◌, ◌++◌, length, Some, if◌then◌else◌};
+ghost use Rattle.ble_base.specs.Bits.{has_bit};
 ghost use Rattle.ble_base.specs.declared.Verdict.TheVariants.{Good};
 ghost use Rattle.h4_frames.specs.declared.packet.HostPacket.TheVariants.{Command, Acl};
 ghost use Rattle.h4_frames.specs.declared.packet.Fed.TheVariants.{Packet, LostSync};
@@ -13,7 +14,7 @@ ghost use Rattle.controller.specs.declared.devices.Device.{Device};
 ghost use Rattle.controller.specs.Advertising.{fresh, place_of, slots_of};
 ghost use Rattle.controller.specs.Answers.{HeardNothing, IsAnswerTo, answers, octets_of, without_le_events};
 ghost use Rattle.controller.specs.Events.{advertiser_after, left_on, place_by};
-ghost use Rattle.controller.specs.Masks.{has_bit, told};
+ghost use Rattle.controller.specs.Masks.{told};
 ghost use Rattle.controller.specs.Packets.{advertisement_on, verdict_on};
 ghost use Rattle.controller.specs.Scanning.{advertisement_from};
 ghost use Rattle.controller.specs.Table.{events_for, is_interval};
@@ -21,8 +22,8 @@ ghost use Rattle.controller.specs.Turns.{activity, advertisement_for, advertisin
 ghost use Rattle.controller.specs.Past.{Input, Turned, see, tells, told_by, view_of};
 ghost use Rattle.controller.specs.State.{ready, rested};
 
-/// Where one more thing comes, what a controller holds is what it held, changed by that, and its host is told what that
-/// calls for behind all that it was told.
+/// After one more input, a controller's state is its state before, changed by that input, and its host has been sent what
+/// that input requires after all that it was sent before.
 pub fn past_grows()
     ensures held { (public : List ℕ) (past : List Input) (input : Input)
         → view_of public (past ++ input ∷ []) ≡ see (view_of public past) input }
@@ -45,10 +46,10 @@ pub fn an_advertisement_is_understood()
     air_frame::laws::packet_tells_its_pdu();
 }
 
-/// A host is told exactly the answers to its packets, in order, whatever the slots in which they come and the turns between
-/// them: as long as nothing is heard from the air these alone, and beside them LE events alone. A command has one answer, which says its opcode and that one
-/// further command may be sent; ACL data has none; and a loss of synchronisation is told as Hardware Error, which is
-/// bit 15 of the mask.
+/// A host receives exactly the answers to its packets, in order, whatever the slots in which they come and the turns between
+/// them. It receives nothing else until something is heard from the air; after that, LE events may come between them. A
+/// command has one answer, which has its opcode and allows one further command; ACL data has none; and a loss of
+/// synchronisation is reported as Hardware Error, which is bit 15 of the mask.
 pub fn each_packet_is_answered()
     ensures told { (public : List ℕ) (slot : ℕ) (past : List Input) → HeardNothing past
         → told_by public past ≡ answers public slot (frames (octets_of past)) }

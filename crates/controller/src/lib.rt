@@ -1,4 +1,4 @@
-//! A controller, step by step: the octets of its host, the turns of the radio, and what it sends and tells.
+//! A controller, step by step: the octets of its host, the turns of the radio, and what it sends to the air and to its host.
 //!
 //! It carries out six commands, advertises without being connectable, and scans passively (Core 5.2, volume 6
 //! part B, sections 4.4.2 and 4.4.3, and volume 4 part E). A turn is a slot of 1.25 ms and has three phases; in each the

@@ -19,7 +19,7 @@ const SCAN_WINDOW: u16 = 0x0010;
 /// The signal strength in a report where it is not known (Core 5.2, volume 4 part E, section 7.7.65.2).
 const NO_RSSI: u8 = 0x7F;
 
-/// The types of advertisement that a report tells of.
+/// The types of advertisement that are reported.
 #[derive(Clone, Copy, Debug, PartialEq, Eq, Default)]
 pub(crate) enum ReportKind {
     /// Connectable and scannable, to anyone.
@@ -98,10 +98,10 @@ impl Scanner {
         ensures value { result ≡ channel_after (slot - self.now.since) }
         ensures channel { IfSome result (λ channel. channel < 40) }
     {
-        let behind = slot.saturating_sub(self.since);
+        let elapsed = slot.saturating_sub(self.since);
         let interval = slots_of(SCAN_INTERVAL);
-        if behind % interval < slots_of(SCAN_WINDOW) {
-            Some(FIRST_ADVERTISING_CHANNEL + (behind / interval % 3) as u8)
+        if elapsed % interval < slots_of(SCAN_WINDOW) {
+            Some(FIRST_ADVERTISING_CHANNEL + (elapsed / interval % 3) as u8)
         } else {
             None
         }

@@ -16,7 +16,7 @@ use hci_evt::Event;
 /// How many further commands the host may send.
 const FURTHER_COMMANDS: u8 = 1;
 
-/// The code of the Hardware Error that tells a loss of synchronisation (own).
+/// The code of the Hardware Error that reports a loss of synchronisation (our choice).
 const LOST_SYNC: u8 = 0x01;
 
 /// Advertising_Type of high duty cycle directed advertising (section 7.8.5), which is not supported.
@@ -81,7 +81,7 @@ impl Device {
             return ErrCode::INVALID_HCI_PARAMETERS;
         }
         if asked.kind == HIGH_DUTY_DIRECTED {
-            return ErrCode::UNSUPPORTED_FEATURE_OR_PARAMETER;
+            return ErrCode::UNSUPPORTED_FEATURE_OR_VALUE;
         }
         // Types end at 4.
         if asked.kind > 4 {
@@ -89,7 +89,7 @@ impl Device {
         }
         // Addresses that the controller would make.
         if asked.own == 2 || asked.own == 3 {
-            return ErrCode::UNSUPPORTED_FEATURE_OR_PARAMETER;
+            return ErrCode::UNSUPPORTED_FEATURE_OR_VALUE;
         }
         if asked.own > 3
             || asked.peer_kind > 1
@@ -110,7 +110,7 @@ impl Device {
             return ErrCode::INVALID_HCI_PARAMETERS;
         }
         if turns_on && !self.parameters.kind.is_nonconnectable() {
-            return ErrCode::UNSUPPORTED_FEATURE_OR_PARAMETER;
+            return ErrCode::UNSUPPORTED_FEATURE_OR_VALUE;
         }
         ErrCode::SUCCESS
     }
@@ -231,7 +231,7 @@ impl Device {
         }
     }
 
-    /// Takes what an octet of the host brought in this slot, and gives the event that it calls for.
+    /// Takes what an octet of the host completed in this slot, and gives the event that answers it.
     pub(crate) fn take(&mut self, slot: u64, public: &[u8; 6], fed: &Fed) -> Option<Event>
         ensures device { self.new ≡ device_after slot self.old fed.now }
         ensures event { option_to_list result ≡ events_for public.now self.old fed.now }
@@ -260,7 +260,7 @@ fn returned<'a>(public: &'a [u8; 6], command: &Command) -> &'a [u8]
     }
 }
 
-/// HCI_Command_Complete with a status and what is returned behind it.
+/// HCI_Command_Complete with a status and what is returned after it.
 fn complete(opcode: u16, status: ErrCode, returned: &[u8]) -> Event
     requires { length returned.now ≤ 6 }
     ensures { result ≡ complete opcode status.0 returned.now }

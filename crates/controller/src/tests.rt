@@ -34,7 +34,7 @@ const TO_ANOTHER: [u8; 21] = [
     0x69, 0xB7, 0x2E, 0x3A, 0x77,
 ];
 
-/// What the host of the second device is told of the advertisement of the first, and of the directed one.
+/// What the host of the second device receives of the advertisement of the first, and of the directed one.
 const REPORT: [u8; 15] = [
     0x04, 0x3E, 0x0C, 0x02, 0x01, 0x03, 0x00, 0x0A, 0x00, 0x00, 0xEE, 0xFF, 0xC0, 0x00, 0x7F,
 ];

@@ -1,4 +1,4 @@
--- What entries add to what a history tells.
+-- What entries add to what a history says.
 use Rattle.std.proofs.Common.{◌≡◌, ℕ, List, [], ◌∷◌, ◌++◌, append-nil, refl, ap}
 use Rattle.std.proofs.lemmas.Grind.{flat_map-append}
 use Rattle.ble_base.specs.declared.roles.Side.{Side}

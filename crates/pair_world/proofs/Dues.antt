@@ -1,4 +1,4 @@
--- What is due behind a history, by what stands out.
+-- What is due after a history, by what is outstanding.
 use Rattle.std.proofs.Common.{◌≡◌, ℕ, List, [], ◌∷◌, ◌++◌, length, drop, Option, Some, None, ap, ◌∙◌, append-nil, append_assoc}
 use Rattle.std.specs.Prelude.{slice_get}
 use Rattle.std.proofs.Math.Seq.{drop-append_seam}
@@ -26,7 +26,7 @@ pub unfed_is : (given : Given) (side : Side) (history : List Entry) (octets : Li
     → feeds_at given side history ≡ fed_to side history ++ octets → unfed given side history ≡ octets
 unfed_is given side history octets left = ap (drop (length (fed_to side history))) left ∙ drop-append_seam (fed_to side history) octets
 
--- what is due, by what is still to be told and fed
+-- what is due, by what is still to be sent to the hosts and fed
 abbrev pub due_with : Given → List Entry → List (List ℕ) → List (List ℕ) → List ℕ → List ℕ → Due
 due_with given history told_a told_b fed_a fed_b =
     up_or A told_a

@@ -11,7 +11,7 @@ use Rattle.controller.specs.Past.{told_by, view_of}
 use Rattle.controller.specs.State.{State, rested}
 use Rattle.controller.specs.Turns.{activity}
 use Rattle.pair_world.specs.History.{told_to, fed_to, past_of, aired}
-use Rattle.pair_world.specs.Order.{IsOfRun, IsInOrder, IsInOrderBehind}
+use Rattle.pair_world.specs.Order.{IsOfRun, IsInOrder, IsInOrderAfter}
 use Rattle.pair_world.specs.Run.{Given, Due, Next, Over, public_of, feeds_at, turns_from, turn_or, flights, due, AreDue, IsTurnEnd, IsUpToDate, IsJournal, IsRun, EndsUnseen, IsEnd}
 use Rattle.pair_world.specs.Turns.{AtTurnEnd, IsQuiet, IsAllRun, IsUnseen}
 use Rattle.pair_world.proofs.Dues.{due_turn}
@@ -28,7 +28,7 @@ pub sent_first : (given : Given) → slice_get (flights given []) (aired []) ≡
 unfolding view_of activity
 sent_first given = refl
 
--- whatever may stand behind a turn may stand first
+-- whatever may come after a turn may come first
 abbrev no_entry : Entry
 no_entry = Turn 0 false None
 
@@ -64,19 +64,19 @@ all_due given journal history [] each is = tt
 all_due given journal history (entry ∷ entries) each is =
     (each history entries entry is, all_due given journal (history ++ entry ∷ []) entries each (is ∙ sym (append_assoc history (entry ∷ []) entries)))
 
--- ---- how a run stands behind its entries
+-- ---- the state of a run after its entries
 
 abbrev Stood : Given → List Entry → Type 0
 Stood given history = (last : Entry) × Standing given last history
 
-stood_behind : (given : Given) (history entries : List Entry) → AreDue given history entries → Stood given history → Stood given (history ++ entries)
-stood_behind given history [] are stood = subst (Stood given) (sym (append-nil history)) stood
-stood_behind given history (entry ∷ entries) are stood =
+stood_after : (given : Given) (history entries : List Entry) → AreDue given history entries → Stood given history → Stood given (history ++ entries)
+stood_after given history [] are stood = subst (Stood given) (sym (append-nil history)) stood
+stood_after given history (entry ∷ entries) are stood =
     subst (Stood given) (append_assoc history (entry ∷ []) entries)
-    (stood_behind given (history ++ entry ∷ []) entries are.1 (entry, (step given stood.0 history entry stood.1 are.0).standing))
+    (stood_after given (history ++ entry ∷ []) entries are.1 (entry, (step given stood.0 history entry stood.1 are.0).standing))
 
 stood : (given : Given) (journal : List Entry) → AreDue given [] journal → Stood given journal
-stood given journal are = stood_behind given [] journal are (no_entry, standing_first given)
+stood given journal are = stood_after given [] journal are (no_entry, standing_first given)
 
 -- the reason of an entry among those that are due
 abbrev Stepped : Given → List Entry → Entry → Type 0
@@ -96,21 +96,21 @@ followed given journal is = all_due given journal [] journal is.each refl
 
 -- ---- order
 
-order_behind : (given : Given) (last : Entry) (history entries : List Entry) → Standing given last history → AreDue given history entries → IsInOrderBehind last entries
-order_behind given last history [] standing are = tt
-order_behind given last history (entry ∷ entries) standing are =
+order_after : (given : Given) (last : Entry) (history entries : List Entry) → Standing given last history → AreDue given history entries → IsInOrderAfter last entries
+order_after given last history [] standing are = tt
+order_after given last history (entry ∷ entries) standing are =
     let next = step given last history entry standing are.0 in
-    (next.follows, order_behind given entry (history ++ entry ∷ []) entries next.standing are.1)
+    (next.follows, order_after given entry (history ++ entry ∷ []) entries next.standing are.1)
 
 in_order : (given : Given) (entries : List Entry) → AreDue given [] entries → IsInOrder entries
 in_order given [] are = tt
-in_order given (entry ∷ entries) are = (order_behind given no_entry [] (entry ∷ entries) (standing_first given) are).1
+in_order given (entry ∷ entries) are = (order_after given no_entry [] (entry ∷ entries) (standing_first given) are).1
 
-kinds_behind : (given : Given) (last : Entry) (history entries : List Entry) → Standing given last history → AreDue given history entries → All IsOfRun entries
-kinds_behind given last history [] standing are = All-nil IsOfRun
-kinds_behind given last history (entry ∷ entries) standing are =
+kinds_after : (given : Given) (last : Entry) (history entries : List Entry) → Standing given last history → AreDue given history entries → All IsOfRun entries
+kinds_after given last history [] standing are = All-nil IsOfRun
+kinds_after given last history (entry ∷ entries) standing are =
     let next = step given last history entry standing are.0 in
-    All-cons IsOfRun entry entries next.of_run (kinds_behind given entry (history ++ entry ∷ []) entries next.standing are.1)
+    All-cons IsOfRun entry entries next.of_run (kinds_after given entry (history ++ entry ∷ []) entries next.standing are.1)
 
 -- ---- the ends of turns
 
@@ -148,7 +148,7 @@ journal_is given journal quiet = record {
   turns = (stood given journal quiet.followed).1.begun;
   begins = begins_with given journal quiet.followed;
   in_order = in_order given journal quiet.followed;
-  of_run = kinds_behind given no_entry [] journal (standing_first given) quiet.followed;
+  of_run = kinds_after given no_entry [] journal (standing_first given) quiet.followed;
   fed_first = λ history rest side octets is. (step_in given journal history rest (Fed side octets) quiet.followed is).1.reason;
   fates = λ history rest side channel octets fate verdict is.
       (step_in given journal history rest (Air side channel octets fate verdict) quiet.followed is).1.reason.fate_is;

@@ -1,4 +1,4 @@
--- A packet on the air, and what the history is behind it.
+-- A packet on the air, and what the history is after it.
 use Rattle.std.proofs.Common.{◌≡◌, ℕ, zero, suc, ◌+◌, Bool, true, false, List, [], ◌∷◌, ◌++◌, drop, Option, Some, None, cond, refl, sym, ap, subst, ◌∙◌, append-nil, drop-drop, arith}
 use Rattle.std.specs.Prelude.{slice_get}
 use Rattle.ble_base.specs.declared.roles.Side.{Side}
@@ -20,11 +20,11 @@ use Rattle.controller.proofs.Acting.{activity-hears}
 use Rattle.controller.proofs.Views.{view_of-more}
 use Rattle.pair_world.specs.History.{past_of, turns_begun, aired, heard_if}
 use Rattle.pair_world.specs.Run.{Given, Flight, Next, Unseen, public_of, intent_at, flights_of, flights_from, flights, fate_at, is_lost, is_good, is_unseen, verdict_at, mark_of, flown, due}
-use Rattle.pair_world.specs.Pieces.{Flew, Stopped, flying, count_of, heard_of, inputs_of, told_behind, HasFlown, MayHear}
+use Rattle.pair_world.specs.Pieces.{Flew, Stopped, flying, count_of, heard_of, inputs_of, told_after, HasFlown, MayHear}
 use Rattle.pair_world.specs.Turns.{Stands, IsQuiet}
 use Rattle.pair_world.proofs.Adds.{aired-append, begun-more, past-more}
 use Rattle.pair_world.proofs.Dues.{due_flight}
-use Rattle.pair_world.proofs.Pasts.{told_behind-none}
+use Rattle.pair_world.proofs.Pasts.{told_after-none}
 use Rattle.pair_world.proofs.Steps.{air_a, air_b}
 
 -- ---- what is heard changes nothing of what is wanted in the turn
@@ -45,7 +45,7 @@ next_inputs public past (Some packet) = ap (λ (view : View). view.next) (view_o
 
 -- ---- what came to a side, where a history grew
 
--- behind the second history each side has heard this besides, and no turn began
+-- after the second history each side has heard this besides, and no turn began
 pub record Grew (given : Given) (history later : List Entry) (heard_a heard_b : Option (List ℕ)) : Type 0 where
   pub past_a : past_of A later ≡ past_of A history ++ inputs_of heard_a
   pub past_b : past_of B later ≡ past_of B history ++ inputs_of heard_b
@@ -78,8 +78,8 @@ at_place [] (suc n) x rest is = absurd (cc)
 at_place (first ∷ xs) zero x rest is = cc
 at_place (first ∷ xs) (suc n) x rest is = at_place xs n x rest is
 
-pub behind_place : {X : Type 0} (xs : List X) (n : ℕ) (x : X) (rest : List X) → drop n xs ≡ x ∷ rest → drop (n + 1) xs ≡ rest
-behind_place xs n x rest is = sym (drop-drop 1 n xs) ∙ ap (drop 1) is
+pub after_place : {X : Type 0} (xs : List X) (n : ℕ) (x : X) (rest : List X) → drop n xs ≡ x ∷ rest → drop (n + 1) xs ≡ rest
+after_place xs n x rest is = sym (drop-drop 1 n xs) ∙ ap (drop 1) is
 
 -- ---- what a packet is heard as
 
@@ -112,12 +112,12 @@ may_hear (Some on) channel lost octets wanted = may_some (heard_of (is_good (ver
 
 -- ---- a packet that a side wants to send, or none
 
--- what the hosts are to be told, where their controllers heard this behind a history
+-- what the hosts are to receive, where their controllers heard this after a history
 abbrev pub told_a : Given → List Entry → Option (List ℕ) → List (List ℕ)
-told_a given history heard = told_behind (public_of A given) (past_of A history) (inputs_of heard)
+told_a given history heard = told_after (public_of A given) (past_of A history) (inputs_of heard)
 
 abbrev pub told_b : Given → List Entry → Option (List ℕ) → List (List ℕ)
-told_b given history heard = told_behind (public_of B given) (past_of B history) (inputs_of heard)
+told_b given history heard = told_after (public_of B given) (past_of B history) (inputs_of heard)
 
 pub record Flown (given : Given) (history later : List Entry) (heard_a heard_b : Option (List ℕ)) (packets : ℕ) (rest : List Flight) : Type 0 where
   pub grew : Grew given history later heard_a heard_b
@@ -128,8 +128,8 @@ pub record Flown (given : Given) (history later : List Entry) (heard_a heard_b :
 quiet_stands : (given : Given) (history : List Entry) → IsQuiet given history
     → Stands given history (told_a given history None) (told_b given history None) [] []
 quiet_stands given history quiet =
-    let a = told_behind-none (public_of A given) (past_of A history) in
-    let b = told_behind-none (public_of B given) (past_of B history) in
+    let a = told_after-none (public_of A given) (past_of A history) in
+    let b = told_after-none (public_of B given) (past_of B history) in
     subst (λ packets. Stands given history packets (told_b given history None) [] []) (sym a)
     (subst (λ packets. Stands given history [] packets [] []) (sym b) quiet)
 
@@ -180,7 +180,7 @@ flown_air given history later heard_a heard_b packets flight rest grew stands mo
   grew = grew;
   stands = stands;
   packets_are = more ∙ ap (λ n. n + 1) air;
-  rest_is = ap (drop (packets + 1)) (same_flights given history later heard_a heard_b 0 3 grew) ∙ behind_place (flights given history) packets flight rest left;
+  rest_is = ap (drop (packets + 1)) (same_flights given history later heard_a heard_b 0 3 grew) ∙ after_place (flights given history) packets flight rest left;
 }
 
 -- what is due where a packet comes next that is not unseen
@@ -223,10 +223,10 @@ fly_a given history later phase packets fate (Send channel packet) other good re
     ∙ ap (λ b. cond b (Unseen (packets + 1) octets (struck fate octets)) (Next entry)) flies.0 in
     let heard : Option (List ℕ) = heard_of (is_good verdict) (Send channel packet) in
     let hears = heard_is verdict (Send channel packet) octets refl in
-    let none = told_behind-none (public_of A given) (past_of A history) in
+    let none = told_after-none (public_of A given) (past_of A history) in
     let stands : Stands given (history ++ entry ∷ []) (told_a given history None) (told_b given history heard) [] [] =
     subst (λ packets. Stands given (history ++ entry ∷ []) packets (told_b given history heard) [] []) (sym none)
-    (subst (λ inputs. Stands given (history ++ entry ∷ []) [] (told_behind (public_of B given) (past_of B history) inputs) [] []) hears
+    (subst (λ inputs. Stands given (history ++ entry ∷ []) [] (told_after (public_of B given) (past_of B history) inputs) [] []) hears
     (air_a given history channel octets (mark_of fate) verdict quiet next)) in
     subst (λ (b : Bool). Flown given history later None (heard_of b (Send channel packet)) (packets + 1) rest × MayHear (heard_of b (Send channel packet)) (listened other)) (sym flies.1.1) (
       subst (λ h. Flown given history h None heard (packets + 1) rest) (sym flies.1.0)
@@ -258,10 +258,10 @@ fly_b given history later phase packets fate (Send channel packet) other good re
     ∙ ap (λ b. cond b (Unseen (packets + 1) octets (struck fate octets)) (Next entry)) flies.0 in
     let heard : Option (List ℕ) = heard_of (is_good verdict) (Send channel packet) in
     let hears = heard_is verdict (Send channel packet) octets refl in
-    let none = told_behind-none (public_of B given) (past_of B history) in
+    let none = told_after-none (public_of B given) (past_of B history) in
     let stands : Stands given (history ++ entry ∷ []) (told_a given history heard) (told_b given history None) [] [] =
     subst (λ packets. Stands given (history ++ entry ∷ []) (told_a given history heard) packets [] []) (sym none)
-    (subst (λ inputs. Stands given (history ++ entry ∷ []) (told_behind (public_of A given) (past_of A history) inputs) [] [] []) hears
+    (subst (λ inputs. Stands given (history ++ entry ∷ []) (told_after (public_of A given) (past_of A history) inputs) [] [] []) hears
     (air_b given history channel octets (mark_of fate) verdict quiet next)) in
     subst (λ (b : Bool). Flown given history later (heard_of b (Send channel packet)) None (packets + 1) rest × MayHear (heard_of b (Send channel packet)) (listened other)) (sym flies.1.1) (
       subst (λ h. Flown given history h heard None (packets + 1) rest) (sym flies.1.0)

@@ -12,7 +12,7 @@ use Rattle.controller.specs.State.{State, Acts, IsTurn, ready, rested}
 use Rattle.controller.proofs.Views.{rested-ready, view_of-more}
 use Rattle.pair_world.specs.History.{of_side, past_of, turns_begun, aired, aired_from}
 use Rattle.pair_world.specs.Run.{Given, public_of, stream_of, feed_of, feed_total, flights, view_at}
-use Rattle.pair_world.specs.Pieces.{fed, fed_entry, given_all, told_behind, ups}
+use Rattle.pair_world.specs.Pieces.{fed, fed_entry, given_all, told_after, ups}
 use Rattle.pair_world.specs.Turns.{AtTurnEnd, InPhase, IsFedTo, IsQuiet, Stands}
 use Rattle.pair_world.proofs.Adds.{aired-append, aired-entry, aired-ups, begun-entry, begun-more, begun-ups, past-entry, past-more, past-ups}
 use Rattle.pair_world.proofs.Pasts.{view_of-append}
@@ -25,10 +25,10 @@ pub fed_a : (given : Given) (history later : List Entry) (past : List Input) (oc
 unfolding fed
 fed_a given history later past octets fed_b stands past_is is =
     let entry = history ++ fed_entry A octets in
-    let packets = told_behind (public_of A given) (past_of A history) (given_all octets) in
+    let packets = told_after (public_of A given) (past_of A history) (given_all octets) in
     subst (λ h. Stands given h [] [] [] fed_b)
     (append_assoc history (fed_entry A octets) (ups A packets)
-    ∙ ap (λ p. history ++ (fed_entry A octets ++ ups A (told_behind (public_of A given) p (given_all octets)))) past_is ∙ sym is)
+    ∙ ap (λ p. history ++ (fed_entry A octets ++ ups A (told_after (public_of A given) p (given_all octets)))) past_is ∙ sym is)
     (tell_a given entry packets [] [] fed_b (feed_a given history octets fed_b stands))
 
 pub fed_b : (given : Given) (history later : List Entry) (past : List Input) (octets : List ℕ) → Stands given history [] [] [] octets
@@ -36,29 +36,29 @@ pub fed_b : (given : Given) (history later : List Entry) (past : List Input) (oc
 unfolding fed
 fed_b given history later past octets stands past_is is =
     let entry = history ++ fed_entry B octets in
-    let packets = told_behind (public_of B given) (past_of B history) (given_all octets) in
+    let packets = told_after (public_of B given) (past_of B history) (given_all octets) in
     subst (λ h. Stands given h [] [] [] [])
     (append_assoc history (fed_entry B octets) (ups B packets)
-    ∙ ap (λ p. history ++ (fed_entry B octets ++ ups B (told_behind (public_of B given) p (given_all octets)))) past_is ∙ sym is)
+    ∙ ap (λ p. history ++ (fed_entry B octets ++ ups B (told_after (public_of B given) p (given_all octets)))) past_is ∙ sym is)
     (tell_b given entry packets [] [] (feed_b given history octets stands))
 
 begun-fed : (side : Side) (public : List ℕ) (past : List Input) (octets : List ℕ) → turns_begun (fed side public past octets) ≡ []
 unfolding fed
 begun-fed side public past octets =
-    begun-more (fed_entry side octets) _ ∙ (λ i. begun-entry side octets i ++ begun-ups side (told_behind public past (given_all octets)) i)
+    begun-more (fed_entry side octets) _ ∙ (λ i. begun-entry side octets i ++ begun-ups side (told_after public past (given_all octets)) i)
 
 past-fed : (side other : Side) (public : List ℕ) (past : List Input) (octets : List ℕ) → past_of side (fed other public past octets) ≡ of_side side other (given_all octets)
 unfolding fed
 past-fed side other public past octets =
     past-more side (fed_entry other octets) _
-    ∙ (λ i. past-entry side other octets i ++ past-ups side other (told_behind public past (given_all octets)) i) ∙ append-nil _
+    ∙ (λ i. past-entry side other octets i ++ past-ups side other (told_after public past (given_all octets)) i) ∙ append-nil _
 
 aired-fed : (count : ℕ) (side : Side) (public : List ℕ) (past : List Input) (octets : List ℕ) → aired_from count (fed side public past octets) ≡ count
 unfolding fed
 aired-fed count side public past octets =
     aired-append count (fed_entry side octets) _
-    ∙ ap (λ n. aired_from n (ups side (told_behind public past (given_all octets)))) (aired-entry count side octets)
-    ∙ aired-ups count side (told_behind public past (given_all octets))
+    ∙ ap (λ n. aired_from n (ups side (told_after public past (given_all octets)))) (aired-entry count side octets)
+    ∙ aired-ups count side (told_after public past (given_all octets))
 
 -- ---- a turn that began stays the last one while octets are fed
 
@@ -160,13 +160,13 @@ stands_opened given slot plan octets_a octets_b history quiet sent begun is a_is
     subst (λ octets. Stands given first [] [] octets_a octets) (sym b_is)
     (subst (λ octets. Stands given first [] [] octets (now_fed given B slot plan)) (sym a_is)
     (subst (λ n. Stands given (history ++ Turn n plan.a_on (Some plan.b_on) ∷ []) [] [] (now_fed given A n plan) (now_fed given B n plan)) begun begins)) in
-    let behind_a = first ++ fed A (public_of A given) past_a octets_a in
-    let then = fed_a given first behind_a past_a octets_a octets_b stands (past-more A history (Turn slot plan.a_on (Some plan.b_on) ∷ [])) refl in
-    fed_b given behind_a (opened_by given slot plan octets_a octets_b history) past_b octets_b then
+    let after_a = first ++ fed A (public_of A given) past_a octets_a in
+    let then = fed_a given first after_a past_a octets_a octets_b stands (past-more A history (Turn slot plan.a_on (Some plan.b_on) ∷ [])) refl in
+    fed_b given after_a (opened_by given slot plan octets_a octets_b history) past_b octets_b then
     (past-more B first (fed A (public_of A given) past_a octets_a)
     ∙ (λ i. past-more B history (Turn slot plan.a_on (Some plan.b_on) ∷ []) i ++ past-fed B A (public_of A given) past_a octets_a i) ∙ append-nil _) refl
 
--- what is left of a stream behind a turn
+-- what is left of a stream after a turn
 left_then : (given : Given) (side : Side) (slot : ℕ) (plan : Plan) (count : ℕ) (unfed unfed_then : List ℕ) → slice_get given.script.turns slot ≡ Some plan → count ≡ feed_of side plan
     → unfed ≡ drop (feed_total side (take slot given.script.turns)) (stream_of side given) → unfed_then ≡ drop count unfed
     → unfed_then ≡ drop (feed_total side (take (slot + 1) given.script.turns)) (stream_of side given)

@@ -19,11 +19,11 @@ use Rattle.pair_world.specs.declared.stops.Stop.{Stop}
 use Rattle.pair_world.specs.declared.stops.Stop.TheVariants.{Unseen as Stops, Memory}
 use Rattle.pair_world.specs.History.{past_of, turns_begun, aired}
 use Rattle.pair_world.specs.Run.{Given, Flight, Next, Unseen, public_of, intent_at, flights_of, flights_from, flights, fate_at, fate_in, is_lost, is_good, is_unseen, verdict_at, mark_of, due}
-use Rattle.pair_world.specs.Pieces.{Flying, Flew, Stopped, flying, count_of, heard_of, inputs_of, told_behind, ups, HasFlown, IsStop, MayHear}
+use Rattle.pair_world.specs.Pieces.{Flying, Flew, Stopped, flying, count_of, heard_of, inputs_of, told_after, ups, HasFlown, IsStop, MayHear}
 use Rattle.pair_world.specs.Turns.{Stands, IsQuiet, InPhase, IsActed, IsUnseen, HasStopped}
 use Rattle.pair_world.proofs.Adds.{aired-append, aired-ups, begun-more, begun-ups, past-more, past-ups}
 use Rattle.pair_world.proofs.OnAir.{Grew, Flown, told_a, told_b, air_due, fly_a, fly_b, same_intent_a, same_flights, next_inputs}
-use Rattle.pair_world.proofs.Pasts.{told_behind-none}
+use Rattle.pair_world.proofs.Pasts.{told_after-none}
 use Rattle.pair_world.proofs.Steps.{tell_a, tell_b}
 
 -- ---- histories that grow further
@@ -51,8 +51,8 @@ aired_ups history side packets = aired-append 0 history (ups side packets) ∙ a
 quiet_again : (given : Given) (history later : List Entry) (heard : Option (List ℕ)) → heard ≡ None
     → Stands given later (told_a given history None) (told_b given history heard) [] [] → IsQuiet given later
 quiet_again given history later heard none stands =
-    subst (λ packets. Stands given later packets [] [] []) (told_behind-none (public_of A given) (past_of A history))
-    (subst (λ packets. Stands given later (told_a given history None) packets [] []) (ap (told_b given history) none ∙ told_behind-none (public_of B given) (past_of B history)) stands)
+    subst (λ packets. Stands given later packets [] [] []) (told_after-none (public_of A given) (past_of A history))
+    (subst (λ packets. Stands given later (told_a given history None) packets [] []) (ap (told_b given history) none ∙ told_after-none (public_of B given) (past_of B history)) stands)
 
 none_heard : (heard : Option (List ℕ)) → MayHear heard None → heard ≡ None
 none_heard None may = refl
@@ -68,7 +68,7 @@ fate_here given history slot packets plan begun is air =
     place : (n slot : ℕ) → n ≡ slot + 1 → n - 1 ≡ slot
     place n slot e = omega arith
 
--- what both packets leave behind
+-- the state after both packets
 abbrev AreFlown : Given → List Entry → List Entry → Option (List ℕ) → Option (List ℕ) → ℕ → List Flight → Intent → Type 0
 AreFlown given history later heard_a heard_b packets rest wanted_a =
     Flown given history later heard_a heard_b packets rest × MayHear heard_a (listened wanted_a)
@@ -123,9 +123,9 @@ second given history later last phase slot packets plan wanted_a (Send channel p
           past_b = then.0.grew.past_b ∙ append-nil (past_of B later) ∙ flown.grew.past_b;
           begun = then.0.grew.begun ∙ flown.grew.begun;
         };
-        stands = subst (λ packets. Stands given last packets (told_b given history heard_b) [] []) (ap (λ past. told_behind (public_of A given) past (inputs_of heard_a)) past_a)
+        stands = subst (λ packets. Stands given last packets (told_b given history heard_b) [] []) (ap (λ past. told_after (public_of A given) past (inputs_of heard_a)) past_a)
             (subst (λ packets. Stands given last (told_a given later heard_a) packets [] [])
-            (told_behind-none (public_of B given) (past_of B later) ∙ sym (ap (told_b given history) none ∙ told_behind-none (public_of B given) (past_of B history))) then.0.stands);
+            (told_after-none (public_of B given) (past_of B later) ∙ sym (ap (told_b given history) none ∙ told_after-none (public_of B given) (past_of B history))) then.0.stands);
         packets_are = then.0.packets_are;
         rest_is = then.0.rest_is;
       },
@@ -143,7 +143,7 @@ rest_of given phase left packets history wanted_a wanted_b a b is =
     ∙ (λ i. (flights_of phase A (a i) ++ flights_of phase B (b i)) ++ flights_from given history (suc phase) left)
     ∙ append_assoc (flights_of phase A wanted_a) (flights_of phase B wanted_b) (flights_from given history (suc phase) left)
 
--- both packets of a phase, behind its beginning
+-- both packets of a phase, after its beginning
 pub both_flown : (given : Given) (slot phase left packets : ℕ) (history later last : List Entry) (a b : State) (wanted_a wanted_b : Intent) (plan : Plan) (good_b good_a : Bool)
     → InPhase given slot phase (suc left) packets history a b wanted_a wanted_b → slice_get given.script.turns slot ≡ Some plan
     → HasFlown (flying (fate_of plan packets) A wanted_a (listened wanted_b)) history later good_b
@@ -282,7 +282,7 @@ place_in (turn ∷ turns) (suc slot) lt = place_in turns slot (omega arith)
 pub there_is : {X : Type 0} (option : Option X) (fact : X → Type 0) (value : X) → option ≡ Some value → IfSome option fact → fact value
 there_is option fact value is so = subst (λ o. IfSome o fact) is so
 
--- what a packet on the air, or none, leaves behind, for each plan and past
+-- what a packet on the air, or none, leaves, for each plan and past
 abbrev pub Flies : List Plan → ℕ → ℕ → Side → Intent → Intent → State → List Entry → List Entry → Bool → Type 0
 Flies turns number packets side wanted other listener old new good =
     (plan : Plan) (phase : ℕ) (public : List ℕ) (past : List Input) → slice_get turns number ≡ Some plan
@@ -297,7 +297,7 @@ Hears heard old new intent =
 abbrev pub Tells : Side → Option (List ℕ) → State → List Entry → List Entry → Type 0
 Tells side heard state old new =
     (phase : ℕ) (public : List ℕ) (past : List Input) → state ≡ acting phase public past
-    → MayHear heard (listened (intent_of phase (view_of public past))) → new ≡ old ++ ups side (told_behind public past (inputs_of heard))
+    → MayHear heard (listened (intent_of phase (view_of public past))) → new ≡ old ++ ups side (told_after public past (inputs_of heard))
 
 pub phase_done : (given : Given) (turns turns_then : List Plan) (slot slot_then phase left packets packets_then packets_after : ℕ)
     (history later flown told last : List Entry) (a b a_then b_then : State) (wanted_a wanted_b next_a next_b : Intent)

@@ -1,4 +1,4 @@
--- Why an entry is due, and how a run stands behind it.
+-- Why an entry is due, and the state of a run after it.
 use Rattle.std.proofs.Common.{◌≡◌, ℕ, suc, ◌+◌, Bool, true, false, List, [], ◌∷◌, ◌++◌, length, take, Option, Some, None, cond, inl, inr, refl, sym, ap, subst, ◌∙◌, append-nil, length-append, arith, lit<, lit≤}
 use Rattle.std.specs.Prelude.{slice_get, not}
 use Rattle.std.specs.Str.{bytes_eq}
@@ -16,14 +16,14 @@ use Rattle.radio_replay.specs.Script.{Turn as Plan}
 use Rattle.pair_world.specs.History.{turns_begun, aired, aired_from, past_of, heard_if}
 use Rattle.pair_world.specs.Order.{IsOfRun, MayFollow}
 use Rattle.pair_world.specs.Run.{Given, Flight, Next, Unseen, public_of, turns_from, flights, fate_at, verdict_of, mark_of, is_unseen, due}
-use Rattle.pair_world.specs.Pieces.{given_all, told_behind}
+use Rattle.pair_world.specs.Pieces.{given_all, told_after}
 use Rattle.pair_world.specs.Turns.{Stands, IsQuiet}
 use Rattle.pair_world.specs.Air.{IsAired}
 use Rattle.pair_world.proofs.Adds.{aired-append, begun-more}
 use Rattle.pair_world.proofs.Dues.{due_stands, due_flight, due_turn}
 use Rattle.pair_world.proofs.Steps.{now_fed, take_at, tell_one_a, tell_one_b, feed_a, feed_b, begin_turn, air_a, air_b}
 
--- ---- how a run stands
+-- ---- the state of a run
 
 -- a fact, where there is anything in the list
 abbrev pub IfAny : {X : Type 0} → List X → Type 0 → Type 0
@@ -42,7 +42,7 @@ none_any : {X : Type 0} (xs : List X) (fact : Type 0) → xs ≡ [] → IfAny xs
 none_any [] fact is = tt
 none_any (x ∷ xs) fact is = absurd (cc)
 
--- what is still to be told and fed, behind this last entry and so many packets of the turn, may follow
+-- what is still to be sent to the hosts and fed, after this last entry and this number of packets of the turn, may follow
 pub record IsPlaced (last : Entry) (count : ℕ) (told_a told_b : List (List ℕ)) (fed_a fed_b : List ℕ) : Type 0 where
   pub packets_a : IfAny told_a (MayFollow last (Up A []) × (fed_a ≡ []))
   pub packets_b : IfAny told_b ((fed_a ≡ []) × (fed_b ≡ []))
@@ -78,7 +78,7 @@ Reason given history (Up side packet) = Unit {0}
 Reason given history (Air side channel octets fate verdict) = IsAired given history side channel octets fate verdict
 Reason given history _ = ⊥
 
--- an entry that is due behind this last one
+-- an entry that is due after this last one
 pub record Step (given : Given) (last : Entry) (history : List Entry) (entry : Entry) : Type 0 where
   pub follows : MayFollow last entry
   pub of_run : IsOfRun entry
@@ -186,13 +186,13 @@ step_fed_a given last history octet octets fed_b stands placed begun = record {
   of_run = omega arith;
   reason = placed.octets_a.1;
   standing = record {
-    left_told_a = told_behind (public_of A given) (past_of A history) (given_all (octet ∷ octets));
+    left_told_a = told_after (public_of A given) (past_of A history) (given_all (octet ∷ octets));
     left_told_b = [];
     left_fed_a = [];
     left_fed_b = fed_b;
     stands = feed_a given history (octet ∷ octets) fed_b stands;
     placed = record {
-      packets_a = if_any (told_behind (public_of A given) (past_of A history) (given_all (octet ∷ octets))) _ (inr (lit≤ tt), refl);
+      packets_a = if_any (told_after (public_of A given) (past_of A history) (given_all (octet ∷ octets))) _ (inr (lit≤ tt), refl);
       packets_b = tt;
       always_b = inr (lit≤ tt);
       octets_a = tt;
@@ -211,13 +211,13 @@ step_fed_b given last history octet octets stands placed begun = record {
   reason = placed.octets_b.1;
   standing = record {
     left_told_a = [];
-    left_told_b = told_behind (public_of B given) (past_of B history) (given_all (octet ∷ octets));
+    left_told_b = told_after (public_of B given) (past_of B history) (given_all (octet ∷ octets));
     left_fed_a = [];
     left_fed_b = [];
     stands = feed_b given history (octet ∷ octets) stands;
     placed = record {
       packets_a = tt;
-      packets_b = if_any (told_behind (public_of B given) (past_of B history) (given_all (octet ∷ octets))) _ (refl, refl);
+      packets_b = if_any (told_after (public_of B given) (past_of B history) (given_all (octet ∷ octets))) _ (refl, refl);
       always_b = inr (lit≤ tt);
       octets_a = tt;
       octets_b = tt;
@@ -249,13 +249,13 @@ standing_air : (given : Given) (history : List Entry) (side : Side) (channel : �
     → Standing given (Air side channel octets fate verdict) (history ++ Air side channel octets fate verdict ∷ [])
 standing_air given history A channel octets fate verdict quiet is begun = record {
   left_told_a = [];
-  left_told_b = told_behind (public_of B given) (past_of B history) (heard_if verdict octets);
+  left_told_b = told_after (public_of B given) (past_of B history) (heard_if verdict octets);
   left_fed_a = [];
   left_fed_b = [];
   stands = air_a given history channel octets fate verdict quiet is;
   placed = record {
     packets_a = tt;
-    packets_b = if_any (told_behind (public_of B given) (past_of B history) (heard_if verdict octets)) _ (refl, refl);
+    packets_b = if_any (told_after (public_of B given) (past_of B history) (heard_if verdict octets)) _ (refl, refl);
     always_b = inl tt;
     octets_a = tt;
     octets_b = tt;
@@ -263,13 +263,13 @@ standing_air given history A channel octets fate verdict quiet is begun = record
   begun = begun_plain given history (Air A channel octets fate verdict) refl begun;
 }
 standing_air given history B channel octets fate verdict quiet is begun = record {
-  left_told_a = told_behind (public_of A given) (past_of A history) (heard_if verdict octets);
+  left_told_a = told_after (public_of A given) (past_of A history) (heard_if verdict octets);
   left_told_b = [];
   left_fed_a = [];
   left_fed_b = [];
   stands = air_b given history channel octets fate verdict quiet is;
   placed = record {
-    packets_a = if_any (told_behind (public_of A given) (past_of A history) (heard_if verdict octets)) _ (inl tt, refl);
+    packets_a = if_any (told_after (public_of A given) (past_of A history) (heard_if verdict octets)) _ (inl tt, refl);
     packets_b = tt;
     always_b = inl tt;
     octets_a = tt;

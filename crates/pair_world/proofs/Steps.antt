@@ -13,26 +13,26 @@ use Rattle.radio_replay.specs.Script.{Turn as Plan}
 use Rattle.controller.specs.Past.{Input, Turned, told_by}
 use Rattle.pair_world.specs.History.{told_to, fed_to, past_of, turns_begun, aired, heard_if}
 use Rattle.pair_world.specs.Run.{Given, public_of, stream_of, feed_of, feed_total, feeds_at, flights, due, Next}
-use Rattle.pair_world.specs.Pieces.{fed_entry, given_all, ups, told_behind}
+use Rattle.pair_world.specs.Pieces.{fed_entry, given_all, ups, told_after}
 use Rattle.pair_world.specs.Turns.{Stands, IsQuiet}
 use Rattle.pair_world.proofs.Adds.{told_to-more, fed_to-more, past-more, begun-more}
-use Rattle.pair_world.proofs.Pasts.{told_by-append, told_behind-none}
+use Rattle.pair_world.proofs.Pasts.{told_by-append, told_after-none}
 use Rattle.pair_world.proofs.Dues.{due_more, due_stands, due_turn}
 
--- ---- what one side is to be told and fed behind more entries
+-- ---- what one side is to receive and be fed after more entries
 
 pub lag_more : (given : Given) (side : Side) (history more : List Entry) (packets now left : List (List ℕ)) (inputs : List Input)
     → told_by (public_of side given) (past_of side history) ≡ told_to side history ++ packets
     → past_of side more ≡ inputs → told_to side more ≡ now
-    → packets ++ told_behind (public_of side given) (past_of side history) inputs ≡ now ++ left
+    → packets ++ told_after (public_of side given) (past_of side history) inputs ≡ now ++ left
     → told_by (public_of side given) (past_of side (history ++ more)) ≡ told_to side (history ++ more) ++ left
 lag_more given side history more packets now left inputs lag past told parts =
     let told_all = told_to side history in
-    let behind = told_behind (public_of side given) (past_of side history) inputs in
+    let later = told_after (public_of side given) (past_of side history) inputs in
     ap (told_by (public_of side given)) (past-more side history more ∙ ap (λ xs. past_of side history ++ xs) past)
     ∙ told_by-append (public_of side given) (past_of side history) inputs
-    ∙ ap (λ xs. xs ++ behind) lag
-    ∙ append_assoc told_all packets behind
+    ∙ ap (λ xs. xs ++ later) lag
+    ∙ append_assoc told_all packets later
     ∙ ap (λ xs. told_all ++ xs) parts
     ∙ sym (append_assoc told_all now left)
     ∙ ap (λ xs. xs ++ left) (sym (told_to-more side history more ∙ ap (λ xs. told_all ++ xs) told))
@@ -50,10 +50,10 @@ left_more given side history more octets now left feeds begun fed parts =
     ∙ sym (append_assoc fed_all now left)
     ∙ ap (λ xs. xs ++ left) (sym (fed_to-more side history more ∙ ap (λ xs. fed_all ++ xs) fed))
 
-pub none_behind : (given : Given) (side : Side) (history : List Entry) (packets : List (List ℕ))
-    → packets ++ told_behind (public_of side given) (past_of side history) [] ≡ packets
-none_behind given side history packets =
-    ap (λ xs. packets ++ xs) (told_behind-none (public_of side given) (past_of side history)) ∙ append-nil packets
+pub none_after : (given : Given) (side : Side) (history : List Entry) (packets : List (List ℕ))
+    → packets ++ told_after (public_of side given) (past_of side history) [] ≡ packets
+none_after given side history packets =
+    ap (λ xs. packets ++ xs) (told_after-none (public_of side given) (past_of side history)) ∙ append-nil packets
 
 -- ---- packets to the hosts
 
@@ -61,8 +61,8 @@ pub tell_one_a : (given : Given) (history : List Entry) (packet : List ℕ) (pac
     → Stands given history (packet ∷ packets) told_b fed_a fed_b → Stands given (history ++ Up A packet ∷ []) packets told_b fed_a fed_b
 tell_one_a given history packet packets told_b fed_a fed_b stands = record {
   followed = due_more given [] history (Up A packet) stands.followed (due_stands given history (packet ∷ packets) told_b fed_a fed_b stands);
-  lag_a = lag_more given A history (Up A packet ∷ []) (packet ∷ packets) (packet ∷ []) packets [] stands.lag_a refl refl (none_behind given A history (packet ∷ packets));
-  lag_b = lag_more given B history (Up A packet ∷ []) told_b [] told_b [] stands.lag_b refl refl (none_behind given B history told_b);
+  lag_a = lag_more given A history (Up A packet ∷ []) (packet ∷ packets) (packet ∷ []) packets [] stands.lag_a refl refl (none_after given A history (packet ∷ packets));
+  lag_b = lag_more given B history (Up A packet ∷ []) told_b [] told_b [] stands.lag_b refl refl (none_after given B history told_b);
   left_a = left_more given A history (Up A packet ∷ []) fed_a [] fed_a stands.left_a refl refl refl;
   left_b = left_more given B history (Up A packet ∷ []) fed_b [] fed_b stands.left_b refl refl refl;
 }
@@ -71,8 +71,8 @@ pub tell_one_b : (given : Given) (history : List Entry) (packet : List ℕ) (pac
     → Stands given history [] (packet ∷ packets) fed_a fed_b → Stands given (history ++ Up B packet ∷ []) [] packets fed_a fed_b
 tell_one_b given history packet packets fed_a fed_b stands = record {
   followed = due_more given [] history (Up B packet) stands.followed (due_stands given history [] (packet ∷ packets) fed_a fed_b stands);
-  lag_a = lag_more given A history (Up B packet ∷ []) [] [] [] [] stands.lag_a refl refl (none_behind given A history []);
-  lag_b = lag_more given B history (Up B packet ∷ []) (packet ∷ packets) (packet ∷ []) packets [] stands.lag_b refl refl (none_behind given B history (packet ∷ packets));
+  lag_a = lag_more given A history (Up B packet ∷ []) [] [] [] [] stands.lag_a refl refl (none_after given A history []);
+  lag_b = lag_more given B history (Up B packet ∷ []) (packet ∷ packets) (packet ∷ []) packets [] stands.lag_b refl refl (none_after given B history (packet ∷ packets));
   left_a = left_more given A history (Up B packet ∷ []) fed_a [] fed_a stands.left_a refl refl refl;
   left_b = left_more given B history (Up B packet ∷ []) fed_b [] fed_b stands.left_b refl refl refl;
 }
@@ -93,30 +93,30 @@ tell_b given history (packet ∷ packets) fed_a fed_b stands =
 
 -- ---- octets of the hosts
 
-none_given : (given : Given) (side : Side) (history : List Entry) → [] ≡ told_behind (public_of side given) (past_of side history) (given_all [])
-none_given given side history = sym (told_behind-none (public_of side given) (past_of side history))
+none_given : (given : Given) (side : Side) (history : List Entry) → [] ≡ told_after (public_of side given) (past_of side history) (given_all [])
+none_given given side history = sym (told_after-none (public_of side given) (past_of side history))
 
 pub feed_a : (given : Given) (history : List Entry) (octets fed_b : List ℕ) → Stands given history [] [] octets fed_b
-    → Stands given (history ++ fed_entry A octets) (told_behind (public_of A given) (past_of A history) (given_all octets)) [] [] fed_b
+    → Stands given (history ++ fed_entry A octets) (told_after (public_of A given) (past_of A history) (given_all octets)) [] [] fed_b
 feed_a given history [] fed_b stands =
-    subst (λ h. Stands given h (told_behind (public_of A given) (past_of A history) []) [] [] fed_b) (sym (append-nil history))
+    subst (λ h. Stands given h (told_after (public_of A given) (past_of A history) []) [] [] fed_b) (sym (append-nil history))
     (subst (λ packets. Stands given history packets [] [] fed_b) (none_given given A history) stands)
 feed_a given history (octet ∷ octets) fed_b stands = record {
   followed = due_more given [] history (Fed A (octet ∷ octets)) stands.followed (due_stands given history [] [] (octet ∷ octets) fed_b stands);
   lag_a = lag_more given A history (fed_entry A (octet ∷ octets)) [] [] _ (given_all (octet ∷ octets)) stands.lag_a (append-nil _) refl refl;
-  lag_b = lag_more given B history (fed_entry A (octet ∷ octets)) [] [] [] [] stands.lag_b refl refl (none_behind given B history []);
+  lag_b = lag_more given B history (fed_entry A (octet ∷ octets)) [] [] [] [] stands.lag_b refl refl (none_after given B history []);
   left_a = left_more given A history (fed_entry A (octet ∷ octets)) (octet ∷ octets) (octet ∷ octets) [] stands.left_a refl (append-nil _) (sym (append-nil _));
   left_b = left_more given B history (fed_entry A (octet ∷ octets)) fed_b [] fed_b stands.left_b refl refl refl;
 }
 
 pub feed_b : (given : Given) (history : List Entry) (octets : List ℕ) → Stands given history [] [] [] octets
-    → Stands given (history ++ fed_entry B octets) [] (told_behind (public_of B given) (past_of B history) (given_all octets)) [] []
+    → Stands given (history ++ fed_entry B octets) [] (told_after (public_of B given) (past_of B history) (given_all octets)) [] []
 feed_b given history [] stands =
-    subst (λ h. Stands given h [] (told_behind (public_of B given) (past_of B history) []) [] []) (sym (append-nil history))
+    subst (λ h. Stands given h [] (told_after (public_of B given) (past_of B history) []) [] []) (sym (append-nil history))
     (subst (λ packets. Stands given history [] packets [] []) (none_given given B history) stands)
 feed_b given history (octet ∷ octets) stands = record {
   followed = due_more given [] history (Fed B (octet ∷ octets)) stands.followed (due_stands given history [] [] [] (octet ∷ octets) stands);
-  lag_a = lag_more given A history (fed_entry B (octet ∷ octets)) [] [] [] [] stands.lag_a refl refl (none_behind given A history []);
+  lag_a = lag_more given A history (fed_entry B (octet ∷ octets)) [] [] [] [] stands.lag_a refl refl (none_after given A history []);
   lag_b = lag_more given B history (fed_entry B (octet ∷ octets)) [] [] _ (given_all (octet ∷ octets)) stands.lag_b (append-nil _) refl refl;
   left_a = left_more given A history (fed_entry B (octet ∷ octets)) [] [] [] stands.left_a refl refl refl;
   left_b = left_more given B history (fed_entry B (octet ∷ octets)) (octet ∷ octets) (octet ∷ octets) [] stands.left_b refl (append-nil _) (sym (append-nil _));
@@ -162,8 +162,8 @@ abbrev pub now_fed : Given → Side → ℕ → Plan → List ℕ
 now_fed given side n turn = take (feed_of side turn) (drop (feed_total side (take n given.script.turns)) (stream_of side given))
 
 turned_tells : (given : Given) (side : Side) (history : List Entry) (slot : ℕ) (on : Bool)
-    → told_behind (public_of side given) (past_of side history) (Turned slot on ∷ []) ≡ []
-unfolding told_behind
+    → told_after (public_of side given) (past_of side history) (Turned slot on ∷ []) ≡ []
+unfolding told_after
 turned_tells given side history slot on = refl
 
 pub begin_turn : (given : Given) (history : List Entry) (turn : Plan) → IsQuiet given history
@@ -186,11 +186,11 @@ begin_turn given history turn quiet none is =
 pub air_a : (given : Given) (history : List Entry) (channel : ℕ) (octets : List ℕ) (fate : Mark) (verdict : Verdict)
     → IsQuiet given history → due given history ≡ Next (Air A channel octets fate verdict)
     → Stands given (history ++ Air A channel octets fate verdict ∷ []) []
-    (told_behind (public_of B given) (past_of B history) (heard_if verdict octets)) [] []
+    (told_after (public_of B given) (past_of B history) (heard_if verdict octets)) [] []
 air_a given history channel octets fate verdict quiet is =
     let more = Air A channel octets fate verdict ∷ [] in record {
       followed = due_more given [] history (Air A channel octets fate verdict) quiet.followed is;
-      lag_a = lag_more given A history more [] [] [] [] quiet.lag_a refl refl (none_behind given A history []);
+      lag_a = lag_more given A history more [] [] [] [] quiet.lag_a refl refl (none_after given A history []);
       lag_b = lag_more given B history more [] [] _ (heard_if verdict octets) quiet.lag_b (append-nil _) refl refl;
       left_a = left_more given A history more [] [] [] quiet.left_a refl refl refl;
       left_b = left_more given B history more [] [] [] quiet.left_b refl refl refl;
@@ -199,12 +199,12 @@ air_a given history channel octets fate verdict quiet is =
 pub air_b : (given : Given) (history : List Entry) (channel : ℕ) (octets : List ℕ) (fate : Mark) (verdict : Verdict)
     → IsQuiet given history → due given history ≡ Next (Air B channel octets fate verdict)
     → Stands given (history ++ Air B channel octets fate verdict ∷ [])
-    (told_behind (public_of A given) (past_of A history) (heard_if verdict octets)) [] [] []
+    (told_after (public_of A given) (past_of A history) (heard_if verdict octets)) [] [] []
 air_b given history channel octets fate verdict quiet is =
     let more = Air B channel octets fate verdict ∷ [] in record {
       followed = due_more given [] history (Air B channel octets fate verdict) quiet.followed is;
       lag_a = lag_more given A history more [] [] _ (heard_if verdict octets) quiet.lag_a (append-nil _) refl refl;
-      lag_b = lag_more given B history more [] [] [] [] quiet.lag_b refl refl (none_behind given B history []);
+      lag_b = lag_more given B history more [] [] [] [] quiet.lag_b refl refl (none_after given B history []);
       left_a = left_more given A history more [] [] [] quiet.left_a refl refl refl;
       left_b = left_more given B history more [] [] [] quiet.left_b refl refl refl;
     }

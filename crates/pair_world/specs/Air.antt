@@ -1,4 +1,4 @@
--- What is so of a packet on the air. Own.
+-- What holds of a packet on the air (our choice).
 use Rattle.std.specs.Prelude.{◌≡◌, ◌≢◌, ℕ, ◌+◌, List, Some, slice_get}
 use Rattle.ble_base.specs.declared.roles.Side.{Side}
 use Rattle.ble_base.specs.declared.verdicts.Verdict.{Verdict}
@@ -9,10 +9,10 @@ use Rattle.radio_replay.specs.Damage.{struck}
 use Rattle.pair_world.specs.History.{aired}
 use Rattle.pair_world.specs.Run.{Given, Flight, flights, fate_at, mark_of, verdict_of}
 
--- behind this history the packet is on the air with this fate and this verdict
+-- after this history the packet is on the air with this fate and this verdict
 pub record IsAired (given : Given) (history : List Entry) (side : Side) (channel : ℕ) (octets : List ℕ) (fate : Mark) (verdict : Verdict) : Type 0 where
   pub flight : Flight
-  -- it is the next of those that the turn calls for
+  -- it is the next of those that the turn requires
   pub is_next : slice_get (flights given history) (aired history) ≡ Some flight
   pub side_is : side ≡ flight.side
   pub channel_is : channel ≡ flight.channel
@@ -24,10 +24,10 @@ pub record IsAired (given : Given) (history : List Entry) (side : Side) (channel
   -- what is judged good was not changed
   pub unchanged : verdict ≡ Good → struck (fate_at given history) octets ≡ octets
 
--- behind this history the next packet, at this place of its turn, counted from 1, is changed by its fate into what would be judged good
+-- after this history the next packet, at this place of its turn, counted from 1, is changed by its fate into what would be judged good
 pub record IsUnseenNext (given : Given) (history : List Entry) (packet : ℕ) (sent heard : List ℕ) : Type 0 where
   pub flight : Flight
-  -- it is the next of those that the turn calls for
+  -- it is the next of those that the turn requires
   pub is_next : slice_get (flights given history) (aired history) ≡ Some flight
   pub packet_is : packet ≡ aired history + 1
   pub sent_is : sent ≡ flight.octets

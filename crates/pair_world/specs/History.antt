@@ -1,4 +1,4 @@
--- What the entries of a journal tell of one side, and of the turns. Own.
+-- What the entries of a journal say of one side, and of the turns (our choice).
 use Rattle.std.specs.Prelude.{ℕ, ◌+◌, Bool, false, List, [], ◌∷◌, map, Option, Some, None}
 use Rattle.std.specs.List.{flat_map}
 use Rattle.ble_base.specs.declared.roles.Side.{Side}

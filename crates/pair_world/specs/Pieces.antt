@@ -1,4 +1,4 @@
--- A run, step by step. Own.
+-- A run, step by step (our choice).
 use Rattle.std.specs.Prelude.{◌≡◌, ℕ, ◌+◌, Bool, true, false, List, [], ◌∷◌, ◌++◌, map, Option, Some, None, if◌then◌else◌, ⊤}
 use Rattle.ble_base.specs.declared.roles.Side.{Side}
 use Rattle.ble_base.specs.declared.notes.Note.{Note}
@@ -19,9 +19,9 @@ abbrev pub fed_entry : Side → List ℕ → List Entry
 fed_entry side [] = []
 fed_entry side (octet ∷ octets) = Fed side (octet ∷ octets) ∷ []
 
--- what the host of a controller with this past is told, once these come
-unfoldable pub told_behind : List ℕ → List Input → List Input → List (List ℕ)
-told_behind public past inputs = told_from (view_of public past) inputs
+-- what the host of a controller with this past receives, once these come
+unfoldable pub told_after : List ℕ → List Input → List Input → List (List ℕ)
+told_after public past inputs = told_from (view_of public past) inputs
 
 abbrev pub given_all : List ℕ → List Input
 given_all octets = map Given octets
@@ -34,9 +34,9 @@ note_of packet = Told (record { items = packet })
 abbrev pub ups : Side → List (List ℕ) → List Entry
 ups side packets = map (Up side) packets
 
--- a side is fed these octets, and its host is told what they call for
+-- a side is fed these octets, and its host receives the answers to them
 unfoldable pub fed : Side → List ℕ → List Input → List ℕ → List Entry
-fed side public past octets = fed_entry side octets ++ ups side (told_behind public past (given_all octets))
+fed side public past octets = fed_entry side octets ++ ups side (told_after public past (given_all octets))
 
 -- ---- a packet that a side wants to send, or none
 

@@ -1,4 +1,4 @@
--- What the journal of a run is. Own.
+-- What the journal of a run is (our choice).
 use Rattle.std.specs.Prelude.{◌≡◌, ℕ, zero, suc, ◌+◌, ◌-◌, ◌==◌, ◌&&◌, not, Bool, false, true, List, [], ◌∷◌, ◌++◌, length, take, drop, slice_get, Option, Some, None, All, if◌then◌else◌}
 use Rattle.std.specs.List.{sum_by}
 use Rattle.std.specs.Str.{bytes_eq}
@@ -83,7 +83,7 @@ abbrev pub flights_in : Given → List Entry → ℕ → List Flight
 flights_in given history phase =
     flights_of phase A (intent_at given A phase history) ++ flights_of phase B (intent_at given B phase history)
 
--- those of so many phases from this one on
+-- those of this number of phases from this one on
 abbrev pub flights_from : Given → List Entry → ℕ → ℕ → List Flight
 flights_from given history phase zero = []
 flights_from given history phase (suc count) = flights_in given history phase ++ flights_from given history (suc phase) count
@@ -139,7 +139,7 @@ mark_of (Damage at pattern) = Damaged at pattern.items
 
 -- ---- what is due
 
--- what comes next behind a history
+-- what comes next after a history
 pub data Due : Type 0 where
   -- an entry
   Next : Entry → Due
@@ -163,7 +163,7 @@ abbrev pub up_or : Side → List (List ℕ) → Due → Due
 up_or side [] otherwise = otherwise
 up_or side (packet ∷ packets) otherwise = Next (Up side packet)
 
--- all that the turns that began feed to a side, as far as its stream goes
+-- all that the turns that began feed to a side, up to the end of its stream
 abbrev pub feeds_at : Given → Side → List Entry → List ℕ
 feeds_at given side history = take (feed_total side (take (length (turns_begun history)) given.script.turns)) (stream_of side given)
 
@@ -208,25 +208,25 @@ IsTurnEnd [] = Unit {0}
 IsTurnEnd (Turn slot a b ∷ entries) = Unit {0}
 IsTurnEnd _ = ⊥
 
--- each entry is what is due behind those before it
+-- each entry is exactly the one that must come next, given the entries before it
 abbrev pub AreDue : Given → List Entry → List Entry → Type 0
 AreDue given history [] = Unit {0}
 AreDue given history (entry ∷ entries) = (due given history ≡ Next entry) × AreDue given (history ++ entry ∷ []) entries
 
--- what has come to pass where some turns are over: each side was fed what the schedule feeds in them, as far as its
--- stream goes, and each host was told all that came to its controller calls for
+-- what holds where some turns are over: each side was fed what the schedule feeds in them, up to the end of its
+-- stream, and each host has received all that the inputs of its controller require
 pub record IsUpToDate (given : Given) (history : List Entry) : Type 0 where
   pub fed : (side : Side) → fed_to side history ≡ feeds_at given side history
   pub told : (side : Side) → told_to side history ≡ told_by (public_of side given) (past_of side history)
 
 -- a journal of a run, or of a run so far
 pub record IsJournal (given : Given) (journal : List Entry) : Type 0 where
-  -- each entry is what is due behind those before it
+  -- each entry is exactly the one that must come next, given the entries before it
   pub each : (history rest : List Entry) (entry : Entry) → journal ≡ history ++ entry ∷ rest → due given history ≡ Next entry
-  -- the turns begin in the order of the schedule, and nothing stands before the first
+  -- the turns begin in the order of the schedule, and nothing comes before the first
   pub turns : turns_begun journal ≡ turns_from 0 (take (length (turns_begun journal)) given.script.turns)
   pub begins : IsTurnEnd journal
-  -- the entries of a turn stand in the order of its steps, and are of the kinds that a run has
+  -- the entries of a turn are in the order of its steps, and of the kinds that a run has
   pub in_order : IsInOrder journal
   pub of_run : All IsOfRun journal
   -- a side is fed before any packet of the turn is on the air
@@ -234,10 +234,10 @@ pub record IsJournal (given : Given) (journal : List Entry) : Type 0 where
   -- the n-th packet on the air in a turn has the n-th fate of that turn, and those past the last fate pass
   pub fates : (history rest : List Entry) (side : Side) (channel : ℕ) (octets : List ℕ) (fate : Mark) (verdict : Verdict)
       → journal ≡ history ++ Air side channel octets fate verdict ∷ rest → fate ≡ mark_of (fate_at given history)
-  -- wherever a turn is over, what it calls for has come to pass
+  -- wherever a turn is over, all that it requires has happened
   pub up_to_date : (history rest : List Entry) → journal ≡ history ++ rest → IsTurnEnd rest → IsUpToDate given history
 
--- the journal of a whole run: nothing is due behind it
+-- the journal of a whole run: nothing is due after it
 pub record IsRun (given : Given) (journal : List Entry) : Type 0 where
   pub is_journal : IsJournal given journal
   pub over : due given journal ≡ Over
@@ -250,7 +250,7 @@ pub record EndsUnseen (given : Given) (turn packet : ℕ) (sent heard : List ℕ
   pub unseen : due given journal ≡ Unseen packet sent heard
   pub turn_is : length (turns_begun journal) ≡ turn + 1
 
--- what a fault of a run says: want of memory says nothing
+-- what a fault of a run says: out of memory says nothing
 abbrev pub IsRunFault : Given → RunFault → Type 0
 IsRunFault given Memory = Unit {0}
 IsRunFault given (UnseenFault turn packet sent heard journal) = EndsUnseen given turn packet sent heard journal

@@ -1,4 +1,4 @@
--- How a run stands at the end of a turn, and in a phase of one. Own.
+-- The state of a run at the end of a turn, and in a phase of one (our choice).
 use Rattle.std.specs.Prelude.{◌≡◌, ℕ, ◌+◌, List, [], ◌++◌, length, take, drop, slice_get, None}
 use Rattle.ble_base.specs.declared.roles.Side.TheVariants.{A, B}
 use Rattle.journal.specs.declared.entries.Entry.{Entry}
@@ -10,7 +10,7 @@ use Rattle.pair_world.specs.declared.stops.Stop.TheVariants.{Unseen as Stopped, 
 use Rattle.pair_world.specs.History.{turns_begun, aired, past_of, told_to, fed_to}
 use Rattle.pair_world.specs.Run.{Given, public_of, feed_total, feeds_at, view_at, flights, flights_from, due, Unseen, AreDue}
 
--- the history of a run, and what is still to come behind it before the next packet: to the hosts, and from them
+-- the history of a run, and what is still to come after it before the next packet: to the hosts, and from them
 pub record Stands (given : Given) (history : List Entry) (told_a told_b : List (List ℕ)) (fed_a fed_b : List ℕ) : Type 0 where
   pub followed : AreDue given [] history
   pub lag_a : told_by (public_of A given) (past_of A history) ≡ told_to A history ++ told_a
@@ -22,12 +22,12 @@ pub record Stands (given : Given) (history : List Entry) (told_a told_b : List (
 abbrev pub IsQuiet : Given → List Entry → Type 0
 IsQuiet given history = Stands given history [] [] [] []
 
--- what of the streams is still to be fed behind so many turns
+-- what of the streams is still to be fed after this number of turns
 pub record IsFedTo (given : Given) (turns : ℕ) (unfed_a unfed_b : List ℕ) : Type 0 where
   pub a_is : unfed_a ≡ drop (feed_total A (take turns given.script.turns)) given.a
   pub b_is : unfed_b ≡ drop (feed_total B (take turns given.script.turns)) given.b
 
--- so many turns are over
+-- this number of turns are over
 pub record AtTurnEnd (given : Given) (slot : ℕ) (history : List Entry) (a b : State) (unfed_a unfed_b : List ℕ) : Type 0 where
   pub quiet : IsQuiet given history
   pub begun : length (turns_begun history) ≡ slot
@@ -38,7 +38,7 @@ pub record AtTurnEnd (given : Given) (slot : ℕ) (history : List Entry) (a b : 
   pub next_b : (view_at given B history).next ≡ slot
   pub unfed : IsFedTo given slot unfed_a unfed_b
 
--- this phase of a turn begins, before which so many packets of it were on the air, and both sides want this
+-- this phase of a turn begins, before which this number of its packets were on the air, and both sides want this
 pub record InPhase (given : Given) (slot phase left packets : ℕ) (history : List Entry) (a b : State) (wanted_a wanted_b : Intent) : Type 0 where
   pub quiet : IsQuiet given history
   pub begun : length (turns_begun history) ≡ slot + 1

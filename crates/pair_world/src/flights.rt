@@ -41,7 +41,7 @@ fn mark(alloc: Global, fate: &Fate) -> Result<Mark, AllocError>
     }
 }
 
-/// The octets of a packet behind its fate.
+/// The octets of a packet after its fate.
 fn struck(fate: &Fate, sent: &ArrayVec<u8, 264>) -> ArrayVec<u8, 264>
     ensures { result.items ≡ struck fate.now sent.now.items }
 {

@@ -1,4 +1,4 @@
-//! Laws of runs. The bodies only call laws that they stand on: the contracts are the laws.
+//! Laws of runs. The bodies only call the laws that they rest on: the contracts are the laws.
 ghost use Rattle.std.specs.Prelude.{◌≡◌, ℕ, Bool, Option, None, List, ◌∷◌, ◌++◌, slice_get};
 ghost use Rattle.ble_base.specs.declared.roles.Side.{Side};
 ghost use Rattle.ble_base.specs.declared.verdicts.Verdict.{Verdict};
@@ -22,7 +22,7 @@ pub fn a_run_has_one_journal()
         → IsRun given journal → EndsUnseen given turn packet sent heard other → ⊥ }
 {}
 
-/// Each packet on the air is the next of those that its turn calls for, with the next fate of that turn and the verdict of
+/// Each packet on the air is the next of those that its turn requires, with the next fate of that turn and the verdict of
 /// the other side on what the fate leaves of it; and no changed packet is judged good.
 pub fn each_packet_on_the_air_is_due()
     ensures { (given : Given) (journal history rest : List Entry) (side : Side) (channel : ℕ) (octets : List ℕ) (fate : Mark) (verdict : Verdict)
@@ -30,14 +30,14 @@ pub fn each_packet_on_the_air_is_due()
         → IsAired given history side channel octets fate verdict }
 {}
 
-/// The packet whose damage ends a run is the next of those that its turn calls for; it is named with its turn and its place;
+/// The packet whose damage ends a run is the next of those that its turn requires; it is named with its turn and its place;
 /// what would be heard is what its fate leaves of it, differs from it, and has the verdict good of the other side.
 pub fn an_unseen_packet_is_due()
     ensures { (given : Given) (turn packet : ℕ) (sent heard : List ℕ) (journal : List Entry)
         → EndsUnseen given turn packet sent heard journal → IsUnseenNext given journal packet sent heard }
 {}
 
-/// Where a turn is over, all the packets that it calls for were on the air.
+/// Where a turn is over, all the packets that it requires were on the air.
 pub fn a_turn_sends_all_that_is_due()
     ensures turn { (given : Given) (journal history rest : List Entry) (slot : ℕ) (a : Bool) (b : Option Bool)
         → IsJournal given journal → journal ≡ history ++ Turn slot a b ∷ rest
@@ -46,8 +46,9 @@ pub fn a_turn_sends_all_that_is_due()
         → slice_get (flights given journal) (aired journal) ≡ None }
 {}
 
-/// Where a turn is over, a host was told exactly the answers to the packets of the octets that its side was fed, in order,
-/// whatever the slots in which they came: these alone, where the side has heard nothing, and beside them LE events alone.
+/// Where a turn is over, a host has received exactly the answers to the packets of the octets that its side was fed, in order,
+/// whatever the slots in which they came, and nothing else where the side has heard nothing. Where it has, LE events may
+/// come between them.
 pub fn a_host_is_answered_in_order()
     ensures alone { (given : Given) (journal history rest : List Entry) (side : Side) (slot : ℕ)
         → IsJournal given journal → journal ≡ history ++ rest → IsTurnEnd rest → HeardNothing (past_of side history)

@@ -78,7 +78,7 @@ fn run_turns(
     Ok(journal)
 }
 
-/// Runs two controllers over the streams of their hosts and a schedule, and gives the journal of the run (own). `a` and `b` are
+/// Runs two controllers over the streams of their hosts and a schedule, and gives the journal of the run (our choice). `a` and `b` are
 /// the H4 octets of the two hosts, in the order in which they are fed; those that the schedule leaves unfed are not part of it.
 ///
 /// Answers `Unseen` exactly where a fate changes a packet that is due and the changed one would be judged good, and `Memory`

@@ -4,7 +4,7 @@ ghost use Rattle.std.specs.Option.{option_copied};
 ghost use Rattle.journal.specs.declared.entries.Entry.TheVariants.{Up};
 ghost use Rattle.controller.specs.Past.{Input, view_of, intent_of, notes_of};
 ghost use Rattle.controller.specs.State.{ready, rested, acting, listened, IsTurn, Acts};
-ghost use Rattle.pair_world.specs.Pieces.{fed, fed_entry, told_behind, given_all, note_of, ups, inputs_of, MayHear};
+ghost use Rattle.pair_world.specs.Pieces.{fed, fed_entry, told_after, given_all, note_of, ups, inputs_of, MayHear};
 
 use ble_base::{Note, Outbox, Side, SlotNo};
 use controller::{Controller, Intent};
@@ -78,7 +78,7 @@ impl<'a> Station<'a> {
         }
     }
 
-    /// Takes an octet of the host, and writes down what it is told.
+    /// Takes an octet of the host, and writes down what the host receives.
     fn take_octet(
         &mut self,
         alloc: Global,
@@ -88,7 +88,7 @@ impl<'a> Station<'a> {
     ) -> Result<(), AllocError>
         requires empty { out.old.items ≡ [] }
         ensures told { OnOk result ((public : List ℕ) (past : List Input) → self.old.controller ≡ ready public past
-            → journal.new ≡ journal.old ++ ups self.old.side (told_behind public past (given_all (octet ∷ [])))) }
+            → journal.new ≡ journal.old ++ ups self.old.side (told_after public past (given_all (octet ∷ [])))) }
         ensures state { OnOk result ((public : List ℕ) (past : List Input) → self.old.controller ≡ ready public past
             → self.new.controller ≡ ready public (past ++ given_all (octet ∷ []))) }
         ensures same { (self.new.side ≡ self.old.side) × (self.new.unfed ≡ self.old.unfed) }
@@ -98,7 +98,7 @@ impl<'a> Station<'a> {
         take_notes(alloc, self.side, out, journal)
     }
 
-    /// Takes octets of the host, and writes down what it is told.
+    /// Takes octets of the host, and writes down what the host receives.
     fn take_octets(
         &mut self,
         alloc: Global,
@@ -108,7 +108,7 @@ impl<'a> Station<'a> {
     ) -> Result<(), AllocError>
         requires empty { out.old.items ≡ [] }
         ensures told { OnOk result ((public : List ℕ) (past : List Input) → self.old.controller ≡ ready public past
-            → journal.new ≡ journal.old ++ ups self.old.side (told_behind public past (given_all octets.now))) }
+            → journal.new ≡ journal.old ++ ups self.old.side (told_after public past (given_all octets.now))) }
         ensures state { OnOk result ((public : List ℕ) (past : List Input) → self.old.controller ≡ ready public past
             → self.new.controller ≡ ready public (past ++ given_all octets.now)) }
         ensures same { (self.new.side ≡ self.old.side) × (self.new.unfed ≡ self.old.unfed) }
@@ -120,7 +120,7 @@ impl<'a> Station<'a> {
         Ok(())
     }
 
-    /// Feeds octets of the host, and writes down that they were fed and what the host is told.
+    /// Feeds octets of the host, and writes down that they were fed and what the host receives.
     fn feed_octets(
         &mut self,
         alloc: Global,
@@ -146,8 +146,8 @@ impl<'a> Station<'a> {
         self.take_octets(alloc, octets, out, journal)
     }
 
-    /// Feeds so many octets of the stream, or as many as are left, and writes down that they were fed and what the host
-    /// is told.
+    /// Feeds this number of octets of the stream, or as many as are left, and writes down that they were fed and what
+    /// the host receives.
     pub(crate) fn feed(
         &mut self,
         alloc: Global,
@@ -170,7 +170,7 @@ impl<'a> Station<'a> {
         Ok(())
     }
 
-    /// Takes what was heard in a phase, if anything was, writes down what the host is told, and gives what the controller
+    /// Takes what was heard in a phase, if anything was, writes down what the host receives, and gives what the controller
     /// wants in the next phase.
     pub(crate) fn listen(
         &mut self,
@@ -187,7 +187,7 @@ impl<'a> Station<'a> {
         ensures told { OnOk result ((phase : ℕ) (public : List ℕ) (past : List Input)
             → self.old.controller ≡ acting phase public past
             → MayHear (option_copied packet.entry) (listened (intent_of phase (view_of public past)))
-            → journal.new ≡ journal.old ++ ups self.old.side (told_behind public past (inputs_of (option_copied packet.entry)))) }
+            → journal.new ≡ journal.old ++ ups self.old.side (told_after public past (inputs_of (option_copied packet.entry)))) }
         ensures same { (self.new.side ≡ self.old.side) × (self.new.unfed ≡ self.old.unfed) }
         ensures empty { OnOk result (out.new.items ≡ []) }
     {

@@ -6,7 +6,7 @@ use Rattle.controller.proofs.controllers.Controller.host_octet.Goals as goal
 
 pub returns-in-More-clause-state : goal.returns-in-More-clause-state
 returns-in-More-clause-state c = λ public past was.
-    ready_given public past c.args.octet _ c.feed-fed.result _ _ (c.self.view_is ∙ was) c.feed-fed.ensures.frames c.feed-fed.ensures.waits
+    ready_given public past c.args.octet _ c.feed-fed.result _ _ (c.self.view_is ∙ was) c.feed-fed.ensures.frames c.feed-fed.ensures.framer_after
     (ap (device_after _ _) (sym c.in-More.is))
 
 pub returns-in-More-clause-notes : goal.returns-in-More-clause-notes
@@ -16,7 +16,7 @@ returns-in-More-clause-notes c = λ public past was.
 pub returns-clause-state : goal.returns-clause-state
 returns-clause-state c = λ public past was.
     c.take.ensures.state
-    ∙ ready_given public past c.args.octet _ c.feed-fed.result _ _ (c.self.view_is ∙ was) c.feed-fed.ensures.frames c.feed-fed.ensures.waits refl
+    ∙ ready_given public past c.args.octet _ c.feed-fed.result _ _ (c.self.view_is ∙ was) c.feed-fed.ensures.frames c.feed-fed.ensures.framer_after refl
 
 pub returns-clause-notes : goal.returns-clause-notes
 returns-clause-notes c = λ public past was.

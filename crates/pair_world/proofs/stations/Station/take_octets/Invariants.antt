@@ -1,7 +1,7 @@
 use Rattle.std.proofs.Common.{◌≡◌, ℕ, List, [], ◌++◌, take}
 use Rattle.controller.specs.Past.{Input}
 use Rattle.controller.specs.State.{ready}
-use Rattle.pair_world.specs.Pieces.{given_all, told_behind, ups}
+use Rattle.pair_world.specs.Pieces.{given_all, told_after, ups}
 use Rattle.pair_world.proofs.stations.Station.take_octets.Given as goal
 
 abbrev pub invariant-loop-octet : goal.invariant-loop-octet
@@ -12,6 +12,6 @@ invariant-loop-octet l = record {
   past : (public : List ℕ) (past : List Input) → l.fn.self.controller ≡ ready public past
       → record {
         state : l.self.controller ≡ ready public (past ++ given_all (take l.octet-index l.octets));
-        told : l.journal ≡ l.fn.journal ++ ups l.fn.self.side (told_behind public past (given_all (take l.octet-index l.octets)));
+        told : l.journal ≡ l.fn.journal ++ ups l.fn.self.side (told_after public past (given_all (take l.octet-index l.octets)));
       };
 }
