@@ -3,7 +3,7 @@ ghost use Rattle.std.specs.Prelude.{◌≡◌};
 ghost use Rattle.host_view.specs.Refusals.{first_refusal};
 ghost use Rattle.host_view.specs.Status.{are_intervals, is_active, advertising_parameters_rows, advertising_on_rows, advertising_enable_rows, data_rows};
 
-use crate::refusals::{CONNECTION_LIMIT_EXCEEDED, first_refusal, is_connectable, is_generated};
+use crate::refusals::{first_refusal, is_connectable, is_generated};
 use crate::view::HostView;
 use ble_base::ErrCode;
 
@@ -60,7 +60,7 @@ impl HostView {
             asked.own asked.peer_kind asked.channels asked.policy) }
     {
         let invalid = ErrCode::INVALID_HCI_PARAMETERS;
-        let unsupported = ErrCode::UNSUPPORTED_FEATURE_OR_PARAMETER;
+        let unsupported = ErrCode::UNSUPPORTED_FEATURE_OR_VALUE;
         first_refusal(&[
             (self.advertising.on, ErrCode::COMMAND_DISALLOWED),
             (!are_intervals(asked.min, asked.max), invalid),
@@ -82,7 +82,10 @@ impl HostView {
         ensures { result.0 ≡ first_refusal (advertising_on_rows self.now) }
     {
         let full = is_connectable(self.advertising.kind) && self.is_full();
-        self.own_status(self.advertising.own, &[(full, CONNECTION_LIMIT_EXCEEDED)])
+        self.own_status(
+            self.advertising.own,
+            &[(full, ErrCode::CONNECTION_LIMIT_EXCEEDED)],
+        )
     }
 
     pub(crate) fn advertising_enable_status(&self, value: u8) -> ErrCode

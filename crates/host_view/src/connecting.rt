@@ -7,10 +7,7 @@ ghost use Rattle.host_view.specs.Status.{create_connection_rows, has_addresses, 
 
 use crate::link_commands::Proposal;
 use crate::links::Link;
-use crate::refusals::{
-    CONNECTION_ALREADY_EXISTS, CONNECTION_LIMIT_EXCEEDED, are_scan_times, first_refusal,
-    is_generated,
-};
+use crate::refusals::{are_scan_times, first_refusal, is_generated};
 use crate::view::{ACCEPT_LIST_SIZE, HostView};
 use ble_base::{Address, ErrCode};
 
@@ -81,7 +78,7 @@ impl HostView {
             return invalid;
         }
         if named && is_generated(asked.peer_kind) {
-            return ErrCode::UNSUPPORTED_FEATURE_OR_PARAMETER;
+            return ErrCode::UNSUPPORTED_FEATURE_OR_VALUE;
         }
         if named && asked.peer_kind > 3 {
             return invalid;
@@ -91,12 +88,9 @@ impl HostView {
             asked.own,
             &[
                 (!asked.proposal.is_valid(), invalid),
-                (named && connected, CONNECTION_ALREADY_EXISTS),
-                (self.is_full(), CONNECTION_LIMIT_EXCEEDED),
-                (
-                    !self.has_address,
-                    ErrCode::CONNECTION_REJECTED_LIMITED_RESOURCES,
-                ),
+                (named && connected, ErrCode::CONNECTION_ALREADY_EXISTS),
+                (self.is_full(), ErrCode::CONNECTION_LIMIT_EXCEEDED),
+                (!self.has_address, ErrCode::LIMITED_RESOURCES),
             ],
         )
     }

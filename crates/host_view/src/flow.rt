@@ -57,7 +57,7 @@ impl HostView {
             (self.has_link(), ErrCode::COMMAND_DISALLOWED),
             (
                 value == 2 || value == 3,
-                ErrCode::UNSUPPORTED_FEATURE_OR_PARAMETER,
+                ErrCode::UNSUPPORTED_FEATURE_OR_VALUE,
             ),
             (value > 3, ErrCode::INVALID_HCI_PARAMETERS),
         ])

@@ -6,12 +6,6 @@ use crate::links::Link;
 use crate::view::HostView;
 use ble_base::{ErrCode, has_bit};
 
-/// Connection Limit Exceeded (Core 5.2, volume 1 part F).
-pub(crate) const CONNECTION_LIMIT_EXCEEDED: ErrCode = ErrCode(0x09);
-
-/// Connection Already Exists (Core 5.2, volume 1 part F).
-pub(crate) const CONNECTION_ALREADY_EXISTS: ErrCode = ErrCode(0x0B);
-
 /// A condition, and the status where it holds.
 pub(crate) type Refusal = (bool, ErrCode);
 
@@ -83,13 +77,13 @@ impl Phys {
         let any_transmit = has_bit(u64::from(self.all), 0);
         let any_receive = has_bit(u64::from(self.all), 1);
         if !any_transmit && self.transmit > 1 {
-            return ErrCode::UNSUPPORTED_FEATURE_OR_PARAMETER;
+            return ErrCode::UNSUPPORTED_FEATURE_OR_VALUE;
         }
         if !any_transmit && self.transmit == 0 {
             return ErrCode::INVALID_HCI_PARAMETERS;
         }
         if !any_receive && self.receive > 1 {
-            return ErrCode::UNSUPPORTED_FEATURE_OR_PARAMETER;
+            return ErrCode::UNSUPPORTED_FEATURE_OR_VALUE;
         }
         if !any_receive && self.receive == 0 {
             return ErrCode::INVALID_HCI_PARAMETERS;
@@ -115,7 +109,7 @@ impl HostView {
         ensures { result.0 ≡ first_refusal (own_rows self.now own (refusals_of others.now)) }
     {
         if is_generated(own) {
-            return ErrCode::UNSUPPORTED_FEATURE_OR_PARAMETER;
+            return ErrCode::UNSUPPORTED_FEATURE_OR_VALUE;
         }
         if own > 3 || own == 1 && self.random.is_none() {
             return ErrCode::INVALID_HCI_PARAMETERS;

@@ -23,7 +23,7 @@ impl HostView {
             asked.own asked.policy) }
     {
         let invalid = ErrCode::INVALID_HCI_PARAMETERS;
-        let unsupported = ErrCode::UNSUPPORTED_FEATURE_OR_PARAMETER;
+        let unsupported = ErrCode::UNSUPPORTED_FEATURE_OR_VALUE;
         first_refusal(&[
             (self.scanning.on, ErrCode::COMMAND_DISALLOWED),
             (asked.kind > 1, invalid),

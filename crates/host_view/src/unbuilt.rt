@@ -42,12 +42,12 @@ pub(crate) fn unbuilt_status(view: &HostView, command: &Command) -> ErrCode
 {
     match command {
         Command::LeSetAdvEnable { value } if view.turns_on_unbuilt(*value) => {
-            ErrCode::UNSUPPORTED_FEATURE_OR_PARAMETER
+            ErrCode::UNSUPPORTED_FEATURE_OR_VALUE
         }
         Command::LeSetScanParams { kind, policy, .. } if *kind == 1 || *policy == 1 => {
-            ErrCode::UNSUPPORTED_FEATURE_OR_PARAMETER
+            ErrCode::UNSUPPORTED_FEATURE_OR_VALUE
         }
-        Command::LeCreateConnection { .. } => ErrCode::UNSUPPORTED_FEATURE_OR_PARAMETER,
+        Command::LeCreateConnection { .. } => ErrCode::UNSUPPORTED_FEATURE_OR_VALUE,
         Command::Disconnect { .. }
         | Command::ReadRemoteVersion { .. }
         | Command::LeReadRemoteFeatures { .. }
