@@ -1,3 +1,4 @@
 pub mod Layouts
 pub mod LittleEndian
 pub mod Spelling
+pub mod Making

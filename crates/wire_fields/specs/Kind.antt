@@ -1,5 +1,6 @@
 -- Layouts by the kinds of their fields: what a table of packets has for each of them (our choice).
 use Rattle.std.specs.Prelude.{ℕ, zero, suc, List, [], ◌∷◌, ◌++◌}
+use Rattle.wire_fields.specs.Field.{Field, number as number_field, octets as octets_field}
 use Rattle.wire_fields.specs.Layout.{Layout, done, take_number, take_octets}
 
 -- the kind of a field: a number of this many octets, this many octets, or this many numbers of two octets
@@ -44,3 +45,9 @@ fields [] make = done make
 fields (number n ∷ kinds) make = take_number n (λ x. fields kinds (make x))
 fields (octets n ∷ kinds) make = take_octets n (λ xs. fields kinds (make xs))
 fields (numbers n ∷ kinds) make = take_numbers n [] (λ xs. fields kinds (make xs))
+
+-- the kinds of these fields, whatever their values
+abbrev pub kinds_of : List Field → List Kind
+kinds_of [] = []
+kinds_of (number_field n x ∷ rest) = number n ∷ kinds_of rest
+kinds_of (octets_field n xs ∷ rest) = octets n ∷ kinds_of rest

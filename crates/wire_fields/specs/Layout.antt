@@ -32,6 +32,17 @@ is_whole layout octets = length octets == size_of layout octets
 abbrev pub read_by : {R : Type 0} → Layout R → List ℕ → Option R
 read_by layout octets = if is_whole layout octets then Some (value_of layout octets) else None
 
+-- the same where the fields may make no value: none also where they make none
+abbrev pub read_some_by : {R : Type 0} → Layout (Option R) → List ℕ → Option R
+read_some_by layout octets = if is_whole layout octets then value_of layout octets else None
+
+-- the layout with another value made of what it makes
+abbrev pub mapped : {R S : Type 0} → (R → S) → Layout R → Layout S
+mapped change (done value) = done (change value)
+mapped change (take_number n next) = take_number n (λ number. mapped change (next number))
+mapped change (take_octets n next) = take_octets n (λ field. mapped change (next field))
+mapped change (take_rest make) = take_rest (λ rest. change (make rest))
+
 -- the octets are those of fields that make the value, one after another, and nothing more
 abbrev pub Spells : {R : Type 0} → Layout R → R → List ℕ → Type 0
 Spells (done made) value octets = (made ≡ value) × (octets ≡ [])

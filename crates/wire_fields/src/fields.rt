@@ -45,7 +45,8 @@ impl<'a> Fields<'a> {
 
     /// Whether this number of octets is left.
     pub fn has_exactly(&self, count: usize) -> bool
-        ensures { result ≡ (length self.now == count) }
+        ensures value { result ≡ (length self.now == count) }
+        ensures exact { IsTrue result ↔ (length self.now ≡ count) }
     {
         self.rest.len() == count
     }

@@ -3,6 +3,7 @@
 #![tactic(auto)]
 
 mod fields;
+mod kinds;
 mod put;
 
 pub use fields::Fields;
