@@ -1,2 +1,3 @@
-pub mod Runs
-pub mod Table
+pub mod Parameters
+pub mod Counts
+pub mod Opcodes

@@ -1,22 +1,23 @@
-//! The commands of the host.
+//! The commands of the host, and what their octets are read as.
 use arrayvec::ArrayVec;
 
-/// How many ACL data packets of a link the host has taken (Core 5.2, volume 4 part E, section 7.3.40).
+/// The number of ACL data packets of a link that the host has processed (Core 5.2, volume 4 part E,
+/// section 7.3.40).
 #[derive(Clone, Copy, PartialEq, Eq, Debug, Default)]
 pub struct HandleCount {
     /// The connection handle of the link.
     pub handle: u16,
-    /// The packets that were taken since the last such command.
+    /// The packets that were processed since the last such command.
     pub count: u16,
 }
 
 /// A command of the host with its parameters (Core 5.2, volume 4 part E, section 7).
 ///
-/// The fields of a variant are the parameters in the order in which they stand in the packet.
-/// Numbers, addresses and keys stand with the least significant octet first: octet 0 of an array is
-/// the least significant one. Nothing but the length is checked here: a number may be any that its
-/// octets can hold, also of a `handle`, of which 12 bits count, or a code with few meanings.
-/// A `latency` is in connection events.
+/// The fields of a variant are the parameters in the order of the packet. Numbers, addresses and
+/// keys have the least significant octet first: octet 0 of an array is the least significant one.
+/// Only the length is checked here: a field may have any value that its octets can hold, also a
+/// `handle`, of which 12 bits count, and a code that has no meaning. A `latency` is in connection
+/// events.
 #[derive(PartialEq, Eq, Debug, Drop)]
 pub enum Command {
     /// Disconnect (section 7.1.6).
@@ -34,8 +35,8 @@ pub enum Command {
     },
     /// Reset (section 7.3.2).
     Reset,
-    /// Set Controller To Host Flow Control (section 7.3.38): bit 0 of `value` for ACL data, bit 1 for
-    /// synchronous data.
+    /// Set Controller To Host Flow Control (section 7.3.38): bit 0 of `value` for ACL data, bit 1
+    /// for synchronous data.
     SetHostFlow {
         value: u8,
     },
@@ -68,9 +69,9 @@ pub enum Command {
     LeSetRandomAddress {
         address: [u8; 6],
     },
-    /// LE Set Advertising Parameters (section 7.8.5): the least and the greatest interval in 0.625 ms, the
-    /// kind of advertising, that of the own address and that of the peer's, bit k of `channels` for
-    /// channel 37 + k, and the filter policy.
+    /// LE Set Advertising Parameters (section 7.8.5): the least and the greatest interval in 0.625
+    /// ms, the kind of advertising, the kinds of the controller's address and of the peer's, bit k
+    /// of `channels` for channel 37 + k, and the filter policy.
     LeSetAdvParams {
         min: u16,
         max: u16,
@@ -95,8 +96,8 @@ pub enum Command {
     LeSetAdvEnable {
         value: u8,
     },
-    /// LE Set Scan Parameters (section 7.8.10): passive or active, interval and window in 0.625 ms, the kind
-    /// of the own address, and the filter policy.
+    /// LE Set Scan Parameters (section 7.8.10): passive or active, interval and window in
+    /// 0.625 ms, the kind of the controller's address, and the filter policy.
     LeSetScanParams {
         kind: u8,
         interval: u16,
@@ -104,14 +105,15 @@ pub enum Command {
         own: u8,
         policy: u8,
     },
-    /// LE Set Scan Enable (section 7.8.11): 1 for on, 0 for off, and the same for the filter of duplicates.
+    /// LE Set Scan Enable (section 7.8.11): 1 for on, 0 for off, and the same for the filter of
+    /// duplicates.
     LeSetScanEnable {
         value: u8,
         duplicates: u8,
     },
-    /// LE Create Connection (section 7.8.12): scan interval and window in 0.625 ms, the filter policy, the
-    /// kinds of addresses as for advertising, `min` and `max` in 1.25 ms, timeout in 10 ms, `lengths` the
-    /// least and the greatest event length in 0.625 ms.
+    /// LE Create Connection (section 7.8.12): scan interval and window in 0.625 ms, the filter
+    /// policy, the kinds of addresses as for advertising, `min` and `max` in 1.25 ms, timeout in 10
+    /// ms, `lengths` the least and the greatest event length in 0.625 ms.
     LeCreateConnection {
         scan_interval: u16,
         window: u16,
@@ -152,7 +154,7 @@ pub enum Command {
         lengths: [u16; 2],
     },
     /// LE Set Host Channel Classification (section 7.8.19): bit k of `map`, which takes five
-    /// octets, stands for data channel k.
+    /// octets, is for data channel k.
     LeSetChannels {
         map: u64,
     },
@@ -171,7 +173,8 @@ pub enum Command {
     },
     /// LE Rand (section 7.8.23).
     LeRand,
-    /// LE Enable Encryption (section 7.8.24): random number, encrypted diversifier and long term key.
+    /// LE Enable Encryption (section 7.8.24): random number, encrypted diversifier and long term
+    /// key.
     LeEnableEncryption {
         handle: u16,
         rand: u64,
@@ -202,7 +205,8 @@ pub enum Command {
         handle: u16,
         reason: u8,
     },
-    /// LE Set Data Length (section 7.8.33): the most octets of a payload, and its time in microseconds.
+    /// LE Set Data Length (section 7.8.33): the most octets of a payload, and its time in
+    /// microseconds.
     LeSetDataLength {
         handle: u16,
         octets: u16,
@@ -214,14 +218,15 @@ pub enum Command {
     LeReadPhy {
         handle: u16,
     },
-    /// LE Set Default PHY (section 7.8.48): `all` tells where there is no preference, and `tx` and `rx` have a
-    /// bit for each PHY.
+    /// LE Set Default PHY (section 7.8.48): `all` says where there is no preference, and `tx` and
+    /// `rx` have a bit for each PHY.
     LeSetDefaultPhy {
         all: u8,
         tx: u8,
         rx: u8,
     },
-    /// LE Set PHY (section 7.8.49): as the default, and the coding that is preferred on the coded PHY.
+    /// LE Set PHY (section 7.8.49): as the default, and the coding that is preferred on the coded
+    /// PHY.
     LeSetPhy {
         handle: u16,
         all: u8,
@@ -231,7 +236,7 @@ pub enum Command {
     },
 }
 
-/// What an opcode and the octets of its parameters are read as (own).
+/// What an opcode and the octets of its parameters are read as.
 #[derive(PartialEq, Eq, Debug, Drop)]
 pub enum CmdRead {
     /// This command.

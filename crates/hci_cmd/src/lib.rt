@@ -1,9 +1,8 @@
-//! The commands that a host gives its controller, read from their octets (Core 5.2, volume 4 part E,
-//! section 7).
+//! The commands that a host gives its controller, read from their octets (Core 5.2, volume 4 part
+//! E, section 7).
 #![tactic(auto)]
 
 mod command;
-mod length;
 mod reading;
 mod rows;
 

@@ -1,16 +1,162 @@
-//! Commands as they stand in recorded streams, and the lengths of all of them.
+//! A field vector for each command, commands of recorded streams, and opcodes of no command.
 use super::*;
 use arrayvec::ArrayVec;
 use std::process::Abort;
 use std::test::Fail;
+
+/// The octets 1, 2, 3 and so on: the parameters of each vector are the first of them, so two fields
+/// that were exchanged show.
+const OCTETS: [u8; 33] = [
+    0x01, 0x02, 0x03, 0x04, 0x05, 0x06, 0x07, 0x08, 0x09, 0x0A, 0x0B, 0x0C, 0x0D, 0x0E, 0x0F, 0x10,
+    0x11, 0x12, 0x13, 0x14, 0x15, 0x16, 0x17, 0x18, 0x19, 0x1A, 0x1B, 0x1C, 0x1D, 0x1E, 0x1F, 0x20,
+    0x21,
+];
+
+/// The 31 octets after the first.
+const DATA: [u8; 31] = [
+    0x02, 0x03, 0x04, 0x05, 0x06, 0x07, 0x08, 0x09, 0x0A, 0x0B, 0x0C, 0x0D, 0x0E, 0x0F, 0x10, 0x11,
+    0x12, 0x13, 0x14, 0x15, 0x16, 0x17, 0x18, 0x19, 0x1A, 0x1B, 0x1C, 0x1D, 0x1E, 0x1F, 0x20,
+];
+
+/// The first `length` octets are the parameters of this command, and one more or less is a bad
+/// length.
+fn expect_first(rt: &impl Abort, opcode: u16, length: usize, command: Command) {
+    let body = OCTETS.get(..length).expect(rt, "length");
+    let long = OCTETS.get(..length + 1).expect(rt, "length");
+    assert_eq!(rt; read(opcode, body), CmdRead::Known(command), "{opcode:x}");
+    assert_eq!(rt; read(opcode, long), CmdRead::BadLength, "{opcode:x}");
+    if let [_, short @ ..] = body {
+        assert_eq!(rt; read(opcode, short), CmdRead::BadLength, "{opcode:x}");
+    }
+}
+
+/// Rows of an opcode, the length of its parameters, and the command that the first octets make.
+macro_rules! expect_rows {
+    ($rt:ident; $($opcode:literal $len:literal $name:ident { $($field:ident: $value:expr),* };)*) => {
+        $(expect_first(&$rt, $opcode, $len, Command::$name { $($field: $value),* });)*
+    };
+}
+
+#[test]
+fn commands_without_parameters(rt: HostRuntime) {
+    for (opcode, command) in [
+        (0x0C03, Command::Reset),
+        (0x1001, Command::ReadLocalVersion),
+        (0x1003, Command::ReadLocalFeatures),
+        (0x1009, Command::ReadBdAddr),
+        (0x2002, Command::LeReadBufferSize),
+        (0x2003, Command::LeReadFeatures),
+        (0x200E, Command::LeCreateCancel),
+        (0x200F, Command::LeReadListSize),
+        (0x2010, Command::LeClearList),
+        (0x2018, Command::LeRand),
+        (0x202F, Command::LeReadMaxLength),
+    ] {
+        expect_first(&rt, opcode, 0, command);
+    }
+}
+
+#[test]
+fn commands_that_are_not_le(rt: HostRuntime) {
+    expect_rows! {
+        rt;
+        0x0406 3 Disconnect { handle: 0x0201, reason: 0x03 };
+        0x041D 2 ReadRemoteVersion { handle: 0x0201 };
+        0x0C01 8 SetEventMask { mask: 0x0807_0605_0403_0201 };
+        0x0C31 1 SetHostFlow { value: 0x01 };
+        0x0C33 7 HostBufferSize {
+            acl_length: 0x0201, sco_length: 0x03, acl_count: 0x0504, sco_count: 0x0706
+        };
+    }
+}
+
+#[test]
+fn le_commands_of_the_device(rt: HostRuntime) {
+    expect_rows! {
+        rt;
+        0x2001 8 LeSetEventMask { mask: 0x0807_0605_0403_0201 };
+        0x2005 6 LeSetRandomAddress { address: [0x01, 0x02, 0x03, 0x04, 0x05, 0x06] };
+        0x2006 15 LeSetAdvParams {
+            min: 0x0201, max: 0x0403, kind: 0x05, own: 0x06, peer_kind: 0x07,
+            peer: [0x08, 0x09, 0x0A, 0x0B, 0x0C, 0x0D], channels: 0x0E, policy: 0x0F
+        };
+        0x2008 32 LeSetAdvData { length: 0x01, octets: DATA };
+        0x2009 32 LeSetScanResponse { length: 0x01, octets: DATA };
+        0x200A 1 LeSetAdvEnable { value: 0x01 };
+        0x200B 7 LeSetScanParams {
+            kind: 0x01, interval: 0x0302, window: 0x0504, own: 0x06, policy: 0x07
+        };
+        0x200C 2 LeSetScanEnable { value: 0x01, duplicates: 0x02 };
+        0x200D 25 LeCreateConnection {
+            scan_interval: 0x0201, window: 0x0403, policy: 0x05, peer_kind: 0x06,
+            peer: [0x07, 0x08, 0x09, 0x0A, 0x0B, 0x0C], own: 0x0D, min: 0x0F0E, max: 0x1110,
+            latency: 0x1312, timeout: 0x1514, lengths: [0x1716, 0x1918]
+        };
+        0x2011 7 LeAddToList { kind: 0x01, address: [0x02, 0x03, 0x04, 0x05, 0x06, 0x07] };
+        0x2012 7 LeRemoveFromList { kind: 0x01, address: [0x02, 0x03, 0x04, 0x05, 0x06, 0x07] };
+    }
+}
+
+#[test]
+fn le_commands_of_links(rt: HostRuntime) {
+    expect_rows! {
+        rt;
+        0x2013 14 LeConnectionUpdate {
+            handle: 0x0201, min: 0x0403, max: 0x0605, latency: 0x0807, timeout: 0x0A09,
+            lengths: [0x0C0B, 0x0E0D]
+        };
+        0x2014 5 LeSetChannels { map: 0x05_0403_0201 };
+        0x2015 2 LeReadChannelMap { handle: 0x0201 };
+        0x2016 2 LeReadRemoteFeatures { handle: 0x0201 };
+        0x2017 32 LeEncrypt {
+            key: [0x01, 0x02, 0x03, 0x04, 0x05, 0x06, 0x07, 0x08, 0x09, 0x0A, 0x0B, 0x0C, 0x0D,
+                0x0E, 0x0F, 0x10],
+            text: [0x11, 0x12, 0x13, 0x14, 0x15, 0x16, 0x17, 0x18, 0x19, 0x1A, 0x1B, 0x1C, 0x1D,
+                0x1E, 0x1F, 0x20]
+        };
+        0x2019 28 LeEnableEncryption {
+            handle: 0x0201, rand: 0x0A09_0807_0605_0403, ediv: 0x0C0B,
+            key: [0x0D, 0x0E, 0x0F, 0x10, 0x11, 0x12, 0x13, 0x14, 0x15, 0x16, 0x17, 0x18, 0x19,
+                0x1A, 0x1B, 0x1C]
+        };
+        0x201A 18 LeKeyReply {
+            handle: 0x0201,
+            key: [0x03, 0x04, 0x05, 0x06, 0x07, 0x08, 0x09, 0x0A, 0x0B, 0x0C, 0x0D, 0x0E, 0x0F,
+                0x10, 0x11, 0x12]
+        };
+        0x201B 2 LeKeyNegative { handle: 0x0201 };
+        0x2020 14 LeParamReply {
+            handle: 0x0201, min: 0x0403, max: 0x0605, latency: 0x0807, timeout: 0x0A09,
+            lengths: [0x0C0B, 0x0E0D]
+        };
+        0x2021 3 LeParamNegative { handle: 0x0201, reason: 0x03 };
+        0x2022 6 LeSetDataLength { handle: 0x0201, octets: 0x0403, time: 0x0605 };
+        0x2030 2 LeReadPhy { handle: 0x0201 };
+        0x2031 3 LeSetDefaultPhy { all: 0x01, tx: 0x02, rx: 0x03 };
+        0x2032 7 LeSetPhy { handle: 0x0201, all: 0x03, tx: 0x04, rx: 0x05, options: 0x0706 };
+    }
+}
+
+#[test]
+fn counts_of_two_handles(rt: HostRuntime) -> Result<(), Fail> {
+    let body = [2, 0x01, 0x02, 0x03, 0x04, 0x05, 0x06, 0x07, 0x08, 0x09];
+    let mut counts = ArrayVec::new();
+    for (handle, count) in [(0x0201, 0x0403), (0x0605, 0x0807)] {
+        assert!(rt; counts.try_push(HandleCount { handle, count }).is_ok());
+    }
+    let command = Command::HostCompleted { counts };
+    assert_eq!(rt; read(0x0C35, &body[..9]), CmdRead::Known(command));
+    assert_eq!(rt; read(0x0C35, &body), CmdRead::BadLength);
+    assert_eq!(rt; read(0x0C35, &body[..8]), CmdRead::BadLength);
+    assert_eq!(rt; read(0x0C35, &[]), CmdRead::BadLength);
+    Ok(())
+}
 
 const KEY: [u8; 16] = [
     0xBF, 0x01, 0xFB, 0x9D, 0x4E, 0xF3, 0xBC, 0x36, 0xD8, 0x74, 0xF5, 0x39, 0x41, 0x38, 0x68, 0x4C,
 ];
 
 const ADDRESS: [u8; 6] = [0x0B, 0x00, 0x00, 0xEE, 0xFF, 0xC0];
-
-const ZEROS: [u8; 40] = [0; 40];
 
 fn expect_command(rt: &impl Abort, opcode: u16, body: &[u8], command: Command) {
     assert_eq!(rt;
@@ -21,7 +167,7 @@ fn expect_command(rt: &impl Abort, opcode: u16, body: &[u8], command: Command) {
 }
 
 #[test]
-fn commands_of_the_device(rt: HostRuntime) {
+fn recorded_commands_of_the_device(rt: HostRuntime) {
     for (opcode, body, command) in [
         (0x0C03, [].as_slice(), Command::Reset),
         (
@@ -82,7 +228,7 @@ fn commands_of_the_device(rt: HostRuntime) {
 }
 
 #[test]
-fn commands_of_a_link(rt: HostRuntime) {
+fn recorded_commands_of_a_link(rt: HostRuntime) {
     for (opcode, body, command) in [
         (
             0x200D,
@@ -158,7 +304,7 @@ fn commands_of_a_link(rt: HostRuntime) {
 }
 
 #[test]
-fn keys_and_counts(rt: HostRuntime) {
+fn recorded_keys_and_counts(rt: HostRuntime) {
     let mut counts = ArrayVec::new();
     assert!(rt;
         counts
@@ -201,73 +347,10 @@ fn keys_and_counts(rt: HostRuntime) {
 }
 
 #[test]
-fn lengths(rt: HostRuntime) -> Result<(), Fail> {
-    for (opcode, length) in [
-        (0x0406, 3),
-        (0x041D, 2),
-        (0x0C01, 8),
-        (0x0C03, 0),
-        (0x0C31, 1),
-        (0x0C33, 7),
-        (0x0C35, 1),
-        (0x1001, 0),
-        (0x1003, 0),
-        (0x1009, 0),
-        (0x2001, 8),
-        (0x2002, 0),
-        (0x2003, 0),
-        (0x2005, 6),
-        (0x2006, 15),
-        (0x2008, 32),
-        (0x2009, 32),
-        (0x200A, 1),
-        (0x200B, 7),
-        (0x200C, 2),
-        (0x200D, 25),
-        (0x200E, 0),
-        (0x200F, 0),
-        (0x2010, 0),
-        (0x2011, 7),
-        (0x2012, 7),
-        (0x2013, 14),
-        (0x2014, 5),
-        (0x2015, 2),
-        (0x2016, 2),
-        (0x2017, 32),
-        (0x2018, 0),
-        (0x2019, 28),
-        (0x201A, 18),
-        (0x201B, 2),
-        (0x2020, 14),
-        (0x2021, 3),
-        (0x2022, 6),
-        (0x202F, 0),
-        (0x2030, 2),
-        (0x2031, 3),
-        (0x2032, 7),
-    ] {
-        let length: u8 = length;
-        let body = ZEROS.get(..length as usize).ok_or("length")?;
-        let long = ZEROS.get(..length as usize + 1).ok_or("length")?;
-        assert!(rt;
-            matches!(read(opcode, body), CmdRead::Known(_)),
-            "{opcode:x}"
-        );
-        assert_eq!(rt; read(opcode, long), CmdRead::BadLength, "{opcode:x}");
-        if let [_, short @ ..] = body {
-            assert_eq!(rt; read(opcode, short), CmdRead::BadLength, "{opcode:x}");
-        }
-    }
-    Ok(())
-}
-
-#[test]
 fn no_commands(rt: HostRuntime) {
     for opcode in [
         0x0000, 0x0405, 0x0C02, 0x1002, 0x2000, 0x2004, 0x2033, 0xFFFF,
     ] {
         assert_eq!(rt; read(opcode, &[]), CmdRead::UnknownOpcode, "{opcode:x}");
     }
-    assert_eq!(rt; read(0x0C35, &[1, 0, 0, 1]), CmdRead::BadLength);
-    assert_eq!(rt; read(0x0C35, &[]), CmdRead::BadLength);
 }

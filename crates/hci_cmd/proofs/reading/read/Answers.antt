@@ -1,20 +1,36 @@
-use Rattle.std.proofs.Common.{◌∙◌, refl, sym, ap}
-use Rattle.hci_cmd.specs.Command.{Spells}
-use Rattle.hci_cmd.specs.declared.command.Command.{Command}
-use Rattle.hci_cmd.specs.declared.command.CmdRead.TheVariants.{Known}
-use Rattle.hci_cmd.proofs.Table.{command_is, command_with, no_command_with}
+use Rattle.std.proofs.Common.{◌∙◌, sym, arith}
+use Rattle.hci_cmd.specs.Command.{command_of}
+use Rattle.hci_cmd.proofs.Parameters.{known_is, only_is, unknown_is, is_unknown, none_has, has_none, bad_is, is_bad}
+use Rattle.hci_cmd.proofs.Opcodes.{every}
 use Rattle.hci_cmd.proofs.reading.read.Goals as goal
 
-pub returns-in-Some-clause-only : goal.returns-in-Some-clause-only
-returns-in-Some-clause-only c = λ command is_command same_opcode same_octets.
-    let spells : Spells c.command.result c.args.opcode c.args.body.now = rw c.new.ensures at c.command.ensures in
-    ap (λ (known : Command). Known known) (command_is c.command.result command spells.fits is_command.0 (spells.opcode_is ∙ sym same_opcode) (spells.parameters_are ∙ sym same_octets))
+pub returns-clause-value : goal.returns-clause-value
+unfolding command_of
+returns-clause-value c = rw (← c.new.ensures) c.command.ensures
 
-pub returns-in-None-clause-no_command : goal.returns-in-None-clause-no_command
-returns-in-None-clause-no_command c =
-    (λ same. no_command_with c.args.opcode c.args.body.now (sym c.in-None.ensures), λ none. refl)
+pub returns-clause-known : goal.returns-clause-known
+returns-clause-known c = rw (returns-clause-value c) (known_is c.args.opcode c.args.body.now (λ i. omega (arith, c.type_inv.body i)))
 
-pub returns-in-Some-2-clause-no_command : goal.returns-in-Some-2-clause-no_command
-returns-in-Some-2-clause-no_command c =
-    let found = command_with c.args.opcode c.args.body.now c.in-Some-2.field-0 (sym c.in-Some-2.ensures) in
-    (λ same. absurd cc, λ none. absurd (none found.0 found.1))
+pub returns-clause-unknown : goal.returns-clause-unknown
+returns-clause-unknown c = (
+  λ same. unknown_is c.args.opcode c.args.body.now (sym (returns-clause-value c) ∙ same),
+  λ none. returns-clause-value c ∙ is_unknown c.args.opcode c.args.body.now none,
+)
+
+pub returns-clause-no_command : goal.returns-clause-no_command
+returns-clause-no_command c = (
+  λ same. none_has c.args.opcode (unknown_is c.args.opcode c.args.body.now (sym (returns-clause-value c) ∙ same)),
+  λ none. returns-clause-value c ∙ is_unknown c.args.opcode c.args.body.now (has_none c.args.opcode none),
+)
+
+pub returns-clause-every : goal.returns-clause-every
+returns-clause-every c = every
+
+pub returns-clause-length : goal.returns-clause-length
+returns-clause-length c = (
+  λ same. bad_is c.args.opcode c.args.body.now (sym (returns-clause-value c) ∙ same),
+  λ bad. returns-clause-value c ∙ is_bad c.args.opcode c.args.body.now bad,
+)
+
+pub returns-clause-only : goal.returns-clause-only
+returns-clause-only c = λ command is. returns-clause-value c ∙ only_is c.args.opcode c.args.body.now command is
