@@ -1,3 +1,4 @@
+-- The lemmas of this crate.
 pub mod BlockOctets
 pub mod Cutting
 pub mod Sealing

@@ -1,4 +1,5 @@
-//! The sample data of Core 5.2, volume 6 part C, section 1, and each length.
+//! The sample data of Core 5.2, volume 6 part C, section 1, two long payloads by another program,
+//! and each length.
 
 use super::*;
 use std::test::Fail;
@@ -39,16 +40,72 @@ const SAMPLES: [Sample; 4] = [
         from_central: true,
         header: 0x0E,
         body: b"\x17\x00cdefghijklmnopq1234567890",
-        sealed: b"\x7A\x70\xD6\x64\x15\x22\x6D\xF2\x6B\x17\x83\x9A\x06\x04\x05\x59\x6B\xD6\x56\x4F\x79\x6B\x5B\x9C\xE6\xFF\x32\xF7\x5A\x6D\x33",
+        sealed: &[
+            0x7A, 0x70, 0xD6, 0x64, 0x15, 0x22, 0x6D, 0xF2, 0x6B, 0x17, 0x83, 0x9A, 0x06, 0x04,
+            0x05, 0x59, 0x6B, 0xD6, 0x56, 0x4F, 0x79, 0x6B, 0x5B, 0x9C, 0xE6, 0xFF, 0x32, 0xF7,
+            0x5A, 0x6D, 0x33,
+        ],
     },
     Sample {
         counter: 1,
         from_central: false,
         header: 0x06,
         body: b"\x17\x0076543210ABCDEFGHIJKLMNOPQ",
-        sealed: b"\xF3\x88\x81\xE7\xBD\x94\xC9\xC3\x69\xB9\xA6\x68\x46\xDD\x47\x86\xAA\x8C\x39\xCE\x54\x0D\x0D\xAE\x3A\xDC\xDF\x89\xB9\x60\x88",
+        sealed: &[
+            0xF3, 0x88, 0x81, 0xE7, 0xBD, 0x94, 0xC9, 0xC3, 0x69, 0xB9, 0xA6, 0x68, 0x46, 0xDD,
+            0x47, 0x86, 0xAA, 0x8C, 0x39, 0xCE, 0x54, 0x0D, 0x0D, 0xAE, 0x3A, 0xDC, 0xDF, 0x89,
+            0xB9, 0x60, 0x88,
+        ],
     },
 ];
+
+/// A long payload: its first 16 octets, and its last 20, of which four are the MIC. They come from
+/// an independent program. The body is the octets 01 to FB.
+struct LongSample {
+    counter: u64,
+    from_central: bool,
+    header: u8,
+    first: [u8; 16],
+    last: [u8; 20],
+}
+
+const LONG_SAMPLES: [LongSample; 2] = [
+    LongSample {
+        counter: 0x7F_FFFF_FFFF,
+        from_central: false,
+        header: 0x02,
+        first: [
+            0x84, 0x0E, 0xA0, 0x64, 0x27, 0x8D, 0x5B, 0x8B, 0x52, 0x1C, 0xE6, 0x46, 0xA2, 0x6F,
+            0x0C, 0xF3,
+        ],
+        last: [
+            0x1D, 0x43, 0x84, 0x17, 0xC7, 0x81, 0x15, 0x3F, 0x40, 0x40, 0x45, 0xEB, 0xDA, 0x15,
+            0xB0, 0x2F, 0x17, 0xCC, 0x0B, 0xF9,
+        ],
+    },
+    LongSample {
+        counter: 0x01_0203_0405,
+        from_central: true,
+        header: 0x1E,
+        first: [
+            0xA6, 0x3A, 0xB7, 0xCD, 0x44, 0x9D, 0xBF, 0xFB, 0x5D, 0x8C, 0xA7, 0xEB, 0xE1, 0x71,
+            0x62, 0x40,
+        ],
+        last: [
+            0xAB, 0x86, 0x03, 0x3B, 0xBE, 0xE4, 0x2A, 0x29, 0x24, 0x1D, 0x88, 0xD8, 0x26, 0x52,
+            0x32, 0x7B, 0x0A, 0x2A, 0x62, 0x30,
+        ],
+    },
+];
+
+/// The octets 01 to FB.
+fn long_body() -> [u8; 251] {
+    let mut body = [0; 251];
+    for (octet, value) in body.iter_mut().zip(1u8..) {
+        *octet = value;
+    }
+    body
+}
 
 #[test]
 fn makes_the_session_key(rt: HostRuntime) {
@@ -96,16 +153,31 @@ fn refuses_the_forged(rt: HostRuntime) {
 }
 
 #[test]
-fn unseals_what_it_sealed_at_each_length(rt: HostRuntime) -> Result<(), Fail> {
-    let key = SESSION_KEY.to_be_bytes();
-    let mut body = [0; 251];
-    for (octet, value) in body.iter_mut().zip(1u8..) {
-        *octet = value;
+fn seals_and_unseals_long_payloads(rt: HostRuntime) -> Result<(), Fail> {
+    let key = SealKey::new(&SESSION_KEY.to_be_bytes());
+    let body = long_body();
+    for sample in &LONG_SAMPLES {
+        let counter = sample.counter;
+        assert!(rt; counter < 1 << 39);
+        let sealed = key.seal(counter, sample.from_central, &IV, sample.header, &body);
+        let octets = sealed.as_slice();
+        assert_eq!(rt; octets.len(), 255);
+        assert_eq!(rt; &octets[..16], sample.first.as_slice());
+        assert_eq!(rt; &octets[235..], sample.last.as_slice());
+        let opened = key.unseal(counter, sample.from_central, &IV, sample.header, octets)?;
+        assert_eq!(rt; opened.as_slice(), body.as_slice());
     }
-    sealed_payloads();
+    Ok(())
+}
+
+#[test]
+fn unseals_what_it_sealed_at_each_length(rt: HostRuntime) -> Result<(), Fail> {
+    laws::sealed_payloads();
+    let key = SealKey::new(&SESSION_KEY.to_be_bytes());
+    let body = long_body();
     for len in 1..=251 {
-        let sealed = seal(&key, 0x7F_FFFF_FFFF, false, &IV, 0x02, &body[..len]);
-        let opened = unseal(&key, 0x7F_FFFF_FFFF, false, &IV, 0x02, sealed.as_slice())?;
+        let sealed = key.seal(0x7F_FFFF_FFFF, false, &IV, 0x02, &body[..len]);
+        let opened = key.unseal(0x7F_FFFF_FFFF, false, &IV, 0x02, sealed.as_slice())?;
         assert_eq!(rt; opened.as_slice(), &body[..len], "{len} octets");
     }
     Ok(())

@@ -1,3 +1,4 @@
+-- The proof of `add`.
 use Rattle.std.proofs.Common.{◌≡◌, ◌∙◌, length, get_or, bit_xor, rules, ap, sym, arith, add-one}
 use Rattle.std.proofs.Math.ListN.{set}
 use Rattle.ccm_link.proofs.BlockOctets.{partly, partly-more, partly_all}

@@ -1,3 +1,4 @@
+-- The loop invariants of `add`.
 use Rattle.std.proofs.Common.{◌≡◌}
 use Rattle.ccm_link.proofs.BlockOctets.{partly}
 use Rattle.ccm_link.proofs.block.add.Given as goal
