@@ -1,3 +1,4 @@
+-- The lemmas of this crate.
 pub mod TableEntries
 pub mod WordOctets
 pub mod ColumnOctets

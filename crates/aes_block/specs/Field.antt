@@ -4,7 +4,7 @@ use Rattle.std.specs.Prelude.{ℕ, zero, suc, ◌+◌, ◌*◌, ◌^◌, ◌==�
 use Rattle.std.specs.Int.{bit_at}
 use Rattle.std.specs.List.{range_with_len}
 
--- the product of two polynomials: the sum of a times x^i for each x^i with i < n that b has
+-- the product of a and the part of b below x^n: the sum of a times x^i for each x^i of b with i < n (section 4.2)
 abbrev pub polynomial_product : ℕ → ℕ → ℕ → ℕ
 polynomial_product a b zero = 0
 polynomial_product a b (suc n) = bit_xor (polynomial_product a b n) (bit_at b n * (a * 2 ^ n))
@@ -13,7 +13,7 @@ polynomial_product a b (suc n) = bit_xor (polynomial_product a b n) (bit_at b n 
 abbrev pub modulus : ℕ
 modulus = 0x11b
 
--- what long division by the modulus leaves of a polynomial of a degree below 8 + n
+-- the remainder of a polynomial of a degree below 8 + n in long division by the modulus (section 4.2)
 abbrev pub remainder : ℕ → ℕ → ℕ
 remainder zero p = p
 remainder (suc n) p = remainder n (bit_xor p (bit_at p (8 + n) * (modulus * 2 ^ n)))
@@ -22,7 +22,7 @@ remainder (suc n) p = remainder n (bit_xor p (bit_at p (8 + n) * (modulus * 2 ^ 
 unfoldable pub times : ℕ → ℕ → ℕ
 times a b = remainder 7 (polynomial_product a b 8)
 
--- the powers of an element
+-- the powers of an element (section 4.2)
 abbrev pub power : ℕ → ℕ → ℕ
 power a zero = 1
 power a (suc n) = times a (power a n)

@@ -13,7 +13,7 @@ add_words a b = map (λ r. bit_xor (slice_index a r) (slice_index b r)) (range_w
 abbrev pub rot_word : List ℕ → List ℕ
 rot_word w = drop 1 w ++ take 1 w
 
--- SubWord
+-- SubWord: the S-box on each octet (section 5.2)
 abbrev pub sub_word : List ℕ → List ℕ
 sub_word w = map sub_byte w
 
@@ -21,8 +21,8 @@ sub_word w = map sub_byte w
 abbrev pub rcon : ℕ → List ℕ
 rcon i = power 2 (i - 1) ∷ 0 ∷ 0 ∷ 0 ∷ []
 
--- what is added to w[i - 4], from the word before w[i]: that word itself, and where i is a multiple of
--- four, its rotation, substituted, with a round constant
+-- the word that is added to w[i - 4], from the word before w[i]: that word itself, but where i is a multiple of four
+-- the sum of SubWord of its rotation and a round constant (section 5.2)
 abbrev pub addend : List ℕ → ℕ → List ℕ
 addend last i = if i % 4 == 0 then add_words (sub_word (rot_word last)) (rcon (i / 4)) else last
 

@@ -6,19 +6,20 @@ use Rattle.std.specs.List.{range_with_len, slice_index_or}
 use Rattle.aes_block.specs.Field.{inverse, times}
 
 -- the octet s[r, c] of a state (section 3.4)
-abbrev pub at : List ℕ → ℕ → ℕ → ℕ
-at s r c = slice_index s (r + 4 * c)
+abbrev pub octet_at : List ℕ → ℕ → ℕ → ℕ
+octet_at s r c = slice_index s (r + 4 * c)
 
--- the state with the octet f r c in row r and column c
+-- the state with octet f r c in row r and column c (section 3.4)
 abbrev pub state_of : (ℕ → ℕ → ℕ) → List ℕ
 state_of f = map (λ i. f (i % 4) (i / 4)) (range_with_len 0 16)
 
 -- bit i of the affine transformation of b, with the octet {63} as its constant (section 5.1.1)
 abbrev pub affine_bit : ℕ → ℕ → ℕ
 affine_bit b i =
-    (bit_at b i + bit_at b ((i + 4) % 8) + bit_at b ((i + 5) % 8) + bit_at b ((i + 6) % 8) + bit_at b ((i + 7) % 8) + bit_at 0x63 i) % 2
+    (bit_at b i + bit_at b ((i + 4) % 8) + bit_at b ((i + 5) % 8)
+    + bit_at b ((i + 6) % 8) + bit_at b ((i + 7) % 8) + bit_at 0x63 i) % 2
 
--- the octet of these bits
+-- the affine transformation of b (section 5.1.1)
 abbrev pub affine : ℕ → ℕ
 affine b = sum_by (λ i. affine_bit b i * 2 ^ i) (range_with_len 0 8)
 
@@ -28,11 +29,11 @@ sub_byte b = affine (inverse b)
 
 -- SubBytes (section 5.1.1)
 unfoldable pub sub_bytes : List ℕ → List ℕ
-sub_bytes s = state_of (λ r c. sub_byte (at s r c))
+sub_bytes s = state_of (λ r c. sub_byte (octet_at s r c))
 
 -- ShiftRows: row r moves left by r columns (section 5.1.2)
 unfoldable pub shift_rows : List ℕ → List ℕ
-shift_rows s = state_of (λ r c. at s r ((c + r) % 4))
+shift_rows s = state_of (λ r c. octet_at s r ((c + r) % 4))
 
 -- coefficient i of the product of two polynomials over the field modulo x^4 + 1, each given by its four
 -- coefficients from the lowest on (section 4.3)
@@ -47,7 +48,7 @@ mixing = 0x02 ∷ 0x01 ∷ 0x01 ∷ 0x03 ∷ []
 
 -- the column c of a state
 abbrev pub column : List ℕ → ℕ → List ℕ
-column s c = map (λ r. at s r c) (range_with_len 0 4)
+column s c = map (λ r. octet_at s r c) (range_with_len 0 4)
 
 -- MixColumns (section 5.1.3)
 unfoldable pub mix_columns : List ℕ → List ℕ
@@ -55,7 +56,7 @@ mix_columns s = state_of (λ r c. coefficient mixing (column s c) r)
 
 -- the sum of two states, octet by octet
 unfoldable pub add_states : List ℕ → List ℕ → List ℕ
-add_states s t = state_of (λ r c. bit_xor (at s r c) (at t r c))
+add_states s t = state_of (λ r c. bit_xor (octet_at s r c) (octet_at t r c))
 
 -- the round key of a round: four words of the expanded key, one for each column (section 5.1.4)
 unfoldable pub round_key : List (List ℕ) → ℕ → List ℕ

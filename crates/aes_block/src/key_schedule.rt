@@ -2,12 +2,12 @@
 
 ghost use Rattle.std.specs.Prelude.{◌≡◌, ◌<◌, ◌≤◌};
 ghost use Rattle.aes_block.specs.KeyExpansion.{addend, key_expansion, rcon};
-ghost use Rattle.aes_block.specs.Words.{octets, octets_of, spelled};
+ghost use Rattle.aes_block.specs.Words.{word_octets, state_octets, octet_words};
 
 use crate::columns;
 use crate::rounds::substituted;
 
-/// The powers of x in the most significant octet of a word, from x^0 on.
+/// The powers of x from x^0 on, each in the most significant octet of a word.
 static ROUND_CONSTANTS: [u32; 10] = [
     0x0100_0000,
     0x0200_0000,
@@ -21,20 +21,21 @@ static ROUND_CONSTANTS: [u32; 10] = [
     0x3600_0000,
 ];
 
-/// Rcon, for the rounds from 1 to 10.
+/// Rcon of a round, 1 to 10.
 fn round_constant(round: usize) -> u32
     requires low { 1 ≤ round }
     requires high { round ≤ 10 }
-    ensures { octets result ≡ rcon round }
+    ensures { word_octets result ≡ rcon round }
 {
     ROUND_CONSTANTS[round - 1]
 }
 
-/// What makes word `place` of the word four places before it, by addition; `last` is the word before it.
+/// The word that is added to the word four places before word `place`; `last` is the word before
+/// it.
 fn addend(last: u32, place: usize) -> u32
     requires low { 4 ≤ place }
     requires high { place < 44 }
-    ensures { octets result ≡ addend (octets last) place }
+    ensures { word_octets result ≡ addend (word_octets last) place }
 {
     if place % 4 == 0 {
         substituted(last.rotate_left(8).to_be_bytes()) ^ round_constant(place / 4)
@@ -43,10 +44,11 @@ fn addend(last: u32, place: usize) -> u32
     }
 }
 
-/// The words of all eleven round keys, four for each. The first four are the key (FIPS 197, section 5.2).
+/// The words of all eleven round keys, four for each. The first four are the key (FIPS 197, section
+/// 5.2).
 pub(crate) fn expand(key: &[u8; 16]) -> [u32; 44]
-    ensures key { octets_of result ≡ key.now }
-    ensures words { spelled result ≡ key_expansion key.now }
+    ensures key { state_octets result ≡ key.now }
+    ensures words { octet_words result ≡ key_expansion key.now }
 {
     let [a, b, c, d] = columns::read(key);
     let mut words = [0; 44];

@@ -1,5 +1,5 @@
 //! AES-128 on single blocks, as FIPS 197 defines it: keys and blocks are 16 octets, most significant
-//! first. Only encryption is here, since the link needs no more.
+//! first. It encrypts only: the link needs no decryption.
 #![tactic(auto)]
 
 ghost use Rattle.std.specs.Prelude.{◌≡◌};
@@ -12,10 +12,10 @@ mod tables;
 
 use std::marker::Model;
 
-/// A key of 16 octets takes ten rounds (FIPS 197, section 5).
+/// The number of rounds for a key of 16 octets (FIPS 197, section 5).
 const LAST_ROUND: usize = 10;
 
-/// A key with its expansion, ready to encrypt blocks. Contracts see the key: 16 octets, most significant first.
+/// A key with its expansion. Contracts see the key: 16 octets, most significant first.
 #[derive(Drop)]
 pub struct Aes {
     words: [u32; 44],
@@ -24,13 +24,13 @@ pub struct Aes {
 impl Model for Aes {
     ghost use Rattle.std.specs.Prelude.{◌≡◌, ℕ, List};
     ghost use Rattle.aes_block.specs.KeyExpansion.{key_expansion};
-    ghost use Rattle.aes_block.specs.Words.{octets_of, spelled};
+    ghost use Rattle.aes_block.specs.Words.{state_octets, octet_words};
 
     ghost Value = { List ℕ };
 
-    ghost view = { λ a. octets_of a.words };
+    ghost view = { λ a. state_octets a.words };
 
-    ghost invariant = { λ a. spelled a.words ≡ key_expansion (octets_of a.words) };
+    ghost invariant = { λ a. octet_words a.words ≡ key_expansion (state_octets a.words) };
 }
 
 impl Aes {
@@ -43,7 +43,8 @@ impl Aes {
         }
     }
 
-    /// The cipher text of a block; both are 16 octets, most significant first (FIPS 197, section 5.1).
+    /// The cipher text of a block; both are 16 octets, most significant first (FIPS 197, section
+    /// 5.1).
     pub fn encrypt(&self, block: &[u8; 16]) -> [u8; 16]
         ensures { result ≡ cipher self.now block.now }
     {

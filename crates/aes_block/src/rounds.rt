@@ -2,16 +2,18 @@
 
 ghost use Rattle.std.specs.Prelude.{◌≡◌, [], ◌∷◌, map, slice_index};
 ghost use Rattle.std.specs.List.{range_with_len};
-ghost use Rattle.aes_block.specs.State.{add_states, coefficient, mix_columns, mixing, shift_rows, sub_byte, sub_bytes};
-ghost use Rattle.aes_block.specs.Words.{octets, octets_of};
+ghost use Rattle.aes_block.specs.State.{add_states, coefficient, mix_columns, mixing};
+ghost use Rattle.aes_block.specs.State.{shift_rows, sub_byte, sub_bytes};
+ghost use Rattle.aes_block.specs.Words.{word_octets, state_octets};
 
 use crate::tables::{mixed_row, sub_byte};
 
-/// A column of the state with its rows shifted: row 0 of the first of these columns, row 1 of the second, and so on.
+/// A column of the state with its rows shifted: row 0 of the first of these columns, row 1 of the
+/// second, and so on.
 #[inline(always)]
 fn shifted(first: u32, second: u32, third: u32, fourth: u32) -> [u8; 4]
-    ensures { result ≡ slice_index (octets first) 0 ∷ slice_index (octets second) 1
-        ∷ slice_index (octets third) 2 ∷ slice_index (octets fourth) 3 ∷ [] }
+    ensures { result ≡ slice_index (word_octets first) 0 ∷ slice_index (word_octets second) 1
+        ∷ slice_index (word_octets third) 2 ∷ slice_index (word_octets fourth) 3 ∷ [] }
 {
     [
         first.to_be_bytes()[0],
@@ -24,7 +26,7 @@ fn shifted(first: u32, second: u32, third: u32, fourth: u32) -> [u8; 4]
 /// The S-box on each octet of a column (FIPS 197, section 5.1.1).
 #[inline(always)]
 pub(crate) fn substituted(column: [u8; 4]) -> u32
-    ensures { octets result ≡ map (λ r. sub_byte (slice_index column r)) (range_with_len 0 4) }
+    ensures { word_octets result ≡ map (λ r. sub_byte (slice_index column r)) (range_with_len 0 4) }
 {
     let [a, b, c, d] = column;
     u32::from_be_bytes([sub_byte(a), sub_byte(b), sub_byte(c), sub_byte(d)])
@@ -34,7 +36,7 @@ pub(crate) fn substituted(column: [u8; 4]) -> u32
 #[inline(always)]
 fn mixed(column: [u8; 4]) -> u32
     ensures { let s = map (λ r. sub_byte (slice_index column r)) (range_with_len 0 4) in
-        octets result ≡ map (coefficient mixing s) (range_with_len 0 4) }
+        word_octets result ≡ map (coefficient mixing s) (range_with_len 0 4) }
 {
     let [a, b, c, d] = column;
     mixed_row(a)
@@ -46,7 +48,7 @@ fn mixed(column: [u8; 4]) -> u32
 /// AddRoundKey (FIPS 197, section 5.1.4).
 #[inline(always)]
 pub(crate) fn add(state: [u32; 4], key: [u32; 4]) -> [u32; 4]
-    ensures { octets_of result ≡ add_states (octets_of state) (octets_of key) }
+    ensures { state_octets result ≡ add_states (state_octets state) (state_octets key) }
 {
     [
         state[0] ^ key[0],
@@ -59,7 +61,9 @@ pub(crate) fn add(state: [u32; 4], key: [u32; 4]) -> [u32; 4]
 /// A round with MixColumns.
 #[inline(always)]
 pub(crate) fn full(state: [u32; 4], key: [u32; 4]) -> [u32; 4]
-    ensures { octets_of result ≡ add_states (mix_columns (shift_rows (sub_bytes (octets_of state)))) (octets_of key) }
+    ensures { let s = state_octets state in
+        state_octets result
+        ≡ add_states (mix_columns (shift_rows (sub_bytes s))) (state_octets key) }
 {
     let [a, b, c, d] = state;
     let state = [
@@ -74,8 +78,11 @@ pub(crate) fn full(state: [u32; 4], key: [u32; 4]) -> [u32; 4]
 /// A column of the last round: the S-box on each octet of a column with its rows shifted.
 #[inline(always)]
 fn last_column(first: u32, second: u32, third: u32, fourth: u32) -> u32
-    ensures { octets result ≡ sub_byte (slice_index (octets first) 0) ∷ sub_byte (slice_index (octets second) 1)
-        ∷ sub_byte (slice_index (octets third) 2) ∷ sub_byte (slice_index (octets fourth) 3) ∷ [] }
+    ensures { word_octets result
+        ≡ sub_byte (slice_index (word_octets first) 0)
+        ∷ sub_byte (slice_index (word_octets second) 1)
+        ∷ sub_byte (slice_index (word_octets third) 2)
+        ∷ sub_byte (slice_index (word_octets fourth) 3) ∷ [] }
 {
     substituted(shifted(first, second, third, fourth))
 }
@@ -83,7 +90,8 @@ fn last_column(first: u32, second: u32, third: u32, fourth: u32) -> u32
 /// The last round, which mixes no columns.
 #[inline(always)]
 pub(crate) fn last(state: [u32; 4], key: [u32; 4]) -> [u32; 4]
-    ensures { octets_of result ≡ add_states (shift_rows (sub_bytes (octets_of state))) (octets_of key) }
+    ensures { let s = state_octets state in
+        state_octets result ≡ add_states (shift_rows (sub_bytes s)) (state_octets key) }
 {
     let [a, b, c, d] = state;
     let state = [

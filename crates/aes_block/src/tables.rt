@@ -1,7 +1,7 @@
 //! The two tables of the cipher, by octet.
 
 ghost use Rattle.std.specs.Prelude.{◌≡◌, [], ◌∷◌};
-ghost use Rattle.aes_block.specs.Words.{octets};
+ghost use Rattle.aes_block.specs.Words.{word_octets};
 ghost use Rattle.aes_block.specs.Field.{times};
 ghost use Rattle.aes_block.specs.State.{sub_byte};
 
@@ -13,10 +13,12 @@ pub(crate) fn sub_byte(octet: u8) -> u8
     SBOX[octet as usize]
 }
 
-/// The column that MixColumns makes of a column whose row 0 is the substituted octet and whose other rows are 0.
+/// The column that MixColumns makes of a column whose row 0 is the substituted octet and whose
+/// other rows are 0.
 #[inline(always)]
 pub(crate) fn mixed_row(octet: u8) -> u32
-    ensures { let s = sub_byte octet in octets result ≡ times 2 s ∷ times 1 s ∷ times 1 s ∷ times 3 s ∷ [] }
+    ensures { let s = sub_byte octet in
+        word_octets result ≡ times 2 s ∷ times 1 s ∷ times 1 s ∷ times 3 s ∷ [] }
 {
     ROUND_TABLE[octet as usize]
 }

@@ -49,7 +49,8 @@ fn encrypts_as_published(rt: HostRuntime) {
     }
 }
 
-/// LE_Encrypt carries key, block and answer least significant octet first (Core 5.2, volume 4 part E, section 7.8.22).
+/// LE_Encrypt carries key, block and answer least significant octet first (Core 5.2, volume 4 part
+/// E, section 7.8.22).
 #[test]
 fn encrypts_what_the_host_gives(rt: HostRuntime) {
     let key: u128 = 0x0f0e0d0c0b0a09080706050403020100;

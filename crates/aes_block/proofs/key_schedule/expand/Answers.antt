@@ -1,9 +1,10 @@
+-- The proof of `expand`.
 use Rattle.std.proofs.Common.{◌≡◌, ◌-◌, length, refl, ap, sym, ◌∙◌, arith}
 use Rattle.std.proofs.Math.ListN.{length-set}
 use Rattle.std.proofs.lemmas.List.{take_all}
 use Rattle.aes_block.specs.KeyExpansion.{key_words, words_up_to}
-use Rattle.aes_block.specs.Words.{spelled}
-use Rattle.aes_block.proofs.ColumnOctets.{octets_of-set}
+use Rattle.aes_block.specs.Words.{octet_words}
+use Rattle.aes_block.proofs.ColumnOctets.{state_octets-set}
 use Rattle.aes_block.proofs.ExpandedWords.{words_up_to-more}
 use Rattle.aes_block.proofs.key_schedule.expand.Goals as goal
 
@@ -17,7 +18,7 @@ words-preserved c =
     let whole : length w ≡ 44 = c.words.invariant.whole in
     record {
       whole = length-set w c.words.place _ ∙ whole;
-      key = octets_of-set w c.words.place _ (omega arith) ∙ c.words.invariant.key;
+      key = state_octets-set w c.words.place _ (omega arith) ∙ c.words.invariant.key;
       words = words_up_to-more c.args.key.now w c.words.place c.addend.result (omega arith) (omega arith) c.words.invariant.words c.addend.ensures;
     }
 
@@ -26,4 +27,4 @@ returns-clause-words c =
     let w = c.words.words in
     let known = c.words.invariant in
     let end : c.words.place - 4 ≡ 40 = omega (arith, c.words.auto.place-end) in
-    ap spelled (sym (take_all c.words.place w (omega (arith, known.whole)))) ∙ known.words ∙ ap (words_up_to c.args.key.now) end
+    ap octet_words (sym (take_all c.words.place w (omega (arith, known.whole)))) ∙ known.words ∙ ap (words_up_to c.args.key.now) end

@@ -1,3 +1,4 @@
+-- The proof of `round_constant`.
 use Rattle.std.proofs.Common.{arith}
 use Rattle.aes_block.proofs.TableEntries.{round_constant_at}
 use Rattle.aes_block.proofs.key_schedule.round_constant.Goals as goal

@@ -1,3 +1,4 @@
+-- The proof of `mixed_row`.
 use Rattle.std.proofs.Common.{arith}
 use Rattle.aes_block.proofs.TableEntries.{round_table_at}
 use Rattle.aes_block.proofs.tables.mixed_row.Goals as goal

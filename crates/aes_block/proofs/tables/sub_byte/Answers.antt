@@ -1,3 +1,4 @@
+-- The proof of `sub_byte`.
 use Rattle.std.proofs.Common.{arith}
 use Rattle.aes_block.proofs.TableEntries.{sbox_at}
 use Rattle.aes_block.proofs.tables.sub_byte.Goals as goal
