@@ -2,10 +2,10 @@
 use Rattle.std.proofs.Common.{◌≡◌, ℕ, ◌/◌, arith, ap, ◌∙◌}
 use Rattle.std.proofs.Math.Nat.{div-div-eq-div-mul}
 use Rattle.std.specs.Int.{reverse_bits, reverse_bits_onto, w8}
-use Rattle.chan_select.specs.PseudoRandom.{octet_reversed}
+use Rattle.chan_select.specs.PseudoRandom.{reversed_octet}
 
-pub reverse_bits-octet : (n : ℕ) → reverse_bits w8 n ≡ octet_reversed n
-unfolding reverse_bits_onto octet_reversed
+pub reverse_bits-octet : (n : ℕ) → reverse_bits w8 n ≡ reversed_octet n
+unfolding reverse_bits_onto reversed_octet
 reverse_bits-octet n =
     let two : n / 2 / 2 ≡ n / 4 = div-div-eq-div-mul n 2 2 in
     let three : n / 2 / 2 / 2 ≡ n / 8 = ap (λ m. m / 2) two ∙ div-div-eq-div-mul n 4 2 in

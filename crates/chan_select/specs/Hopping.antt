@@ -2,12 +2,14 @@
 use Rattle.std.specs.Prelude.{ℕ, ◌+◌, ◌*◌, ◌%◌, length, slice_index, if◌then◌else◌}
 use Rattle.ble_base.specs.ChannelMap.{is_used, used_channels}
 
--- unmappedChannel of an event: the hop is added before each event, event 0 too, beginning with 0
-abbrev pub unmapped_by_hop : ℕ → ℕ → ℕ
-unmapped_by_hop hop event = hop * (event + 1) % 37
+-- unmappedChannel of an event: it is 0 at first, and the hop is added before each event, event 0 too
+abbrev pub unmapped_channel : ℕ → ℕ → ℕ
+unmapped_channel hop event = hop * (event + 1) % 37
 
--- the channel of an event: its unmapped one where that is used, else the used one with index unmappedChannel mod N
-abbrev pub channel_by_hop : ℕ → ℕ → ℕ → ℕ
-channel_by_hop hop event bits =
-    (let unmapped = unmapped_by_hop hop event in
-    if is_used bits unmapped then unmapped else slice_index (used_channels bits) (unmapped % length (used_channels bits)))
+-- the channel of an event: its unmapped channel where that is used, else the used channel with index unmappedChannel
+-- mod N, where N is the number of used channels
+abbrev pub channel_one : ℕ → ℕ → ℕ → ℕ
+channel_one hop event bits =
+    (let unmapped = unmapped_channel hop event in
+    let used = used_channels bits in
+    if is_used bits unmapped then unmapped else slice_index used (unmapped % length used))

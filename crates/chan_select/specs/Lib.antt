@@ -1,3 +1,4 @@
+-- The definitions of this crate.
 pub mod Channel
 pub mod Hopping
 pub mod PseudoRandom

@@ -3,37 +3,40 @@ use Rattle.std.specs.Prelude.{ℕ, ◌+◌, ◌*◌, ◌/◌, ◌%◌, ◌^◌, 
 use Rattle.std.specs.Int.{bit_at}
 use Rattle.ble_base.specs.ChannelMap.{is_used, used_channels}
 
--- channelIdentifier: the upper half of the access address xor the lower
+-- channelIdentifier: the upper half of the access address XOR the lower half
 abbrev pub channel_identifier : ℕ → ℕ
 channel_identifier access = bit_xor (access / 2 ^ 16) (access % 2 ^ 16)
 
--- an octet in which bit k has moved to place 7 - k
-unfoldable pub octet_reversed : ℕ → ℕ
-octet_reversed n =
-    128 * bit_at n 0 + 64 * bit_at n 1 + 32 * bit_at n 2 + 16 * bit_at n 3 + 8 * bit_at n 4 + 4 * bit_at n 5 + 2 * bit_at n 6 + bit_at n 7
+-- an octet with its bits in reverse order: bit k in place 7 - k
+unfoldable pub reversed_octet : ℕ → ℕ
+reversed_octet n =
+    128 * bit_at n 0 + 64 * bit_at n 1 + 32 * bit_at n 2 + 16 * bit_at n 3
+    + 8 * bit_at n 4 + 4 * bit_at n 5 + 2 * bit_at n 6 + bit_at n 7
 
--- PERM: the bits of each of the two octets reversed
-unfoldable pub permuted : ℕ → ℕ
-permuted n = 2 ^ 8 * octet_reversed (n / 2 ^ 8) + octet_reversed (n % 2 ^ 8)
+-- PERM: each of the two octets with its bits in reverse order
+unfoldable pub perm : ℕ → ℕ
+perm n = 2 ^ 8 * reversed_octet (n / 2 ^ 8) + reversed_octet (n % 2 ^ 8)
 
--- MAM: multiply, add, and modulo
-unfoldable pub multiplied_added : ℕ → ℕ → ℕ
-multiplied_added n identifier = (17 * n + identifier) % 2 ^ 16
+-- MAM: multiply, add, modulo
+unfoldable pub mam : ℕ → ℕ → ℕ
+mam n identifier = (17 * n + identifier) % 2 ^ 16
 
 -- one of the three stages: PERM, then MAM
-unfoldable pub stirred : ℕ → ℕ → ℕ
-stirred n identifier = multiplied_added (permuted n) identifier
+unfoldable pub stage : ℕ → ℕ → ℕ
+stage n identifier = mam (perm n) identifier
 
 -- prn_e, of the identifier and the 16-bit counter of the event
 unfoldable pub prn : ℕ → ℕ → ℕ
 prn identifier counter =
-    bit_xor (stirred (stirred (stirred (bit_xor counter identifier) identifier) identifier) identifier) identifier
+    bit_xor (stage (stage (stage (bit_xor counter identifier) identifier) identifier) identifier) identifier
 
--- the channel of a prn_e: prn_e mod 37 where that is used, else the used one with index N * prn_e / 2^16
-abbrev pub channel_of_prn : ℕ → ℕ → ℕ
-channel_of_prn e bits =
-    (if is_used bits (e % 37) then e % 37 else slice_index (used_channels bits) (length (used_channels bits) * e / 2 ^ 16))
+-- the channel for a prn_e: prn_e mod 37 where that is used, else the used channel with index N * prn_e / 2^16, where N
+-- is the number of used channels
+abbrev pub mapped_channel : ℕ → ℕ → ℕ
+mapped_channel e bits =
+    (let used = used_channels bits in
+    if is_used bits (e % 37) then e % 37 else slice_index used (length used * e / 2 ^ 16))
 
--- the channel of an event
-abbrev pub channel_by_prn : ℕ → ℕ → ℕ → ℕ
-channel_by_prn access event bits = channel_of_prn (prn (channel_identifier access) (event % 2 ^ 16)) bits
+-- the channel of an event, of which the algorithm reads the lowest 16 bits
+abbrev pub channel_two : ℕ → ℕ → ℕ → ℕ
+channel_two access event bits = mapped_channel (prn (channel_identifier access) (event % 2 ^ 16)) bits

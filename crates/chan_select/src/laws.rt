@@ -1,9 +1,13 @@
-ghost use Rattle.std.specs.Prelude.{◌≡◌, ℕ, ◌+◌, ◌%◌, ◌<◌};
-ghost use Rattle.chan_select.specs.Hopping.{unmapped_by_hop};
+//! A law of channel selection algorithm #1. The body does nothing: the contract is the law.
 
-/// What algorithm #1 counts in one go is what the specification adds step by step: the unmapped channel
-/// is 0 before event 0, and each event adds the hop increment modulo 37, however many events there were.
+ghost use Rattle.std.specs.Prelude.{◌≡◌, ℕ, ◌+◌, ◌%◌, ◌<◌};
+ghost use Rattle.chan_select.specs.Hopping.{unmapped_channel};
+
+/// The closed form of algorithm #1 is the sum that the specification forms event by event: the
+/// unmapped channel is 0 before event 0, and each event adds the hop increment modulo 37 (Core 5.2,
+/// volume 6 part B, section 4.5.8.2). This holds for every event number.
 pub fn hop_is_added_each_event()
-    ensures first { (hop : ℕ) → unmapped_by_hop hop 0 ≡ hop % 37 }
-    ensures each { (hop event : ℕ) → unmapped_by_hop hop (event + 1) ≡ (unmapped_by_hop hop event + hop) % 37 }
+    ensures first { (hop : ℕ) → unmapped_channel hop 0 ≡ hop % 37 }
+    ensures each { (hop event : ℕ)
+        → unmapped_channel hop (event + 1) ≡ (unmapped_channel hop event + hop) % 37 }
 {}

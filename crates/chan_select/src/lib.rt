@@ -3,11 +3,10 @@
 #![tactic(auto)]
 
 mod hopping;
-mod laws;
+pub mod laws;
 mod pseudo_random;
 mod selection;
 #[cfg(test)]
 mod tests;
 
-pub use crate::laws::hop_is_added_each_event;
 pub use crate::selection::{Algorithm, Selector};

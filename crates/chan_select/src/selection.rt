@@ -1,9 +1,11 @@
+//! The channel of an event, by the algorithm of its link.
+
 ghost use Rattle.std.specs.Prelude.{◌≡◌, ◌<◌, ◌≤◌, ◌^◌, Contains};
 ghost use Rattle.ble_base.specs.ChannelMap.{used_channels};
 ghost use Rattle.chan_select.specs.Channel.{channel_of};
 
-use crate::hopping::channel_by_hop;
-use crate::pseudo_random::channel_by_prn;
+use crate::hopping::channel_one;
+use crate::pseudo_random::channel_two;
 use ble_base::{ChannelMap, EventNo};
 use std::marker::Model;
 
@@ -37,7 +39,7 @@ impl Model for Selector {
 }
 
 impl Selector {
-    /// Algorithm #1 with this hop increment, which the CONNECT_IND carries: 5 to 16.
+    /// Algorithm #1 with this hop increment, 5 to 16, from the CONNECT_IND.
     pub fn one(hop: u8) -> Self
         requires least { 5 ≤ hop }
         requires most { hop ≤ 16 }
@@ -57,8 +59,9 @@ impl Selector {
         }
     }
 
-    /// The data channel of a connection event, 0 to 36, among those that the map uses (Core 5.2,
-    /// volume 6 part B, section 4.5.8). Events are counted from 0 without end, and not modulo 65536.
+    /// The data channel of a connection event, 0 to 36, one of those that the map uses (Core 5.2,
+    /// volume 6 part B, section 4.5.8). Events are counted from 0, not modulo 65536, and are below
+    /// 2^32.
     #[tactic(auto, unfolding(crate::specs::Channel::channel_of))]
     pub fn channel(&self, event: EventNo, map: &ChannelMap) -> u8
         requires { event.0 < 2 ^ 32 }
@@ -67,8 +70,8 @@ impl Selector {
         ensures data { result < 37 }
     {
         match self.algorithm {
-            Algorithm::One(hop) => channel_by_hop(hop, event, map),
-            Algorithm::Two(access) => channel_by_prn(access, event, map),
+            Algorithm::One(hop) => channel_one(hop, event, map),
+            Algorithm::Two(access) => channel_two(access, event, map),
         }
     }
 }

@@ -1,5 +1,8 @@
+//! Sample data of the standard, and a second program that goes by single steps and bits.
+
+use crate::Selector;
+use crate::laws::hop_is_added_each_event;
 use crate::pseudo_random::prn;
-use crate::{Selector, hop_is_added_each_event};
 use ble_base::{ChannelMap, EventNo};
 use std::test::Fail;
 
@@ -14,8 +17,8 @@ const TWO: u64 = 0x10_0000_0001;
 /// The advertising access address.
 const SAMPLE: u32 = 0x8E89_BED6;
 
-/// Algorithm #2 as in the sample data of Core 5.2, volume 6 part C, section 3, and algorithm #1 as worked out
-/// by hand where its counter wraps.
+/// Algorithm #2 as in the sample data of Core 5.2, volume 6 part C, section 3, and algorithm #1 as
+/// worked out by hand where its counter wraps.
 #[test]
 fn channels_of_the_sample_data(rt: HostRuntime) -> Result<(), Fail> {
     let all = ChannelMap::new(ALL).ok_or("no map")?;
