@@ -1,3 +1,4 @@
+-- The lemmas of this crate.
 pub mod BitLists
 pub mod BitSums
 pub mod Multiples

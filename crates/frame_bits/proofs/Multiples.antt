@@ -1,4 +1,4 @@
--- Multiples of the generator, and what is left beside them.
+-- Multiples of the generator, and the remainders added to them.
 use Rattle.std.proofs.Common.{◌≡◌, ℕ, zero, suc, ◌+◌, ◌*◌, ◌^◌, ◌<◌, List, [], ◌∷◌, length, bit_xor, inl, inr, refl, ap, sym, ◌∙◌, arith, one-mul, zero-mul, pow-suc}
 use Rattle.std.specs.Int.{bit_at}
 use Rattle.std.specs.List.{All}

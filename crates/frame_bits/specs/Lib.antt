@@ -1,3 +1,4 @@
+-- The definitions of this crate.
 pub mod AirBits
 pub mod Crc
 pub mod Whitening

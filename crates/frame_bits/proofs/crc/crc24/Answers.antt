@@ -1,3 +1,4 @@
+-- The proof of `crc24`.
 use Rattle.std.proofs.Common.{[], ◌∷◌, get_or, take, ap, sym, ◌∙◌, arith}
 use Rattle.std.proofs.lemmas.List.{take_all, take_more}
 use Rattle.frame_bits.specs.Crc.{crc}

@@ -1,3 +1,4 @@
+-- The loop invariants of `crc24`.
 use Rattle.std.proofs.Common.{◌≡◌, ◌^◌, ◌<◌, take}
 use Rattle.frame_bits.specs.Crc.{crc}
 use Rattle.frame_bits.proofs.crc.crc24.Given as goal

@@ -1,3 +1,4 @@
+-- The proof of `crc_octets`.
 use Rattle.std.proofs.Common.{[], ◌∷◌, get_or, ap, ◌∙◌}
 use Rattle.std.specs.Int.{reverse_bits, w8}
 use Rattle.frame_bits.specs.Crc.{crc_octets}

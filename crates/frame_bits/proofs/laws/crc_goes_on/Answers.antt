@@ -1,3 +1,4 @@
+-- The proof of `crc_goes_on`.
 use Rattle.frame_bits.proofs.Registers.{crc-append, crc-nil}
 use Rattle.frame_bits.proofs.laws.crc_goes_on.Goals as goal
 

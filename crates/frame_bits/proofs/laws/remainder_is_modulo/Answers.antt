@@ -1,3 +1,4 @@
+-- The proof of `remainder_is_modulo`.
 use Rattle.frame_bits.proofs.Multiples.{quotient_of, remainder_only}
 use Rattle.frame_bits.proofs.Remainders.{remainder-lt}
 use Rattle.frame_bits.proofs.laws.remainder_is_modulo.Goals as goal

@@ -1,3 +1,4 @@
+-- The proof of `whitening_is_linear`.
 use Rattle.frame_bits.proofs.WhiteBits.{length-whitening_of, whitening_of-sums, whitening_of-whitening_of}
 use Rattle.frame_bits.proofs.laws.whitening_is_linear.Goals as goal
 

@@ -1,3 +1,4 @@
+-- The proof of `first_mask`.
 use Rattle.std.proofs.Common.{◌∙◌, arith}
 use Rattle.frame_bits.proofs.OctetValues.{first_mask_is}
 use Rattle.frame_bits.proofs.whitening.first_mask.Goals as goal

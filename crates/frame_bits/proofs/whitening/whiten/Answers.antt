@@ -1,3 +1,4 @@
+-- The proof of `whiten`.
 use Rattle.std.proofs.Common.{ap, ◌∙◌, arith}
 use Rattle.frame_bits.specs.Whitening.{next_mask}
 use Rattle.frame_bits.proofs.Sequences.{whitening_to-all, whitening_to-next, whitening_to-none, mask_of-next}

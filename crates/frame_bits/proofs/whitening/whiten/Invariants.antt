@@ -1,3 +1,4 @@
+-- The loop invariants of `whiten`.
 use Rattle.std.proofs.Common.{◌≡◌}
 use Rattle.frame_bits.specs.Whitening.{mask_of}
 use Rattle.frame_bits.proofs.Sequences.{whitening_to}
