@@ -11,8 +11,8 @@ use Rattle.air_frame.specs.Packet.{access_octets, is_packet, on_air, pdu_in, IsP
 use Rattle.air_frame.proofs.Bodies.{Answers, NoPdu}
 
 -- the PDU in the packet of a PDU is that PDU
-abbrev pub TellsPdu : Type 0
-TellsPdu = (channel access init : ℕ) (pdu : List ℕ) → pdu_in channel (on_air channel access init pdu) ≡ pdu
+abbrev pub GivesPdu : Type 0
+GivesPdu = (channel access init : ℕ) (pdu : List ℕ) → pdu_in channel (on_air channel access init pdu) ≡ pdu
 
 is_packet-Decides : (channel access init : ℕ) (octets : List ℕ)
     → Decides (is_packet channel access init octets) (IsPdu (pdu_in channel octets) × (octets ≡ on_air channel access init (pdu_in channel octets)))
@@ -41,17 +41,17 @@ is_broken channel access init octets front none =
     not_true _ (λ holds. let is = (is_packet-Decides channel access init octets).0 holds in none (pdu_in channel octets) is.0 is.1) in
     rw (begins access octets front, broken) refl
 
-pub is_whole : (channel access init : ℕ) (octets pdu : List ℕ) → TellsPdu → IsPdu pdu → octets ≡ on_air channel access init pdu
+pub is_whole : (channel access init : ℕ) (octets pdu : List ℕ) → GivesPdu → IsPdu pdu → octets ≡ on_air channel access init pdu
     → Whole (record { items = pdu }) ≡ heard_in channel access init octets
 unfolding heard_in
-is_whole channel access init octets pdu tells form is =
-    let inside : pdu_in channel octets ≡ pdu = ap (pdu_in channel) is ∙ tells channel access init pdu in
+is_whole channel access init octets pdu gives form is =
+    let inside : pdu_in channel octets ≡ pdu = ap (pdu_in channel) is ∙ gives channel access init pdu in
     let packet : is_packet channel access init octets ≡ true =
     (is_packet-Decides channel access init octets).1 (rw inside (form, is)) in
     rw (begins access octets (ap (take 4) is), packet, inside) refl
 
 -- each answer of a listener is the one by the definition
-pub answer_is : (channel access init : ℕ) (octets : List ℕ) (r : Heard) → TellsPdu → Answers channel access init octets r → r ≡ heard_in channel access init octets
-answer_is channel access init octets NotOurs tells h = is_not_ours channel access init octets h
-answer_is channel access init octets Broken tells h = is_broken channel access init octets h.0 h.1
-answer_is channel access init octets (Whole pdu) tells h = is_whole channel access init octets pdu.items tells h.0 h.1
+pub answer_is : (channel access init : ℕ) (octets : List ℕ) (r : Heard) → GivesPdu → Answers channel access init octets r → r ≡ heard_in channel access init octets
+answer_is channel access init octets NotOurs gives h = is_not_ours channel access init octets h
+answer_is channel access init octets Broken gives h = is_broken channel access init octets h.0 h.1
+answer_is channel access init octets (Whole pdu) gives h = is_whole channel access init octets pdu.items gives h.0 h.1

@@ -1,3 +1,4 @@
+-- The lemmas of this crate.
 pub mod Bodies
 pub mod Damage
 pub mod Decided

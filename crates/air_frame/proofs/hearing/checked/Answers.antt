@@ -1,3 +1,4 @@
+-- The proof of `checked`.
 use Rattle.std.proofs.Common.{◌≡◌, length, ap, subst, sym, ◌∙◌, arith}
 use Rattle.frame_bits.specs.Crc.{crc, crc_octets}
 use Rattle.air_frame.specs.Packet.{IsPdu}

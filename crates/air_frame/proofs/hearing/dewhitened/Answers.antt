@@ -1,3 +1,4 @@
+-- The proof of `dewhitened`.
 use Rattle.std.proofs.Common.{length, ap, arith}
 use Rattle.std.proofs.lemmas.Grind.{common_steps}
 use Rattle.air_frame.specs.Packet.{with_crc}

@@ -1,3 +1,4 @@
+-- The proof of `unframe`.
 use Rattle.air_frame.proofs.Bodies.{whole_is}
 use Rattle.air_frame.proofs.Decided.{answer_is}
 use Rattle.air_frame.proofs.hearing.unframe.Goals as goal

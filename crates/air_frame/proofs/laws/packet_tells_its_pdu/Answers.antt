@@ -1,3 +1,4 @@
+-- The proof of `packet_tells_its_pdu`.
 use Rattle.std.proofs.Common.{refl, sym, arith}
 use Rattle.air_frame.specs.Packet.{on_air, with_crc}
 use Rattle.air_frame.proofs.Bodies.{found_again, length-with_crc, same_pdu}

@@ -1,3 +1,4 @@
+-- The proof of `short_damage_is_never_whole`.
 use Rattle.air_frame.proofs.Damage.{short_damage}
 use Rattle.air_frame.proofs.laws.short_damage_is_never_whole.Goals as goal
 
