@@ -95,6 +95,10 @@ pub fn arrival_acknowledges_all_accepted<C>()
 pub fn nonempty_pdus_at_most_once_and_in_order<C>()
     ensures reliable { (is_empty : C → Bool) (s r : End C) → IsInStep s r
         → IsReliableNonempty is_empty s r }
+    ensures from_a { (is_empty : C → Bool) (x y : C) (steps : List (Step C))
+        → IsReliableNonempty is_empty (link_after x y steps).a (link_after x y steps).b }
+    ensures from_b { (is_empty : C → Bool) (x y : C) (steps : List (Step C))
+        → IsReliableNonempty is_empty (link_after x y steps).b (link_after x y steps).a }
     ensures fresh { (is_empty : C → Bool) (s r : End C) (p : Packet C) → IsInStep s r → IsOut s
         → is_new r.bits (header_from s p) ≡ true → is_empty s.last ≡ false
         → length (nonempty is_empty s.sent) ≡ length (nonempty is_empty r.accepted) + 1 }
