@@ -8,7 +8,7 @@ unfolding encode_with
 encode-append digits [] ys = refl
 encode-append digits (x ∷ xs) ys = cc (encode-append digits xs ys)
 
--- the text of n octets, and then that of what is behind them
+-- the text of n octets, and then that of what comes after them
 pub encode-parts : (n : ℕ) (octets : List ℕ) → encode_lower (take n octets) ++ encode_lower (drop n octets) ≡ encode_lower octets
 encode-parts n octets =
     sym (encode-append lower_digits (take n octets) (drop n octets)) ∙ ap encode_lower (take-append-drop n octets)

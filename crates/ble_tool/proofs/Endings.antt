@@ -1,13 +1,24 @@
 -- A fault of a part is a fault of the whole.
-use Rattle.std.proofs.Common.{◌≡◌, ℕ, ◌≤◌, List, ◌++◌, Option, Some, None, Result, Ok, Err, sym, subst, inl, inr}
-use Rattle.std.specs.Prelude.{OnOk, IfErr}
+use Rattle.std.proofs.Common.{◌≡◌, ℕ, ◌≤◌, List, ◌++◌, Option, Some, None, Result, Ok, Err, refl, sym, subst, inl, inr}
+use Rattle.std.specs.Prelude.{OnOk, IfOk, IfErr}
 use Rattle.std.specs.Result.{IsErrAnd}
-use Rattle.outside.specs.Told.{WhereTold}
+use Rattle.outside.specs.Known.{WhereKnown}
+use Rattle.journal.specs.declared.entries.Entry.{Entry}
+use Rattle.journal.specs.Text.{text}
+use Rattle.pair_world.specs.Run.{Given, given_of, IsRun, IsRunFault}
+use Rattle.pair_world.specs.declared.runs.RunFault.{RunFault}
+use Rattle.pair_world.specs.declared.runs.RunFault.TheVariants.{Unseen as EndedUnseen, Memory as NoRoomForRun}
+use Rattle.radio_replay.specs.declared.faults.ScheduleFault.{ScheduleFault}
+use Rattle.radio_replay.specs.declared.faults.ScheduleFault.TheVariants.{BadLine as OutsideGrammar, TooLong as PastTurns, Memory as NoRoomForTurns}
+use Rattle.radio_replay.specs.Schedule.{Right, Wrong, TooMany, schedule_of, IsFault}
+use Rattle.radio_replay.specs.Script.{Script}
 use Rattle.ble_tool.specs.declared.faults.Fault.{Fault}
 use Rattle.ble_tool.specs.declared.faults.Fault.TheVariants.{CannotRead, BadLine, CannotWrite, NoMemory, Unseen, TooLong, TooManyTurns}
-use Rattle.ble_tool.specs.declared.faults.Source.TheVariants.{A, B, Schedule}
-use Rattle.ble_tool.specs.Causes.{IsWithinLimit, AllFit, OfRun, OfUnseen, OfEnded, OfFiles, IsFirstBadLine, IsFirstLongLine, IsWriteFault, IsOctetsFault, IsPairFault, IsPairDone}
-use Rattle.ble_tool.specs.World.{Reads, Writes, world_of, writes_of, HasFailed, Wrote, WrotePart}
+use Rattle.ble_tool.specs.declared.commands.Source.TheVariants.{A, B, Schedule}
+use Rattle.ble_tool.specs.Causes.{IsWithinLimit, AllFit, OfJournal, OfRun, OfUnseen, IsEnded, OfEnded, OfFiles, IsFirstBadLine, IsFirstLongLine}
+use Rattle.ble_tool.specs.Causes.{IsWriteFault, IsScheduleFault, IsEndOf, IsWrittenEnd, IsOctetsFault, IsPairFault, IsPairDone}
+use Rattle.ble_tool.specs.Conversions.{fault_of_schedule, end_of}
+use Rattle.ble_tool.specs.World.{Reads, Writes, world_of, writes_of, HasFailed, HasWritten, HasWrittenPart, HasWrittenNothing}
 use Rattle.ble_tool.proofs.Growth.{grew_part, rose_since}
 
 -- what holds of the fault that an `Err` hands on
@@ -21,10 +32,10 @@ failed_since : (is_reliable is_reliable_now : Type 0) (first before now : ℕ) �
 failed_since is_reliable is_reliable_now first before now stays le failed =
     (rose_since first before now le failed.0, λ reliable. failed.1 (stays reliable))
 
--- a part behind what was written was not written whole
+-- a part after what was written was not written whole
 pub part_not_written : {Sink : Type 0} (written : Sink → Option (List ℕ)) (is_reliable : Sink → Type 0) (faults : Sink → ℕ)
     (first middle last : Sink) (front more rest whole : List ℕ) (fault : Fault)
-    → Wrote (writes_of written is_reliable faults first middle) front → (is_reliable first → is_reliable middle)
+    → HasWritten (writes_of written is_reliable faults first middle) front → (is_reliable first → is_reliable middle)
     → faults first ≤ faults middle → front ++ (more ++ rest) ≡ whole
     → IsWriteFault (writes_of written is_reliable faults middle last) more fault
     → IsWriteFault (writes_of written is_reliable faults first last) whole fault
@@ -36,15 +47,120 @@ part_not_written written is_reliable faults first middle last front more rest wh
     grew_part (written first) (written middle) (written last) front more rest whole wrote is parts
 part_not_written written is_reliable faults first middle last front more rest whole fault wrote stays le parts is = is
 
--- these octets are the content of a file, where it is told
+-- ---- schedules and runs
+
+pub schedule_not_read : (schedule : List ℕ) (fault : ScheduleFault)
+    → IsFault (λ line. schedule_of schedule ≡ Wrong line) (λ line. schedule_of schedule ≡ TooMany line) fault
+    → IsScheduleFault schedule (fault_of_schedule fault)
+schedule_not_read schedule (OutsideGrammar line) is = is
+schedule_not_read schedule (PastTurns line) is = is
+schedule_not_read schedule NoRoomForTurns is = tt
+
+pub run_ended : (given : Given) (run : Result (List Entry) RunFault) → IfOk run (IsRun given) → IfErr run (IsRunFault given)
+    → IfOk (end_of run) (λ end. IsEndOf given end.0 end.1)
+run_ended given (Ok journal) ok err = ok
+run_ended given (Err (EndedUnseen turn packet sent heard journal)) ok err = err
+run_ended given (Err NoRoomForRun) ok err = tt
+
+pub run_not_ended : (run : Result (List Entry) RunFault) → IfErr (end_of run) (λ fault. fault ≡ NoMemory)
+run_not_ended (Ok journal) = tt
+run_not_ended (Err (EndedUnseen turn packet sent heard journal)) = tt
+run_not_ended (Err NoRoomForRun) = refl
+
+-- a schedule that was not read is a fault of the whole, of which nothing is written
+pub stopped_by_schedule : (writes : Writes) (a b schedule : List ℕ) (fault : Fault) → IsScheduleFault schedule fault
+    → HasWrittenNothing writes → IsOctetsFault writes a b schedule fault
+stopped_by_schedule writes a b schedule (BadLine number) is same = (is, same)
+stopped_by_schedule writes a b schedule (TooManyTurns number) is same = (is, same)
+stopped_by_schedule writes a b schedule NoMemory is same = inl same
+stopped_by_schedule writes a b schedule CannotWrite is same = absurd is
+stopped_by_schedule writes a b schedule (Unseen turn packet sent heard) is same = absurd is
+stopped_by_schedule writes a b schedule (CannotRead source) is same = absurd is
+stopped_by_schedule writes a b schedule (TooLong source) is same = absurd is
+
+-- a fact of the text of a journal of a schedule that was read
+of_journal : (is_journal : Given → List Entry → Type 0) (fact : List ℕ → Type 0) (a b schedule : List ℕ) (script : Script)
+    (journal : List Entry) → schedule_of schedule ≡ Right script.a script.b script.turns
+    → is_journal (given_of a b script) journal → fact (text journal) → OfJournal is_journal fact a b schedule
+of_journal is_journal fact a b schedule script journal read is holds = record {
+  config_a = script.a;
+  config_b = script.b;
+  turns = script.turns;
+  journal = journal;
+  no_fault = read;
+  is_of_kind = is;
+  holds = holds;
+}
+
+is_ended : (given : Given) (journal : List Entry) (fault : Option Fault) → IsEndOf given journal fault → IsEnded given journal
+is_ended given journal None end = inl end
+is_ended given journal (Some (Unseen turn packet sent heard)) end = inr (turn, packet, sent, heard, end)
+is_ended given journal (Some (BadLine number)) end = absurd end
+is_ended given journal (Some (TooManyTurns number)) end = absurd end
+is_ended given journal (Some NoMemory) end = absurd end
+is_ended given journal (Some CannotWrite) end = absurd end
+is_ended given journal (Some (CannotRead source)) end = absurd end
+is_ended given journal (Some (TooLong source)) end = absurd end
+
+-- a fault that is reported after the journal that was written
+reported : (writes : Writes) (a b schedule : List ℕ) (script : Script) (journal : List Entry) (fault : Fault)
+    → schedule_of schedule ≡ Right script.a script.b script.turns → IsEndOf (given_of a b script) journal (Some fault)
+    → HasWritten writes (text journal) → IsOctetsFault writes a b schedule fault
+reported writes a b schedule script journal (Unseen turn packet sent heard) read end wrote =
+    of_journal _ (HasWritten writes) a b schedule script journal read end wrote
+reported writes a b schedule script journal (BadLine number) read end wrote = absurd end
+reported writes a b schedule script journal (TooManyTurns number) read end wrote = absurd end
+reported writes a b schedule script journal NoMemory read end wrote = absurd end
+reported writes a b schedule script journal CannotWrite read end wrote = absurd end
+reported writes a b schedule script journal (CannotRead source) read end wrote = absurd end
+reported writes a b schedule script journal (TooLong source) read end wrote = absurd end
+
+-- a journal that was not written whole
+not_written : (writes : Writes) (a b schedule : List ℕ) (script : Script) (journal : List Entry) (fault : Fault)
+    → schedule_of schedule ≡ Right script.a script.b script.turns → IsEnded (given_of a b script) journal
+    → IsWriteFault writes (text journal) fault → IsOctetsFault writes a b schedule fault
+not_written writes a b schedule script journal CannotWrite read end is =
+    (is.0, of_journal IsEnded (HasWrittenPart writes) a b schedule script journal read end is.1)
+not_written writes a b schedule script journal NoMemory read end is =
+    inr (of_journal IsEnded (HasWrittenPart writes) a b schedule script journal read end is)
+not_written writes a b schedule script journal (BadLine number) read end is = absurd is
+not_written writes a b schedule script journal (TooManyTurns number) read end is = absurd is
+not_written writes a b schedule script journal (Unseen turn packet sent heard) read end is = absurd is
+not_written writes a b schedule script journal (CannotRead source) read end is = absurd is
+not_written writes a b schedule script journal (TooLong source) read end is = absurd is
+
+-- the journal of a run was written, with what is reported after it
+pub octets_done : (writes : Writes) (a b schedule : List ℕ) (script : Script) (journal : List Entry) (fault : Option Fault)
+    (result : Result (Unit {0}) Fault) → schedule_of schedule ≡ Right script.a script.b script.turns
+    → IsEndOf (given_of a b script) journal fault → IsWrittenEnd writes (text journal) fault result
+    → OnOk result (OfRun (HasWritten writes) a b schedule)
+octets_done writes a b schedule script journal fault (Err cause) read end written = tt
+octets_done writes a b schedule script journal fault (Ok done) read end written =
+    of_journal IsRun (HasWritten writes) a b schedule script journal read
+    (subst (IsEndOf (given_of a b script) journal) written.0 end) written.1
+
+pub octets_not_done : (writes : Writes) (a b schedule : List ℕ) (script : Script) (journal : List Entry) (fault : Option Fault)
+    (result : Result (Unit {0}) Fault) → schedule_of schedule ≡ Right script.a script.b script.turns
+    → IsEndOf (given_of a b script) journal fault → IsWrittenEnd writes (text journal) fault result
+    → IfErr result (IsOctetsFault writes a b schedule)
+octets_not_done writes a b schedule script journal fault (Ok done) read end written = tt
+octets_not_done writes a b schedule script journal fault (Err cause) read end written =
+    elim written [
+      | inl is ↦ reported writes a b schedule script journal cause read (subst (IsEndOf (given_of a b script) journal) is.0 end) is.1
+      | inr is ↦ not_written writes a b schedule script journal cause read (is_ended (given_of a b script) journal fault end) is
+    ]
+
+-- ---- files
+
+-- these octets are the content of a file, where it is known
 abbrev IsContent : Option (List ℕ) → List ℕ → Type 0
-IsContent content octets = WhereTold content (λ told. octets ≡ told)
+IsContent content octets = WhereKnown content (λ known. octets ≡ known)
 
 -- a fact of the octets that were read is one of the content
-told : (content : Option (List ℕ)) (octets : List ℕ) (fact : List ℕ → Type 0) → IsContent content octets → fact octets
-    → WhereTold content fact
-told None octets fact is holds = tt
-told (Some content) octets fact is holds = subst fact is holds
+of_content : (content : Option (List ℕ)) (octets : List ℕ) (fact : List ℕ → Type 0) → IsContent content octets → fact octets
+    → WhereKnown content fact
+of_content None octets fact is holds = tt
+of_content (Some content) octets fact is holds = subst fact is holds
 
 -- the octets of the three files, each within the limit
 pub record AreRead (reads : Reads) (a b schedule : List ℕ) : Type 0 where
@@ -57,39 +173,39 @@ pub record AreRead (reads : Reads) (a b schedule : List ℕ) : Type 0 where
 
 all_fit : (reads : Reads) (a b schedule : List ℕ) → AreRead reads a b schedule → AllFit reads
 all_fit reads a b schedule are = (
-  told (reads.content A) a IsWithinLimit are.is_a are.fits_a,
-  told (reads.content B) b IsWithinLimit are.is_b are.fits_b,
-  told (reads.content Schedule) schedule IsWithinLimit are.is_schedule are.fits_schedule,
+  of_content (reads.content A) a IsWithinLimit are.is_a are.fits_a,
+  of_content (reads.content B) b IsWithinLimit are.is_b are.fits_b,
+  of_content (reads.content Schedule) schedule IsWithinLimit are.is_schedule are.fits_schedule,
 )
 
 of_files : (reads : Reads) (a b schedule : List ℕ) (fact : List ℕ → List ℕ → List ℕ → Type 0) → AreRead reads a b schedule
     → fact a b schedule → OfFiles reads fact
 of_files reads a b schedule fact are holds =
-    told (reads.content A) a _ are.is_a
-    (told (reads.content B) b _ are.is_b (told (reads.content Schedule) schedule (fact a b) are.is_schedule holds))
+    of_content (reads.content A) a _ are.is_a
+    (of_content (reads.content B) b _ are.is_b (of_content (reads.content Schedule) schedule (fact a b) are.is_schedule holds))
 
 pub files_done : (result : Result (Unit {0}) Fault) (reads : Reads) (writes : Writes) (a b schedule : List ℕ)
-    → AreRead reads a b schedule → OnOk result (OfRun (Wrote writes) a b schedule)
+    → AreRead reads a b schedule → OnOk result (OfRun (HasWritten writes) a b schedule)
     → OnOk result (IsPairDone (world_of reads writes))
 files_done (Err fault) reads writes a b schedule are run = tt
 files_done (Ok value) reads writes a b schedule are run =
-    (all_fit reads a b schedule are, of_files reads a b schedule (OfRun (Wrote writes)) are run)
+    (all_fit reads a b schedule are, of_files reads a b schedule (OfRun (HasWritten writes)) are run)
 
 files_fault : (reads : Reads) (writes : Writes) (a b schedule : List ℕ) (fault : Fault) → AreRead reads a b schedule
     → IsOctetsFault writes a b schedule fault → IsPairFault (world_of reads writes) fault
 files_fault reads writes a b schedule (BadLine number) are is =
-    (told (reads.content Schedule) schedule (IsFirstBadLine number) are.is_schedule is.0, all_fit reads a b schedule are, is.1)
+    (of_content (reads.content Schedule) schedule (IsFirstBadLine number) are.is_schedule is.0, all_fit reads a b schedule are, is.1)
 files_fault reads writes a b schedule (TooManyTurns number) are is =
-    (told (reads.content Schedule) schedule (IsFirstLongLine number) are.is_schedule is.0, all_fit reads a b schedule are, is.1)
+    (of_content (reads.content Schedule) schedule (IsFirstLongLine number) are.is_schedule is.0, all_fit reads a b schedule are, is.1)
 files_fault reads writes a b schedule CannotWrite are is =
-    (is.0, all_fit reads a b schedule are, of_files reads a b schedule (OfEnded (WrotePart writes)) are is.1)
+    (is.0, all_fit reads a b schedule are, of_files reads a b schedule (OfEnded (HasWrittenPart writes)) are is.1)
 files_fault reads writes a b schedule NoMemory are is =
     elim is [
       | inl same ↦ inl same
-      | inr run ↦ inr (of_files reads a b schedule (OfEnded (WrotePart writes)) are run)
+      | inr run ↦ inr (of_files reads a b schedule (OfEnded (HasWrittenPart writes)) are run)
     ]
 files_fault reads writes a b schedule (Unseen turn packet sent heard) are is =
-    (all_fit reads a b schedule are, of_files reads a b schedule (OfUnseen turn packet sent heard (Wrote writes)) are is)
+    (all_fit reads a b schedule are, of_files reads a b schedule (OfUnseen turn packet sent heard (HasWritten writes)) are is)
 files_fault reads writes a b schedule (CannotRead source) are is = absurd is
 files_fault reads writes a b schedule (TooLong source) are is = absurd is
 

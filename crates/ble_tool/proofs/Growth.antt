@@ -2,23 +2,23 @@
 use Rattle.std.proofs.Common.{◌≡◌, ℕ, ◌≤◌, List, [], ◌++◌, Option, Some, None, Result, Ok, Err, refl, sym, ap, subst, inl, inr, arith, ◌∙◌, append-nil, append_assoc}
 use Rattle.std.specs.Result.{IsErrAnd}
 use Rattle.outside.specs.declared.sink.SinkFault.{SinkFault}
-use Rattle.outside.specs.Count.{Rose}
-use Rattle.outside.specs.Told.{GrewBy, GrewByPrefix}
+use Rattle.outside.specs.Count.{HasRisen}
+use Rattle.outside.specs.Growth.{HasGrownBy, HasGrownByPrefix}
 use Rattle.ble_tool.specs.Puts.{IsPut, Says}
 
-pub grew_by_none : (old : Option (List ℕ)) → GrewBy old old []
+pub grew_by_none : (old : Option (List ℕ)) → HasGrownBy old old []
 grew_by_none None = refl
 grew_by_none (Some written) = ap Some (sym (append-nil written))
 
 pub grew_more : (old now new : Option (List ℕ)) (front more : List ℕ)
-    → GrewBy old now front → GrewBy now new more → GrewBy old new (front ++ more)
-grew_more None now new front more before then = subst (λ o. GrewBy o new more) before then
+    → HasGrownBy old now front → HasGrownBy now new more → HasGrownBy old new (front ++ more)
+grew_more None now new front more before then = subst (λ o. HasGrownBy o new more) before then
 grew_more (Some written) now new front more before then =
-    subst (λ o. GrewBy o new more) before then ∙ ap Some (append_assoc written front more)
+    subst (λ o. HasGrownBy o new more) before then ∙ ap Some (append_assoc written front more)
 
 -- a front, and then a prefix of what follows it, which more follows
 pub grew_part : (old now new : Option (List ℕ)) (front more rest whole : List ℕ)
-    → GrewBy old now front → GrewByPrefix now new more → front ++ (more ++ rest) ≡ whole → GrewByPrefix old new whole
+    → HasGrownBy old now front → HasGrownByPrefix now new more → front ++ (more ++ rest) ≡ whole → HasGrownByPrefix old new whole
 grew_part old now new front more rest whole before part parts =
     let prefix = part.0 in
     let left = part.1.0 in
@@ -31,7 +31,7 @@ grew_part old now new front more rest whole before part parts =
       grew_more old now new front prefix before part.2,
     )
 
-pub rose_since : (first before now : ℕ) → first ≤ before → Rose before now → Rose first now
+pub rose_since : (first before now : ℕ) → first ≤ before → HasRisen before now → HasRisen first now
 rose_since first before now le rose = omega arith
 
 -- a part was put, and then a further one
@@ -58,7 +58,7 @@ put_then {written = written} {faults = faults} {first = first} {middle = middle}
   same_memory = λ wants. before.same_memory (then.same_memory wants);
 }
 
--- a part was not put, and nothing behind it
+-- a part was not put, and nothing after it
 pub put_no_more : {Sink : Type 0} {written : Sink → Option (List ℕ)} {faults : Sink → ℕ} {wants_memory : Sink → Type 0}
     {first last : Sink} {fault : SinkFault} {front : List ℕ} (back : List ℕ)
     → IsPut written faults wants_memory first last (Err fault) front
@@ -85,7 +85,7 @@ put_handed_on {result = Err e} is part = record {
   same_memory = part.same_memory;
 }
 
--- what a line says that is put as far as it can be
+-- a line that is put whole, or a prefix of it, is said
 pub is_said : {Sink : Type 0} {written : Sink → Option (List ℕ)} {faults : Sink → ℕ} {wants_memory : Sink → Type 0}
     {old new : Sink} {result : Result (Unit {0}) SinkFault} {octets : List ℕ}
     → IsPut written faults wants_memory old new result octets

@@ -2,3 +2,4 @@ pub mod Growth
 pub mod Endings
 pub mod Digits
 pub mod Completeness
+pub mod Named

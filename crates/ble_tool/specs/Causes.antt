@@ -1,6 +1,6 @@
--- What the program does, and when it ends with which fault. Own.
-use Rattle.std.specs.Prelude.{◌≡◌, ℕ, ◌<◌, ◌≤◌, true, false, List, length, ◌⊎◌}
-use Rattle.outside.specs.Told.{WhereTold}
+-- What a command does, and what holds where it ends with which fault (our choice).
+use Rattle.std.specs.Prelude.{◌≡◌, ℕ, ◌<◌, ◌≤◌, List, length, Option, Some, None, Result, Ok, Err, ◌⊎◌}
+use Rattle.outside.specs.Known.{WhereKnown}
 use Rattle.ble_base.specs.declared.Config.{Config}
 use Rattle.journal.specs.declared.entries.Entry.{Entry}
 use Rattle.journal.specs.Text.{text}
@@ -9,17 +9,15 @@ use Rattle.radio_replay.specs.Schedule.{Right, Wrong, TooMany, schedule_of, line
 use Rattle.radio_replay.specs.Script.{Turn}
 use Rattle.ble_tool.specs.declared.faults.Fault.{Fault}
 use Rattle.ble_tool.specs.declared.faults.Fault.TheVariants.{CannotRead, BadLine, CannotWrite, NoMemory, Unseen, TooLong, TooManyTurns}
-use Rattle.ble_tool.specs.declared.faults.Source.{Source}
-use Rattle.ble_tool.specs.declared.faults.Source.TheVariants.{A, B, Schedule}
+use Rattle.ble_tool.specs.declared.commands.Command.{Command}
+use Rattle.ble_tool.specs.declared.commands.Command.TheVariants.{Pair}
+use Rattle.ble_tool.specs.declared.commands.Source.{Source}
+use Rattle.ble_tool.specs.declared.commands.Source.TheVariants.{A, B, Schedule}
+use Rattle.ble_tool.specs.declared.commands.TheConstants.{FILE_LIMIT}
 use Rattle.ble_tool.specs.Status.{Outcome, Done, NoCommand, Failed}
-use Rattle.ble_tool.specs.Words.{is_pair}
-use Rattle.ble_tool.specs.World.{Reads, Writes, World, ReadsFailed, WritesFailed, Wrote, WrotePart, WroteNothing}
+use Rattle.ble_tool.specs.World.{Reads, Writes, World, HaveReadsFailed, HaveWritesFailed, HasWritten, HasWrittenPart, HasWrittenNothing}
 
 -- ---- limits
-
--- how long a file may be, in octets
-abbrev pub FILE_LIMIT : ℕ
-FILE_LIMIT = 1048576
 
 -- a content is within the limit
 abbrev pub IsWithinLimit : List ℕ → Type 0
@@ -29,22 +27,23 @@ IsWithinLimit octets = length octets ≤ FILE_LIMIT
 abbrev pub IsOverLimit : List ℕ → Type 0
 IsOverLimit octets = FILE_LIMIT < length octets
 
--- a file is within the limit, where its content is told
+-- a file is within the limit, where its content is known
 abbrev pub Fits : Reads → Source → Type 0
-Fits reads source = WhereTold (reads.content source) IsWithinLimit
+Fits reads source = WhereKnown (reads.content source) IsWithinLimit
 
--- the files that are read before this one are within the limit
+-- the files of `pair` that are read before this one are within the limit
 abbrev pub EarlierFit : Reads → Source → Type 0
 EarlierFit reads A = Unit {0}
 EarlierFit reads B = Fits reads A
 EarlierFit reads Schedule = Fits reads A × Fits reads B
 
+-- all three are within the limit
 abbrev pub AllFit : Reads → Type 0
 AllFit reads = Fits reads A × Fits reads B × Fits reads Schedule
 
 -- ---- journals
 
--- a fact of the text of a journal of this kind, of these streams and of this schedule's text, which has no line at fault
+-- a fact of the text of some journal of this kind: a journal of these streams and of this schedule's text, which has no line at fault
 pub record OfJournal (is_journal : Given → List Entry → Type 0) (fact : List ℕ → Type 0) (a b schedule : List ℕ) : Type 0 where
   pub config_a : Config
   pub config_b : Config
@@ -54,11 +53,11 @@ pub record OfJournal (is_journal : Given → List Entry → Type 0) (fact : List
   pub is_of_kind : is_journal (given_of a b (record { a = config_a; b = config_b; turns = turns })) journal
   pub holds : fact (text journal)
 
--- of the whole run
+-- a fact of the text of the journal of the whole run
 abbrev pub OfRun : (List ℕ → Type 0) → List ℕ → List ℕ → List ℕ → Type 0
 OfRun fact a b schedule = OfJournal IsRun fact a b schedule
 
--- of the run that damage to this packet ends, which would be judged good
+-- a fact of the text of the journal of a run that ends because damage to this packet would be judged good
 abbrev pub OfUnseen : ℕ → ℕ → List ℕ → List ℕ → (List ℕ → Type 0) → List ℕ → List ℕ → List ℕ → Type 0
 OfUnseen turn packet sent heard fact a b schedule = OfJournal (λ given. EndsUnseen given turn packet sent heard) fact a b schedule
 
@@ -67,14 +66,14 @@ abbrev pub IsEnded : Given → List Entry → Type 0
 IsEnded given journal = IsRun given journal
     ⊎ ((turn : ℕ) × (packet : ℕ) × (sent : List ℕ) × (heard : List ℕ) × EndsUnseen given turn packet sent heard journal)
 
--- of either run
+-- a fact of the text of the journal of either run
 abbrev pub OfEnded : (List ℕ → Type 0) → List ℕ → List ℕ → List ℕ → Type 0
 OfEnded fact a b schedule = OfJournal IsEnded fact a b schedule
 
--- a fact of the three files, where they tell their content
+-- a fact of the three files, where their content is known
 abbrev pub OfFiles : Reads → (List ℕ → List ℕ → List ℕ → Type 0) → Type 0
 OfFiles reads fact =
-    WhereTold (reads.content A) (λ a. WhereTold (reads.content B) (λ b. WhereTold (reads.content Schedule) (fact a b)))
+    WhereKnown (reads.content A) (λ a. WhereKnown (reads.content B) (λ b. WhereKnown (reads.content Schedule) (fact a b)))
 
 -- ---- faults
 
@@ -86,60 +85,93 @@ IsFirstBadLine number schedule = (line : ℕ) × (schedule_of schedule ≡ Wrong
 abbrev pub IsFirstLongLine : ℕ → List ℕ → Type 0
 IsFirstLongLine number schedule = (line : ℕ) × (schedule_of schedule ≡ TooMany line) × (number ≡ line_number line)
 
--- what a file that was not read shows: reads of it failed, or it is over the limit, where its content is told
+-- what holds where a file was not read: reads of it have failed, or it is over the limit, where its content is known; or an
+-- allocation failed, of which no clause speaks
 abbrev pub IsReadFault : Reads → Source → Fault → Type 0
-IsReadFault reads source (CannotRead other) = (other ≡ source) × ReadsFailed reads source
-IsReadFault reads source (TooLong other) = (other ≡ source) × WhereTold (reads.content source) IsOverLimit
+IsReadFault reads source (CannotRead other) = (other ≡ source) × HaveReadsFailed reads source
+IsReadFault reads source (TooLong other) = (other ≡ source) × WhereKnown (reads.content source) IsOverLimit
 IsReadFault reads source NoMemory = Unit {0}
 IsReadFault reads source _ = ⊥
 
--- what a text that was not written whole shows
+-- what holds where a text was not written whole
 abbrev pub IsWriteFault : Writes → List ℕ → Fault → Type 0
-IsWriteFault writes octets CannotWrite = WritesFailed writes × WrotePart writes octets
-IsWriteFault writes octets NoMemory = WrotePart writes octets
+IsWriteFault writes octets CannotWrite = HaveWritesFailed writes × HasWrittenPart writes octets
+IsWriteFault writes octets NoMemory = HasWrittenPart writes octets
 IsWriteFault writes octets _ = ⊥
 
--- what a run of these streams and of this schedule's text shows that did not end well, or was not written whole
+-- what holds where the text of a schedule was not read
+abbrev pub IsScheduleFault : List ℕ → Fault → Type 0
+IsScheduleFault schedule (BadLine number) = IsFirstBadLine number schedule
+IsScheduleFault schedule (TooManyTurns number) = IsFirstLongLine number schedule
+IsScheduleFault schedule NoMemory = Unit {0}
+IsScheduleFault schedule _ = ⊥
+
+-- a run left this journal, and this fault to report after it, if there is one
+abbrev pub IsEndOf : Given → List Entry → Option Fault → Type 0
+IsEndOf given journal None = IsRun given journal
+IsEndOf given journal (Some (Unseen turn packet sent heard)) = EndsUnseen given turn packet sent heard journal
+IsEndOf given journal (Some _) = ⊥
+
+-- the outcome of writing this text, with this fault to report after it, if there is one
+abbrev pub IsWrittenEnd : Writes → List ℕ → Option Fault → Result (Unit {0}) Fault → Type 0
+IsWrittenEnd writes octets fault (Ok done) = (fault ≡ None) × HasWritten writes octets
+IsWrittenEnd writes octets fault (Err cause) =
+    ((fault ≡ Some cause) × HasWritten writes octets) ⊎ IsWriteFault writes octets cause
+
+-- what holds where a run of these streams and of this schedule's text did not end well, or its journal was not written whole
 abbrev pub IsOctetsFault : Writes → List ℕ → List ℕ → List ℕ → Fault → Type 0
-IsOctetsFault writes a b schedule (BadLine number) = IsFirstBadLine number schedule × WroteNothing writes
-IsOctetsFault writes a b schedule (TooManyTurns number) = IsFirstLongLine number schedule × WroteNothing writes
-IsOctetsFault writes a b schedule CannotWrite = WritesFailed writes × OfEnded (WrotePart writes) a b schedule
-IsOctetsFault writes a b schedule NoMemory = WroteNothing writes ⊎ OfEnded (WrotePart writes) a b schedule
-IsOctetsFault writes a b schedule (Unseen turn packet sent heard) = OfUnseen turn packet sent heard (Wrote writes) a b schedule
+IsOctetsFault writes a b schedule (BadLine number) = IsFirstBadLine number schedule × HasWrittenNothing writes
+IsOctetsFault writes a b schedule (TooManyTurns number) = IsFirstLongLine number schedule × HasWrittenNothing writes
+IsOctetsFault writes a b schedule CannotWrite = HaveWritesFailed writes × OfEnded (HasWrittenPart writes) a b schedule
+IsOctetsFault writes a b schedule NoMemory = HasWrittenNothing writes ⊎ OfEnded (HasWrittenPart writes) a b schedule
+IsOctetsFault writes a b schedule (Unseen turn packet sent heard) = OfUnseen turn packet sent heard (HasWritten writes) a b schedule
 IsOctetsFault writes a b schedule _ = ⊥
 
 -- the whole journal was written
-abbrev pub WroteAll : World → Type 0
-WroteAll world = OfFiles world.reads (OfRun (Wrote world.writes))
+abbrev pub HasWrittenAll : World → Type 0
+HasWrittenAll world = OfFiles world.reads (OfRun (HasWritten world.writes))
 
--- the journal of all that came before this packet was written
-abbrev pub WroteAllBefore : ℕ → ℕ → List ℕ → List ℕ → World → Type 0
-WroteAllBefore turn packet sent heard world = OfFiles world.reads (OfUnseen turn packet sent heard (Wrote world.writes))
+-- the journal of all that came before this packet was written whole
+abbrev pub HasWrittenAllBefore : ℕ → ℕ → List ℕ → List ℕ → World → Type 0
+HasWrittenAllBefore turn packet sent heard world = OfFiles world.reads (OfUnseen turn packet sent heard (HasWritten world.writes))
 
--- a part of the journal of either run was written, from its front
-abbrev pub WrotePartOfJournal : World → Type 0
-WrotePartOfJournal world = OfFiles world.reads (OfEnded (WrotePart world.writes))
+-- a prefix of the journal of either run was written
+abbrev pub HasWrittenPartOfJournal : World → Type 0
+HasWrittenPartOfJournal world = OfFiles world.reads (OfEnded (HasWrittenPart world.writes))
 
 -- what holds where `pair` ends with a fault
 abbrev pub IsPairFault : World → Fault → Type 0
 IsPairFault world (CannotRead source) =
-    ReadsFailed world.reads source × EarlierFit world.reads source × WroteNothing world.writes
+    HaveReadsFailed world.reads source × EarlierFit world.reads source × HasWrittenNothing world.writes
 IsPairFault world (TooLong source) =
-    WhereTold (world.reads.content source) IsOverLimit × EarlierFit world.reads source × WroteNothing world.writes
+    WhereKnown (world.reads.content source) IsOverLimit × EarlierFit world.reads source × HasWrittenNothing world.writes
 IsPairFault world (BadLine number) =
-    WhereTold (world.reads.content Schedule) (IsFirstBadLine number) × AllFit world.reads × WroteNothing world.writes
+    WhereKnown (world.reads.content Schedule) (IsFirstBadLine number) × AllFit world.reads × HasWrittenNothing world.writes
 IsPairFault world (TooManyTurns number) =
-    WhereTold (world.reads.content Schedule) (IsFirstLongLine number) × AllFit world.reads × WroteNothing world.writes
-IsPairFault world CannotWrite = WritesFailed world.writes × AllFit world.reads × WrotePartOfJournal world
-IsPairFault world NoMemory = WroteNothing world.writes ⊎ WrotePartOfJournal world
-IsPairFault world (Unseen turn packet sent heard) = AllFit world.reads × WroteAllBefore turn packet sent heard world
+    WhereKnown (world.reads.content Schedule) (IsFirstLongLine number) × AllFit world.reads × HasWrittenNothing world.writes
+IsPairFault world CannotWrite = HaveWritesFailed world.writes × AllFit world.reads × HasWrittenPartOfJournal world
+IsPairFault world NoMemory = HasWrittenNothing world.writes ⊎ HasWrittenPartOfJournal world
+IsPairFault world (Unseen turn packet sent heard) = AllFit world.reads × HasWrittenAllBefore turn packet sent heard world
 
 -- `pair` has done its work
 abbrev pub IsPairDone : World → Type 0
-IsPairDone world = AllFit world.reads × WroteAll world
+IsPairDone world = AllFit world.reads × HasWrittenAll world
 
--- what holds where the program ends so
-abbrev pub HasCause : List (List ℕ) → World → Outcome → Type 0
-HasCause words world Done = (is_pair words ≡ true) × IsPairDone world
-HasCause words world NoCommand = (is_pair words ≡ false) × WroteNothing world.writes
-HasCause words world (Failed fault) = (is_pair words ≡ true) × IsPairFault world fault
+-- ---- commands
+
+-- a command has done its work
+abbrev pub IsPerformed : Command → World → Type 0
+IsPerformed (Pair files) world = IsPairDone world
+
+-- what holds where a command ends with a fault
+abbrev pub IsNotPerformed : Command → World → Fault → Type 0
+IsNotPerformed (Pair files) world fault = IsPairFault world fault
+
+-- what holds where a call that gives this command, or none, ends so
+abbrev pub HasCause : Option Command → World → Outcome → Type 0
+HasCause (Some command) world Done = IsPerformed command world
+HasCause (Some command) world (Failed fault) = IsNotPerformed command world fault
+HasCause (Some command) world NoCommand = ⊥
+HasCause None world Done = ⊥
+HasCause None world (Failed fault) = ⊥
+HasCause None world NoCommand = HasWrittenNothing world.writes

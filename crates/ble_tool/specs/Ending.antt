@@ -1,35 +1,35 @@
--- How the program ends, and where its work can be done. Own.
-use Rattle.std.specs.Prelude.{◌≡◌, ℕ, true, List, Some}
-use Rattle.outside.specs.Count.{Rose}
+-- How a call of the program ends, and where its work can be done (our choice).
+use Rattle.std.specs.Prelude.{◌≡◌, ℕ, List, Some}
+use Rattle.outside.specs.Count.{HasRisen}
 use Rattle.ble_base.specs.declared.Config.{Config}
 use Rattle.journal.specs.declared.entries.Entry.{Entry}
 use Rattle.pair_world.specs.Run.{given_of, EndsUnseen}
 use Rattle.radio_replay.specs.Schedule.{Right, schedule_of}
 use Rattle.radio_replay.specs.Script.{Turn}
-use Rattle.ble_tool.specs.declared.faults.Source.{Source}
-use Rattle.ble_tool.specs.declared.faults.Source.TheVariants.{A, B, Schedule}
+use Rattle.ble_tool.specs.declared.commands.Command.{Command}
+use Rattle.ble_tool.specs.declared.commands.Command.TheVariants.{Pair}
+use Rattle.ble_tool.specs.declared.commands.Source.TheVariants.{A, B, Schedule}
 use Rattle.ble_tool.specs.Causes.{IsWithinLimit, HasCause}
+use Rattle.ble_tool.specs.Commands.{command_of, name_in, OfEachFile}
 use Rattle.ble_tool.specs.Status.{Outcome, exit_status, last_words}
-use Rattle.ble_tool.specs.Words.{is_pair, names_in}
 use Rattle.ble_tool.specs.World.{Reads, World}
 
--- how a call with these words ends, which saw this of the world, of which this is said, and which gave this status
+-- the ending of a call with these words, which saw this of the world, wrote this to the error stream, and gave this status
 pub record IsEnding (words : List (List ℕ)) (world : World) (says : List ℕ → Type 0) (status : ℕ) : Type 0 where
-  -- what became of the call
+  -- how the call ended
   pub outcome : Outcome
-  -- the status is the number of that
+  -- the status is the number of that outcome
   pub is_status : status ≡ exit_status outcome
-  -- what holds of the words, of the files and of the output where that became of it
-  pub has_cause : HasCause words world outcome
-  -- the line of that is what was said
-  pub is_said : says (last_words (names_in words) outcome)
+  -- the words, the files and the output are as they must be for that outcome; out of memory alone has no cause in them
+  pub has_cause : HasCause (command_of words) world outcome
+  -- the line of that outcome was written, or a prefix of it
+  pub is_said : says (last_words (name_in words) outcome)
 
 -- ---- work that can be done
 
--- the words are those of `pair`; the three files tell contents within the limit; the schedule is in its grammar, with at most
--- 100,000 turns; and no damage would be judged good
-pub record CanBeDone (words : List (List ℕ)) (reads : Reads) : Type 0 where
-  pub is_command : is_pair words ≡ true
+-- `pair` can do its work: the contents of its three files are known and within the limit; the schedule is in its grammar, with at
+-- most 100,000 turns; and no damage would be judged good
+pub record CanPair (reads : Reads) : Type 0 where
   pub a : List ℕ
   pub b : List ℕ
   pub schedule : List ℕ
@@ -46,12 +46,16 @@ pub record CanBeDone (words : List (List ℕ)) (reads : Reads) : Type 0 where
   pub none_unseen : (turn packet : ℕ) (sent heard : List ℕ) (journal : List Entry)
       → ¬ EndsUnseen (given_of a b (record { a = config_a; b = config_b; turns = turns })) turn packet sent heard journal
 
--- no count of faults of the three files rose, and not that of the output
-pub record NoneRose (world : World) : Type 0 where
-  pub reads : (source : Source) → ¬ Rose (world.reads.faults_before source) (world.reads.faults_now source)
-  pub writes : ¬ Rose world.writes.faults_before world.writes.faults_now
+-- a command can do its work
+abbrev pub CanPerform : Command → Reads → Type 0
+CanPerform (Pair files) reads = CanPair reads
 
--- the three files and the output are reliable
-pub record IsReliable (world : World) : Type 0 where
-  pub reads : (source : Source) → world.reads.is_reliable source
+-- no count of faults of the files of a command has risen, and not that of the output
+pub record NoneHasRisen (command : Command) (world : World) : Type 0 where
+  pub reads : OfEachFile command (λ source. ¬ HasRisen (world.reads.faults_before source) (world.reads.faults_now source))
+  pub writes : ¬ HasRisen world.writes.faults_before world.writes.faults_now
+
+-- the files of a command and the output are reliable
+pub record IsReliable (command : Command) (world : World) : Type 0 where
+  pub reads : OfEachFile command world.reads.is_reliable
   pub writes : world.writes.is_reliable

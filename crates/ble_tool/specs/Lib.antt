@@ -1,6 +1,8 @@
-pub mod Words
+pub mod PairFiles
+pub mod Commands
 pub mod Status
 pub mod World
+pub mod Conversions
 pub mod Causes
 pub mod Puts
 pub mod Ending

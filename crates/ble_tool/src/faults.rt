@@ -1,20 +1,16 @@
+//! Why a command does not end with status 0, and how the faults of its parts become such a fault.
 ghost use Rattle.std.specs.Prelude.{◌≡◌};
+ghost use Rattle.ble_tool.specs.Conversions.{fault_of_file, fault_of_sink, fault_of_schedule};
+ghost use Rattle.ble_tool.specs.Conversions.{end_of};
 ghost use Rattle.ble_tool.specs.Status.{status_of};
 
-use journal::Octets;
+use crate::commands::Source;
+use journal::{Journal, Octets};
+use outside::{FileFault, SinkFault};
+use pair_world::RunFault;
+use radio_replay::ScheduleFault;
 
-/// One of the three files of `pair`, in the order in which they are named and read.
-#[derive(Clone, Copy, Debug, PartialEq, Eq)]
-pub enum Source {
-    /// The octets of A's host, in the order in which they are fed.
-    A,
-    /// The octets of B's host.
-    B,
-    /// The text of the schedule.
-    Schedule,
-}
-
-/// Why a command does not end with status 0 (own).
+/// Why a command does not end with status 0 (our choice).
 #[derive(Drop)]
 pub enum Fault {
     /// The file could not be read.
@@ -23,7 +19,7 @@ pub enum Fault {
     BadLine(u32),
     /// The journal could not be written.
     CannotWrite,
-    /// There is no memory.
+    /// An allocation failed.
     NoMemory,
     /// A packet was changed on the air, and its receiver would judge it good.
     Unseen {
@@ -38,12 +34,13 @@ pub enum Fault {
     },
     /// The file is longer than its limit, 1,048,576 octets.
     TooLong(Source),
-    /// This line of the schedule, counted from 1, is the first with which there are more than 100,000 turns.
+    /// This line of the schedule, counted from 1, is the first with which there are more than
+    /// 100,000 turns.
     TooManyTurns(u32),
 }
 
 impl Fault {
-    /// The exit status, from 2 to 7 (own).
+    /// The exit status, from 2 to 7 (our choice).
     pub fn status(&self) -> u8
         ensures { result ≡ status_of self.now }
     {
@@ -55,5 +52,65 @@ impl Fault {
             Fault::Unseen { .. } => 6,
             Fault::TooLong(_) | Fault::TooManyTurns(_) => 7,
         }
+    }
+}
+
+/// The fault of a read of this file.
+pub(crate) fn fault_of_file(source: Source, fault: FileFault) -> Fault
+    ensures { result ≡ fault_of_file source fault }
+{
+    match fault {
+        FileFault::Failed => Fault::CannotRead(source),
+        FileFault::TooLong => Fault::TooLong(source),
+        FileFault::Memory => Fault::NoMemory,
+    }
+}
+
+/// The fault of a write to the output.
+pub(crate) fn fault_of_sink(fault: SinkFault) -> Fault
+    ensures { result ≡ fault_of_sink fault }
+{
+    match fault {
+        SinkFault::Failed => Fault::CannotWrite,
+        SinkFault::Memory => Fault::NoMemory,
+    }
+}
+
+/// The fault of a schedule.
+pub(crate) fn fault_of_schedule(fault: ScheduleFault) -> Fault
+    ensures { result ≡ fault_of_schedule fault }
+{
+    match fault {
+        ScheduleFault::BadLine(line) => Fault::BadLine(line),
+        ScheduleFault::TooLong(line) => Fault::TooManyTurns(line),
+        ScheduleFault::Memory => Fault::NoMemory,
+    }
+}
+
+/// What a run leaves: the journal to write, and the fault to report once it is written, if there is
+/// one. Where an allocation of the run failed, there is no journal.
+pub(crate) fn end_of(run: Result<Journal, RunFault>) -> Result<(Journal, Option<Fault>), Fault>
+    ensures { result ≡ end_of run }
+{
+    match run {
+        Ok(journal) => Ok((journal, None)),
+        Err(
+            RunFault::Unseen {
+                turn,
+                packet,
+                sent,
+                heard,
+                journal,
+            },
+        ) => {
+            let fault = Fault::Unseen {
+                turn,
+                packet,
+                sent,
+                heard,
+            };
+            Ok((journal, Some(fault)))
+        }
+        Err(RunFault::Memory) => Err(Fault::NoMemory),
     }
 }

@@ -1,13 +1,14 @@
-//! The program `ble` as a function: its words, its files and its two streams, to its status.
+//! The program `ble` as a function: from its words, its files and its two streams to its status.
 #![tactic(auto)]
 
+mod commands;
 mod faults;
 mod messages;
-mod names;
 mod pairs;
 #[cfg(test)]
 mod tests;
 mod tool;
 
-pub use crate::faults::{Fault, Source};
+pub use crate::commands::{Command, FILE_LIMIT, PairNames, Source};
+pub use crate::faults::Fault;
 pub use crate::tool::ble_tool;

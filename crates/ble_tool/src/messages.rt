@@ -1,51 +1,56 @@
-ghost use Rattle.std.specs.Prelude.{◌≡◌, ◌∷◌, [], ◌++◌, ◌≤◌, length, codes, decimal};
+//! What the program writes to its error stream.
+ghost use Rattle.std.specs.Prelude.{◌≡◌, ◌∷◌, [], ◌++◌, ◌≤◌, length, decimal};
 ghost use Rattle.hex.specs.Hex.{encode_lower};
 ghost use Rattle.journal.specs.Words.{hexadecimal};
+ghost use Rattle.ble_tool.specs.Commands.{name_of};
 ghost use Rattle.ble_tool.specs.Puts.{IsPut, Says};
 ghost use Rattle.ble_tool.specs.Status.{fault_line, unseen_text, usage_line};
 
+use crate::commands::Command;
 use crate::faults::Fault;
-use crate::names::Names;
 use itoa::Buffer;
 use outside::{Sink, SinkFault};
 
-/// The exit status where the words are no command's.
+/// The exit status where the words are not a command.
 const NO_COMMAND: u8 = 1;
 
 /// How the program is called.
 const USAGE: &[u8] = b"usage: ble pair A B SCHEDULE, ble make NUMBER, ble solo HOST AIR";
 
-/// How many octets are put in hexadecimal at once.
+/// How many octets are written in hexadecimal at once.
 const BLOCK: usize = 32;
 
-/// Puts some octets.
+/// Writes some octets.
 fn put_part<E: Sink>(err: &mut E, octets: &[u8]) -> Result<(), SinkFault>
     ensures { IsPut E.written E.faults E.wants_memory err.old err.new result octets.now }
 {
     err.put(octets)
 }
 
-/// Puts a line of two parts.
+/// Writes a line of two parts.
 fn put_line<E: Sink>(err: &mut E, front: &[u8], back: &[u8]) -> Result<(), SinkFault>
-    ensures { IsPut E.written E.faults E.wants_memory err.old err.new result (front.now ++ back.now ++ 10 ∷ []) }
+    ensures { IsPut E.written E.faults E.wants_memory err.old err.new result
+        (front.now ++ back.now ++ 10 ∷ []) }
 {
     put_part(err, front)?;
     put_part(err, back)?;
     put_part(err, b"\n")
 }
 
-/// Puts a text, and a number behind it.
+/// Writes a text, and a number after it.
 fn put_number<E: Sink>(err: &mut E, front: &[u8], number: u64) -> Result<(), SinkFault>
-    ensures { IsPut E.written E.faults E.wants_memory err.old err.new result (front.now ++ decimal number) }
+    ensures { IsPut E.written E.faults E.wants_memory err.old err.new result
+        (front.now ++ decimal number) }
 {
     put_part(err, front)?;
     put_part(err, Buffer::new().format(number).as_bytes())
 }
 
-/// Puts a block of octets in hexadecimal.
+/// Writes a block of octets in hexadecimal.
 fn put_block<E: Sink>(err: &mut E, octets: &[u8]) -> Result<(), SinkFault>
     requires { length octets.now ≤ BLOCK }
-    ensures { IsPut E.written E.faults E.wants_memory err.old err.new result (encode_lower octets.now) }
+    ensures { IsPut E.written E.faults E.wants_memory err.old err.new result
+        (encode_lower octets.now) }
 {
     let mut buffer = [0; 2 * BLOCK];
     let digits = &mut buffer[..2 * octets.len()];
@@ -53,9 +58,10 @@ fn put_block<E: Sink>(err: &mut E, octets: &[u8]) -> Result<(), SinkFault>
     put_part(err, digits)
 }
 
-/// Puts octets in hexadecimal, block by block, which takes no memory.
+/// Writes octets in hexadecimal, block by block, which needs no allocation.
 fn put_digits<E: Sink>(err: &mut E, octets: &[u8]) -> Result<(), SinkFault>
-    ensures { IsPut E.written E.faults E.wants_memory err.old err.new result (encode_lower octets.now) }
+    ensures { IsPut E.written E.faults E.wants_memory err.old err.new result
+        (encode_lower octets.now) }
 {
     let mut rest = octets;
     while rest.len() > BLOCK {
@@ -66,9 +72,10 @@ fn put_digits<E: Sink>(err: &mut E, octets: &[u8]) -> Result<(), SinkFault>
     put_block(err, rest)
 }
 
-/// Puts octets in hexadecimal, and a dash where there are none.
+/// Writes octets in hexadecimal, and a dash where there are none.
 fn put_hexadecimal<E: Sink>(err: &mut E, octets: &[u8]) -> Result<(), SinkFault>
-    ensures { IsPut E.written E.faults E.wants_memory err.old err.new result (hexadecimal octets.now) }
+    ensures { IsPut E.written E.faults E.wants_memory err.old err.new result
+        (hexadecimal octets.now) }
 {
     if octets.is_empty() {
         put_part(err, b"-")
@@ -77,15 +84,16 @@ fn put_hexadecimal<E: Sink>(err: &mut E, octets: &[u8]) -> Result<(), SinkFault>
     }
 }
 
-/// Puts a text, and octets in hexadecimal behind it.
+/// Writes a text, and octets in hexadecimal after it.
 fn put_octets<E: Sink>(err: &mut E, front: &[u8], octets: &[u8]) -> Result<(), SinkFault>
-    ensures { IsPut E.written E.faults E.wants_memory err.old err.new result (front.now ++ hexadecimal octets.now) }
+    ensures { IsPut E.written E.faults E.wants_memory err.old err.new result
+        (front.now ++ hexadecimal octets.now) }
 {
     put_part(err, front)?;
     put_hexadecimal(err, octets)
 }
 
-/// Puts what is said of damage that would be judged good.
+/// Writes the text on damage that would be judged good.
 fn put_unseen<E: Sink>(
     err: &mut E,
     turn: u64,
@@ -93,7 +101,8 @@ fn put_unseen<E: Sink>(
     sent: &[u8],
     heard: &[u8],
 ) -> Result<(), SinkFault>
-    ensures { IsPut E.written E.faults E.wants_memory err.old err.new result (unseen_text turn packet sent.now heard.now) }
+    ensures { IsPut E.written E.faults E.wants_memory err.old err.new result
+        (unseen_text turn packet sent.now heard.now) }
 {
     put_number(err, b"unseen damage: turn ", turn)?;
     put_number(err, b" packet ", u64::from(packet))?;
@@ -101,7 +110,7 @@ fn put_unseen<E: Sink>(
     put_octets(err, b" heard ", heard)
 }
 
-/// Puts the line of damage that would be judged good.
+/// Writes the line on damage that would be judged good.
 fn put_unseen_line<E: Sink>(
     err: &mut E,
     turn: u64,
@@ -109,13 +118,14 @@ fn put_unseen_line<E: Sink>(
     sent: &[u8],
     heard: &[u8],
 ) -> Result<(), SinkFault>
-    ensures { IsPut E.written E.faults E.wants_memory err.old err.new result (unseen_text turn packet sent.now heard.now ++ 10 ∷ []) }
+    ensures { IsPut E.written E.faults E.wants_memory err.old err.new result
+        (unseen_text turn packet sent.now heard.now ++ 10 ∷ []) }
 {
     put_unseen(err, turn, packet, sent, heard)?;
     put_part(err, b"\n")
 }
 
-/// Says a line of two parts, as far as it can be written.
+/// Writes a line of two parts, or a prefix of it where the stream fails.
 fn say<E: Sink>(err: &mut E, front: &[u8], back: &[u8])
     ensures { Says E.written E.faults E.wants_memory err.old err.new
         (front.now ++ back.now ++ 10 ∷ []) }
@@ -123,7 +133,7 @@ fn say<E: Sink>(err: &mut E, front: &[u8], back: &[u8])
     let _ = put_line(err, front, back);
 }
 
-/// Says a line of a text and the number of a line, as far as it can be written.
+/// Writes a line of a text and the number of a line, or a prefix of it where the stream fails.
 fn say_line_number<E: Sink>(err: &mut E, front: &[u8], line: u32)
     ensures { Says E.written E.faults E.wants_memory err.old err.new
         (front.now ++ decimal line ++ 10 ∷ []) }
@@ -131,7 +141,7 @@ fn say_line_number<E: Sink>(err: &mut E, front: &[u8], line: u32)
     say(err, front, Buffer::new().format(line).as_bytes());
 }
 
-/// Says the line of damage that would be judged good, as far as it can be written.
+/// Writes the line on damage that would be judged good, or a prefix of it where the stream fails.
 fn say_unseen<E: Sink>(err: &mut E, turn: u64, packet: u32, sent: &[u8], heard: &[u8])
     ensures { Says E.written E.faults E.wants_memory err.old err.new
         (unseen_text turn packet sent.now heard.now ++ 10 ∷ []) }
@@ -139,7 +149,8 @@ fn say_unseen<E: Sink>(err: &mut E, turn: u64, packet: u32, sent: &[u8], heard: 
     let _ = put_unseen_line(err, turn, packet, sent, heard);
 }
 
-/// Says how the program is called, and gives the exit status that goes with it.
+/// Writes how the program is called, or a prefix of that line where the stream fails, and gives the
+/// exit status of a call that is not a command.
 pub fn refuse_words<E: Sink>(err: &mut E) -> u8
     ensures status { result ≡ 1 }
     ensures said { Says E.written E.faults E.wants_memory err.old err.new usage_line }
@@ -148,13 +159,13 @@ pub fn refuse_words<E: Sink>(err: &mut E) -> u8
     NO_COMMAND
 }
 
-/// Says why a command did not do its work.
-pub fn report<E: Sink>(err: &mut E, names: &Names<'_>, fault: &Fault)
+/// Writes why a command did not do its work: one line, or a prefix of it where the stream fails.
+pub fn report<E: Sink>(err: &mut E, command: &Command<'_>, fault: &Fault)
     ensures { Says E.written E.faults E.wants_memory err.old err.new
-        (fault_line names.now fault.now) }
+        (fault_line (name_of command.now) fault.now) }
 {
     match fault {
-        Fault::CannotRead(source) => say(err, b"cannot read ", names.of(*source).as_bytes()),
+        Fault::CannotRead(source) => say(err, b"cannot read ", command.name_of(*source).as_bytes()),
         Fault::BadLine(line) => say_line_number(err, b"schedule line ", *line),
         Fault::CannotWrite => say(err, b"cannot write", b""),
         Fault::NoMemory => say(err, b"no memory", b""),
@@ -164,7 +175,7 @@ pub fn report<E: Sink>(err: &mut E, names: &Names<'_>, fault: &Fault)
             sent,
             heard,
         } => say_unseen(err, *turn, *packet, sent.as_slice(), heard.as_slice()),
-        Fault::TooLong(source) => say(err, b"too long: ", names.of(*source).as_bytes()),
+        Fault::TooLong(source) => say(err, b"too long: ", command.name_of(*source).as_bytes()),
         Fault::TooManyTurns(line) => say_line_number(err, b"too long: schedule line ", *line),
     }
 }

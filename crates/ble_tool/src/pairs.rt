@@ -1,20 +1,22 @@
+//! The command `pair`.
 ghost use Rattle.std.specs.Prelude.{◌≡◌, ℕ, List, ◌++◌, ◌<◌, ◌≤◌, length, OnOk, IfOk, IfErr};
-ghost use Rattle.outside.specs.Told.{WhereTold};
+ghost use Rattle.outside.specs.Known.{WhereKnown};
 ghost use Rattle.journal.specs.Text.{text};
-ghost use Rattle.ble_tool.specs.Causes.{IsWithinLimit, IsReadFault, IsWriteFault, OfRun, IsOctetsFault, IsPairDone, IsPairFault};
-ghost use Rattle.ble_tool.specs.Words.{name_of};
-ghost use Rattle.ble_tool.specs.World.{world_of, reads_of, writes_of, Wrote};
+ghost use Rattle.pair_world.specs.Run.{given_of};
+ghost use Rattle.radio_replay.specs.Schedule.{Right, schedule_of};
+ghost use Rattle.ble_tool.specs.Causes.{IsWithinLimit, IsReadFault, IsWriteFault, OfRun};
+ghost use Rattle.ble_tool.specs.Causes.{IsScheduleFault, IsEndOf, IsWrittenEnd, IsOctetsFault};
+ghost use Rattle.ble_tool.specs.Causes.{IsPairDone, IsPairFault};
+ghost use Rattle.ble_tool.specs.Commands.{pair_name};
+ghost use Rattle.ble_tool.specs.World.{world_of, reads_of, writes_of, HasWritten};
 
-use crate::faults::{Fault, Source};
-use crate::names::Names;
+use crate::commands::{FILE_LIMIT, PairNames, Source};
+use crate::faults::{Fault, end_of, fault_of_file, fault_of_schedule, fault_of_sink};
 use journal::{Entry, Journal, write_lines};
-use outside::{FileFault, Files, Sink, SinkFault};
-use pair_world::{RunFault, run_pair};
-use radio_replay::{Schedule, ScheduleFault};
+use outside::{Files, Sink};
+use pair_world::run_pair;
+use radio_replay::Schedule;
 use std::alloc::Global;
-
-/// How long a file may be, in octets.
-const FILE_LIMIT: u32 = 1_048_576;
 
 /// How many lines of the journal are written at once.
 const BLOCK: usize = 256;
@@ -23,31 +25,36 @@ const BLOCK: usize = 256;
 fn read_source<F: Files>(
     alloc: Global,
     files: &mut F,
-    names: &Names<'_>,
+    names: &PairNames<'_>,
     source: Source,
 ) -> Result<Vec<u8>, Fault>
     // The whole content within the limit, or why not.
     ensures fits { IfOk result (λ octets. IsWithinLimit octets.items) }
-    ensures ok { IfOk result (λ octets. WhereTold (F.content files.old (name_of names.now source))
+    ensures ok { IfOk result (λ octets.
+        WhereKnown (F.content files.old (pair_name names.now source))
         (λ content. octets.items ≡ content)) }
-    ensures err { IfErr result (IsReadFault (reads_of F.content F.is_reliable F.faults files.old files.new names.now) source) }
+    ensures err { IfErr result (IsReadFault
+        (reads_of F.content F.is_reliable F.faults files.old files.new (pair_name names.now))
+        source) }
 
     // What stays the same of all names.
-    ensures contents { (name : List ℕ) → F.content files.new name ≡ F.content files.old name }
-    ensures counts { (name : List ℕ) → F.faults files.old name ≤ F.faults files.new name }
-    ensures stays_reliable { (name : List ℕ) → F.is_reliable files.old name → F.is_reliable files.new name }
+    ensures contents { (name : List ℕ)
+        → F.content files.new name ≡ F.content files.old name }
+    ensures counts { (name : List ℕ)
+        → F.faults files.old name ≤ F.faults files.new name }
+    ensures stays_reliable { (name : List ℕ)
+        → F.is_reliable files.old name → F.is_reliable files.new name }
 {
     match files.read_file(alloc, names.of(source), FILE_LIMIT) {
         Ok(octets) => Ok(octets),
-        Err(FileFault::Failed) => Err(Fault::CannotRead(source)),
-        Err(FileFault::TooLong) => Err(Fault::TooLong(source)),
-        Err(FileFault::Memory) => Err(Fault::NoMemory),
+        Err(fault) => Err(fault_of_file(source, fault)),
     }
 }
 
-/// Writes the lines of some entries.
+/// Writes the lines of some entries. The allocation for their text is asked for first.
 fn write_block<O: Sink>(alloc: Global, entries: &[Entry], out: &mut O) -> Result<(), Fault>
-    ensures ok { OnOk result (Wrote (writes_of O.written O.is_reliable O.faults out.old out.new) (text entries.now)) }
+    ensures ok { OnOk result (HasWritten
+        (writes_of O.written O.is_reliable O.faults out.old out.new) (text entries.now)) }
     ensures err { IfErr result (IsWriteFault (writes_of O.written O.is_reliable O.faults out.old out.new)
         (text entries.now)) }
     ensures counts { O.faults out.old ≤ O.faults out.new }
@@ -58,12 +65,11 @@ fn write_block<O: Sink>(alloc: Global, entries: &[Entry], out: &mut O) -> Result
     };
     match out.put(lines.as_slice()) {
         Ok(()) => Ok(()),
-        Err(SinkFault::Failed) => Err(Fault::CannotWrite),
-        Err(SinkFault::Memory) => Err(Fault::NoMemory),
+        Err(fault) => Err(fault_of_sink(fault)),
     }
 }
 
-/// The entries that are written next, and those behind them.
+/// The entries that are written next, and those after them.
 fn split_block(entries: &[Entry]) -> (&[Entry], &[Entry])
     ensures all { result.0.now ++ result.1.now ≡ entries.now }
     ensures at_most { length result.0.now ≤ BLOCK }
@@ -74,17 +80,64 @@ fn split_block(entries: &[Entry]) -> (&[Entry], &[Entry])
 
 /// Writes the text of a journal.
 fn write_journal<O: Sink>(alloc: Global, journal: &Journal, out: &mut O) -> Result<(), Fault>
-    ensures ok { OnOk result (Wrote (writes_of O.written O.is_reliable O.faults out.old out.new) (text journal.now)) }
+    ensures ok { OnOk result (HasWritten
+        (writes_of O.written O.is_reliable O.faults out.old out.new) (text journal.now)) }
     ensures err { IfErr result (IsWriteFault (writes_of O.written O.is_reliable O.faults out.old out.new)
         (text journal.now)) }
 {
     let mut rest = journal.as_slice();
     while !rest.is_empty() {
-        let (block, behind) = split_block(rest);
+        let (block, later) = split_block(rest);
         write_block(alloc, block, out)?;
-        rest = behind;
+        rest = later;
     }
     Ok(())
+}
+
+/// Reads the text of a schedule.
+#[tactic(auto, using(crate::proofs::Endings::schedule_not_read))]
+fn read_schedule(alloc: Global, octets: &[u8]) -> Result<Schedule, Fault>
+    ensures ok { IfOk result (λ schedule.
+        schedule_of octets.now ≡ Right schedule.a schedule.b schedule.turns) }
+    ensures err { IfErr result (IsScheduleFault octets.now) }
+{
+    match Schedule::read(alloc, octets) {
+        Ok(schedule) => Ok(schedule),
+        Err(fault) => Err(fault_of_schedule(fault)),
+    }
+}
+
+/// Runs the two streams by a schedule: the journal to write, and the fault to report after it, if
+/// there is one.
+#[tactic(auto, using(crate::proofs::Endings::run_ended, crate::proofs::Endings::run_not_ended))]
+fn run_streams(
+    alloc: Global,
+    a: &[u8],
+    b: &[u8],
+    schedule: &Schedule,
+) -> Result<(Journal, Option<Fault>), Fault>
+    ensures ok { IfOk result (λ end.
+        IsEndOf (given_of a.now b.now schedule.now) end.0 end.1) }
+    ensures err { IfErr result (λ fault. fault ≡ Fault.NoMemory) }
+{
+    end_of(run_pair(alloc, a, b, schedule))
+}
+
+/// Writes a journal, and then gives the fault that follows it, if there is one.
+fn write_end<O: Sink>(
+    alloc: Global,
+    journal: &Journal,
+    fault: Option<Fault>,
+    out: &mut O,
+) -> Result<(), Fault>
+    ensures { IsWrittenEnd (writes_of O.written O.is_reliable O.faults out.old out.new)
+        (text journal.now) fault result }
+{
+    write_journal(alloc, journal, out)?;
+    match fault {
+        None => Ok(()),
+        Some(fault) => Err(fault),
+    }
 }
 
 /// Runs the two streams by the text of a schedule, and writes the journal.
@@ -95,52 +148,30 @@ fn pair_octets<O: Sink>(
     schedule: &[u8],
     out: &mut O,
 ) -> Result<(), Fault>
-    ensures ok { OnOk result (OfRun (Wrote (writes_of O.written O.is_reliable O.faults out.old out.new))
+    ensures ok { OnOk result (OfRun
+        (HasWritten (writes_of O.written O.is_reliable O.faults out.old out.new))
         a.now b.now schedule.now) }
-    ensures err { IfErr result (IsOctetsFault (writes_of O.written O.is_reliable O.faults out.old out.new)
+    ensures err { IfErr result (IsOctetsFault
+        (writes_of O.written O.is_reliable O.faults out.old out.new)
         a.now b.now schedule.now) }
 {
-    let schedule = match Schedule::read(alloc, schedule) {
-        Ok(schedule) => schedule,
-        Err(ScheduleFault::BadLine(line)) => return Err(Fault::BadLine(line)),
-        Err(ScheduleFault::TooLong(line)) => return Err(Fault::TooManyTurns(line)),
-        Err(ScheduleFault::Memory) => return Err(Fault::NoMemory),
-    };
-    match run_pair(alloc, a, b, &schedule) {
-        Ok(journal) => write_journal(alloc, &journal, out),
-        Err(
-            RunFault::Unseen {
-                turn,
-                packet,
-                sent,
-                heard,
-                journal,
-            },
-        ) => {
-            write_journal(alloc, &journal, out)?;
-            Err(Fault::Unseen {
-                turn,
-                packet,
-                sent,
-                heard,
-            })
-        }
-        Err(RunFault::Memory) => Err(Fault::NoMemory),
-    }
+    let schedule = read_schedule(alloc, schedule)?;
+    let (journal, fault) = run_streams(alloc, a, b, &schedule)?;
+    write_end(alloc, &journal, fault, out)
 }
 
 /// Reads the three files, runs the two streams by the schedule, and writes the journal.
 pub fn pair<F: Files, O: Sink>(
     alloc: Global,
-    names: &Names<'_>,
+    names: &PairNames<'_>,
     files: &mut F,
     out: &mut O,
 ) -> Result<(), Fault>
     ensures ok { OnOk result (IsPairDone (world_of
-        (reads_of F.content F.is_reliable F.faults files.old files.new names.now)
+        (reads_of F.content F.is_reliable F.faults files.old files.new (pair_name names.now))
         (writes_of O.written O.is_reliable O.faults out.old out.new))) }
     ensures err { IfErr result (IsPairFault (world_of
-        (reads_of F.content F.is_reliable F.faults files.old files.new names.now)
+        (reads_of F.content F.is_reliable F.faults files.old files.new (pair_name names.now))
         (writes_of O.written O.is_reliable O.faults out.old out.new))) }
 {
     let a = read_source(alloc, files, names, Source::A)?;

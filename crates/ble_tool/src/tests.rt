@@ -1,8 +1,10 @@
+//! The program, call by call: from words, files and schedules to status, journal and error line.
 use crate::ble_tool;
 use outside::{MemFiles, MemSink};
 use std::alloc::{AllocError, Global};
 use std::test::Fail;
 
+/// The first three lines of a schedule.
 const SIDES: &str = "ble-schedule 1
 side a c0ffee00000a 71764129 0000000000000001
 side b c0ffee00000b 71764129 0000000000000002
@@ -17,7 +19,7 @@ const ADVERTISE: &[u8] =
 /// The host of a scanner: an event mask with the LE events, and then on, with each report anew.
 const SCAN: &[u8] = b"\x01\x01\x0c\x08\xff\xff\xff\xff\xff\x1f\x00\x20\x01\x0c\x20\x02\x01\x00";
 
-/// The lines of what both are fed and told.
+/// The host octets and answers of an advertiser and a scanner, as the journal has them.
 const HOSTS: &str = "in a 0106200f200020000300000000000000000700010a200101
 up a 040e0401062000
 up a 040e04010a2000
@@ -26,7 +28,7 @@ up b 040e0401010c00
 up b 040e04010c2000
 ";
 
-/// What is said of the advertisement where the damage fits its CRC.
+/// The error line on the advertisement where the damage fits its CRC.
 const UNSEEN: &str =
     "unseen damage: turn 0 packet 1 sent d6be898e8fd45da13d499970f84ada heard d6be898e8fd45da13d49997138fedb\n";
 
@@ -39,276 +41,6 @@ const NOT_BUILT: [u16; 36] = [
     0x2009, 0x200B, 0x200D, 0x200E, 0x200F, 0x2010, 0x2011, 0x2012, 0x2013, 0x2014, 0x2015, 0x2016,
     0x2017, 0x2018, 0x2019, 0x201A, 0x201B, 0x2020, 0x2021, 0x2022, 0x202F, 0x2030, 0x2031, 0x2032,
 ];
-
-/// A call of the program, and how it ends.
-#[derive(Clone, Copy)]
-struct Row {
-    name: &'static str,
-    /// The words, with a space between two.
-    words: &'static str,
-    /// What the files `a.bin` and `b.bin` hold.
-    a: &'static [u8],
-    b: &'static [u8],
-    /// The lines of the file `schedule` behind its settings.
-    turns: &'static str,
-    /// Whether the first write of the journal fails.
-    fails: bool,
-    status: u8,
-    /// What is written to the output, in parts.
-    out: [&'static str; 3],
-    err: &'static str,
-}
-
-/// A run of the host of A alone, of which this journal is written.
-fn answered(
-    name: &'static str,
-    a: &'static [u8],
-    turns: &'static str,
-    journal: &'static str,
-) -> Row {
-    Row {
-        name,
-        words: PAIR,
-        a,
-        b: b"",
-        turns,
-        fails: false,
-        status: 0,
-        out: [journal, "", ""],
-        err: "",
-    }
-}
-
-/// A run of an advertiser and a scanner, in one turn.
-fn on_the_air(
-    name: &'static str,
-    turns: &'static str,
-    status: u8,
-    out: [&'static str; 3],
-    err: &'static str,
-) -> Row {
-    Row {
-        name,
-        words: PAIR,
-        a: ADVERTISE,
-        b: SCAN,
-        turns,
-        fails: false,
-        status,
-        out,
-        err,
-    }
-}
-
-/// A run of an advertiser and a scanner, of which nothing can be written.
-fn unwritten(name: &'static str, turns: &'static str) -> Row {
-    Row {
-        name,
-        words: PAIR,
-        a: ADVERTISE,
-        b: SCAN,
-        turns,
-        fails: true,
-        status: 4,
-        out: ["", "", ""],
-        err: "cannot write\n",
-    }
-}
-
-/// A call that ends before the run.
-fn refused(
-    name: &'static str,
-    words: &'static str,
-    turns: &'static str,
-    status: u8,
-    err: &'static str,
-) -> Row {
-    Row {
-        name,
-        words,
-        a: b"",
-        b: b"",
-        turns,
-        fails: false,
-        status,
-        out: ["", "", ""],
-        err,
-    }
-}
-
-/// The worked calls.
-fn rows() -> [Row; 27] {
-    [
-        answered(
-            "a Reset",
-            b"\x01\x03\x0c\x00",
-            "t ++ a4\n",
-            "turn 0 ++\nin a 01030c00\nup a 040e0401030c00\n",
-        ),
-        answered(
-            "a Reset in three turns",
-            b"\x01\x03\x0c\x00",
-            "t ++ a1\nt ++ a2\nt ++ a1\n",
-            "turn 0 ++\nin a 01\nturn 1 ++\nin a 030c\nturn 2 ++\nin a 00\nup a 040e0401030c00\n",
-        ),
-        answered(
-            "a loss of synchronisation",
-            b"\x07\xaa\x01\x03\x0c\x00",
-            "t ++ a6\n",
-            "turn 0 ++\nin a 07aa01030c00\nup a 04100101\nup a 040e0401030c00\n",
-        ),
-        answered(
-            "an opcode of no command",
-            b"\x01\xff\xff\x00",
-            "t ++ a4\n",
-            "turn 0 ++\nin a 01ffff00\nup a 040f040101ffff\n",
-        ),
-        answered(
-            "a Reset with a parameter",
-            b"\x01\x03\x0c\x01\x00",
-            "t ++ a5\n",
-            "turn 0 ++\nin a 01030c0100\nup a 040e0401030c12\n",
-        ),
-        answered(
-            "the address of a device",
-            b"\x01\x09\x10\x00",
-            "t ++ a4\n",
-            "turn 0 ++\nin a 01091000\nup a 040e0a010910000a0000eeffc0\n",
-        ),
-        // Advertising of types 0 and 2 is not turned on; off is 0, and 2 is no value.
-        answered(
-            "advertising that is not turned on",
-            b"\x01\x0a\x20\x01\x01\x01\x06\x20\x0f\x00\x08\x00\x08\x02\x00\x00\x00\x00\x00\x00\x00\x00\x07\x00\x01\x0a\x20\x01\x01\x01\x0a\x20\x01\x00\x01\x0a\x20\x01\x02\x01\x06\x20\x0f\x00\x08\x00\x08\x03\x00\x00\x00\x00\x00\x00\x00\x00\x07\x00",
-            "t ++ a58\n",
-            "turn 0 ++
-in a 010a2001010106200f000800080200000000000000000700010a200101010a200100010a2001020106200f000800080300000000000000000700
-up a 040e04010a2011
-up a 040e0401062000
-up a 040e04010a2011
-up a 040e04010a2000
-up a 040e04010a2012
-up a 040e0401062000
-",
-        ),
-        on_the_air(
-            "a packet that passes",
-            "t ++ a24 b18\n",
-            0,
-            [
-                "turn 0 ++\n",
-                HOSTS,
-                "air a 37 d6be898e8fd45da13d499970f84ada . good\nup b 043e0c020103000a0000eeffc0007f\n",
-            ],
-            "",
-        ),
-        on_the_air(
-            "a packet that is lost",
-            "t ++ a24 b18 x\n",
-            0,
-            [
-                "turn 0 ++\n",
-                HOSTS,
-                "air a 37 d6be898e8fd45da13d499970f84ada x missed\n",
-            ],
-            "",
-        ),
-        on_the_air(
-            "a packet that is damaged",
-            "t ++ a24 b18 e6:01\n",
-            0,
-            [
-                "turn 0 ++\n",
-                HOSTS,
-                "air a 37 d6be898e8fd45da13d499970f84ada e6:01 broken\n",
-            ],
-            "",
-        ),
-        on_the_air(
-            "a packet that nobody hears",
-            "t +- a24 b18\n",
-            0,
-            [
-                "turn 0 +-\n",
-                HOSTS,
-                "air a 37 d6be898e8fd45da13d499970f84ada . missed\n",
-            ],
-            "",
-        ),
-        on_the_air(
-            "damage that fits the CRC",
-            "t ++ a24 b18 e11:01c0b401\n",
-            6,
-            ["turn 0 ++\n", HOSTS, ""],
-            UNSEEN,
-        ),
-        unwritten("a journal", "t ++ a24 b18\n"),
-        unwritten(
-            "a journal that unseen damage ends",
-            "t ++ a24 b18 e11:01c0b401\n",
-        ),
-        refused("no words", "", "", 1, USAGE),
-        refused("two files", "pair a.bin b.bin", "", 1, USAGE),
-        refused("a command that is not built", "make 7", "", 1, USAGE),
-        refused("another word", "pairs a.bin b.bin schedule", "", 1, USAGE),
-        refused(
-            "no stream of A",
-            "pair x b.bin schedule",
-            "t ++\n",
-            2,
-            "cannot read x\n",
-        ),
-        refused(
-            "no stream of B",
-            "pair a.bin y schedule",
-            "t ++\n",
-            2,
-            "cannot read y\n",
-        ),
-        refused(
-            "no schedule",
-            "pair a.bin b.bin z",
-            "t ++\n",
-            2,
-            "cannot read z\n",
-        ),
-        refused("a bad line", PAIR, "t +\n", 3, "schedule line 4\n"),
-        refused(
-            "a number with a zero in front",
-            PAIR,
-            "t ++\nrun 03\n",
-            3,
-            "schedule line 5\n",
-        ),
-        refused(
-            "a turn too many",
-            PAIR,
-            "run 100001\n",
-            7,
-            "too long: schedule line 4\n",
-        ),
-        refused(
-            "a turn too many, and then a bad line",
-            PAIR,
-            "run 50000\nrun 50000\nt ++\nt +\n",
-            7,
-            "too long: schedule line 6\n",
-        ),
-        refused(
-            "a bad line, and then a turn too many",
-            PAIR,
-            "t +\nrun 100001\n",
-            3,
-            "schedule line 4\n",
-        ),
-        refused(
-            "no schedule, and a bad line in another file",
-            "pair a.bin b.bin z",
-            "t +\n",
-            2,
-            "cannot read z\n",
-        ),
-    ]
-}
 
 /// What the program did.
 #[derive(Drop)]
@@ -328,7 +60,7 @@ fn files_of(alloc: Global, a: &[u8], b: &[u8], turns: &str) -> Result<MemFiles, 
     Ok(files)
 }
 
-/// Calls the program with these words, over sinks to which nothing was written.
+/// Calls the program with these words, over empty sinks. The first write of the journal may fail.
 fn run(
     alloc: Global,
     words: &str,
@@ -348,18 +80,217 @@ fn run(
     Ok(Ending { status, out, err })
 }
 
+/// Runs `pair` over the stream of A's host alone.
+fn run_alone(alloc: Global, a: &[u8], turns: &str) -> Result<Ending, AllocError> {
+    let mut files = files_of(alloc, a, b"", turns)?;
+    run(alloc, PAIR, &mut files, false)
+}
+
+/// Runs `pair` over an advertiser and a scanner, where the first write of the journal may fail.
+fn run_on_air(alloc: Global, turns: &str, fails: bool) -> Result<Ending, AllocError> {
+    let mut files = files_of(alloc, ADVERTISE, SCAN, turns)?;
+    run(alloc, PAIR, &mut files, fails)
+}
+
 #[test]
-fn ends_as_the_rows_say(rt: HostRuntime) -> Result<(), Fail> {
+fn the_host_of_a_is_answered(rt: HostRuntime) -> Result<(), Fail> {
+    let rows = [
+        // A Reset, in one turn and in three.
+        (
+            b"\x01\x03\x0c\x00".as_slice(),
+            "t ++ a4\n",
+            "turn 0 ++\nin a 01030c00\nup a 040e0401030c00\n",
+        ),
+        (
+            b"\x01\x03\x0c\x00".as_slice(),
+            "t ++ a1\nt ++ a2\nt ++ a1\n",
+            "turn 0 ++\nin a 01\nturn 1 ++\nin a 030c\nturn 2 ++\nin a 00\nup a 040e0401030c00\n",
+        ),
+        // A loss of synchronisation.
+        (
+            b"\x07\xaa\x01\x03\x0c\x00".as_slice(),
+            "t ++ a6\n",
+            "turn 0 ++\nin a 07aa01030c00\nup a 04100101\nup a 040e0401030c00\n",
+        ),
+        // An opcode that no command has.
+        (
+            b"\x01\xff\xff\x00".as_slice(),
+            "t ++ a4\n",
+            "turn 0 ++\nin a 01ffff00\nup a 040f040101ffff\n",
+        ),
+    ];
+    for (a, turns, journal) in rows {
+        let ending = run_alone(rt.alloc(), a, turns)?;
+        assert_eq!(rt; ending.status, 0);
+        assert_eq!(rt; ending.out.octets(), journal.as_bytes());
+        assert_eq!(rt; ending.err.octets(), b"".as_slice());
+    }
+    Ok(())
+}
+
+#[test]
+fn commands_are_answered(rt: HostRuntime) -> Result<(), Fail> {
+    let rows = [
+        // A Reset with a parameter.
+        (
+            b"\x01\x03\x0c\x01\x00".as_slice(),
+            "t ++ a5\n",
+            "turn 0 ++\nin a 01030c0100\nup a 040e0401030c12\n",
+        ),
+        // The address of a device.
+        (
+            b"\x01\x09\x10\x00".as_slice(),
+            "t ++ a4\n",
+            "turn 0 ++\nin a 01091000\nup a 040e0a010910000a0000eeffc0\n",
+        ),
+        // Advertising of types 0 and 2 is not turned on; off is 0, and 2 is no value.
+        (
+            b"\x01\x0a\x20\x01\x01\x01\x06\x20\x0f\x00\x08\x00\x08\x02\x00\x00\x00\x00\x00\x00\x00\x00\x07\x00\x01\x0a\x20\x01\x01\x01\x0a\x20\x01\x00\x01\x0a\x20\x01\x02\x01\x06\x20\x0f\x00\x08\x00\x08\x03\x00\x00\x00\x00\x00\x00\x00\x00\x07\x00".as_slice(),
+            "t ++ a58\n",
+            "turn 0 ++
+in a 010a2001010106200f000800080200000000000000000700010a200101010a200100010a2001020106200f000800080300000000000000000700
+up a 040e04010a2011
+up a 040e0401062000
+up a 040e04010a2011
+up a 040e04010a2000
+up a 040e04010a2012
+up a 040e0401062000
+",
+        ),
+    ];
+    for (a, turns, journal) in rows {
+        let ending = run_alone(rt.alloc(), a, turns)?;
+        assert_eq!(rt; ending.status, 0);
+        assert_eq!(rt; ending.out.octets(), journal.as_bytes());
+        assert_eq!(rt; ending.err.octets(), b"".as_slice());
+    }
+    Ok(())
+}
+
+#[test]
+fn packets_go_over_the_air(rt: HostRuntime) -> Result<(), Fail> {
     let alloc = rt.alloc();
-    for row in rows() {
-        let name = row.name;
-        let mut files = files_of(alloc, row.a, row.b, row.turns)?;
-        let ending = run(alloc, row.words, &mut files, row.fails)?;
-        let [front, middle, back] = row.out;
-        let out = format!(in alloc; "{front}{middle}{back}")?;
-        assert_eq!(rt; ending.status, row.status, "{name}");
-        assert_eq!(rt; ending.out.octets(), out.as_bytes(), "{name}");
-        assert_eq!(rt; ending.err.octets(), row.err.as_bytes(), "{name}");
+    let rows = [
+        // The packet passes, is lost, is damaged, and is heard by nobody.
+        (
+            "t ++ a24 b18\n",
+            "turn 0 ++\n",
+            "air a 37 d6be898e8fd45da13d499970f84ada . good\nup b 043e0c020103000a0000eeffc0007f\n",
+        ),
+        (
+            "t ++ a24 b18 x\n",
+            "turn 0 ++\n",
+            "air a 37 d6be898e8fd45da13d499970f84ada x missed\n",
+        ),
+        (
+            "t ++ a24 b18 e6:01\n",
+            "turn 0 ++\n",
+            "air a 37 d6be898e8fd45da13d499970f84ada e6:01 broken\n",
+        ),
+        (
+            "t +- a24 b18\n",
+            "turn 0 +-\n",
+            "air a 37 d6be898e8fd45da13d499970f84ada . missed\n",
+        ),
+    ];
+    for (turns, turn, air) in rows {
+        let ending = run_on_air(alloc, turns, false)?;
+        let journal = format!(in alloc; "{turn}{HOSTS}{air}")?;
+        assert_eq!(rt; ending.status, 0, "{turns}");
+        assert_eq!(rt; ending.out.octets(), journal.as_bytes(), "{turns}");
+        assert_eq!(rt; ending.err.octets(), b"".as_slice(), "{turns}");
+    }
+    Ok(())
+}
+
+/// The journal of all before the packet is written, and the error line has the packet as sent and
+/// then as heard, counted from 1. No packet is invented: the same schedule without damage is done.
+#[test]
+fn damage_that_fits_the_crc_is_unseen(rt: HostRuntime) -> Result<(), Fail> {
+    let alloc = rt.alloc();
+    let ending = run_on_air(alloc, "t ++ a24 b18 e11:01c0b401\n", false)?;
+    let journal = format!(in alloc; "turn 0 ++\n{HOSTS}")?;
+    assert_eq!(rt; ending.status, 6);
+    assert_eq!(rt; ending.out.octets(), journal.as_bytes());
+    assert_eq!(rt; ending.err.octets(), UNSEEN.as_bytes());
+    Ok(())
+}
+
+/// A failed write is status 4, also where unseen damage ends the journal.
+#[test]
+fn a_failed_write_is_reported(rt: HostRuntime) -> Result<(), Fail> {
+    for turns in ["t ++ a24 b18\n", "t ++ a24 b18 e11:01c0b401\n"] {
+        let ending = run_on_air(rt.alloc(), turns, true)?;
+        assert_eq!(rt; ending.status, 4, "{turns}");
+        assert_eq!(rt; ending.out.octets(), b"".as_slice(), "{turns}");
+        assert_eq!(rt;
+            ending.err.octets(),
+            b"cannot write\n".as_slice(),
+            "{turns}"
+        );
+    }
+    Ok(())
+}
+
+#[test]
+fn other_words_are_not_a_command(rt: HostRuntime) -> Result<(), Fail> {
+    let alloc = rt.alloc();
+    let rows = [
+        "",
+        "pair a.bin b.bin",
+        "pair a.bin b.bin schedule schedule",
+        "make 7",
+        "pairs a.bin b.bin schedule",
+    ];
+    for words in rows {
+        let mut files = files_of(alloc, b"", b"", "t ++\n")?;
+        let ending = run(alloc, words, &mut files, false)?;
+        assert_eq!(rt; ending.status, 1, "{words}");
+        assert_eq!(rt; ending.out.octets(), b"".as_slice(), "{words}");
+        assert_eq!(rt; ending.err.octets(), USAGE.as_bytes(), "{words}");
+    }
+    Ok(())
+}
+
+/// The file that is missing is named, and no decoy, even where a later file is at fault too.
+#[test]
+fn the_missing_file_is_named(rt: HostRuntime) -> Result<(), Fail> {
+    let alloc = rt.alloc();
+    let rows = [
+        ("pair x b.bin schedule", "cannot read x\n"),
+        ("pair a.bin y schedule", "cannot read y\n"),
+        ("pair a.bin b.bin z", "cannot read z\n"),
+        ("pair a.bin y z", "cannot read y\n"),
+    ];
+    for (words, err) in rows {
+        let mut files = files_of(alloc, b"", b"", "t +\n")?;
+        let ending = run(alloc, words, &mut files, false)?;
+        assert_eq!(rt; ending.status, 2, "{words}");
+        assert_eq!(rt; ending.out.octets(), b"".as_slice(), "{words}");
+        assert_eq!(rt; ending.err.octets(), err.as_bytes(), "{words}");
+    }
+    Ok(())
+}
+
+/// Of a line outside the grammar and a turn too many, the earlier line is reported.
+#[test]
+fn the_first_line_at_fault_is_named(rt: HostRuntime) -> Result<(), Fail> {
+    let rows = [
+        ("t +\n", 3, "schedule line 4\n"),
+        ("t ++\nrun 03\n", 3, "schedule line 5\n"),
+        ("run 100001\n", 7, "too long: schedule line 4\n"),
+        (
+            "run 50000\nrun 50000\nt ++\nt +\n",
+            7,
+            "too long: schedule line 6\n",
+        ),
+        ("t +\nrun 100001\n", 3, "schedule line 4\n"),
+    ];
+    for (turns, status, err) in rows {
+        let ending = run_alone(rt.alloc(), b"", turns)?;
+        assert_eq!(rt; ending.status, status, "{turns}");
+        assert_eq!(rt; ending.out.octets(), b"".as_slice(), "{turns}");
+        assert_eq!(rt; ending.err.octets(), err.as_bytes(), "{turns}");
     }
     Ok(())
 }

@@ -1,48 +1,56 @@
-ghost use Rattle.std.specs.Prelude.{◌≡◌, ◌↔◌, ◌⊎◌, false, map, string_bytes, OnOk, IfErr};
-ghost use Rattle.ble_tool.specs.Causes.{IsPairDone, IsPairFault};
-ghost use Rattle.ble_tool.specs.Ending.{IsEnding, CanBeDone, NoneRose, IsReliable};
+//! A call of the program: from its words to its status.
+ghost use Rattle.std.specs.Prelude.{◌≡◌, ◌↔◌, ◌⊎◌, Some, IsNone, map, string_bytes, OnOk, IfErr};
+ghost use Rattle.ble_tool.specs.Causes.{IsPerformed, IsNotPerformed};
+ghost use Rattle.ble_tool.specs.Commands.{command_of, name_of, name_in};
+ghost use Rattle.ble_tool.specs.Ending.{IsEnding, CanPerform, NoneHasRisen, IsReliable};
 ghost use Rattle.ble_tool.specs.Puts.{Says};
-ghost use Rattle.ble_tool.specs.Words.{is_pair, names_in};
 ghost use Rattle.ble_tool.specs.World.{world_of, reads_of, writes_of};
+ghost use Rattle.ble_tool.specs.declared.commands.Command.{Command};
 
+use crate::commands::Command;
 use crate::faults::Fault;
 use crate::messages::{refuse_words, report};
-use crate::names::Names;
 use crate::pairs::pair;
 use outside::{Files, Sink};
 use std::alloc::Global;
 
-/// Does the work of the command `pair`, the one that is built.
-fn carry_out<F: Files, O: Sink>(
+/// Does the work of a command.
+fn perform<F: Files, O: Sink>(
     alloc: Global,
-    names: &Names<'_>,
+    command: &Command<'_>,
     files: &mut F,
     out: &mut O,
 ) -> Result<(), Fault>
-    ensures ok { OnOk result (IsPairDone (world_of
-        (reads_of F.content F.is_reliable F.faults files.old files.new names.now)
+    ensures ok { OnOk result (IsPerformed command.now (world_of
+        (reads_of F.content F.is_reliable F.faults files.old files.new (name_of command.now))
         (writes_of O.written O.is_reliable O.faults out.old out.new))) }
-    ensures err { IfErr result (IsPairFault (world_of
-        (reads_of F.content F.is_reliable F.faults files.old files.new names.now)
+    ensures err { IfErr result (IsNotPerformed command.now (world_of
+        (reads_of F.content F.is_reliable F.faults files.old files.new (name_of command.now))
         (writes_of O.written O.is_reliable O.faults out.old out.new))) }
 {
-    pair(alloc, names, files, out)
+    match command {
+        Command::Pair(names) => pair(alloc, names, files, out),
+    }
 }
 
-/// Does what the words behind the program's name say, and gives the exit status (own).
+/// Does what the words after the program's name say, and gives the exit status (our choice).
 ///
-/// `pair A B SCHEDULE` reads the octets of two hosts and the text of a schedule, in this order, each of at most
-/// 1,048,576 octets, runs two controllers over them and writes the journal to `out`. With a status other than 0
-/// one line on `err` says why:
+/// `pair A B SCHEDULE` reads the octets of two hosts and the text of a schedule, in this order, each
+/// of at most 1,048,576 octets, runs two controllers over them and writes the journal to `out`. With
+/// a status other than 0 one line on `err` says why, or a prefix of that line where `err` fails:
 ///
 /// - 0: the whole journal was written;
-/// - 1: the words are no command's;
+/// - 1: the words are not a command;
 /// - 2: a file could not be read;
 /// - 3: a line of the schedule is outside its grammar;
 /// - 4: the journal could not be written;
-/// - 5: there is no memory;
+/// - 5: an allocation failed;
 /// - 6: a packet was changed on the air, and its receiver would judge it good;
 /// - 7: a file is longer than its limit, or the schedule has more than 100,000 turns.
+///
+/// Each status but 5 has its cause in the words, the files and the output. What is claimed of the
+/// content of files and output holds where `files` and `out` make it known: there, with status 0,
+/// `out` has grown by exactly the text of the journal.
 pub fn ble_tool<F: Files, O: Sink, E: Sink>(
     alloc: Global,
     words: &Vec<String>,
@@ -50,36 +58,40 @@ pub fn ble_tool<F: Files, O: Sink, E: Sink>(
     out: &mut O,
     err: &mut E,
 ) -> u8
-    // The words are no command's exactly where the status is 1.
-    ensures usage { (result ≡ 1) ↔ (is_pair (map string_bytes words.now.items) ≡ false) }
+    // The words are not a command exactly where the status is 1.
+    ensures usage { (result ≡ 1) ↔ IsNone (command_of (map string_bytes words.now.items)) }
 
-    // Where the work can be done, it is, or there is no memory: if no count of faults rose,
-    ensures complete { let given = map string_bytes words.now.items in
+    // Where the command can do its work, it does, or an allocation fails: if no count of faults rose,
+    ensures complete { (command : Command)
+        → let given = map string_bytes words.now.items in
         let world = world_of
-        (reads_of F.content F.is_reliable F.faults files.old files.new (names_in given))
+        (reads_of F.content F.is_reliable F.faults files.old files.new (name_in given))
         (writes_of O.written O.is_reliable O.faults out.old out.new) in
-        CanBeDone given world.reads → NoneRose world → (result ≡ 0) ⊎ (result ≡ 5) }
-    // and if no read of the three files and no write of the output is one that may fail.
-    ensures reliable { let given = map string_bytes words.now.items in
+        command_of given ≡ Some command → CanPerform command world.reads
+        → NoneHasRisen command world → (result ≡ 0) ⊎ (result ≡ 5) }
+    // and if the files of the command and the output are reliable.
+    ensures reliable { (command : Command)
+        → let given = map string_bytes words.now.items in
         let world = world_of
-        (reads_of F.content F.is_reliable F.faults files.old files.new (names_in given))
+        (reads_of F.content F.is_reliable F.faults files.old files.new (name_in given))
         (writes_of O.written O.is_reliable O.faults out.old out.new) in
-        CanBeDone given world.reads → IsReliable world → (result ≡ 0) ⊎ (result ≡ 5) }
+        command_of given ≡ Some command → CanPerform command world.reads
+        → IsReliable command world → (result ≡ 0) ⊎ (result ≡ 5) }
 
-    // Every call has an ending: its status, what holds then, and what is said.
+    // Every call has an ending: its status, what holds then, and what was written to `err`.
     ensures ending { let given = map string_bytes words.now.items in
         let world = world_of
-        (reads_of F.content F.is_reliable F.faults files.old files.new (names_in given))
+        (reads_of F.content F.is_reliable F.faults files.old files.new (name_in given))
         (writes_of O.written O.is_reliable O.faults out.old out.new) in
         IsEnding given world (Says E.written E.faults E.wants_memory err.old err.new) result }
 {
-    let Some(names) = Names::of_pair(words.as_slice()) else {
+    let Some(command) = Command::of(words.as_slice()) else {
         return refuse_words(err);
     };
-    match carry_out(alloc, &names, files, out) {
+    match perform(alloc, &command, files, out) {
         Ok(()) => 0,
         Err(fault) => {
-            report(err, &names, &fault);
+            report(err, &command, &fault);
             fault.status()
         }
     }

@@ -1,7 +1,7 @@
 use Rattle.ble_tool.proofs.messages.report.Goals as goal
 
 pub returns-in-CannotRead : goal.returns-in-CannotRead
-returns-in-CannotRead g c = rw (c.in-CannotRead.is, ← c.of.ensures, ← c.as_bytes.ensures.value) c.say.ensures
+returns-in-CannotRead g c = rw (c.in-CannotRead.is, ← c.name_of.ensures, ← c.as_bytes.ensures.value) c.say.ensures
 
 pub returns-in-BadLine : goal.returns-in-BadLine
 returns-in-BadLine g c = rw c.in-BadLine.is c.say_line_number.ensures

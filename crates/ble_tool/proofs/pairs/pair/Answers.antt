@@ -1,10 +1,11 @@
+use Rattle.ble_tool.specs.Commands.{pair_name}
 use Rattle.ble_tool.specs.World.{Reads, Writes, reads_of, writes_of}
 use Rattle.ble_tool.proofs.Endings.{AreRead, files_done, files_not_done}
 use Rattle.ble_tool.proofs.pairs.pair.Goals as goal
 
 pub returns-clause-ok : goal.returns-clause-ok
 returns-clause-ok g c =
-    let reads : Reads = reads_of g.F.Files.content g.F.Files.is_reliable g.F.Files.faults c.args.files.now c.read_source-3.new.files c.args.names.now in
+    let reads : Reads = reads_of g.F.Files.content g.F.Files.is_reliable g.F.Files.faults c.args.files.now c.read_source-3.new.files (pair_name c.args.names.now) in
     let writes : Writes = writes_of g.O.Sink.written g.O.Sink.is_reliable g.O.Sink.faults c.args.out.now c.pair_octets.new.out in
     let are : AreRead reads c.in_ok-a.a.items c.in_ok-b.b.items c.in_ok-schedule.schedule.items = record {
       is_a = c.in_ok-a.ensures.ok;
@@ -18,7 +19,7 @@ returns-clause-ok g c =
 
 pub returns-clause-err : goal.returns-clause-err
 returns-clause-err g c =
-    let reads : Reads = reads_of g.F.Files.content g.F.Files.is_reliable g.F.Files.faults c.args.files.now c.read_source-3.new.files c.args.names.now in
+    let reads : Reads = reads_of g.F.Files.content g.F.Files.is_reliable g.F.Files.faults c.args.files.now c.read_source-3.new.files (pair_name c.args.names.now) in
     let writes : Writes = writes_of g.O.Sink.written g.O.Sink.is_reliable g.O.Sink.faults c.args.out.now c.pair_octets.new.out in
     let are : AreRead reads c.in_ok-a.a.items c.in_ok-b.b.items c.in_ok-schedule.schedule.items = record {
       is_a = c.in_ok-a.ensures.ok;

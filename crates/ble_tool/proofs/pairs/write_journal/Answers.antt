@@ -6,9 +6,9 @@ use Rattle.ble_tool.proofs.Endings.{handed_on, part_not_written}
 use Rattle.ble_tool.proofs.Growth.{grew_more}
 use Rattle.ble_tool.proofs.pairs.write_journal.Goals as goal
 
--- the text of a block, and then that of what is behind it
-text_parts : (block behind entries : List Entry) → block ++ behind ≡ entries → text block ++ text behind ≡ text entries
-text_parts block behind entries is = sym (flat_map-append line block behind) ∙ ap text is
+-- the text of a block, and then that of what comes after it
+text_parts : (block later entries : List Entry) → block ++ later ≡ entries → text block ++ text later ≡ text entries
+text_parts block later entries is = sym (flat_map-append line block later) ∙ ap text is
 
 pub returns-in_err-write_block-clause-err : goal.returns-in_err-write_block-clause-err
 returns-in_err-write_block-clause-err g c =
