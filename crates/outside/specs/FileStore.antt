@@ -1,5 +1,6 @@
 -- Files in memory, as contracts see them (our choice).
-use Rattle.std.specs.Prelude.{ℕ, ◌<◌, Bool, ◌||◌, ◌&&◌, if◌then◌else◌, List, length, Option, IsSome, IsSomeAnd, IsFalse, is_none, find}
+use Rattle.std.specs.Prelude.{ℕ, ◌<◌, Bool, ◌||◌, ◌&&◌, if◌then◌else◌, List, length, find}
+use Rattle.std.specs.Prelude.{Option, IsSome, IsSomeAnd, IsFalse, is_none}
 use Rattle.std.specs.Option.{option_map, option_map_or}
 use Rattle.std.specs.Str.{bytes_eq}
 use Rattle.outside.specs.Count.{one_more}
@@ -50,7 +51,8 @@ share_count store name other =
 -- the count of faults of a name after a read of the same name or of another one
 abbrev pub faults_after_read : FileStore → List ℕ → List ℕ → ℕ
 faults_after_read store name other =
-    if read_fails store name && share_count store name other then one_more (faults_of store other) else faults_of store other
+    if read_fails store name && share_count store name other then one_more (faults_of store other)
+    else faults_of store other
 
 -- no read of a name fails from now on
 abbrev pub NeverFails : FileStore → List ℕ → Type 0

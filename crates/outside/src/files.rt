@@ -33,8 +33,9 @@ impl From<AllocError> for FileFault {
 
 /// Files by their names.
 ///
-/// `content` is what a name holds, where an implementation makes it known. `faults` counts, for each
-/// name, the reads that failed. `is_reliable` says of a name that no read of it fails from now on.
+/// `content` is what a name holds, where an implementation makes it known. `faults` counts the
+/// reads of each name that failed. `is_reliable` says of a name that no read of it fails from now
+/// on.
 pub trait Files {
     ghost content: { Self → List ℕ → Option (List ℕ) };
 

@@ -15,7 +15,7 @@ use std::marker::Model;
 /// Files in memory, whose content is known. A read fails exactly where its call is planned to fail,
 /// and where the name is not held.
 ///
-/// Each name that is held has a count of faults of its own, and all other names share one, so that a
+/// Each name that is held has its own count of faults, and all other names share one, so that a
 /// read that fails needs no allocation. A name that is newly held begins with the shared count.
 #[derive(Debug, Drop)]
 pub struct MemFiles {

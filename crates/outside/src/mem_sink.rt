@@ -45,8 +45,10 @@ impl MemSink {
     /// Plans a call of `put` to fail: the one of this number, counted from 1. An `Err` changes
     /// nothing.
     pub fn fail_at(&mut self, call: u64) -> Result<(), AllocError>
-        ensures ok { OnOk result (self.new ≡ record self.old
-            { writes = record self.old.writes { failing = self.old.writes.failing ++ call ∷ [] } }) }
+        ensures ok { OnOk result (self.new ≡ record self.old {
+          writes = record self.old.writes
+              { failing = self.old.writes.failing ++ call ∷ [] };
+        }) }
         ensures err { OnErr result (self.new ≡ self.old) }
     {
         self.writes.fail_at(call)

@@ -1,5 +1,5 @@
 //! The files of the system.
-ghost use Rattle.std.specs.Prelude.{◌≡◌, ◌≢◌, ◌<◌, ◌≤◌, ◌↔◌, ◌+◌, None, Ok, Err, length, take, nat_le};
+ghost use Rattle.std.specs.Prelude.{◌≡◌, ◌≢◌, ◌<◌, ◌≤◌, None, Ok, Err, length, take, nat_le};
 ghost use Rattle.std.specs.Prelude.{IfOk, IfErr, IsErrOf, if◌then◌else◌};
 ghost use Rattle.outside.specs.Count.{one_more};
 ghost use Rattle.outside.specs.Known.{WhereKnown};
@@ -14,8 +14,8 @@ use std::{fs, rt};
 /// The room that a read begins with, in octets.
 const FIRST_ROOM: usize = 65_536;
 
-/// The files of the system. Their content is not known to contracts, and one count of faults is that
-/// of every name.
+/// The files of the system. Contracts do not know their content. One count of faults is that of
+/// every name.
 ///
 /// Contracts see them as that count. A name is opened as it is. At most one octet past its limit is
 /// read of a file, so a read ends even where the file does not. A missing file and a directory are

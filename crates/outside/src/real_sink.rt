@@ -7,7 +7,7 @@ use crate::sink::{Sink, SinkFault};
 use std::io::Write;
 use std::marker::Model;
 
-/// A stream as a sink, such as standard output. What was written is not known to contracts, and the
+/// A stream as a sink, such as standard output. Contracts do not know what was written, and the
 /// calls that failed are counted. It needs no allocation.
 ///
 /// Contracts see it as the stream and that count. A call writes all of its octets and flushes, so

@@ -30,9 +30,9 @@ impl From<AllocError> for SinkFault {
 
 /// What takes octets.
 ///
-/// `written` is all that was written so far, where an implementation makes it known. `faults` counts
-/// the writes that failed. `is_reliable` says that no write fails from now on, and `wants_memory`
-/// that a write may need an allocation.
+/// `written` is all that was written so far, where an implementation makes it known. `faults`
+/// counts the writes that failed. `is_reliable` says that no write fails from now on.
+/// `wants_memory` says that a write may need an allocation.
 pub trait Sink {
     ghost written: { Self → Option (List ℕ) };
 
