@@ -8,14 +8,16 @@ use Rattle.pair_world.specs.Run.{Given, given_of, IsRun, EndsUnseen}
 use Rattle.radio_replay.specs.Schedule.{Right, Wrong, TooMany, schedule_of, line_number}
 use Rattle.radio_replay.specs.Script.{Turn}
 use Rattle.ble_tool.specs.declared.faults.Fault.{Fault}
-use Rattle.ble_tool.specs.declared.faults.Fault.TheVariants.{CannotRead, BadLine, CannotWrite, NoMemory, Unseen, TooLong, TooManyTurns}
+use Rattle.ble_tool.specs.declared.faults.Fault.TheVariants.{CannotRead, BadLine, CannotWrite, NoMemory, Unseen}
+use Rattle.ble_tool.specs.declared.faults.Fault.TheVariants.{TooLong, TooManyTurns}
 use Rattle.ble_tool.specs.declared.commands.Command.{Command}
 use Rattle.ble_tool.specs.declared.commands.Command.TheVariants.{Pair}
 use Rattle.ble_tool.specs.declared.commands.Source.{Source}
 use Rattle.ble_tool.specs.declared.commands.Source.TheVariants.{A, B, Schedule}
 use Rattle.ble_tool.specs.declared.commands.TheConstants.{FILE_LIMIT}
 use Rattle.ble_tool.specs.Status.{Outcome, Done, NoCommand, Failed}
-use Rattle.ble_tool.specs.World.{Reads, Writes, World, HaveReadsFailed, HaveWritesFailed, HasWritten, HasWrittenPart, HasWrittenNothing}
+use Rattle.ble_tool.specs.World.{Reads, Writes, World, HaveReadsFailed, HaveWritesFailed, HasWritten, HasWrittenPart}
+use Rattle.ble_tool.specs.World.{HasWrittenNothing}
 
 -- ---- limits
 
@@ -43,8 +45,10 @@ AllFit reads = Fits reads A × Fits reads B × Fits reads Schedule
 
 -- ---- journals
 
--- a fact of the text of some journal of this kind: a journal of these streams and of this schedule's text, which has no line at fault
-pub record OfJournal (is_journal : Given → List Entry → Type 0) (fact : List ℕ → Type 0) (a b schedule : List ℕ) : Type 0 where
+-- a fact of the text of some journal of this kind: a journal of these streams and of this schedule's text, which has
+-- no line at fault
+pub record OfJournal (is_journal : Given → List Entry → Type 0) (fact : List ℕ → Type 0) (a b schedule : List ℕ)
+    : Type 0 where
   pub config_a : Config
   pub config_b : Config
   pub turns : List Turn
@@ -59,7 +63,8 @@ OfRun fact a b schedule = OfJournal IsRun fact a b schedule
 
 -- a fact of the text of the journal of a run that ends because damage to this packet would be judged good
 abbrev pub OfUnseen : ℕ → ℕ → List ℕ → List ℕ → (List ℕ → Type 0) → List ℕ → List ℕ → List ℕ → Type 0
-OfUnseen turn packet sent heard fact a b schedule = OfJournal (λ given. EndsUnseen given turn packet sent heard) fact a b schedule
+OfUnseen turn packet sent heard fact a b schedule =
+    OfJournal (λ given. EndsUnseen given turn packet sent heard) fact a b schedule
 
 -- the journal of a run, whole or ended by damage that would be judged good
 abbrev pub IsEnded : Given → List Entry → Type 0
@@ -73,7 +78,8 @@ OfEnded fact a b schedule = OfJournal IsEnded fact a b schedule
 -- a fact of the three files, where their content is known
 abbrev pub OfFiles : Reads → (List ℕ → List ℕ → List ℕ → Type 0) → Type 0
 OfFiles reads fact =
-    WhereKnown (reads.content A) (λ a. WhereKnown (reads.content B) (λ b. WhereKnown (reads.content Schedule) (fact a b)))
+    WhereKnown (reads.content A) (λ a. WhereKnown (reads.content B) (λ b.
+    WhereKnown (reads.content Schedule) (fact a b)))
 
 -- ---- faults
 
@@ -85,8 +91,8 @@ IsFirstBadLine number schedule = (line : ℕ) × (schedule_of schedule ≡ Wrong
 abbrev pub IsFirstLongLine : ℕ → List ℕ → Type 0
 IsFirstLongLine number schedule = (line : ℕ) × (schedule_of schedule ≡ TooMany line) × (number ≡ line_number line)
 
--- what holds where a file was not read: reads of it have failed, or it is over the limit, where its content is known; or an
--- allocation failed, of which no clause speaks
+-- what holds where a file was not read: reads of it have failed, or it is over the limit, where its content is known;
+-- or an allocation failed, of which no clause speaks
 abbrev pub IsReadFault : Reads → Source → Fault → Type 0
 IsReadFault reads source (CannotRead other) = (other ≡ source) × HaveReadsFailed reads source
 IsReadFault reads source (TooLong other) = (other ≡ source) × WhereKnown (reads.content source) IsOverLimit
@@ -118,13 +124,15 @@ IsWrittenEnd writes octets fault (Ok done) = (fault ≡ None) × HasWritten writ
 IsWrittenEnd writes octets fault (Err cause) =
     ((fault ≡ Some cause) × HasWritten writes octets) ⊎ IsWriteFault writes octets cause
 
--- what holds where a run of these streams and of this schedule's text did not end well, or its journal was not written whole
+-- what holds where a run of these streams and of this schedule's text did not end well, or its journal was not
+-- written whole
 abbrev pub IsOctetsFault : Writes → List ℕ → List ℕ → List ℕ → Fault → Type 0
 IsOctetsFault writes a b schedule (BadLine number) = IsFirstBadLine number schedule × HasWrittenNothing writes
 IsOctetsFault writes a b schedule (TooManyTurns number) = IsFirstLongLine number schedule × HasWrittenNothing writes
 IsOctetsFault writes a b schedule CannotWrite = HaveWritesFailed writes × OfEnded (HasWrittenPart writes) a b schedule
 IsOctetsFault writes a b schedule NoMemory = HasWrittenNothing writes ⊎ OfEnded (HasWrittenPart writes) a b schedule
-IsOctetsFault writes a b schedule (Unseen turn packet sent heard) = OfUnseen turn packet sent heard (HasWritten writes) a b schedule
+IsOctetsFault writes a b schedule (Unseen turn packet sent heard) =
+    OfUnseen turn packet sent heard (HasWritten writes) a b schedule
 IsOctetsFault writes a b schedule _ = ⊥
 
 -- the whole journal was written
@@ -133,7 +141,8 @@ HasWrittenAll world = OfFiles world.reads (OfRun (HasWritten world.writes))
 
 -- the journal of all that came before this packet was written whole
 abbrev pub HasWrittenAllBefore : ℕ → ℕ → List ℕ → List ℕ → World → Type 0
-HasWrittenAllBefore turn packet sent heard world = OfFiles world.reads (OfUnseen turn packet sent heard (HasWritten world.writes))
+HasWrittenAllBefore turn packet sent heard world =
+    OfFiles world.reads (OfUnseen turn packet sent heard (HasWritten world.writes))
 
 -- a prefix of the journal of either run was written
 abbrev pub HasWrittenPartOfJournal : World → Type 0
@@ -146,12 +155,15 @@ IsPairFault world (CannotRead source) =
 IsPairFault world (TooLong source) =
     WhereKnown (world.reads.content source) IsOverLimit × EarlierFit world.reads source × HasWrittenNothing world.writes
 IsPairFault world (BadLine number) =
-    WhereKnown (world.reads.content Schedule) (IsFirstBadLine number) × AllFit world.reads × HasWrittenNothing world.writes
+    WhereKnown (world.reads.content Schedule) (IsFirstBadLine number)
+    × AllFit world.reads × HasWrittenNothing world.writes
 IsPairFault world (TooManyTurns number) =
-    WhereKnown (world.reads.content Schedule) (IsFirstLongLine number) × AllFit world.reads × HasWrittenNothing world.writes
+    WhereKnown (world.reads.content Schedule) (IsFirstLongLine number)
+    × AllFit world.reads × HasWrittenNothing world.writes
 IsPairFault world CannotWrite = HaveWritesFailed world.writes × AllFit world.reads × HasWrittenPartOfJournal world
 IsPairFault world NoMemory = HasWrittenNothing world.writes ⊎ HasWrittenPartOfJournal world
-IsPairFault world (Unseen turn packet sent heard) = AllFit world.reads × HasWrittenAllBefore turn packet sent heard world
+IsPairFault world (Unseen turn packet sent heard) =
+    AllFit world.reads × HasWrittenAllBefore turn packet sent heard world
 
 -- `pair` has done its work
 abbrev pub IsPairDone : World → Type 0

@@ -1,5 +1,6 @@
 -- The commands, in the words after the program's name (our choice).
-use Rattle.std.specs.Prelude.{ℕ, Bool, ◌&&◌, ◌==◌, List, [], length, slice_index_or, codes, Option, Some, None, if◌then◌else◌}
+use Rattle.std.specs.Prelude.{ℕ, Bool, ◌&&◌, ◌==◌, List, [], length, slice_index_or, codes, Option, Some, None}
+use Rattle.std.specs.Prelude.{if◌then◌else◌}
 use Rattle.std.specs.Option.{option_map_or}
 use Rattle.std.specs.Str.{bytes_eq}
 use Rattle.ble_tool.specs.declared.commands.Command.{Command}
@@ -14,7 +15,11 @@ is_pair words = (length words == 4) && bytes_eq (slice_index_or words 0 []) (cod
 
 -- the names after `pair`, in this order
 abbrev pub pair_files : List (List ℕ) → PairFiles
-pair_files words = record { a = slice_index_or words 1 []; b = slice_index_or words 2 []; schedule = slice_index_or words 3 [] }
+pair_files words = record {
+  a = slice_index_or words 1 [];
+  b = slice_index_or words 2 [];
+  schedule = slice_index_or words 3 [];
+}
 
 -- the command of these words, where they are those of one
 abbrev pub command_of : List (List ℕ) → Option Command

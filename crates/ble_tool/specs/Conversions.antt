@@ -1,17 +1,21 @@
 -- The fault of the program that a fault of one of its parts becomes: each cause keeps its kind (our choice).
 use Rattle.std.specs.Prelude.{List, Option, Some, None, Result, Ok, Err}
 use Rattle.outside.specs.declared.files.FileFault.{FileFault}
-use Rattle.outside.specs.declared.files.FileFault.TheVariants.{Failed as ReadFailed, TooLong as FileTooLong, Memory as NoRoomForFile}
+use Rattle.outside.specs.declared.files.FileFault.TheVariants.{Failed as ReadFailed, TooLong as FileTooLong}
+use Rattle.outside.specs.declared.files.FileFault.TheVariants.{Memory as NoRoomForFile}
 use Rattle.outside.specs.declared.sink.SinkFault.{SinkFault}
 use Rattle.outside.specs.declared.sink.SinkFault.TheVariants.{Failed as WriteFailed, Memory as NoRoomForText}
 use Rattle.radio_replay.specs.declared.faults.ScheduleFault.{ScheduleFault}
-use Rattle.radio_replay.specs.declared.faults.ScheduleFault.TheVariants.{BadLine as OutsideGrammar, TooLong as PastTurns, Memory as NoRoomForTurns}
+use Rattle.radio_replay.specs.declared.faults.ScheduleFault.TheVariants.{BadLine as OutsideGrammar}
+use Rattle.radio_replay.specs.declared.faults.ScheduleFault.TheVariants.{TooLong as PastTurns}
+use Rattle.radio_replay.specs.declared.faults.ScheduleFault.TheVariants.{Memory as NoRoomForTurns}
 use Rattle.journal.specs.declared.entries.Entry.{Entry}
 use Rattle.pair_world.specs.declared.runs.RunFault.{RunFault}
 use Rattle.pair_world.specs.declared.runs.RunFault.TheVariants.{Unseen as EndedUnseen, Memory as NoRoomForRun}
 use Rattle.ble_tool.specs.declared.commands.Source.{Source}
 use Rattle.ble_tool.specs.declared.faults.Fault.{Fault}
-use Rattle.ble_tool.specs.declared.faults.Fault.TheVariants.{CannotRead, BadLine, CannotWrite, NoMemory, Unseen, TooLong, TooManyTurns}
+use Rattle.ble_tool.specs.declared.faults.Fault.TheVariants.{CannotRead, BadLine, CannotWrite, NoMemory, Unseen}
+use Rattle.ble_tool.specs.declared.faults.Fault.TheVariants.{TooLong, TooManyTurns}
 
 -- the fault of a read of this file
 abbrev pub fault_of_file : Source → FileFault → Fault
@@ -30,7 +34,8 @@ fault_of_schedule (OutsideGrammar line) = BadLine line
 fault_of_schedule (PastTurns line) = TooManyTurns line
 fault_of_schedule NoRoomForTurns = NoMemory
 
--- what a run leaves: the journal to write, and the fault to report once it is written, if there is one; or a fault, and no journal
+-- what a run leaves: the journal to write, and the fault to report once it is written, if there is one; or a fault,
+-- and no journal
 abbrev pub end_of : Result (List Entry) RunFault → Result (List Entry × Option Fault) Fault
 end_of (Ok journal) = Ok (journal, None)
 end_of (Err (EndedUnseen turn packet sent heard journal)) = Ok (journal, Some (Unseen turn packet sent heard))

@@ -14,7 +14,8 @@ use Rattle.ble_tool.specs.Commands.{command_of, name_in, OfEachFile}
 use Rattle.ble_tool.specs.Status.{Outcome, exit_status, last_words}
 use Rattle.ble_tool.specs.World.{Reads, World}
 
--- the ending of a call with these words, which saw this of the world, wrote this to the error stream, and gave this status
+-- the ending of a call with these words, which saw this of the world, wrote this to the error stream, and gave this
+-- status
 pub record IsEnding (words : List (List ℕ)) (world : World) (says : List ℕ → Type 0) (status : ℕ) : Type 0 where
   -- how the call ended
   pub outcome : Outcome
@@ -27,8 +28,8 @@ pub record IsEnding (words : List (List ℕ)) (world : World) (says : List ℕ �
 
 -- ---- work that can be done
 
--- `pair` can do its work: the contents of its three files are known and within the limit; the schedule is in its grammar, with at
--- most 100,000 turns; and no damage would be judged good
+-- `pair` can do its work: the contents of its three files are known and within the limit; the schedule is in its
+-- grammar, with at most 100,000 turns; and no damage would be judged good
 pub record CanPair (reads : Reads) : Type 0 where
   pub a : List ℕ
   pub b : List ℕ
@@ -44,7 +45,8 @@ pub record CanPair (reads : Reads) : Type 0 where
   pub schedule_fits : IsWithinLimit schedule
   pub is_right : schedule_of schedule ≡ Right config_a config_b turns
   pub none_unseen : (turn packet : ℕ) (sent heard : List ℕ) (journal : List Entry)
-      → ¬ EndsUnseen (given_of a b (record { a = config_a; b = config_b; turns = turns })) turn packet sent heard journal
+      → ¬ EndsUnseen (given_of a b (record { a = config_a; b = config_b; turns = turns })) turn packet sent heard
+      journal
 
 -- a command can do its work
 abbrev pub CanPerform : Command → Reads → Type 0
@@ -52,7 +54,8 @@ CanPerform (Pair files) reads = CanPair reads
 
 -- no count of faults of the files of a command has risen, and not that of the output
 pub record NoneHasRisen (command : Command) (world : World) : Type 0 where
-  pub reads : OfEachFile command (λ source. ¬ HasRisen (world.reads.faults_before source) (world.reads.faults_now source))
+  pub reads : OfEachFile command
+      (λ source. ¬ HasRisen (world.reads.faults_before source) (world.reads.faults_now source))
   pub writes : ¬ HasRisen world.writes.faults_before world.writes.faults_now
 
 -- the files of a command and the output are reliable

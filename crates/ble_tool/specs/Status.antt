@@ -3,7 +3,8 @@ use Rattle.std.specs.Prelude.{ℕ, List, [], ◌∷◌, ◌++◌, codes, decimal
 use Rattle.journal.specs.Words.{hexadecimal}
 use Rattle.ble_tool.specs.declared.commands.Source.{Source}
 use Rattle.ble_tool.specs.declared.faults.Fault.{Fault}
-use Rattle.ble_tool.specs.declared.faults.Fault.TheVariants.{CannotRead, BadLine, CannotWrite, NoMemory, Unseen, TooLong, TooManyTurns}
+use Rattle.ble_tool.specs.declared.faults.Fault.TheVariants.{CannotRead, BadLine, CannotWrite, NoMemory, Unseen}
+use Rattle.ble_tool.specs.declared.faults.Fault.TheVariants.{TooLong, TooManyTurns}
 
 -- how a call of the program ends
 pub data Outcome : Type 0 where

@@ -37,8 +37,8 @@ abbrev pub world_of : Reads → Writes → World
 world_of reads writes = record { reads = reads; writes = writes }
 
 -- what is seen of the files of these names, from the members of `Files` before and after
-abbrev pub reads_of : {Files : Type 0} → (Files → List ℕ → Option (List ℕ)) → (Files → List ℕ → Type 0) → (Files → List ℕ → ℕ)
-    → Files → Files → (Source → List ℕ) → Reads
+abbrev pub reads_of : {Files : Type 0} → (Files → List ℕ → Option (List ℕ)) → (Files → List ℕ → Type 0)
+    → (Files → List ℕ → ℕ) → Files → Files → (Source → List ℕ) → Reads
 reads_of content is_reliable faults before now name = record {
   content = λ source. content before (name source);
   is_reliable = λ source. is_reliable before (name source);
@@ -62,7 +62,8 @@ HasFailed is_reliable before now = HasRisen before now × (¬ is_reliable)
 
 -- reads of a file have failed
 abbrev pub HaveReadsFailed : Reads → Source → Type 0
-HaveReadsFailed reads source = HasFailed (reads.is_reliable source) (reads.faults_before source) (reads.faults_now source)
+HaveReadsFailed reads source =
+    HasFailed (reads.is_reliable source) (reads.faults_before source) (reads.faults_now source)
 
 -- writes to the output have failed
 abbrev pub HaveWritesFailed : Writes → Type 0

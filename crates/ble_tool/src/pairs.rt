@@ -55,8 +55,8 @@ fn read_source<F: Files>(
 fn write_block<O: Sink>(alloc: Global, entries: &[Entry], out: &mut O) -> Result<(), Fault>
     ensures ok { OnOk result (HasWritten
         (writes_of O.written O.is_reliable O.faults out.old out.new) (text entries.now)) }
-    ensures err { IfErr result (IsWriteFault (writes_of O.written O.is_reliable O.faults out.old out.new)
-        (text entries.now)) }
+    ensures err { IfErr result (IsWriteFault
+        (writes_of O.written O.is_reliable O.faults out.old out.new) (text entries.now)) }
     ensures counts { O.faults out.old ≤ O.faults out.new }
     ensures stays_reliable { O.is_reliable out.old → O.is_reliable out.new }
 {
@@ -82,8 +82,8 @@ fn split_block(entries: &[Entry]) -> (&[Entry], &[Entry])
 fn write_journal<O: Sink>(alloc: Global, journal: &Journal, out: &mut O) -> Result<(), Fault>
     ensures ok { OnOk result (HasWritten
         (writes_of O.written O.is_reliable O.faults out.old out.new) (text journal.now)) }
-    ensures err { IfErr result (IsWriteFault (writes_of O.written O.is_reliable O.faults out.old out.new)
-        (text journal.now)) }
+    ensures err { IfErr result (IsWriteFault
+        (writes_of O.written O.is_reliable O.faults out.old out.new) (text journal.now)) }
 {
     let mut rest = journal.as_slice();
     while !rest.is_empty() {

@@ -35,9 +35,10 @@ fn perform<F: Files, O: Sink>(
 
 /// Does what the words after the program's name say, and gives the exit status (our choice).
 ///
-/// `pair A B SCHEDULE` reads the octets of two hosts and the text of a schedule, in this order, each
-/// of at most 1,048,576 octets, runs two controllers over them and writes the journal to `out`. With
-/// a status other than 0 one line on `err` says why, or a prefix of that line where `err` fails:
+/// `pair A B SCHEDULE` reads the octets of two hosts and the text of a schedule, in this order,
+/// each of at most 1,048,576 octets, runs two controllers over them and writes the journal to
+/// `out`. With a status other than 0 one line on `err` says why, or a prefix of that line where
+/// `err` fails:
 ///
 /// - 0: the whole journal was written;
 /// - 1: the words are not a command;
