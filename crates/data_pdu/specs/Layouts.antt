@@ -14,15 +14,18 @@ six_numbers numbers =
 -- the parameters that a connection parameter request and its response have
 abbrev pub connection_params : ℕ → ℕ → ℕ → ℕ → ℕ → ℕ → List ℕ → List Field
 connection_params interval_min interval_max latency timeout periodicity reference offsets =
-    number 2 interval_min ∷ number 2 interval_max ∷ number 2 latency ∷ number 2 timeout ∷ number 1 periodicity ∷ number 2 reference ∷ six_numbers offsets
+    number 2 interval_min ∷ number 2 interval_max ∷ number 2 latency ∷ number 2 timeout ∷ number 1 periodicity ∷
+    number 2 reference ∷ six_numbers offsets
 
 -- the fields of a control PDU, the opcode first (Core 5.2, volume 6 part B, sections 2.4.2.1 to 2.4.2.23)
 abbrev pub fields_of : Ctrl → List Field
 fields_of (ConnectionUpdateInd win_size win_offset interval latency timeout instant) =
-    number 1 0x00 ∷ number 1 win_size ∷ number 2 win_offset ∷ number 2 interval ∷ number 2 latency ∷ number 2 timeout ∷ number 2 instant ∷ []
+    number 1 0x00 ∷ number 1 win_size ∷ number 2 win_offset ∷ number 2 interval ∷
+    number 2 latency ∷ number 2 timeout ∷ number 2 instant ∷ []
 fields_of (ChannelMapInd map instant) = number 1 0x01 ∷ number 5 map ∷ number 2 instant ∷ []
 fields_of (TerminateInd code) = number 1 0x02 ∷ number 1 code ∷ []
-fields_of (EncReq rand ediv skd_m iv_m) = number 1 0x03 ∷ number 8 rand ∷ number 2 ediv ∷ number 8 skd_m ∷ number 4 iv_m ∷ []
+fields_of (EncReq rand ediv skd_m iv_m) =
+    number 1 0x03 ∷ number 8 rand ∷ number 2 ediv ∷ number 8 skd_m ∷ number 4 iv_m ∷ []
 fields_of (EncRsp skd_s iv_s) = number 1 0x04 ∷ number 8 skd_s ∷ number 4 iv_s ∷ []
 fields_of StartEncReq = number 1 0x05 ∷ []
 fields_of StartEncRsp = number 1 0x06 ∷ []
@@ -52,7 +55,7 @@ fields_of (PhyUpdateInd to_peripheral to_central instant) =
 abbrev pub Maker : Type 0
 Maker = (ℕ → ℕ) → Ctrl
 
--- the control PDUs that there are
+-- the control PDUs that there are, each once (Core 5.2, volume 6 part B, section 2.4.2)
 unfoldable pub makers : List Maker
 makers =
     (λ n. ConnectionUpdateInd (n 1) (n 2) (n 3) (n 4) (n 5) (n 6)) ∷
@@ -83,10 +86,12 @@ makers =
 abbrev pub written : Ctrl → List ℕ
 written ctrl = spelled (fields_of ctrl)
 
--- six offsets are six
+-- an array of six offsets has six
 abbrev pub HasSixOffsets : Ctrl → Type 0
-HasSixOffsets (ConnectionParamReq interval_min interval_max latency timeout periodicity reference offsets) = length offsets ≡ 6
-HasSixOffsets (ConnectionParamRsp interval_min interval_max latency timeout periodicity reference offsets) = length offsets ≡ 6
+HasSixOffsets (ConnectionParamReq interval_min interval_max latency timeout periodicity reference offsets) =
+    length offsets ≡ 6
+HasSixOffsets (ConnectionParamRsp interval_min interval_max latency timeout periodicity reference offsets) =
+    length offsets ≡ 6
 HasSixOffsets other = ⊤
 
 -- what a control PDU is: each field fits its octets and is in its range

@@ -4,8 +4,9 @@ use Rattle.ble_base.specs.ChannelMap.{used_channels, IsMap}
 use Rattle.data_pdu.specs.declared.ctrl.Ctrl.{Ctrl}
 use Rattle.data_pdu.specs.declared.ctrl.Ctrl.TheVariants.{ConnectionUpdateInd, ChannelMapInd, LengthReq, LengthRsp, PhyUpdateInd}
 
--- the parameters of a connection that an update sets: the transmit window is 1 wide (our choice) and begins within an interval, and
--- a link outlives two intervals with the latency between them (Core 5.2, volume 6 part B, sections 2.4.2.1, 4.5.1 to 4.5.3)
+-- the parameters of a connection that an update sets: the transmit window is 1 wide (our choice) and begins within an
+-- interval, and a link outlives two intervals with the latency between them (Core 5.2, volume 6 part B, sections
+-- 2.4.2.1, 4.5.1 to 4.5.3)
 pub record IsUpdate (win_size win_offset interval latency timeout : ℕ) : Type 0 where
   pub win_size_one : win_size ≡ 1
   pub win_offset_within : win_offset ≤ interval
@@ -18,13 +19,16 @@ pub record IsUpdate (win_size win_offset interval latency timeout : ℕ) : Type 
 
 abbrev pub is_update : ℕ → ℕ → ℕ → ℕ → ℕ → Bool
 is_update win_size win_offset interval latency timeout =
-    (win_size == 1) && nat_le win_offset interval && nat_le 6 interval && nat_le interval 3200 && nat_le latency 499 && nat_le 10 timeout && nat_le timeout 3200 && nat_lt ((1 + latency) * interval) (timeout * 4)
+    (win_size == 1) && nat_le win_offset interval && nat_le 6 interval && nat_le interval 3200 && nat_le latency 499
+    && nat_le 10 timeout && nat_le timeout 3200 && nat_lt ((1 + latency) * interval) (timeout * 4)
 
--- a map names at least two data channels and no other (Core 5.2, volume 6 part B, section 4.5.8.1); the facts are those of `IsMap`
+-- a map names at least two data channels and no other (Core 5.2, volume 6 part B, section 4.5.8.1); the facts are those
+-- of `IsMap`
 abbrev pub is_map : ℕ → Bool
 is_map map = nat_lt map (2 ^ 37) && nat_le 2 (length (used_channels map))
 
--- the least that a length may be: 27 octets and 328 microseconds (Core 5.2, volume 6 part B, sections 2.4.2.21 and 4.5.10)
+-- the least that a length may be: 27 octets and 328 microseconds (Core 5.2, volume 6 part B, sections 2.4.2.21 and
+-- 4.5.10)
 pub record IsLength (max_rx_octets max_rx_time max_tx_octets max_tx_time : ℕ) : Type 0 where
   pub rx_octets_from : 27 ≤ max_rx_octets
   pub rx_time_from : 328 ≤ max_rx_time

@@ -51,7 +51,8 @@ ctrl_by make pdu = make (slice_index (numbers_in (widths_of (blank_of make)) pdu
 abbrev pub read_by : Option Maker → ℕ → List ℕ → CtrlRead
 read_by None opcode pdu = Unknown opcode
 read_by (Some make) opcode pdu =
-    if (length pdu == sum (widths_of (blank_of make))) && is_in_range (ctrl_by make pdu) then Known (ctrl_by make pdu) else Unknown opcode
+    if (length pdu == sum (widths_of (blank_of make))) && is_in_range (ctrl_by make pdu) then Known (ctrl_by make pdu)
+    else Unknown opcode
 
 -- what octets are read as: the first of them is the opcode
 unfoldable pub ctrl_of : List ℕ → CtrlRead

@@ -1,5 +1,5 @@
-//! Control PDUs against octets by hand from their layouts (Core 5.2, volume 6 part B, section 2.4.2; those of
-//! encryption are the sample data of volume 6 part C, section 1).
+//! Control PDUs against octets by hand from their layouts (Core 5.2, volume 6 part B, section
+//! 2.4.2; those of encryption are the sample data of volume 6 part C, section 1).
 use crate::{Ctrl, CtrlRead, read_ctrl, write_ctrl};
 use std::process::Abort;
 

@@ -15,14 +15,15 @@ pub struct DataHeader {
     pub sn: bool,
     /// MD, whether the sender has more data.
     pub md: bool,
-    /// The number of octets after the header, 0 to 255, including the integrity code of a sealed payload.
+    /// The number of octets after the header, 0 to 255, including the integrity code of a sealed
+    /// payload.
     pub length: u8,
 }
 
 impl DataHeader {
-    /// Whether the PDU of this header counts as empty: its LLID is 0 or it has no octet. Such a PDU is
-    /// acknowledged and otherwise ignored (Core 5.2, volume 6 part B, section 2.4; that LLID 0, and LLID 2
-    /// or 3 without an octet, count as empty is our choice).
+    /// Whether the PDU of this header counts as empty: its LLID is 0 or it has no octet. Such a PDU
+    /// is acknowledged and otherwise ignored (Core 5.2, volume 6 part B, section 2.4; that LLID 0,
+    /// and LLID 2 or 3 without an octet, count as empty is our choice).
     pub fn counts_as_empty(&self) -> bool
         ensures { result ≡ counts_as_empty self.now }
     {
@@ -30,9 +31,9 @@ impl DataHeader {
     }
 }
 
-/// The header in these two octets, in the order in which they are transmitted (Core 5.2, volume 6 part B,
-/// section 2.4). Bits 5 to 7 of the first octet, which are reserved, are ignored: `write_header` gives the
-/// same octets with these bits 0.
+/// The header in these two octets, in the order in which they are transmitted (Core 5.2, volume 6
+/// part B, section 2.4). Bits 5 to 7 of the first octet, which are reserved, are ignored:
+/// `write_header` gives the same octets with these bits 0.
 pub fn read_header(octets: [u8; 2]) -> DataHeader
     ensures header { result ≡ header_in octets }
     ensures two_bits { result.llid < 4 }
@@ -49,9 +50,9 @@ pub fn read_header(octets: [u8; 2]) -> DataHeader
     }
 }
 
-/// The two octets of this header, in the order in which they are transmitted: LLID in bits 0 and 1 of the
-/// first, NESN in bit 2, SN in bit 3, MD in bit 4, and then the length (Core 5.2, volume 6 part B, section
-/// 2.4). The reserved bits 5 to 7 are 0. `read_header` gives the header back.
+/// The two octets of this header, in the order in which they are transmitted: LLID in bits 0 and 1
+/// of the first, NESN in bit 2, SN in bit 3, MD in bit 4, and then the length (Core 5.2, volume 6
+/// part B, section 2.4). The reserved bits 5 to 7 are 0. `read_header` gives the header back.
 pub fn write_header(header: DataHeader) -> [u8; 2]
     requires { header.llid < 4 }
     ensures octets { result ≡ octets_of header }

@@ -1,8 +1,9 @@
-//! The layouts of control PDUs, each once: its reader, its writer and its length are made from them.
+//! The layouts of control PDUs, each once: its reader, its writer and its length are made from
+//! them.
 
-/// Hands the layouts to another macro, after what else that takes. Each row has an opcode, a variant and
-/// its fields by their kinds, in order (Core 5.2, volume 6 part B, section 2.4.2). `six` is an array of six
-/// numbers of two octets.
+/// Hands the layouts to another macro, after what else that takes. Each row has an opcode, a
+/// variant and its fields by their kinds, in order (Core 5.2, volume 6 part B, section 2.4.2).
+/// `six` is an array of six numbers of two octets.
 macro_rules! with_layouts {
     ($rows:ident $($argument:ident)*) => {
         $rows! {

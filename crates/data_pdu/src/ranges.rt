@@ -7,8 +7,8 @@ use ble_base::ChannelMap;
 
 impl Ctrl {
     /// Whether the fields are in their ranges. Only LL_CONNECTION_UPDATE_IND, LL_CHANNEL_MAP_IND,
-    /// LL_LENGTH_REQ, LL_LENGTH_RSP and LL_PHY_UPDATE_IND have ranges (Core 5.2, volume 6 part B, section
-    /// 2.4.2). `read_ctrl` gives no other control PDUs.
+    /// LL_LENGTH_REQ, LL_LENGTH_RSP and LL_PHY_UPDATE_IND have ranges (Core 5.2, volume 6 part B,
+    /// section 2.4.2). `read_ctrl` gives no other control PDUs.
     pub fn is_in_range(&self) -> bool
         ensures test { result ≡ is_in_range self.now }
         ensures range { IsTrue result ↔ IsInRange self.now }

@@ -103,11 +103,11 @@ fn read_octets(octets: &[u8]) -> CtrlRead
     }
 }
 
-/// The control PDU that these octets are, all of them: the payload of a data channel PDU with LLID 3
-/// (Core 5.2, volume 6 part B, section 2.4.2).
+/// The control PDU that these octets are, all of them: the payload of a data channel PDU with LLID
+/// 3 (Core 5.2, volume 6 part B, section 2.4.2).
 ///
-/// `Bare` where there is no octet. `Unknown`, with the first octet, where no control PDU has this opcode,
-/// or the octets are not as many as its fields take, or a field is out of its range.
+/// `Bare` where there is no octet. `Unknown`, with the first octet, where no control PDU has this
+/// opcode, or the octets are not as many as its fields take, or a field is out of its range.
 pub fn read_ctrl(octets: &[u8]) -> CtrlRead
     ensures value { result ≡ ctrl_of octets.now }
     ensures bare { (result ≡ CtrlRead.Bare) ↔ (octets.now ≡ []) }

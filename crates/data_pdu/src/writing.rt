@@ -76,9 +76,9 @@ fn opcode_and_fields(ctrl: &Ctrl) -> ArrayVec<u8, 27>
     pdu
 }
 
-/// The octets of this control PDU, 1 to 24 of them: the opcode, and then the fields in order, each with its
-/// least significant octet first (Core 5.2, volume 6 part B, section 2.4.2). `read_ctrl` gives the control
-/// PDU back from them.
+/// The octets of this control PDU, 1 to 24 of them: the opcode, and then the fields in order, each
+/// with its least significant octet first (Core 5.2, volume 6 part B, section 2.4.2). `read_ctrl`
+/// gives the control PDU back from them.
 pub fn write_ctrl(ctrl: &Ctrl) -> ArrayVec<u8, 27>
     requires { IsInRange ctrl.now }
     ensures items { result.items ≡ written ctrl.now }
