@@ -6,27 +6,15 @@ ghost use Rattle.data_pdu.specs.declared.ctrl.Ctrl.{Ctrl};
 
 use crate::ctrl::{Ctrl, CtrlRead};
 use crate::layouts::with_layouts;
-use wire_fields::Fields;
+use wire_fields::{Fields, take_field, width};
 
 /// How many octets a field of this kind takes.
-macro_rules! width {
-    (u8) => {
-        1
-    };
-    (u16) => {
-        2
-    };
-    (u32) => {
-        4
-    };
-    (u40) => {
-        5
-    };
-    (u64) => {
-        8
-    };
+macro_rules! size {
     (six) => {
         12
+    };
+    ($kind:ident) => {
+        width!($kind)
     };
 }
 
@@ -34,7 +22,7 @@ macro_rules! width {
 macro_rules! length_rows {
     ($found:ident; $($opcode:literal $name:ident: $($kind:ident $field:ident),*;)*) => {
         match $found {
-            $($opcode => Some(1 $(+ width!($kind))*),)*
+            $($opcode => Some(1 $(+ size!($kind))*),)*
             _ => None,
         }
     };
@@ -46,7 +34,7 @@ macro_rules! take {
         [$fields.u16(), $fields.u16(), $fields.u16(), $fields.u16(), $fields.u16(), $fields.u16()]
     };
     ($fields:ident $kind:ident) => {
-        $fields.$kind()
+        take_field!($fields $kind)
     };
 }
 
