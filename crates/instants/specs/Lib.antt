@@ -1,0 +1,4 @@
+pub mod Arrivals
+pub mod Follows
+pub mod Parameters
+pub mod Track
