@@ -1,4 +1,4 @@
-"""Runs ciphers and channel selection on whole and halved loads, and prints figures and ratios."""
+"""Runs the parts on whole and halved loads, and prints figures and ratios."""
 import subprocess
 import sys
 import time
@@ -22,6 +22,7 @@ def main():
         ("bodies of 251 octets sealed", "bodies", 100_000, ["251"], 251),
         ("channels by algorithm 1", "channels", 10_000_000, ["1"], 0),
         ("channels by algorithm 2", "channels", 10_000_000, ["2"], 0),
+        ("control PDUs read and written", "pdus", 1_000_000, [], 0),
     )
     for name, kind, count, more, octets in loads:
         half = seconds(program, [kind, str(count // 2), *more])

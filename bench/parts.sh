@@ -4,8 +4,8 @@
 set -e
 cd "$(dirname "$0")/.."
 # The crates that parts.txt calls, and those that they depend on.
-called="aes_block ble_base ccm_link chan_select"
-below=""
+called="aes_block ble_base ccm_link chan_select data_pdu"
+below="wire_fields"
 folder=$(mktemp -d)
 trap 'rm -rf "$folder"' EXIT
 mkdir -p "$folder/crates/parts_bench/src"
