@@ -23,6 +23,7 @@ def main():
         ("channels by algorithm 1", "channels", 10_000_000, ["1"], 0),
         ("channels by algorithm 2", "channels", 10_000_000, ["2"], 0),
         ("control PDUs read and written", "pdus", 1_000_000, [], 0),
+        ("winners among eight wants", "winners", 1_000_000, [], 0),
     )
     for name, kind, count, more, octets in loads:
         half = seconds(program, [kind, str(count // 2), *more])
