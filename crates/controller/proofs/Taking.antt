@@ -14,10 +14,10 @@ use Rattle.controller.specs.State.{State, ready, ready_at}
 use Rattle.controller.specs.Table.{device_after, events_for}
 use Rattle.controller.proofs.Views.{view_of-more}
 
-first-note : (place : ℕ) (fed : Fed) → first_of (frame_entry place fed) ≡ fed
-first-note place More = refl
-first-note place (Packet packet) = refl
-first-note place LostSync = refl
+first-frame_entry : (place : ℕ) (fed : Fed) → first_of (frame_entry place fed) ≡ fed
+first-frame_entry place More = refl
+first-frame_entry place (Packet packet) = refl
+first-frame_entry place LostSync = refl
 
 -- what a framer gives for an octet is what the octet brings
 abbrev Feeds : Stage → ℕ → Fed → Type 0

@@ -1,5 +1,6 @@
 -- The commands that are carried out: what they answer and what they change (Core 5.2, volume 4 part E, sections 7.3, 7.4 and 7.8).
 use Rattle.std.specs.Prelude.{ℕ, ◌==◌, ◌||◌, ◌&&◌, not, nat_lt, nat_le, Bool, true, false, List, [], ◌∷◌, Some, None, is_some, if◌then◌else◌}
+use Rattle.ble_base.specs.ErrorCodes.{command_disallowed, invalid_hci_parameters, success, unknown_hci_command, unsupported_feature_or_value}
 use Rattle.h4_frames.specs.declared.packet.HostPacket.TheVariants.{Command as HostCommand, Acl}
 use Rattle.h4_frames.specs.declared.packet.Fed.{Fed}
 use Rattle.h4_frames.specs.declared.packet.Fed.TheVariants.{More, Packet, LostSync}
@@ -17,7 +18,7 @@ use Rattle.controller.specs.Commands.{command_in}
 
 -- the first refusal of a list whose condition holds, and 00 where none does
 abbrev pub first_refusal : List (Bool × ℕ) → ℕ
-first_refusal [] = 0x00
+first_refusal [] = success
 first_refusal (row ∷ rows) = if row.0 then row.1 else first_refusal rows
 
 -- ---- LE Set Advertising Parameters (section 7.8.5)
@@ -30,19 +31,19 @@ abbrev pub set_advertising_parameters_status : Device → ℕ → ℕ → ℕ �
 set_advertising_parameters_status device min max kind own peer_kind channels policy =
     first_refusal (
     -- command disallowed: it is advertising
-    (is_some device.advertiser, 0x0C)
+    (is_some device.advertiser, command_disallowed)
     -- invalid parameters: the least and the greatest interval
-    ∷ (not (is_interval min) || not (is_interval max) || nat_lt max min, 0x12)
+    ∷ (not (is_interval min) || not (is_interval max) || nat_lt max min, invalid_hci_parameters)
     -- unsupported: high duty directed advertising, which is type 1; types end at 4
-    ∷ (kind == 1, 0x11)
-    ∷ (nat_lt 4 kind, 0x12)
+    ∷ (kind == 1, unsupported_feature_or_value)
+    ∷ (nat_lt 4 kind, invalid_hci_parameters)
     -- unsupported: own addresses that the controller would make, which are types 2 and 3
-    ∷ ((own == 2) || (own == 3), 0x11)
-    ∷ (nat_lt 3 own, 0x12)
-    ∷ (nat_lt 1 peer_kind, 0x12)
+    ∷ ((own == 2) || (own == 3), unsupported_feature_or_value)
+    ∷ (nat_lt 3 own, invalid_hci_parameters)
+    ∷ (nat_lt 1 peer_kind, invalid_hci_parameters)
     -- one channel at least of three
-    ∷ ((channels == 0) || nat_lt 7 channels, 0x12)
-    ∷ (nat_lt 3 policy, 0x12)
+    ∷ ((channels == 0) || nat_lt 7 channels, invalid_hci_parameters)
+    ∷ (nat_lt 3 policy, invalid_hci_parameters)
     ∷ [])
 
 abbrev pub kind_of : ℕ → AdvertisingKind
@@ -62,15 +63,15 @@ turns_on value is_on = (value == 1) && not is_on
 abbrev pub set_advertising_enable_status : Device → ℕ → ℕ
 set_advertising_enable_status device value =
     first_refusal (
-    (nat_lt 1 value, 0x12)
-    ∷ (turns_on value (is_some device.advertiser) && device.parameters.own_is_random, 0x12)
-    ∷ (turns_on value (is_some device.advertiser) && not (is_nonconnectable device.parameters.kind), 0x11)
+    (nat_lt 1 value, invalid_hci_parameters)
+    ∷ (turns_on value (is_some device.advertiser) && device.parameters.own_is_random, invalid_hci_parameters)
+    ∷ (turns_on value (is_some device.advertiser) && not (is_nonconnectable device.parameters.kind), unsupported_feature_or_value)
     ∷ [])
 
 -- ---- LE Set Scan Enable (section 7.8.11)
 
 abbrev pub set_scan_enable_status : ℕ → ℕ → ℕ
-set_scan_enable_status value duplicates = first_refusal ((nat_lt 1 value || nat_lt 1 duplicates, 0x12) ∷ [])
+set_scan_enable_status value duplicates = first_refusal ((nat_lt 1 value || nat_lt 1 duplicates, invalid_hci_parameters) ∷ [])
 
 -- ---- all of them
 
@@ -80,7 +81,7 @@ status_of device (LeSetAdvParams min max kind own peer_kind peer channels policy
     set_advertising_parameters_status device min max kind own peer_kind channels policy
 status_of device (LeSetAdvEnable value) = set_advertising_enable_status device value
 status_of device (LeSetScanEnable value duplicates) = set_scan_enable_status value duplicates
-status_of device other = 0x00
+status_of device other = success
 
 -- a controller as it starts, and after a Reset (sections 7.3.1, 7.3.2 and 7.8.5)
 abbrev pub initial : Device
@@ -127,8 +128,8 @@ complete opcode status fields = CommandComplete 1 opcode (record { items = statu
 -- the answer to what was read: a wrong length is an invalid parameter, and an unknown command has a status (sections 7.7.14 and 7.7.15)
 abbrev pub answer_to : List ℕ → Device → ℕ → CmdRead → Event
 answer_to public device opcode (Known command) = complete opcode (status_of device command) (returned public command)
-answer_to public device opcode BadLength = complete opcode 0x12 []
-answer_to public device opcode UnknownOpcode = CommandStatus 0x01 1 opcode
+answer_to public device opcode BadLength = complete opcode invalid_hci_parameters []
+answer_to public device opcode UnknownOpcode = CommandStatus unknown_hci_command 1 opcode
 
 -- a refused command changes nothing
 abbrev pub obeyed : ℕ → Device → CmdRead → Device

@@ -11,7 +11,7 @@ use Rattle.journal.specs.declared.entries.Entry.{Entry}
 use Rattle.journal.specs.declared.entries.Entry.TheVariants.{Turn, Air}
 use Rattle.journal.specs.declared.entries.Mark.{Mark}
 use Rattle.radio_replay.specs.declared.fates.Fate.{Fate}
-use Rattle.radio_replay.specs.Damage.{struck}
+use Rattle.radio_replay.specs.Damage.{damaged_packet}
 use Rattle.radio_replay.specs.Script.{Turn as Plan}
 use Rattle.pair_world.specs.History.{turns_begun, aired}
 use Rattle.pair_world.specs.Run.{Given, Flight, Due, Next, Unseen, Over, untold, unfed, up_or, fed_or, flown, flight_or, turn_or, flights, fate_at, verdict_of, mark_of, is_unseen, due, IsJournal, IsRun, EndsUnseen}
@@ -51,12 +51,12 @@ sent_at_end given journal run =
 
 -- ---- unseen damage
 
-differs_by : (fate : Fate) (octets : List ℕ) (same : Bool) → bytes_eq (struck fate octets) octets ≡ same → not same ≡ true → struck fate octets ≢ octets
+differs_by : (fate : Fate) (octets : List ℕ) (same : Bool) → bytes_eq (damaged_packet fate octets) octets ≡ same → not same ≡ true → damaged_packet fate octets ≢ octets
 differs_by fate octets true is e equal = absurd (cc)
-differs_by fate octets false is e equal = let yes = (bytes_eq-Decides (struck fate octets) octets).1 equal in absurd (cc)
+differs_by fate octets false is e equal = let yes = (bytes_eq-Decides (damaged_packet fate octets) octets).1 equal in absurd (cc)
 
-unseen_is_good : (fate : Fate) (octets : List ℕ) (verdict : Verdict) → is_unseen fate octets verdict ≡ true → (verdict ≡ Good) × (struck fate octets ≢ octets)
-unseen_is_good fate octets Good is = (refl, differs_by fate octets (bytes_eq (struck fate octets) octets) refl is)
+unseen_is_good : (fate : Fate) (octets : List ℕ) (verdict : Verdict) → is_unseen fate octets verdict ≡ true → (verdict ≡ Good) × (damaged_packet fate octets ≢ octets)
+unseen_is_good fate octets Good is = (refl, differs_by fate octets (bytes_eq (damaged_packet fate octets) octets) refl is)
 unseen_is_good fate octets Missed is = absurd (cc)
 unseen_is_good fate octets Broken is = absurd (cc)
 unseen_is_good fate octets Forged is = absurd (cc)
@@ -73,14 +73,14 @@ unseen_flight : (given : Given) (history : List Entry) (packet : ℕ) (sent hear
 unseen_flight given history packet sent heard flight next is =
     let fate = fate_at given history in
     let verdict = verdict_of given history flight in
-    let parts = unseen_parts (is_unseen fate flight.octets verdict) (aired history + 1) packet flight.octets (struck fate flight.octets) sent heard
+    let parts = unseen_parts (is_unseen fate flight.octets verdict) (aired history + 1) packet flight.octets (damaged_packet fate flight.octets) sent heard
     (Air flight.side flight.channel flight.octets (mark_of fate) verdict) is in
     let good = unseen_is_good fate flight.octets verdict parts.0 in record {
       flight = flight;
       is_next = next;
       packet_is = parts.1;
       sent_is = parts.2;
-      heard_is = parts.3 ∙ ap (struck fate) (sym parts.2);
+      heard_is = parts.3 ∙ ap (damaged_packet fate) (sym parts.2);
       differs = λ same. good.1 (sym parts.3 ∙ same ∙ parts.2);
       verdict_is = good.0;
     }

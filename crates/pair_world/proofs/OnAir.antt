@@ -10,7 +10,7 @@ use Rattle.journal.specs.declared.entries.Entry.{Entry}
 use Rattle.journal.specs.declared.entries.Entry.TheVariants.{Air}
 use Rattle.journal.specs.declared.entries.Mark.{Mark}
 use Rattle.radio_replay.specs.declared.fates.Fate.{Fate}
-use Rattle.radio_replay.specs.Damage.{struck}
+use Rattle.radio_replay.specs.Damage.{damaged_packet}
 use Rattle.controller.specs.declared.intents.Intent.{Intent}
 use Rattle.controller.specs.declared.intents.Intent.TheVariants.{Send, Listen, Idle}
 use Rattle.controller.specs.Past.{Input, Heard, View, see, view_of, intent_of}
@@ -188,11 +188,11 @@ pub air_due : (given : Given) (history : List Entry) (flight : Flight) (rest : L
     → IsQuiet given history → aired history ≡ packets → drop packets (flights given history) ≡ flight ∷ rest
     → fate_at given history ≡ fate → intent_at given (other_side flight.side) flight.phase history ≡ other
     → due given history
-    ≡ flown fate packets flight (verdict_at (listened other) flight.channel (is_lost fate) (struck fate flight.octets))
+    ≡ flown fate packets flight (verdict_at (listened other) flight.channel (is_lost fate) (damaged_packet fate flight.octets))
 air_due given history flight rest packets fate other quiet air left fate_is other_is =
     due_flight given history flight quiet (ap (slice_get (flights given history)) air ∙ at_place (flights given history) packets flight rest left)
     ∙ (λ i. flown (fate_is i) (air i) flight
-    (verdict_at (listened (other_is i)) flight.channel (is_lost (fate_is i)) (struck (fate_is i) flight.octets)))
+    (verdict_at (listened (other_is i)) flight.channel (is_lost (fate_is i)) (damaged_packet (fate_is i) flight.octets)))
 
 -- it flew, or the run stops
 flew : (unseen : Bool) (sent heard : List ℕ) (entry : Entry) (was_good : Bool) (old new : List Entry) (good : Bool)
@@ -215,12 +215,12 @@ fly_a given history later phase packets fate Idle other good rest quiet air left
 fly_a given history later phase packets fate (Send channel packet) other good rest quiet air left fate_is other_is is =
     let octets = packet.items in
     let flight : Flight = record { phase = phase; side = A; channel = channel; octets = octets } in
-    let verdict = verdict_at (listened other) channel (is_lost fate) (struck fate octets) in
+    let verdict = verdict_at (listened other) channel (is_lost fate) (damaged_packet fate octets) in
     let entry = Air A channel octets (mark_of fate) verdict in
-    let flies = flew (is_unseen fate octets verdict) octets (struck fate octets) entry (is_good verdict) history later good is in
+    let flies = flew (is_unseen fate octets verdict) octets (damaged_packet fate octets) entry (is_good verdict) history later good is in
     let next : due given history ≡ Next entry =
     air_due given history flight rest packets fate other quiet air left fate_is other_is
-    ∙ ap (λ b. cond b (Unseen (packets + 1) octets (struck fate octets)) (Next entry)) flies.0 in
+    ∙ ap (λ b. cond b (Unseen (packets + 1) octets (damaged_packet fate octets)) (Next entry)) flies.0 in
     let heard : Option (List ℕ) = heard_of (is_good verdict) (Send channel packet) in
     let hears = heard_is verdict (Send channel packet) octets refl in
     let none = told_after-none (public_of A given) (past_of A history) in
@@ -233,7 +233,7 @@ fly_a given history later phase packets fate (Send channel packet) other good re
           (flown_air given history (history ++ entry ∷ []) None heard packets flight rest
           (grew_air_a given history channel octets (mark_of fate) verdict heard hears) stands
           (aired-air history A channel octets (mark_of fate) verdict) air left),
-      may_hear (listened other) channel (is_lost fate) (struck fate octets) (Send channel packet),
+      may_hear (listened other) channel (is_lost fate) (damaged_packet fate octets) (Send channel packet),
     )
 
 pub fly_b : (given : Given) (history later : List Entry) (phase packets : ℕ) (fate : Fate) (wanted other : Intent) (good : Bool) (rest : List Flight)
@@ -250,12 +250,12 @@ fly_b given history later phase packets fate Idle other good rest quiet air left
 fly_b given history later phase packets fate (Send channel packet) other good rest quiet air left fate_is other_is is =
     let octets = packet.items in
     let flight : Flight = record { phase = phase; side = B; channel = channel; octets = octets } in
-    let verdict = verdict_at (listened other) channel (is_lost fate) (struck fate octets) in
+    let verdict = verdict_at (listened other) channel (is_lost fate) (damaged_packet fate octets) in
     let entry = Air B channel octets (mark_of fate) verdict in
-    let flies = flew (is_unseen fate octets verdict) octets (struck fate octets) entry (is_good verdict) history later good is in
+    let flies = flew (is_unseen fate octets verdict) octets (damaged_packet fate octets) entry (is_good verdict) history later good is in
     let next : due given history ≡ Next entry =
     air_due given history flight rest packets fate other quiet air left fate_is other_is
-    ∙ ap (λ b. cond b (Unseen (packets + 1) octets (struck fate octets)) (Next entry)) flies.0 in
+    ∙ ap (λ b. cond b (Unseen (packets + 1) octets (damaged_packet fate octets)) (Next entry)) flies.0 in
     let heard : Option (List ℕ) = heard_of (is_good verdict) (Send channel packet) in
     let hears = heard_is verdict (Send channel packet) octets refl in
     let none = told_after-none (public_of B given) (past_of B history) in
@@ -268,5 +268,5 @@ fly_b given history later phase packets fate (Send channel packet) other good re
           (flown_air given history (history ++ entry ∷ []) heard None packets flight rest
           (grew_air_b given history channel octets (mark_of fate) verdict heard hears) stands
           (aired-air history B channel octets (mark_of fate) verdict) air left),
-      may_hear (listened other) channel (is_lost fate) (struck fate octets) (Send channel packet),
+      may_hear (listened other) channel (is_lost fate) (damaged_packet fate octets) (Send channel packet),
     )

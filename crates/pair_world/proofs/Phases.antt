@@ -8,7 +8,7 @@ use Rattle.journal.specs.declared.entries.Entry.{Entry}
 use Rattle.journal.specs.declared.entries.Entry.TheVariants.{Air}
 use Rattle.radio_replay.specs.declared.fates.Fate.{Fate}
 use Rattle.radio_replay.specs.declared.schedules.Schedule.{Schedule}
-use Rattle.radio_replay.specs.Damage.{struck}
+use Rattle.radio_replay.specs.Damage.{damaged_packet}
 use Rattle.radio_replay.specs.Script.{fate_of}
 use Rattle.radio_replay.specs.Script.{Turn as Plan}
 use Rattle.controller.specs.declared.intents.Intent.{Intent}
@@ -207,11 +207,11 @@ unseen_here given history phase packets side fate Idle other rest sent heard qui
 unseen_here given history phase packets side fate (Send channel packet) other rest sent heard quiet air left fate_is other_is is =
     let octets = packet.items in
     let flight : Flight = record { phase = phase; side = side; channel = channel; octets = octets } in
-    let verdict = verdict_at (listened other) channel (is_lost fate) (struck fate octets) in
+    let verdict = verdict_at (listened other) channel (is_lost fate) (damaged_packet fate octets) in
     let entry = Air side channel octets (mark_of fate) verdict in
-    let stops = stopped (is_unseen fate octets verdict) octets (struck fate octets) sent heard entry (is_good verdict) is in
+    let stops = stopped (is_unseen fate octets verdict) octets (damaged_packet fate octets) sent heard entry (is_good verdict) is in
     air_due given history flight rest packets fate other quiet air left fate_is other_is
-    ∙ ap (λ b. cond b (Unseen (packets + 1) octets (struck fate octets)) (Next entry)) stops.0
+    ∙ ap (λ b. cond b (Unseen (packets + 1) octets (damaged_packet fate octets)) (Next entry)) stops.0
     ∙ (λ i. Unseen (packets + 1) (stops.1.0 i) (stops.1.1 i))
 
 has_stopped : (given : Given) (slot packets : ℕ) (history last : List Entry) (flight : Flying) (stop : Stop)

@@ -11,7 +11,7 @@ use Rattle.journal.specs.declared.entries.Entry.{Entry}
 use Rattle.journal.specs.declared.entries.Entry.TheVariants.{Turn, Fed, Up, Air}
 use Rattle.journal.specs.declared.entries.Mark.{Mark}
 use Rattle.radio_replay.specs.declared.fates.Fate.{Fate}
-use Rattle.radio_replay.specs.Damage.{struck}
+use Rattle.radio_replay.specs.Damage.{damaged_packet}
 use Rattle.radio_replay.specs.Script.{Turn as Plan}
 use Rattle.pair_world.specs.History.{turns_begun, aired, aired_from, past_of, heard_if}
 use Rattle.pair_world.specs.Order.{IsOfRun, MayFollow}
@@ -228,13 +228,13 @@ step_fed_b given last history octet octets stands placed begun = record {
 
 -- ---- a packet on the air
 
-same_octets : (b : Bool) (fate : Fate) (octets : List ℕ) → bytes_eq (struck fate octets) octets ≡ b → not b ≡ false → struck fate octets ≡ octets
-same_octets true fate octets is e = (bytes_eq-Decides (struck fate octets) octets).0 is
+same_octets : (b : Bool) (fate : Fate) (octets : List ℕ) → bytes_eq (damaged_packet fate octets) octets ≡ b → not b ≡ false → damaged_packet fate octets ≡ octets
+same_octets true fate octets is e = (bytes_eq-Decides (damaged_packet fate octets) octets).0 is
 same_octets false fate octets is e = absurd (cc)
 
 -- a packet that is judged good and not unseen was not changed
-unchanged : (fate : Fate) (octets : List ℕ) (verdict : Verdict) → is_unseen fate octets verdict ≡ false → verdict ≡ Good → struck fate octets ≡ octets
-unchanged fate octets Good is good = same_octets (bytes_eq (struck fate octets) octets) fate octets refl is
+unchanged : (fate : Fate) (octets : List ℕ) (verdict : Verdict) → is_unseen fate octets verdict ≡ false → verdict ≡ Good → damaged_packet fate octets ≡ octets
+unchanged fate octets Good is good = same_octets (bytes_eq (damaged_packet fate octets) octets) fate octets refl is
 unchanged fate octets Missed is good = absurd (cc)
 unchanged fate octets WasBroken is good = absurd (cc)
 unchanged fate octets Forged is good = absurd (cc)
@@ -336,7 +336,7 @@ quiet_step : (given : Given) (last : Entry) (history : List Entry) (entry : Entr
     → due given history ≡ Next entry → Step given last history entry
 quiet_step given last history entry (Some flight) plan quiet begun next there is =
     let flew = flown_entry (is_unseen (fate_at given history) flight.octets (verdict_of given history flight)) (aired history + 1) flight.octets
-    (struck (fate_at given history) flight.octets)
+    (damaged_packet (fate_at given history) flight.octets)
     (Air flight.side flight.channel flight.octets (mark_of (fate_at given history)) (verdict_of given history flight)) entry
     (sym (due_flight given history flight quiet next) ∙ is) in
     subst (Step given last history) flew.1 (step_air given last history flight quiet begun next flew.0 (is ∙ ap Next (sym flew.1)))

@@ -5,7 +5,7 @@ use Rattle.ble_base.specs.declared.verdicts.Verdict.{Verdict}
 use Rattle.ble_base.specs.declared.verdicts.Verdict.TheVariants.{Good}
 use Rattle.journal.specs.declared.entries.Entry.{Entry}
 use Rattle.journal.specs.declared.entries.Mark.{Mark}
-use Rattle.radio_replay.specs.Damage.{struck}
+use Rattle.radio_replay.specs.Damage.{damaged_packet}
 use Rattle.pair_world.specs.History.{aired}
 use Rattle.pair_world.specs.Run.{Given, Flight, flights, fate_at, mark_of, verdict_of}
 
@@ -22,7 +22,7 @@ pub record IsAired (given : Given) (history : List Entry) (side : Side) (channel
   -- the verdict is that of the other side
   pub verdict_is : verdict ≡ verdict_of given history flight
   -- what is judged good was not changed
-  pub unchanged : verdict ≡ Good → struck (fate_at given history) octets ≡ octets
+  pub unchanged : verdict ≡ Good → damaged_packet (fate_at given history) octets ≡ octets
 
 -- after this history the next packet, at this place of its turn, counted from 1, is changed by its fate into what would be judged good
 pub record IsUnseenNext (given : Given) (history : List Entry) (packet : ℕ) (sent heard : List ℕ) : Type 0 where
@@ -32,7 +32,7 @@ pub record IsUnseenNext (given : Given) (history : List Entry) (packet : ℕ) (s
   pub packet_is : packet ≡ aired history + 1
   pub sent_is : sent ≡ flight.octets
   -- what is heard is what its fate, the next of the turn, leaves of it
-  pub heard_is : heard ≡ struck (fate_at given history) sent
+  pub heard_is : heard ≡ damaged_packet (fate_at given history) sent
   pub differs : heard ≢ sent
   -- and the verdict of the other side on it is good
   pub verdict_is : verdict_of given history flight ≡ Good

@@ -6,7 +6,7 @@ use Rattle.ble_base.specs.declared.notes.Note.TheVariants.{Up as Told}
 use Rattle.journal.specs.declared.entries.Entry.{Entry}
 use Rattle.journal.specs.declared.entries.Entry.TheVariants.{Fed, Up, Air}
 use Rattle.radio_replay.specs.declared.fates.Fate.{Fate}
-use Rattle.radio_replay.specs.Damage.{struck}
+use Rattle.radio_replay.specs.Damage.{damaged_packet}
 use Rattle.controller.specs.declared.intents.Intent.{Intent}
 use Rattle.controller.specs.declared.intents.Intent.TheVariants.{Send, Listen, Idle}
 use Rattle.controller.specs.Past.{Input, Given, Heard, view_of, told_from}
@@ -48,12 +48,12 @@ pub data Flying : Type 0 where
 
 abbrev pub flying_with : Fate → Side → ℕ → List ℕ → Verdict → Flying
 flying_with fate side channel octets verdict =
-    if is_unseen fate octets verdict then Stopped octets (struck fate octets)
+    if is_unseen fate octets verdict then Stopped octets (damaged_packet fate octets)
     else Flew (Air side channel octets (mark_of fate) verdict ∷ []) (is_good verdict)
 
 abbrev pub flying : Fate → Side → Intent → Option ℕ → Flying
 flying fate side (Send channel packet) listened =
-    flying_with fate side channel packet.items (verdict_at listened channel (is_lost fate) (struck fate packet.items))
+    flying_with fate side channel packet.items (verdict_at listened channel (is_lost fate) (damaged_packet fate packet.items))
 flying fate side (Listen channel) listened = Flew [] false
 flying fate side Idle listened = Flew [] false
 

@@ -13,7 +13,7 @@ use Rattle.journal.specs.declared.entries.Mark.{Mark}
 use Rattle.journal.specs.declared.entries.Mark.TheVariants.{Pass as Passed, Lost as WasLost, Damage as Damaged}
 use Rattle.radio_replay.specs.declared.fates.Fate.{Fate}
 use Rattle.radio_replay.specs.declared.fates.Fate.TheVariants.{Pass, Lost, Damage}
-use Rattle.radio_replay.specs.Damage.{struck}
+use Rattle.radio_replay.specs.Damage.{damaged_packet}
 use Rattle.radio_replay.specs.Script.{Script, fate_of}
 use Rattle.radio_replay.specs.Script.{Turn as Plan}
 use Rattle.controller.specs.declared.intents.Intent.{Intent}
@@ -119,7 +119,7 @@ verdict_at (Some listened) channel lost octets =
 abbrev pub verdict_of : Given → List Entry → Flight → Verdict
 verdict_of given history flight =
     verdict_at (listened (intent_at given (other_side flight.side) flight.phase history)) flight.channel (is_lost (fate_at given history))
-    (struck (fate_at given history) flight.octets)
+    (damaged_packet (fate_at given history) flight.octets)
 
 abbrev pub is_good : Verdict → Bool
 is_good Good = true
@@ -129,7 +129,7 @@ is_good Forged = false
 
 -- a changed packet is judged good
 abbrev pub is_unseen : Fate → List ℕ → Verdict → Bool
-is_unseen fate octets verdict = is_good verdict && not (bytes_eq (struck fate octets) octets)
+is_unseen fate octets verdict = is_good verdict && not (bytes_eq (damaged_packet fate octets) octets)
 
 -- a fate as the journal writes it
 abbrev pub mark_of : Fate → Mark
@@ -177,7 +177,7 @@ fed_or side (octet ∷ octets) otherwise = Next (Fed side (octet ∷ octets))
 
 abbrev pub flown : Fate → ℕ → Flight → Verdict → Due
 flown fate packet flight verdict =
-    if is_unseen fate flight.octets verdict then Unseen (packet + 1) flight.octets (struck fate flight.octets)
+    if is_unseen fate flight.octets verdict then Unseen (packet + 1) flight.octets (damaged_packet fate flight.octets)
     else Next (Air flight.side flight.channel flight.octets (mark_of fate) verdict)
 
 abbrev pub flight_or : Given → List Entry → Option Flight → Due → Due

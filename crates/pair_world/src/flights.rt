@@ -5,7 +5,7 @@ ghost use Rattle.controller.specs.Past.{Input, view_of, intent_of};
 ghost use Rattle.controller.specs.State.{acting, listened};
 ghost use Rattle.radio_replay.specs.Script.{fate_of};
 ghost use Rattle.radio_replay.specs.Script.{Turn as Plan};
-ghost use Rattle.radio_replay.specs.Damage.{struck};
+ghost use Rattle.radio_replay.specs.Damage.{damaged_packet};
 ghost use Rattle.pair_world.specs.Run.{is_lost, mark_of, verdict_at};
 ghost use Rattle.pair_world.specs.Pieces.{flying, count_of, heard_of, HasFlown, IsStop};
 
@@ -42,12 +42,12 @@ fn mark(alloc: Global, fate: &Fate) -> Result<Mark, AllocError>
 }
 
 /// The octets of a packet after its fate.
-fn struck(fate: &Fate, sent: &ArrayVec<u8, 264>) -> ArrayVec<u8, 264>
-    ensures { result.items ≡ struck fate.now sent.now.items }
+fn damaged_packet(fate: &Fate, sent: &ArrayVec<u8, 264>) -> ArrayVec<u8, 264>
+    ensures { result.items ≡ damaged_packet fate.now sent.now.items }
 {
     let mut octets = ArrayVec::new();
     let _ = octets.try_extend_from_slice(sent.as_slice());
-    fate.strike(octets.as_mut_slice());
+    fate.damage_packet(octets.as_mut_slice());
     octets
 }
 
@@ -109,7 +109,7 @@ pub(crate) fn fly(
         return Ok(false);
     };
     let fate = turn.schedule.fate(turn.number, turn.packets);
-    let heard = struck(&fate, octets);
+    let heard = damaged_packet(&fate, octets);
     let verdict = judge(listener, listens, &fate, *channel, heard.as_slice());
     if verdict == Verdict::Good && heard.as_slice() != octets.as_slice() {
         return Err(Stop::Unseen {
