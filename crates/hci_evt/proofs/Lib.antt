@@ -1,2 +1,2 @@
 pub mod Packet
-pub mod Rows
+pub mod RoundTrip

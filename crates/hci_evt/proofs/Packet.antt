@@ -1,32 +1,59 @@
--- The parts of a packet, one behind another.
-use Rattle.std.proofs.Common.{◌≡◌, ℕ, List, [], ◌∷◌, ◌++◌, ◌<◌, length, get_or, refl, sym, ◌∙◌, append_assoc, arith}
-use Rattle.wire_fields.specs.Field.{spelled, AllFit}
+-- The parts of a packet, one after another, and the event that a packet is.
+use Rattle.std.proofs.Common.{◌≡◌, ℕ, List, [], ◌∷◌, ◌++◌, ◌<◌, ◌≤◌, length, take, drop, ◌-◌, get_or, Option, Some, None, refl, sym, ap, ◌∙◌, append_assoc, inl, inr, arith}
+use Rattle.std.proofs.lemmas.Bool.Decides.{eqb_tells}
+use Rattle.std.proofs.Math.Seq.{take-length}
+use Rattle.std.specs.Prelude.{IfSome, IfNone}
+use Rattle.wire_fields.specs.Field.{little_endian, spelled, AllFit}
 use Rattle.wire_fields.proofs.Spelling.{octet_then}
 use Rattle.hci_evt.specs.Event.{code_of, parameters_of, packet_of, IsEvent, Spells, written}
-use Rattle.hci_evt.specs.Length.{IsPacket}
+use Rattle.hci_evt.specs.Reading.{event_in, event_of, IsPacket}
 use Rattle.hci_evt.specs.declared.event.Event.{Event}
-use Rattle.hci_evt.proofs.Rows.{has_length}
+use Rattle.hci_evt.proofs.RoundTrip.{parameters_read}
 
 pub four_parts : (a b c d n p q r s : List ℕ) → n ≡ [] → p ≡ n ++ a → q ≡ p ++ b → r ≡ q ++ c → s ≡ r ++ d → s ≡ a ++ (b ++ (c ++ d))
 four_parts a b c d n p q r s none first second third fourth =
     fourth ∙ rw (third, second, first, none) (simp append_assoc)
 
--- an event whose packet these octets are
-pub packet_of_event : (octets : List ℕ) (event : Event) → IsEvent event → octets ≡ written event → IsPacket octets (code_of event) (spelled (parameters_of event))
-packet_of_event octets event is_event whole =
-    let header : written event ≡ 4 ∷ code_of event ∷ length (spelled (parameters_of event)) ∷ spelled (parameters_of event) =
-    rw (octet_then 4 _ is_event.0.0, octet_then (code_of event) _ is_event.0.1.0, octet_then _ _ is_event.0.1.1.0) refl in
-    record {
-      whole = whole ∙ header;
-      len = has_length event is_event.0.1.1.1 is_event.1;
-      short = omega (arith, is_event.0.1.1.0);
-    }
+header_is : (event : Event) → IsEvent event → written event ≡ 4 ∷ code_of event ∷ length (spelled (parameters_of event)) ∷ spelled (parameters_of event)
+header_is event is =
+    octet_then 4 _ is.0.0
+    ∙ ap (λ (rest : List ℕ). 4 ∷ rest) (octet_then (code_of event) _ is.0.1.0
+    ∙ ap (λ (rest : List ℕ). code_of event ∷ rest) (octet_then (length (spelled (parameters_of event))) _ is.0.1.1.0))
 
--- the two packets are one
-pub same_parts : (octets : List ℕ) (code other_code : ℕ) (parameters other : List ℕ) → IsPacket octets code parameters → IsPacket octets other_code other → (code ≡ other_code) × (parameters ≡ other)
-same_parts octets code other_code parameters other mine its =
-    let e : 4 ∷ code ∷ length parameters ∷ parameters ≡ 4 ∷ other_code ∷ length other ∷ other = sym mine.whole ∙ its.whole in
-    (cc, cc)
+packet_read : (code : ℕ) (parameters : List ℕ) → event_of (4 ∷ code ∷ length parameters ∷ parameters) ≡ event_in code parameters
+unfolding event_of
+packet_read code parameters =
+    elim (eqb_tells (length parameters) (length parameters)) [ inl same ↦ rw same.0 refl | inr other ↦ absurd (other.1 refl) ]
+
+-- an event is read from its packet
+pub written_read : (event : Event) → IsEvent event → event_of (written event) ≡ Some event
+written_read event is =
+    ap event_of (header_is event is) ∙ packet_read (code_of event) (spelled (parameters_of event)) ∙ parameters_read event is.0.1.1.1 is.1
+
+-- octets that are not a packet are not read
+not_four : (indicator code count : ℕ) (parameters : List ℕ) → ((i : ℕ) → get_or (indicator ∷ code ∷ count ∷ parameters) i 0 < 256)
+    → ((other_code : ℕ) (other : List ℕ) → IsPacket (indicator ∷ code ∷ count ∷ parameters) other_code other → ⊥) → event_of (indicator ∷ code ∷ count ∷ parameters) ≡ None
+unfolding event_of
+not_four indicator code count parameters bytes others =
+    elim (eqb_tells indicator 4) [
+      | inl four ↦ elim (eqb_tells (length parameters) count) [
+        | inl same ↦
+            let small : count < 256 = bytes 2 in
+            absurd (others code parameters (record { whole = λ i. four.1 i ∷ code ∷ sym same.1 i ∷ parameters; short = omega arith }))
+        | inr other ↦ rw (four.0, other.0) refl
+      ]
+      | inr other ↦ rw other.0 refl
+    ]
+
+pub not_packet : (octets : List ℕ) → ((i : ℕ) → get_or octets i 0 < 256) → ((code : ℕ) (parameters : List ℕ) → IsPacket octets code parameters → ⊥) → event_of octets ≡ None
+unfolding event_of
+not_packet [] bytes others = refl
+not_packet (indicator ∷ []) bytes others = refl
+not_packet (indicator ∷ code ∷ []) bytes others = refl
+not_packet (indicator ∷ code ∷ count ∷ parameters) bytes others = not_four indicator code count parameters bytes others
+
+pub packet_is : (octets : List ℕ) (code : ℕ) (parameters : List ℕ) → IsPacket octets code parameters → event_of octets ≡ event_in code parameters
+packet_is octets code parameters packet = ap event_of packet.whole ∙ packet_read code parameters
 
 -- what is read is the event whose packet it is
 pub read_is_event : (octets : List ℕ) (event : Event) (code : ℕ) (parameters : List ℕ) → ((i : ℕ) → get_or octets i 0 < 256) → IsPacket octets code parameters → Spells event code parameters → IsEvent event × (octets ≡ written event)
@@ -35,6 +62,29 @@ read_is_event octets event code parameters bytes packet spells =
     let code_fits : code_of event < 256 = rw spells.code_is (rw (← code_octet) (bytes 1)) in
     let len_fits : length (spelled (parameters_of event)) < 256 = rw spells.parameters_are (omega (arith, packet.short)) in
     let fits : AllFit (packet_of event) = (omega arith, (code_fits, (len_fits, spells.fits))) in
-    let header : written event ≡ 4 ∷ code_of event ∷ length (spelled (parameters_of event)) ∷ spelled (parameters_of event) =
-    rw (octet_then 4 _ fits.0, octet_then (code_of event) _ code_fits, octet_then _ _ len_fits) refl in
-    ((fits, spells.room), packet.whole ∙ sym (header ∙ rw (spells.code_is, spells.parameters_are) refl))
+    ((fits, spells.room), packet.whole ∙ sym (header_is event (fits, spells.room) ∙ rw (spells.code_is, spells.parameters_are) refl))
+
+pub some_is_event : (octets : List ℕ) (found : Option Event) (code : ℕ) (parameters : List ℕ) → ((i : ℕ) → get_or octets i 0 < 256) → IsPacket octets code parameters → IfSome found (λ event. Spells event code parameters) → IfSome found (λ event. IsEvent event × (octets ≡ written event))
+some_is_event octets None code parameters bytes packet spells = tt
+some_is_event octets (Some event) code parameters bytes packet spells = read_is_event octets event code parameters bytes packet spells
+
+pub only_is : (octets : List ℕ) (event : Event) → IsEvent event → octets ≡ written event → event_of octets ≡ Some event
+only_is octets event is whole = ap event_of whole ∙ written_read event is
+
+pub none_is : (octets : List ℕ) (found : Option Event) → found ≡ event_of octets → IfNone found ((event : Event) → IsEvent event → octets ≡ written event → ⊥)
+none_is octets None read = λ event is whole. let e : None ≡ Some event = read ∙ only_is octets event is whole in cc
+none_is octets (Some event) read = tt
+
+-- the first octet, and the slice after it
+pub first_and_rest : (octets rest : List ℕ) → 1 ≤ length octets → rest ≡ take (length octets - 1) (drop 1 octets) → octets ≡ get_or octets 0 0 ∷ rest
+first_and_rest [] rest some is = absurd (omega arith)
+first_and_rest (x ∷ octets) rest some is =
+    let count : length (x ∷ octets) - 1 ≡ length octets = omega arith in
+    ap (λ (s : List ℕ). x ∷ s) (sym (is ∙ ap (λ (k : ℕ). take k octets) count ∙ take-length octets))
+
+-- the parameters of an LE meta event begin with its subevent code
+pub le_some : (found : Option Event) (code subevent : ℕ) (rest whole : List ℕ) → subevent < 256 → code ≡ 0x3E → whole ≡ subevent ∷ rest
+    → IfSome found (λ event. Spells event 0x3E (little_endian 1 subevent ++ rest)) → IfSome found (λ event. Spells event code whole)
+le_some None code subevent rest whole small is_le is spells = tt
+le_some (Some event) code subevent rest whole small is_le is spells =
+    record { code_is = spells.code_is ∙ sym is_le; parameters_are = spells.parameters_are ∙ octet_then subevent rest small ∙ sym is; fits = spells.fits; room = spells.room }

@@ -1,2 +1,2 @@
 pub mod Event
-pub mod Length
+pub mod Reading

@@ -1,16 +1,15 @@
-//! The events of the controller.
+//! The events of the controller, and the bits that mask them.
 use arrayvec::ArrayVec;
 
-/// What stands before an event packet (Core 5.2, volume 4 part A, section 2).
+/// The octet before an event packet (Core 5.2, volume 4 part A, section 2).
 pub(crate) const INDICATOR: u8 = 4;
 
 /// An event with its parameters (Core 5.2, volume 4 part E, section 7.7).
 ///
-/// The fields of a variant are the parameters in the order in which they stand in the packet.
-/// Numbers stand with the least significant octet first, and so do addresses: `peer[0]` is the
-/// least significant octet. A number of entries that is always 1 is no field. A `status`, `reason` or
-/// hardware `code` is any octet, a `latency` is in connection events, and kinds of addresses are codes of
-/// the standard.
+/// The fields of a variant are the parameters in the order of the packet. Numbers and addresses
+/// have the least significant octet first: `peer[0]` is the least significant octet. A number of
+/// entries that is always 1 is not a field. A `status`, `reason` or hardware `code` is any octet, a
+/// `latency` is in connection events, and kinds of addresses are codes of the standard.
 #[derive(PartialEq, Eq, Debug, Drop)]
 pub enum Event {
     /// Disconnection Complete (section 7.7.5).
@@ -33,20 +32,20 @@ pub enum Event {
         company: u16,
         sub: u16,
     },
-    /// Command Complete (section 7.7.14). `number` is how many commands the host may send, `fields`
-    /// the return parameters.
+    /// Command Complete (section 7.7.14). `number` is the number of commands that the host
+    /// may send, `fields` the return parameters.
     CommandComplete {
         number: u8,
         opcode: u16,
         fields: ArrayVec<u8, 252>,
     },
-    /// Command Status (section 7.7.15). `number` is how many commands the host may send.
+    /// Command Status (section 7.7.15). `number` is the number of commands that the host may send.
     CommandStatus {
         status: u8,
         number: u8,
         opcode: u16,
     },
-    /// Hardware Error (section 7.7.16), with a code that is the controller's own.
+    /// Hardware Error (section 7.7.16), with a code that the controller chooses.
     HardwareError {
         code: u8,
     },

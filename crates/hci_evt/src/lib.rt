@@ -1,10 +1,11 @@
-//! The events that a controller gives its host: their packets, read and written, and the bits that mask them.
+//! The events that a controller gives its host: their packets, read and written, and the bits that
+//! mask them.
 #![tactic(auto)]
 
 mod event;
-mod length;
 mod mask;
 mod reading;
+mod rows;
 mod writing;
 
 pub use event::{Event, MaskBit};

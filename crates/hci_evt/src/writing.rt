@@ -4,11 +4,11 @@ ghost use Rattle.wire_fields.specs.Field.{appended, AllFit};
 ghost use Rattle.hci_evt.specs.Event.{code_of, parameters_of, written, IsEvent, IsWithinCapacity};
 
 use crate::event::{Event, INDICATOR};
+use crate::rows::event_rows;
 use arrayvec::ArrayVec;
 use wire_fields::{put_octets, put_u8, put_u16, put_u64};
 
-/// Appends one field, by its kind: `rest` is octets to the end, and `sized` octets have their number
-/// before them.
+/// Appends one field, by its kind.
 macro_rules! put {
     ($packet:ident u8 $field:ident) => {
         put_u8(&mut $packet, *$field)
@@ -19,30 +19,68 @@ macro_rules! put {
     ($packet:ident u64 $field:ident) => {
         put_u64(&mut $packet, *$field)
     };
-    ($packet:ident octets $field:ident) => {
+    ($packet:ident [$count:literal] $field:ident) => {
         put_octets(&mut $packet, $field)
-    };
-    ($packet:ident rest $field:ident) => {
-        put_octets(&mut $packet, $field.as_slice())
-    };
-    ($packet:ident sized $field:ident) => {
-        put_u8(&mut $packet, $field.len() as u8);
-        put_octets(&mut $packet, $field.as_slice())
     };
 }
 
-/// Appends the fields of an event. Each row has an event, the octets that always stand first, and the
-/// fields in order.
+/// Appends the fields of an event, and before those of an LE meta event its subevent code.
 macro_rules! put_rows {
     (
-        $event:ident, $packet:ident;
-        $($name:ident [$($lead:literal)*]: $($kind:ident $field:ident),*;)*
+        $packet:ident $event:ident;
+        masked { $($name:ident $code:literal $bit:literal: $($kind:tt $field:ident),*;)* }
+        unmasked { $($status:ident $status_code:literal: $($status_kind:tt $status_field:ident),*;)* }
+        le { $($le_name:ident $subevent:literal $le_bit:literal: $($le_kind:tt $le_field:ident),*;)* }
     ) => {
         match $event {
             $(Event::$name { $($field),* } => {
-                $(put_u8(&mut $packet, $lead);)*
                 $(put!($packet $kind $field);)*
             })*
+            $(Event::$status { $($status_field),* } => {
+                $(put!($packet $status_kind $status_field);)*
+            })*
+            $(Event::$le_name { $($le_field),* } => {
+                put_u8(&mut $packet, $subevent);
+                $(put!($packet $le_kind $le_field);)*
+            })*
+            Event::CommandComplete { number, opcode, fields } => {
+                put_u8(&mut $packet, *number);
+                put_u16(&mut $packet, *opcode);
+                put_octets(&mut $packet, fields.as_slice());
+            }
+            Event::CompletedPackets { handle, count } => {
+                put_u8(&mut $packet, 1);
+                put_u16(&mut $packet, *handle);
+                put_u16(&mut $packet, *count);
+            }
+            Event::AdvertisingReport { kind, address_kind, address, octets, rssi } => {
+                put_u8(&mut $packet, 0x02);
+                put_u8(&mut $packet, 1);
+                put_u8(&mut $packet, *kind);
+                put_u8(&mut $packet, *address_kind);
+                put_octets(&mut $packet, address);
+                put_u8(&mut $packet, octets.len() as u8);
+                put_octets(&mut $packet, octets.as_slice());
+                put_u8(&mut $packet, *rssi);
+            }
+        }
+    };
+}
+
+/// The code of each row, and of the events that are no row.
+macro_rules! codes {
+    (
+        $event:ident;
+        masked { $($name:ident $code:literal $bit:literal: $($kind:tt $field:ident),*;)* }
+        unmasked { $($status:ident $status_code:literal: $($status_kind:tt $status_field:ident),*;)* }
+        le { $($rest:tt)* }
+    ) => {
+        match $event {
+            $(Event::$name { .. } => $code,)*
+            $(Event::$status { .. } => $status_code,)*
+            Event::CommandComplete { .. } => 0x0E,
+            Event::CompletedPackets { .. } => 0x13,
+            _ => 0x3E,
         }
     };
 }
@@ -54,31 +92,7 @@ fn parameters(event: &Event) -> ArrayVec<u8, 255>
     ensures room { IsWithinCapacity event.now }
 {
     let mut packet = ArrayVec::new();
-    put_rows! {
-        event, packet;
-        DisconnectionComplete []: u8 status, u16 handle, u8 reason;
-        EncryptionChange []: u8 status, u16 handle, u8 enabled;
-        RemoteVersion []: u8 status, u16 handle, u8 version, u16 company, u16 sub;
-        CommandComplete []: u8 number, u16 opcode, rest fields;
-        CommandStatus []: u8 status, u8 number, u16 opcode;
-        HardwareError []: u8 code;
-        CompletedPackets [1]: u16 handle, u16 count;
-        BufferOverflow []: u8 link_kind;
-        KeyRefresh []: u8 status, u16 handle;
-        ConnectionComplete [0x01]: u8 status, u16 handle, u8 role, u8 peer_kind, octets peer,
-            u16 interval, u16 latency, u16 timeout, u8 accuracy;
-        AdvertisingReport [0x02 1]: u8 kind, u8 address_kind, octets address, sized octets, u8 rssi;
-        UpdateComplete [0x03]: u8 status, u16 handle, u16 interval, u16 latency, u16 timeout;
-        RemoteFeatures [0x04]: u8 status, u16 handle, u64 features;
-        KeyRequest [0x05]: u16 handle, u64 rand, u16 ediv;
-        ParamRequest [0x06]: u16 handle, u16 min, u16 max, u16 latency, u16 timeout;
-        LengthChange [0x07]: u16 handle, u16 tx_octets, u16 tx_time, u16 rx_octets, u16 rx_time;
-        EnhancedConnection [0x0A]: u8 status, u16 handle, u8 role, u8 peer_kind, octets peer,
-            octets local_private, octets peer_private,
-            u16 interval, u16 latency, u16 timeout, u8 accuracy;
-        PhyComplete [0x0C]: u8 status, u16 handle, u8 tx, u8 rx;
-        ChannelSelection [0x14]: u16 handle, u8 algorithm;
-    }
+    event_rows!(put_rows packet event);
     packet
 }
 
@@ -86,27 +100,7 @@ fn parameters(event: &Event) -> ArrayVec<u8, 255>
 fn code(event: &Event) -> u8
     ensures { result ≡ code_of event.now }
 {
-    match event {
-        Event::DisconnectionComplete { .. } => 0x05,
-        Event::EncryptionChange { .. } => 0x08,
-        Event::RemoteVersion { .. } => 0x0C,
-        Event::CommandComplete { .. } => 0x0E,
-        Event::CommandStatus { .. } => 0x0F,
-        Event::HardwareError { .. } => 0x10,
-        Event::CompletedPackets { .. } => 0x13,
-        Event::BufferOverflow { .. } => 0x1A,
-        Event::KeyRefresh { .. } => 0x30,
-        Event::ConnectionComplete { .. }
-        | Event::AdvertisingReport { .. }
-        | Event::UpdateComplete { .. }
-        | Event::RemoteFeatures { .. }
-        | Event::KeyRequest { .. }
-        | Event::ParamRequest { .. }
-        | Event::LengthChange { .. }
-        | Event::EnhancedConnection { .. }
-        | Event::PhyComplete { .. }
-        | Event::ChannelSelection { .. } => 0x3E,
-    }
+    event_rows!(codes event)
 }
 
 /// The packet of the event: indicator 4, the event code, one octet of length, and the parameters
