@@ -3,7 +3,8 @@ use Rattle.std.proofs.Common.{◌≡◌, ℕ, ◌%◌, ◌<◌, ◌&&◌, List, 
 use Rattle.wire_fields.specs.Field.{little_endian, spelled}
 use Rattle.wire_fields.proofs.Spelling.{octet_then}
 use Rattle.adv_pdu.specs.declared.pdu.AdvPdu.{AdvPdu}
-use Rattle.adv_pdu.specs.Header.{header_octet, has_ch_sel, has_rx_add, is_one, kept_bits, without_ignored_bits}
+use Rattle.adv_pdu.specs.Header.{header_octet, has_ch_sel, has_rx_add, kept_bits, without_ignored_bits}
+use Rattle.ble_base.specs.Bits.{has_bit}
 use Rattle.adv_pdu.specs.Pdu.{type_of, ch_sel_of, tx_add_of, rx_add_of, payload_of, written, IsPdu}
 use Rattle.adv_pdu.specs.Reading.{is_payload_length, IsPacket, HasPacket, Spells}
 use Rattle.adv_pdu.proofs.Bits.{header_parts, kept_parts}
@@ -12,7 +13,7 @@ use Rattle.adv_pdu.proofs.Rows.{pdu_is, type_small, kept_own, has_length}
 three_parts : (a b c n p q r : List ℕ) → n ≡ [] → p ≡ n ++ a → q ≡ p ++ b → r ≡ q ++ c → r ≡ a ++ (b ++ c)
 three_parts a b c n p q r none first second third = third ∙ rw (second, first, none) (simp append_assoc)
 
--- two octets and others, put one behind another
+-- two octets and others, one after another
 pub two_and_others : (octet count : ℕ) (others n p q r : List ℕ) → octet < 256 → count < 256 → n ≡ [] → p ≡ n ++ little_endian 1 octet → q ≡ p ++ little_endian 1 count → r ≡ q ++ others → r ≡ octet ∷ count ∷ others
 two_and_others octet count others n p q r small count_small none first second third =
     three_parts (little_endian 1 octet) (little_endian 1 count) others n p q r none first second third
@@ -22,7 +23,7 @@ two_and_others octet count others n p q r small count_small none first second th
 -- what is left of an octet is the header of a PDU: the parts are the same
 abbrev pub HasParts : ℕ → AdvPdu → Type 0
 HasParts octet pdu =
-    (octet % 16 ≡ type_of pdu) × ((has_ch_sel (octet % 16) && is_one octet 5) ≡ ch_sel_of pdu) × (is_one octet 6 ≡ tx_add_of pdu) × ((has_rx_add (octet % 16) && is_one octet 7) ≡ rx_add_of pdu)
+    (octet % 16 ≡ type_of pdu) × ((has_ch_sel (octet % 16) && has_bit octet 5) ≡ ch_sel_of pdu) × (has_bit octet 6 ≡ tx_add_of pdu) × ((has_rx_add (octet % 16) && has_bit octet 7) ≡ rx_add_of pdu)
 
 pub has_parts : (octet : ℕ) (pdu : AdvPdu) → kept_bits octet ≡ header_octet (type_of pdu) (ch_sel_of pdu) (tx_add_of pdu) (rx_add_of pdu) → HasParts octet pdu
 has_parts octet pdu e =
@@ -43,7 +44,7 @@ packet_of_pdu (first ∷ rest) pdu good e =
     )
 
 -- what is read is the PDU whose octets they are
-pub read_is_pdu : (octets : List ℕ) (pdu : AdvPdu) (first : ℕ) (payload : List ℕ) → IsPacket octets first payload → Spells pdu (first % 16) (is_one first 5) (is_one first 6) (is_one first 7) payload → IsPdu pdu × (without_ignored_bits octets ≡ written pdu)
+pub read_is_pdu : (octets : List ℕ) (pdu : AdvPdu) (first : ℕ) (payload : List ℕ) → IsPacket octets first payload → Spells pdu (first % 16) (has_bit first 5) (has_bit first 6) (has_bit first 7) payload → IsPdu pdu × (without_ignored_bits octets ≡ written pdu)
 read_is_pdu octets pdu first payload packet spells =
     let left : without_ignored_bits octets ≡ kept_bits first ∷ length payload ∷ payload = ap without_ignored_bits packet.whole in
     let right : kept_bits first ∷ length payload ∷ payload ≡ written pdu =
@@ -51,7 +52,7 @@ read_is_pdu octets pdu first payload packet spells =
     (spells.is_pdu, left ∙ right)
 
 -- and no other
-pub read_is_only : (octets : List ℕ) (pdu other : AdvPdu) (first : ℕ) (payload : List ℕ) → IsPacket octets first payload → Spells pdu (first % 16) (is_one first 5) (is_one first 6) (is_one first 7) payload → IsPdu other → without_ignored_bits octets ≡ written other → pdu ≡ other
+pub read_is_only : (octets : List ℕ) (pdu other : AdvPdu) (first : ℕ) (payload : List ℕ) → IsPacket octets first payload → Spells pdu (first % 16) (has_bit first 5) (has_bit first 6) (has_bit first 7) payload → IsPdu other → without_ignored_bits octets ≡ written other → pdu ≡ other
 read_is_only octets pdu other first payload packet spells good e =
     let whole : kept_bits first ∷ length payload ∷ payload ≡ written other = sym (ap without_ignored_bits packet.whole) ∙ e in
     let head : kept_bits first ≡ header_octet (type_of other) (ch_sel_of other) (tx_add_of other) (rx_add_of other) = cc in

@@ -1,4 +1,4 @@
--- The row of the table of PDUs that a type stands for: what shape its payload has, and the PDU that the
+-- The row of a type in the table of PDUs: the shape of its payload, and the PDU that the
 -- flags and the payload make. A PDU is that of its own row, so its header and its payload determine it.
 use Rattle.std.proofs.Common.{◌≡◌, ℕ, ◌+◌, ◌-◌, ◌*◌, ◌/◌, ◌%◌, ◌<◌, Bool, false, cond, List, [], ◌∷◌, length, nat_eq, IsTrue, refl, sym, ap, subst, ◌∙◌, arith}
 use Rattle.std.proofs.lemmas.Bool.Decides.{nat_tests}
@@ -54,15 +54,15 @@ own_row pdu = row_of (type_of pdu) (ch_sel_of pdu) (tx_add_of pdu) (rx_add_of pd
 abbrev HasRow : AdvPdu → Type 0
 HasRow pdu = (spelling.shape (payload_of pdu) ≡ (own_row pdu).shape) × ((own_row pdu).pdu (payload_of pdu) ≡ pdu)
 
--- what stands behind one address
+-- what is after one address
 body_shape : (address body : List ℕ) → length address ≡ 6 → octets 6 [] ∷ octets (length body) [] ∷ [] ≡ one_address (spelled (octets 6 address ∷ octets (length body) body ∷ []))
 body_shape address body six =
     let len : length body ≡ length (spelled (octets 6 address ∷ octets (length body) body ∷ [])) - 6 =
-    length-behind address body six in
+    length-after address body six in
     ap (λ (k : ℕ). octets 6 [] ∷ octets k [] ∷ []) len
   where
-    length-behind : (address body : List ℕ) → length address ≡ 6 → length body ≡ length (spelled (octets 6 address ∷ octets (length body) body ∷ [])) - 6
-    length-behind address body six = omega (arith, length-append address (spelled (octets (length body) body ∷ [])), length-append body [])
+    length-after : (address body : List ℕ) → length address ≡ 6 → length body ≡ length (spelled (octets 6 address ∷ octets (length body) body ∷ [])) - 6
+    length-after address body six = omega (arith, length-append address (spelled (octets (length body) body ∷ [])), length-append body [])
 
 has_row : (pdu : AdvPdu) → IsPdu pdu → HasRow pdu
 unfolding row_of

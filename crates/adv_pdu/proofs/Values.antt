@@ -1,15 +1,16 @@
 -- The PDU that octets are, by its definition.
-use Rattle.std.proofs.Common.{◌≡◌, ℕ, zero, suc, ◌+◌, ◌*◌, ◌/◌, ◌%◌, ◌<◌, ◌^◌, ◌==◌, ◌&&◌, Bool, true, false, IsTrue, Option, Some, None, List, [], ◌∷◌, ◌++◌, length, take, drop, slice_index, get_or, refl, ap, sym, subst, ◌∙◌, drop-drop, arith}
+use Rattle.std.proofs.Common.{◌≡◌, ℕ, suc, ◌+◌, ◌*◌, ◌/◌, ◌%◌, ◌<◌, ◌^◌, ◌==◌, ◌&&◌, Bool, true, false, IsTrue, Option, Some, None, List, [], ◌∷◌, ◌++◌, length, take, drop, slice_index, get_or, refl, ap, sym, subst, ◌∙◌, drop-drop, arith}
 use Rattle.std.proofs.lemmas.Bool.{eqb-true}
 use Rattle.std.proofs.lemmas.Bool.Decides.{nat_tests}
 use Rattle.std.proofs.lemmas.List.{drop_at, get_or-drop, take_at}
 use Rattle.wire_fields.specs.Field.{little_endian, spelled, AllFit, number_of}
-use Rattle.wire_fields.proofs.LittleEndian.{length-little_endian}
+use Rattle.wire_fields.proofs.LittleEndian.{length-little_endian, number_of-little_endian}
 use Rattle.wire_fields.proofs.Spelling.{octet_then}
 use Rattle.adv_pdu.specs.declared.pdu.ConnectFields.{ConnectFields}
 use Rattle.adv_pdu.specs.declared.pdu.AdvPdu.{AdvPdu}
 use Rattle.adv_pdu.specs.declared.pdu.AdvPdu.TheVariants.{Ind, Direct, Nonconn, ScanReq, ScanRsp, Connect, ScanInd}
-use Rattle.adv_pdu.specs.Header.{header_octet, is_one}
+use Rattle.adv_pdu.specs.Header.{header_octet}
+use Rattle.ble_base.specs.Bits.{has_bit}
 use Rattle.adv_pdu.specs.Pdu.{type_of, ch_sel_of, tx_add_of, rx_add_of, link_fields_of, payload_of, written, IsPdu, IsWithinBits}
 use Rattle.adv_pdu.specs.Reading.{is_payload_length, is_adv_pdu, link_in, number_at, pdu_of_type, read_of, HasPacket, IsPacket, IsReading, Spells}
 use Rattle.adv_pdu.proofs.Octets.{has_parts, packet_of_pdu, written_kept}
@@ -53,17 +54,7 @@ none_is_read octets none =
 
 -- ---- numbers
 
-quotient_fits : (n x : ℕ) → x < 256 ^ suc n → x / 256 < 256 ^ n
-quotient_fits n x fits = omega arith
-
-number_of-little_endian : (n x : ℕ) → x < 256 ^ n → number_of (little_endian n x) ≡ x
-unfolding little_endian
-number_of-little_endian zero x fits = omega arith
-number_of-little_endian (suc n) x fits =
-    let rest : number_of (little_endian n (x / 256)) ≡ x / 256 = number_of-little_endian n (x / 256) (quotient_fits n x fits) in
-    omega (arith, rest)
-
--- a number that stands first, and what is behind it
+-- a number at a place, and what is after it
 first_number : (count x place : ℕ) (octets rest : List ℕ) → x < 256 ^ count → drop place octets ≡ little_endian count x ++ rest
     → (number_at place count octets ≡ x) × (drop (place + count) octets ≡ rest)
 first_number count x place octets rest fits is = (
@@ -71,7 +62,7 @@ first_number count x place octets rest fits is = (
   sym (drop-drop count place octets) ∙ ap (drop count) is ∙ drop_at (little_endian count x) rest count (length-little_endian count x),
 )
 
--- the octet at a place, by what stands from there on
+-- the octet at a place, by the octets from there on
 octet_at : (x place : ℕ) (octets rest : List ℕ) → x < 256 → drop place octets ≡ little_endian 1 x ++ rest → slice_index octets place ≡ x
 octet_at x place octets rest small is =
     let same : place ≡ place + 0 = omega arith in
@@ -115,34 +106,34 @@ link_is octets fields bits fits is =
 
 -- ---- each type
 
-of_type : (octets : List ℕ) (kind : ℕ) (told : Option AdvPdu) → is_adv_pdu octets ≡ true → kind ≡ slice_index octets 0 % 16
-    → told ≡ pdu_of_type kind octets → told ≡ read_of octets
+of_type : (octets : List ℕ) (kind : ℕ) (found : Option AdvPdu) → is_adv_pdu octets ≡ true → kind ≡ slice_index octets 0 % 16
+    → found ≡ pdu_of_type kind octets → found ≡ read_of octets
 unfolding read_of
-of_type octets kind told whole is same = rw (whole, ← is) same
+of_type octets kind found whole is same = rw (whole, ← is) same
 
 reading_tells : (octets : List ℕ) (pdu : AdvPdu) → IsPdu pdu → is_adv_pdu octets ≡ true → IsReading octets pdu → Some pdu ≡ read_of octets
 reading_tells octets (Ind from ch_sel body) good whole is =
     of_type octets 0 _ whole is.kind
-    (λ i. Some (Ind (record { random = is.sender.is_random i; octets = is.sender.stands i }) (is.ch_sel i) (record { items = is.body i })))
+    (λ i. Some (Ind (record { random = is.sender.is_random i; octets = is.sender.octets_are i }) (is.ch_sel i) (record { items = is.body i })))
 reading_tells octets (Direct from to ch_sel) good whole is =
     of_type octets 1 _ whole is.kind
-    (λ i. Some (Direct (record { random = is.sender.is_random i; octets = is.sender.stands i }) (record { random = is.target.is_random i; octets = is.target.stands i }) (is.ch_sel i)))
+    (λ i. Some (Direct (record { random = is.sender.is_random i; octets = is.sender.octets_are i }) (record { random = is.target.is_random i; octets = is.target.octets_are i }) (is.ch_sel i)))
 reading_tells octets (Nonconn from body) good whole is =
     of_type octets 2 _ whole is.kind
-    (λ i. Some (Nonconn (record { random = is.sender.is_random i; octets = is.sender.stands i }) (record { items = is.body i })))
+    (λ i. Some (Nonconn (record { random = is.sender.is_random i; octets = is.sender.octets_are i }) (record { items = is.body i })))
 reading_tells octets (ScanReq from to) good whole is =
     of_type octets 3 _ whole is.kind
-    (λ i. Some (ScanReq (record { random = is.sender.is_random i; octets = is.sender.stands i }) (record { random = is.target.is_random i; octets = is.target.stands i })))
+    (λ i. Some (ScanReq (record { random = is.sender.is_random i; octets = is.sender.octets_are i }) (record { random = is.target.is_random i; octets = is.target.octets_are i })))
 reading_tells octets (ScanRsp from body) good whole is =
     of_type octets 4 _ whole is.kind
-    (λ i. Some (ScanRsp (record { random = is.sender.is_random i; octets = is.sender.stands i }) (record { items = is.body i })))
+    (λ i. Some (ScanRsp (record { random = is.sender.is_random i; octets = is.sender.octets_are i }) (record { items = is.body i })))
 reading_tells octets (Connect from to ch_sel fields) good whole is =
     let link = link_is octets fields good.bits good.fits.1.1 is.link in
     of_type octets 5 _ whole is.kind
-    (λ i. Some (Connect (record { random = is.sender.is_random i; octets = is.sender.stands i }) (record { random = is.target.is_random i; octets = is.target.stands i }) (is.ch_sel i) (link i)))
+    (λ i. Some (Connect (record { random = is.sender.is_random i; octets = is.sender.octets_are i }) (record { random = is.target.is_random i; octets = is.target.octets_are i }) (is.ch_sel i) (link i)))
 reading_tells octets (ScanInd from body) good whole is =
     of_type octets 6 _ whole is.kind
-    (λ i. Some (ScanInd (record { random = is.sender.is_random i; octets = is.sender.stands i }) (record { items = is.body i })))
+    (λ i. Some (ScanInd (record { random = is.sender.is_random i; octets = is.sender.octets_are i }) (record { items = is.body i })))
 
 -- what was read is what the octets say
 pub value_is : (octets : List ℕ) (pdu : AdvPdu) → IsPdu pdu → HasPacket octets → IsReading octets pdu → Some pdu ≡ read_of octets
@@ -153,7 +144,7 @@ pub written_is_read : (pdu : AdvPdu) → IsPdu pdu → read_of (written pdu) ≡
 written_is_read pdu good =
     let first = header_octet (type_of pdu) (ch_sel_of pdu) (tx_add_of pdu) (rx_add_of pdu) in
     let parts = has_parts first pdu (kept_own pdu) in
-    let spells : Spells pdu (first % 16) (is_one first 5) (is_one first 6) (is_one first 7) (spelled (payload_of pdu)) = record {
+    let spells : Spells pdu (first % 16) (has_bit first 5) (has_bit first 6) (has_bit first 7) (spelled (payload_of pdu)) = record {
       kind_is = sym parts.0;
       ch_sel_is = sym parts.1;
       tx_add_is = sym parts.2;

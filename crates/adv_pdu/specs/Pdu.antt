@@ -1,4 +1,4 @@
--- The PDUs of the advertising channels and the octets in which they stand (Core 5.2, volume 6 part B, section 2.3).
+-- The PDUs of the advertising channels and their octets (Core 5.2, volume 6 part B, section 2.3).
 use Rattle.std.specs.Prelude.{ℕ, ◌+◌, ◌*◌, ◌<◌, ◌≤◌, ◌^◌, Bool, false, List, [], ◌∷◌, length, Option, Some, None, ⊤}
 use Rattle.ble_base.specs.declared.addresses.Address.{Address}
 use Rattle.wire_fields.specs.Field.{Field, number, octets, spelled, AllFit}
@@ -34,7 +34,7 @@ sender_of (ScanRsp from body) = from
 sender_of (Connect from to ch_sel fields) = from
 sender_of (ScanInd from body) = from
 
--- the address of the one that is meant, where the type has one
+-- the address of the device that the PDU is for, where the type has one
 abbrev pub target_of : AdvPdu → Option Address
 target_of (Direct from to ch_sel) = Some to
 target_of (ScanReq from to) = Some to
@@ -58,15 +58,15 @@ link_of other = None
 abbrev pub tx_add_of : AdvPdu → Bool
 tx_add_of pdu = (sender_of pdu).random
 
--- RxAdd: the address of the one that is meant is random; 0 where the type has none
+-- RxAdd: the address of the device that the PDU is for is random; 0 where the type has none
 abbrev pub rx_add_of : AdvPdu → Bool
 rx_add_of (Direct from to ch_sel) = to.random
 rx_add_of (ScanReq from to) = to.random
 rx_add_of (Connect from to ch_sel fields) = to.random
 rx_add_of other = false
 
--- the fields of the LLData of a CONNECT_IND; Hop stands in the 5 low bits of the last octet, and SCA in
--- the 3 high bits (Core 5.2, volume 6 part B, section 2.3.3.1)
+-- the fields of the LLData of a CONNECT_IND; Hop is in the 5 low bits of the last octet, and SCA in the
+-- 3 high bits (Core 5.2, volume 6 part B, section 2.3.3.1)
 abbrev pub link_fields_of : ConnectFields → List Field
 link_fields_of fields =
     number 4 fields.access ∷ number 3 fields.crc_init ∷ number 1 fields.win_size ∷ number 2 fields.win_offset ∷ number 2 fields.interval ∷ number 2 fields.latency ∷ number 2 fields.timeout ∷ number 5 fields.map ∷ number 1 (fields.hop + 32 * fields.sca) ∷ []

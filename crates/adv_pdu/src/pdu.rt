@@ -4,11 +4,11 @@ use ble_base::Address;
 
 /// A PDU of an advertising channel (Core 5.2, volume 6 part B, section 2.3).
 ///
-/// `from` is the address of its sender, which stands first in the payload, `to` that of the device that
-/// is meant, which stands behind it: six octets each, the least significant first. Whether an address is
-/// random stands in the header: TxAdd for `from`, RxAdd for `to`. `ch_sel` is ChSel: the sender supports
-/// channel selection algorithm #2. `body` is 0 to 31 octets of advertising or scan response data, which
-/// stand behind `from`.
+/// `from` is the address of its sender, which is first in the payload, and `to` the address of the
+/// device that it is for, which is next: six octets each, the least significant first. The header
+/// says whether an address is random: TxAdd for `from`, RxAdd for `to`. `ch_sel` is ChSel: the
+/// sender supports channel selection algorithm #2. `body` is 0 to 31 octets of advertising or scan
+/// response data, after `from`.
 #[derive(Debug, PartialEq, Eq, Drop)]
 pub enum AdvPdu {
     /// ADV_IND, type 0 (section 2.3.1.1): connectable and scannable undirected advertising.
@@ -25,8 +25,8 @@ pub enum AdvPdu {
         to: Address,
         ch_sel: bool,
     },
-    /// ADV_NONCONN_IND, type 2 (section 2.3.1.3): undirected advertising, not connectable, not scannable.
-    /// Payload of 6 to 37 octets: AdvA and AdvData.
+    /// ADV_NONCONN_IND, type 2 (section 2.3.1.3): undirected advertising, not connectable, not
+    /// scannable. Payload of 6 to 37 octets: AdvA and AdvData.
     Nonconn {
         from: Address,
         body: ArrayVec<u8, 31>,
@@ -41,8 +41,8 @@ pub enum AdvPdu {
         from: Address,
         body: ArrayVec<u8, 31>,
     },
-    /// CONNECT_IND, type 5 (section 2.3.3.1). `from` is InitA, `to` is AdvA. Payload of 34 octets: both, and
-    /// the 22 of the LLData.
+    /// CONNECT_IND, type 5 (section 2.3.3.1). `from` is InitA, `to` is AdvA. Payload of 34 octets:
+    /// both, and the 22 of the LLData.
     Connect {
         from: Address,
         to: Address,
@@ -57,8 +57,8 @@ pub enum AdvPdu {
     },
 }
 
-/// The LLData of a CONNECT_IND (Core 5.2, volume 6 part B, section 2.3.3.1), in the order of the PDU:
-/// 22 octets, each number with its least significant octet first.
+/// The LLData of a CONNECT_IND (Core 5.2, volume 6 part B, section 2.3.3.1), in the order of the
+/// PDU: 22 octets, each number with its least significant octet first.
 #[derive(Clone, Copy, Debug, PartialEq, Eq, Default)]
 pub struct ConnectFields {
     /// AA, the access address of the link: 4 octets.
@@ -71,7 +71,7 @@ pub struct ConnectFields {
     pub win_offset: u16,
     /// Interval, the connection interval in units of 1.25 ms.
     pub interval: u16,
-    /// Latency, how many connection events the peripheral may leave out.
+    /// Latency, the number of connection events that the peripheral may skip.
     pub latency: u16,
     /// Timeout, the supervision timeout in units of 10 ms.
     pub timeout: u16,

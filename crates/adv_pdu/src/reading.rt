@@ -1,19 +1,20 @@
 //! PDUs, each read from its octets.
-ghost use Rattle.std.specs.Prelude.{◌≡◌, ℕ, ◌≤◌, ◌↔◌, ◌+◌, ◌++◌, Some, List, length, IfSome, IfNone, IsSome, IsTrue};
+ghost use Rattle.std.specs.Prelude.{◌≡◌, ℕ, ◌≤◌, ◌↔◌, ◌+◌, ◌%◌, ◌++◌, Some, List, length};
+ghost use Rattle.std.specs.Prelude.{IfSome, IfNone, IsSome, IsTrue};
 ghost use Rattle.wire_fields.specs.Field.{spelled, AllFit};
 ghost use Rattle.adv_pdu.specs.declared.pdu.AdvPdu.{AdvPdu};
-ghost use Rattle.adv_pdu.specs.Header.{without_ignored_bits};
+ghost use Rattle.adv_pdu.specs.Header.{number_of_type, without_ignored_bits};
 ghost use Rattle.adv_pdu.specs.Pdu.{link_fields_of, written, IsPdu, IsWithinBits};
-ghost use Rattle.adv_pdu.specs.Reading.{is_payload_length, read_of, IsPacket, HasPacket, IsReading, Spells};
+ghost use Rattle.adv_pdu.specs.Reading.{is_payload_length, read_of, IsPacket, HasPacket};
+ghost use Rattle.adv_pdu.specs.Reading.{IsReading, Spells};
 
-use crate::header::{
-    ADV_DIRECT_IND, ADV_IND, ADV_NONCONN_IND, ADV_SCAN_IND, CONNECT_IND, Header, SCAN_REQ, SCAN_RSP,
-};
+use crate::header::{Header, PduType};
 use crate::pdu::{AdvPdu, ConnectFields};
 use arrayvec::ArrayVec;
 use ble_base::Address;
 use wire_fields::{Fields, put_octets};
 
+/// The LLData of a CONNECT_IND, of 22 octets.
 fn link_fields(mut fields: Fields) -> ConnectFields
     requires { length fields ≡ 22 }
     ensures octets { spelled (link_fields_of result) ≡ fields.entry }
@@ -43,6 +44,7 @@ fn link_fields(mut fields: Fields) -> ConnectFields
     }
 }
 
+/// Advertising or scan response data: all octets that are left.
 fn body(mut fields: Fields) -> ArrayVec<u8, 31>
     requires { length fields ≤ 31 }
     ensures { result.items ≡ fields.entry }
@@ -52,6 +54,7 @@ fn body(mut fields: Fields) -> ArrayVec<u8, 31>
     body
 }
 
+/// The next address.
 fn address(random: bool, fields: &mut Fields) -> Address
     requires { 6 ≤ length fields.old }
     ensures random { result.random ≡ random }
@@ -64,65 +67,68 @@ fn address(random: bool, fields: &mut Fields) -> Address
     }
 }
 
-// The PDU with this header and this payload.
+/// The PDU with this header and this payload.
 fn pdu(header: Header, mut fields: Fields) -> AdvPdu
-    requires { IsTrue (is_payload_length header.kind (length fields)) }
-    ensures { Spells result header.kind header.ch_sel header.tx_add header.rx_add fields.entry }
+    requires { IsTrue (is_payload_length (number_of_type header.kind) (length fields)) }
+    ensures { Spells result (number_of_type header.kind) header.ch_sel header.tx_add header.rx_add
+        fields.entry }
 {
     let from = address(header.tx_add, &mut fields);
     match header.kind {
-        ADV_IND => AdvPdu::Ind {
+        PduType::AdvInd => AdvPdu::Ind {
             from,
             ch_sel: header.ch_sel,
             body: body(fields),
         },
-        ADV_DIRECT_IND => AdvPdu::Direct {
+        PduType::AdvDirectInd => AdvPdu::Direct {
             from,
             to: address(header.rx_add, &mut fields),
             ch_sel: header.ch_sel,
         },
-        ADV_NONCONN_IND => AdvPdu::Nonconn {
+        PduType::AdvNonconnInd => AdvPdu::Nonconn {
             from,
             body: body(fields),
         },
-        SCAN_REQ => AdvPdu::ScanReq {
+        PduType::ScanReq => AdvPdu::ScanReq {
             from,
             to: address(header.rx_add, &mut fields),
         },
-        SCAN_RSP => AdvPdu::ScanRsp {
+        PduType::ScanRsp => AdvPdu::ScanRsp {
             from,
             body: body(fields),
         },
-        CONNECT_IND => AdvPdu::Connect {
+        PduType::ConnectInd => AdvPdu::Connect {
             from,
             to: address(header.rx_add, &mut fields),
             ch_sel: header.ch_sel,
             fields: link_fields(fields),
         },
-        ADV_SCAN_IND => AdvPdu::ScanInd {
+        PduType::AdvScanInd => AdvPdu::ScanInd {
             from,
             body: body(fields),
         },
-        _ => unreachable!(),
     }
 }
 
-// Whether a PDU of this type may have so many octets of payload.
-fn is_payload_length(kind: u8, count: usize) -> bool
-    ensures { result ≡ is_payload_length kind count }
+/// Whether a PDU of this type may have a payload of this number of octets.
+fn is_payload_length(kind: PduType, count: usize) -> bool
+    ensures { result ≡ is_payload_length (number_of_type kind) count }
 {
     match kind {
-        ADV_IND | ADV_NONCONN_IND | SCAN_RSP | ADV_SCAN_IND => (6..=37).contains(&count),
-        ADV_DIRECT_IND | SCAN_REQ => count == 12,
-        CONNECT_IND => count == 34,
-        _ => false,
+        PduType::AdvInd | PduType::AdvNonconnInd | PduType::ScanRsp | PduType::AdvScanInd => {
+            (6..=37).contains(&count)
+        }
+        PduType::AdvDirectInd | PduType::ScanReq => count == 12,
+        PduType::ConnectInd => count == 34,
     }
 }
 
-// The first octet and the payload of a PDU.
-fn packet_parts(octets: &[u8]) -> Option<(u8, &[u8])>
-    ensures found { IfSome result (λ p. IsPacket octets.now p.0 p.1.now) }
-    ensures none { IfNone result ((first : ℕ) (payload : List ℕ) → ¬ IsPacket octets.now first payload) }
+/// The type, the first octet and the payload of a PDU.
+fn packet_parts(octets: &[u8]) -> Option<(PduType, u8, &[u8])>
+    ensures kind { IfSome result (λ p. number_of_type p.0 ≡ p.1 % 16) }
+    ensures found { IfSome result (λ p. IsPacket octets.now p.1 p.2.now) }
+    ensures none { IfNone result
+        ((first : ℕ) (payload : List ℕ) → ¬ IsPacket octets.now first payload) }
 {
     let [first, length, payload @ ..] = octets else {
         return None;
@@ -130,22 +136,26 @@ fn packet_parts(octets: &[u8]) -> Option<(u8, &[u8])>
     if payload.len() != *length as usize {
         return None;
     }
-    if !is_payload_length(*first % 16, payload.len()) {
+    let Some(kind) = PduType::with_number(*first % 16) else {
+        return None;
+    };
+    if !is_payload_length(kind, payload.len()) {
         return None;
     }
-    Some((*first, payload))
+    Some((kind, *first, payload))
 }
 
 impl AdvPdu {
-    /// The PDU that these octets are, all of them: what `write` gives for it, but for bits that are ignored
-    /// (Core 5.2, volume 6 part B, section 2.3). Those are bit 4 of the first octet, and ChSel or RxAdd of a type
-    /// that has none. None where no PDU is so written.
+    /// The PDU that these octets are, all of them: what `write` gives for it, but for bits that are
+    /// ignored (Core 5.2, volume 6 part B, section 2.3). Those are bit 4 of the first octet, and
+    /// ChSel or RxAdd of a type that has none. None where no PDU is so written.
     pub fn read(octets: &[u8]) -> Option<AdvPdu>
-        // There is a PDU where the type is 0 to 6, the second octet is the number of those behind it, and the
-        // type may have so many.
+        // There is a PDU where the type is 0 to 6, the second octet is the number of octets after
+        // it, and a payload of the type may have this length.
         ensures some { IsSome result ↔ HasPacket octets.now }
-        ensures found { IfSome result (λ pdu. IsPdu pdu × (without_ignored_bits octets.now ≡ written pdu)) }
-        // Each part is what stands at its place.
+        ensures found { IfSome result (λ pdu.
+            IsPdu pdu × (without_ignored_bits octets.now ≡ written pdu)) }
+        // Each part is read from its place.
         ensures parts { IfSome result (λ pdu. IsReading octets.now pdu) }
         // Nothing else is read from the octets of a PDU.
         ensures only { (pdu : AdvPdu) → IsPdu pdu → without_ignored_bits octets.now ≡ written pdu
@@ -153,7 +163,7 @@ impl AdvPdu {
         // It is what the octets say, place by place.
         ensures value { result ≡ read_of octets.now }
     {
-        let (first, payload) = packet_parts(octets)?;
-        Some(pdu(Header::read(first), Fields::new(payload)))
+        let (kind, first, payload) = packet_parts(octets)?;
+        Some(pdu(Header::read(kind, first), Fields::new(payload)))
     }
 }

@@ -1,4 +1,4 @@
-//! PDUs as they stand on the air.
+//! PDUs and their octets on the air.
 ghost use Rattle.adv_pdu.specs.Pdu.{FitsBits};
 
 use super::*;
@@ -21,7 +21,7 @@ const RANDOM_C: Address = Address {
     octets: [0x01, 0x02, 0x03, 0x04, 0x05, 0xC6],
 };
 
-// The PDU is written so, and so read.
+/// These octets are written of the PDU, and the PDU is read from them.
 fn expect_octets(rt: &impl Abort, pdu: AdvPdu, octets: &[u8])
     requires { FitsBits pdu }
 {

@@ -3,7 +3,8 @@ ghost use Rattle.std.specs.Prelude.{◌≡◌, ◌≤◌, ◌+◌, ◌++◌, [],
 ghost use Rattle.arrayvec.specs.ArrayVec.{array_vec_len};
 ghost use Rattle.wire_fields.specs.Field.{appended, AllFit};
 ghost use Rattle.adv_pdu.specs.Header.{without_ignored_bits};
-ghost use Rattle.adv_pdu.specs.Pdu.{link_fields_of, payload_of, written, FitsBits, HasRoom, IsPdu, IsWithinBits};
+ghost use Rattle.adv_pdu.specs.Pdu.{link_fields_of, payload_of, written};
+ghost use Rattle.adv_pdu.specs.Pdu.{FitsBits, HasRoom, IsPdu, IsWithinBits};
 ghost use Rattle.adv_pdu.specs.Reading.{read_of};
 
 use crate::header::Header;
@@ -11,6 +12,7 @@ use crate::pdu::{AdvPdu, ConnectFields};
 use arrayvec::ArrayVec;
 use wire_fields::{put_octets, put_u8, put_u16, put_u24, put_u32, put_u40};
 
+/// Appends the LLData of a CONNECT_IND.
 fn put_link_fields(payload: &mut ArrayVec<u8, 37>, fields: &ConnectFields)
     requires bits { IsWithinBits fields.now }
     requires room { array_vec_len payload.old ≤ 12 }
@@ -28,6 +30,7 @@ fn put_link_fields(payload: &mut ArrayVec<u8, 37>, fields: &ConnectFields)
     put_u8(payload, fields.hop + 32 * fields.sca);
 }
 
+/// The payload: the sender's address first.
 fn payload(pdu: &AdvPdu) -> ArrayVec<u8, 37>
     requires { FitsBits pdu.now }
     ensures items { result.items ≡ appended [] (payload_of pdu.now) }
@@ -61,7 +64,7 @@ fn payload(pdu: &AdvPdu) -> ArrayVec<u8, 37>
     payload
 }
 
-/// The second octet of the header: how many octets the payload has.
+/// The second octet of the header: the number of octets of the payload.
 fn length_octet(payload: &ArrayVec<u8, 37>) -> u8
     ensures { result ≡ array_vec_len payload.now }
 {
@@ -69,9 +72,9 @@ fn length_octet(payload: &ArrayVec<u8, 37>) -> u8
 }
 
 impl AdvPdu {
-    /// The octets of the PDU, 8 to 39, in the order of the air: the octet of type and flags, the number of octets
-    /// of the payload, and the payload (Core 5.2, volume 6 part B, section 2.3). The reserved bit is 0, and so are
-    /// ChSel and RxAdd of a type that has none.
+    /// The octets of the PDU, 8 to 39, in the order of the air: the octet of type and flags, the
+    /// number of octets of the payload, and the payload (Core 5.2, volume 6 part B, section 2.3).
+    /// The reserved bit is 0, and so are ChSel and RxAdd of a type that has none.
     ///
     /// `read` gives the PDU back from these octets.
     pub fn write(&self) -> ArrayVec<u8, 39>
