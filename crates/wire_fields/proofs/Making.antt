@@ -1,5 +1,5 @@
 -- What a layout makes of fields is what it reads from their octets.
-use Rattle.std.proofs.Common.{◌≡◌, ℕ, ◌<◌, ◌^◌, Bool, true, false, cond, nat_eq, Option, Some, None, inl, inr, List, [], ◌∷◌, ◌++◌, length, refl, sym, ap, subst, ◌∙◌, append-nil}
+use Rattle.std.proofs.Common.{◌≡◌, ℕ, ◌<◌, ◌^◌, cond, nat_eq, Option, Some, None, inl, inr, List, [], ◌∷◌, ◌++◌, length, refl, sym, ap, subst, ◌∙◌, append-nil}
 use Rattle.std.proofs.lemmas.Bool.Decides.{eqb_tells}
 use Rattle.wire_fields.specs.Field.{Field, number, octets, little_endian, spelled, AllFit}
 use Rattle.wire_fields.specs.Layout.{Layout, done, take_number, take_octets, take_rest, size_of, value_of, Spells}
