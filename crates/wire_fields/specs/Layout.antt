@@ -47,7 +47,7 @@ mapped change (take_rest make) = take_rest (λ rest. change (make rest))
 abbrev pub Spells : {R : Type 0} → Layout R → R → List ℕ → Type 0
 Spells (done made) value octets = (made ≡ value) × (octets ≡ [])
 Spells (take_number n next) value octets =
-    (number : ℕ) × (rest : List ℕ) × (number < 256 ^ n) × (octets ≡ little_endian n number ++ rest) × Spells (next number) value rest
+    (x : ℕ) × (rest : List ℕ) × (x < 256 ^ n) × (octets ≡ little_endian n x ++ rest) × Spells (next x) value rest
 Spells (take_octets n next) value octets =
     (field : List ℕ) × (rest : List ℕ) × (length field ≡ n) × (octets ≡ field ++ rest) × Spells (next field) value rest
 Spells (take_rest make) value octets = make octets ≡ value
