@@ -14,7 +14,8 @@ use Rattle.hci_cmd.specs.declared.command.CmdRead.TheVariants.{Known, UnknownOpc
 abbrev pub counts_layout : ℕ → List HandleCount → Layout Command
 counts_layout zero taken = done (HostCompleted (record { items = taken }))
 counts_layout (suc handles) taken =
-    take_number 2 (λ handle. take_number 2 (λ count. counts_layout handles (taken ++ record { handle = handle; count = count } ∷ [])))
+    take_number 2 (λ handle. take_number 2 (λ count.
+    counts_layout handles (taken ++ record { handle = handle; count = count } ∷ [])))
 
 abbrev pub completed_layout : Layout Command
 completed_layout = take_number 1 (λ handles. counts_layout handles [])
@@ -75,9 +76,11 @@ layout_of opcode = value_in layouts opcode
 abbrev pub are_parameters : Layout Command → List ℕ → Bool
 are_parameters layout parameters = nat_le (size_of layout parameters) 255 && is_whole layout parameters
 
+-- what the parameters are read as, by the layout of the opcode, if it has one
 abbrev pub read_with : Option (Layout Command) → List ℕ → CmdRead
 read_with None parameters = UnknownOpcode
-read_with (Some layout) parameters = if are_parameters layout parameters then Known (value_of layout parameters) else BadLength
+read_with (Some layout) parameters =
+    if are_parameters layout parameters then Known (value_of layout parameters) else BadLength
 
 -- what an opcode and its parameters are read as
 unfoldable pub command_of : ℕ → List ℕ → CmdRead
@@ -100,7 +103,8 @@ pub record HasOpcode (command : Command) (opcode : ℕ) : Type 0 where
 
 -- the array of the least and the greatest event length has both
 abbrev pub HasBothLengths : Command → Type 0
-HasBothLengths (LeCreateConnection scan_interval window policy peer_kind peer own min max latency timeout lengths) = length lengths ≡ 2
+HasBothLengths (LeCreateConnection scan_interval window policy peer_kind peer own min max latency timeout lengths) =
+    length lengths ≡ 2
 HasBothLengths (LeConnectionUpdate handle min max latency timeout lengths) = length lengths ≡ 2
 HasBothLengths (LeParamReply handle min max latency timeout lengths) = length lengths ≡ 2
 HasBothLengths other = ⊤
@@ -109,7 +113,7 @@ HasBothLengths other = ⊤
 abbrev pub IsOpcode : ℕ → Type 0
 IsOpcode opcode = (layout : Layout Command) × (layout_of opcode ≡ Some layout)
 
--- the parameters are as long as those of the command with this opcode are, and fit a packet
+-- the parameters have the length of the layout of this opcode, and fit a packet
 pub record IsWhole (opcode : ℕ) (parameters : List ℕ) : Type 0 where
   pub layout : Layout Command
   pub has_layout : layout_of opcode ≡ Some layout
