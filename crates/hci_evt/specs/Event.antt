@@ -51,9 +51,10 @@ row_of (ParamRequest handle min max latency timeout) =
     le_row 0x06 5 (number 2 handle ∷ number 2 min ∷ number 2 max ∷ number 2 latency ∷ number 2 timeout ∷ [])
 row_of (LengthChange handle tx_octets tx_time rx_octets rx_time) =
     le_row 0x07 6 (number 2 handle ∷ number 2 tx_octets ∷ number 2 tx_time ∷ number 2 rx_octets ∷ number 2 rx_time ∷ [])
-row_of (EnhancedConnection status handle role peer_kind peer local_private peer_private interval latency timeout accuracy) =
+row_of (EnhancedConnection status handle role peer_kind peer local other interval latency timeout accuracy) =
     le_row 0x0A 9 (number 1 status ∷ number 2 handle ∷ number 1 role ∷ number 1 peer_kind ∷ octets 6 peer ∷
-    octets 6 local_private ∷ octets 6 peer_private ∷ number 2 interval ∷ number 2 latency ∷ number 2 timeout ∷ number 1 accuracy ∷ [])
+    octets 6 local ∷ octets 6 other ∷ number 2 interval ∷ number 2 latency ∷ number 2 timeout ∷
+    number 1 accuracy ∷ [])
 row_of (PhyComplete status handle tx rx) =
     le_row 0x0C 11 (number 1 status ∷ number 2 handle ∷ number 1 tx ∷ number 1 rx ∷ [])
 row_of (ChannelSelection handle algorithm) = le_row 0x14 19 (number 2 handle ∷ number 1 algorithm ∷ [])

@@ -26,25 +26,30 @@ subevent_in (number n subevent ∷ rest) = subevent
 subevent_in other = 0
 
 -- the LE meta events of one variant
-abbrev le_events : (sample : Event) → Maker (kinds_of (after_subevent (parameters_of sample))) Event → ℕ × Layout (Option Event)
+abbrev le_events : (sample : Event) → Maker (kinds_of (after_subevent (parameters_of sample))) Event
+    → ℕ × Layout (Option Event)
 le_events sample make = (subevent_in (parameters_of sample), with_fields (after_subevent (parameters_of sample)) make)
 
 -- Command Complete: what is after the opcode is return parameters (section 7.7.14)
 abbrev pub command_complete : Layout (Option Event)
 command_complete =
-    take_number 1 (λ packets. take_number 2 (λ opcode. take_rest (λ rest. Some (CommandComplete packets opcode (record { items = rest })))))
+    take_number 1 (λ packets. take_number 2 (λ opcode. take_rest (λ rest.
+    Some (CommandComplete packets opcode (record { items = rest })))))
 
 -- Number Of Completed Packets, of one handle (section 7.7.19)
 abbrev pub completed_packets : Layout (Option Event)
 completed_packets =
-    take_number 1 (λ handles. take_number 2 (λ handle. take_number 2 (λ count. done (if handles == 1 then Some (CompletedPackets handle count) else None))))
+    take_number 1 (λ handles. take_number 2 (λ handle. take_number 2 (λ count. done (
+    if handles == 1 then Some (CompletedPackets handle count) else None))))
 
 -- LE Advertising Report, of one report with at most 31 octets of data (section 7.7.65.2)
 abbrev pub advertising_report : Layout (Option Event)
 advertising_report =
     take_number 1 (λ reports. take_number 1 (λ kind. take_number 1 (λ address_kind. take_octets 6 (λ address.
     take_number 1 (λ count. take_octets count (λ report. take_number 1 (λ rssi. done (
-    if (reports == 1) && nat_le count 31 then Some (AdvertisingReport kind address_kind address (record { items = report }) rssi) else None))))))))
+    if (reports == 1) && nat_le count 31
+    then Some (AdvertisingReport kind address_kind address (record { items = report }) rssi)
+    else None))))))))
 
 -- the layouts by the event code, but those of LE meta events
 unfoldable pub layouts : List (ℕ × Layout (Option Event))
@@ -92,7 +97,8 @@ event_in code parameters = if code == 0x3E then le_event_of parameters else read
 
 -- the event whose packet the octets are: indicator 4, the code, the length of the parameters, and these
 unfoldable pub event_of : List ℕ → Option Event
-event_of (indicator ∷ code ∷ count ∷ parameters) = if (indicator == 4) && (length parameters == count) then event_in code parameters else None
+event_of (indicator ∷ code ∷ count ∷ parameters) =
+    if (indicator == 4) && (length parameters == count) then event_in code parameters else None
 event_of other = None
 
 -- the octets are a packet with this code and these parameters
