@@ -33,7 +33,8 @@ has_rx_add kind = (kind == 1) || (kind == 3) || (kind == 5)
 -- the octet with each bit 0 that a reader ignores: bit 4, and ChSel or RxAdd of a type that has none
 unfoldable pub kept_bits : ℕ → ℕ
 kept_bits octet =
-    header_octet (octet % 16) (has_ch_sel (octet % 16) && has_bit octet 5) (has_bit octet 6) (has_rx_add (octet % 16) && has_bit octet 7)
+    header_octet (octet % 16) (has_ch_sel (octet % 16) && has_bit octet 5) (has_bit octet 6)
+    (has_rx_add (octet % 16) && has_bit octet 7)
 
 -- the octets of a PDU with each ignored bit 0
 abbrev pub without_ignored_bits : List ℕ → List ℕ

@@ -69,7 +69,9 @@ rx_add_of other = false
 -- 3 high bits (Core 5.2, volume 6 part B, section 2.3.3.1)
 abbrev pub link_fields_of : ConnectFields → List Field
 link_fields_of fields =
-    number 4 fields.access ∷ number 3 fields.crc_init ∷ number 1 fields.win_size ∷ number 2 fields.win_offset ∷ number 2 fields.interval ∷ number 2 fields.latency ∷ number 2 fields.timeout ∷ number 5 fields.map ∷ number 1 (fields.hop + 32 * fields.sca) ∷ []
+    number 4 fields.access ∷ number 3 fields.crc_init ∷ number 1 fields.win_size ∷ number 2 fields.win_offset ∷
+    number 2 fields.interval ∷ number 2 fields.latency ∷ number 2 fields.timeout ∷ number 5 fields.map ∷
+    number 1 (fields.hop + 32 * fields.sca) ∷ []
 
 -- the payload: the sender's address first (Core 5.2, volume 6 part B, sections 2.3.1 to 2.3.3)
 abbrev pub payload_of : AdvPdu → List Field
@@ -84,7 +86,8 @@ payload_of (ScanInd from body) = octets 6 from.octets ∷ octets (length body.it
 -- the whole PDU: the header, which has the number of octets of the payload in its second octet, and the payload
 abbrev pub written : AdvPdu → List ℕ
 written pdu =
-    header_octet (type_of pdu) (ch_sel_of pdu) (tx_add_of pdu) (rx_add_of pdu) ∷ length (spelled (payload_of pdu)) ∷ spelled (payload_of pdu)
+    header_octet (type_of pdu) (ch_sel_of pdu) (tx_add_of pdu) (rx_add_of pdu) ∷
+    length (spelled (payload_of pdu)) ∷ spelled (payload_of pdu)
 
 -- the fields that have fewer bits than their types
 pub record IsWithinBits (fields : ConnectFields) : Type 0 where

@@ -54,7 +54,8 @@ pub record IsReading (octets : List ℕ) (pdu : AdvPdu) : Type 0 where
 -- the octets are a PDU: a header and the number of octets in its second octet, which a PDU of this type may have
 abbrev pub is_adv_pdu : List ℕ → Bool
 is_adv_pdu octets =
-    nat_le 2 (length octets) && (length octets == 2 + slice_index octets 1) && is_payload_length (slice_index octets 0 % 16) (slice_index octets 1)
+    nat_le 2 (length octets) && (length octets == 2 + slice_index octets 1)
+    && is_payload_length (slice_index octets 0 % 16) (slice_index octets 1)
 
 -- a flag of the header: this bit of the first octet
 abbrev pub flag_at : ℕ → List ℕ → Bool
