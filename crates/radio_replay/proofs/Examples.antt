@@ -1,11 +1,12 @@
--- Small texts and what they say, by computing the definition.
+-- Small texts, read by computing the definition.
 use Rattle.std.proofs.Common.{◌≡◌, [], ◌∷◌, true, false, refl, codes}
 use Rattle.hex.proofs.OnLiterals.{hex_on_literals}
 use Rattle.radio_replay.specs.declared.fates.Fate.TheVariants.{Pass, Lost, Damage}
 use Rattle.radio_replay.specs.Schedule.{Right, Wrong, schedule_of}
 use Rattle.radio_replay.specs.TurnLine.{plain_turn}
 
--- digits of either case, a line without a newline at the end, repeated turns, and a turn that feeds one side alone and has fates
+-- digits of either case, a line without a newline at the end, repeated turns, and a turn that feeds one side alone and
+-- has fates
 pub five_turns :
     schedule_of (codes "ble-schedule 1\nside a c0ffee00000a 71764129 0000000000000001\nside b C0FFEE00000B 00000010 0000000000000002 0000000000000003\nt ++ a41 b17\nrun 3\nt +- b1048576 . x e11:01C0b4")
     ≡ Right (record { public = 10 ∷ 0 ∷ 0 ∷ 238 ∷ 255 ∷ 192 ∷ []; cursor = 1903575337; words = record { items = 1 ∷ [] } })

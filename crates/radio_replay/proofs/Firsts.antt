@@ -1,4 +1,4 @@
--- What the first of a list says of it.
+-- A list by its first element.
 use Rattle.std.proofs.Common.{◌≡◌, ℕ, List, [], ◌∷◌, drop, Some, None, refl}
 use Rattle.std.specs.Prelude.{slice_get}
 
@@ -10,7 +10,7 @@ pub nothing_left : {A : Type 0} (xs : List A) → slice_get xs 0 ≡ None → xs
 nothing_left [] e = refl
 nothing_left (y ∷ ys) e = absurd (cc)
 
--- the second, the third, and those behind, taken one at a time
+-- the second, the third, and those after them, taken one at a time
 pub second_of : (xs : List (List ℕ)) → slice_get (drop 1 xs) 0 ≡ slice_get xs 1
 second_of [] = refl
 second_of (x ∷ xs) = refl

@@ -1,4 +1,4 @@
--- What was read of a list so far, in front of what is left.
+-- The part of a list that was read so far, before the rest.
 use Rattle.std.proofs.Common.{List, ◌++◌, Some, None}
 use Rattle.std.specs.Prelude.{Option}
 

@@ -1,10 +1,10 @@
-pub mod Cuts
-pub mod Decimals
+-- The lemmas of this crate.
 pub mod Examples
 pub mod Facts
 pub mod Firsts
 pub mod Gathered
-pub mod SpelledLines
 pub mod SpelledNumbers
 pub mod SpelledSchedule
+pub mod Patterns
+pub mod Settings
 pub mod Strikes

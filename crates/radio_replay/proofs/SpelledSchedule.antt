@@ -1,6 +1,6 @@
 -- A schedule that is spelled in the plainest form is read as itself.
 use Rattle.std.proofs.Common.{◌≡◌, ℕ, zero, suc, ◌+◌, ◌^◌, ◌<◌, ◌≤◌, Bool, true, false, List, [], ◌∷◌, ◌++◌, length, Some, Ok, refl, ◌∙◌, ap, sym, arith, append_assoc}
-use Rattle.std.specs.Prelude.{◌==◌, ◌&&◌, nat_lt, map, reverse, slice_index, codes, replicate}
+use Rattle.std.specs.Prelude.{◌==◌, ◌&&◌, nat_lt, map, reverse, slice_index, codes, replicate, decimal}
 use Rattle.std.specs.Option.{option_map}
 use Rattle.std.specs.List.{All, list_all, slice_split}
 use Rattle.std.proofs.lemmas.Bool.{and_from, le-leb}
@@ -18,16 +18,20 @@ use Rattle.ble_base.specs.declared.Side.TheVariants.{A, B}
 use Rattle.radio_replay.specs.declared.fates.Fate.{Fate}
 use Rattle.radio_replay.specs.declared.fates.Fate.TheVariants.{Pass, Lost, Damage}
 use Rattle.radio_replay.specs.declared.lines.Line.TheVariants.{Single}
-use Rattle.radio_replay.proofs.SpelledLines.{is_above, words_of-line_of, above-line_of, lines_of-ended}
-use Rattle.radio_replay.proofs.SpelledNumbers.{number_of-decimal, above-decimal, no_colon-decimal, above-encode_lower, no_colon-encode_lower, IsBytes-reverse, IsBytes-bytes_high_first, address_of-text, cursor_of-text, random_word_of-text}
+use Rattle.line_words.proofs.SpelledLines.{is_above, words_of-line_of, above-line_of, lines_of-with_newline}
+use Rattle.line_words.proofs.SpelledNumbers.{number_in-decimal, above-decimal, no_colon-decimal, above-encode_lower, no_colon-encode_lower}
+use Rattle.radio_replay.proofs.SpelledNumbers.{IsBytes-reverse, IsBytes-bytes_high_first, address_of-text, cursor_of-text, random_word_of-text}
 use Rattle.radio_replay.specs.FateWord.{damage_in, fate_in, pattern_in}
-use Rattle.radio_replay.specs.Numbers.{number_of, within}
+use Rattle.line_words.specs.Numbers.{number_in, in_range}
 use Rattle.radio_replay.specs.Schedule.{Right, schedule_of, turns_from, with_line}
 use Rattle.radio_replay.specs.Script.{Turn}
-use Rattle.radio_replay.specs.SideLine.{config_of, config_in, drawn_words_of, letter_of, random_words_of}
-use Rattle.radio_replay.specs.Spelling.{CanBeDone, CanBeSet, CanBeTaken, decimal, fate_word, feed_words, line_of, radio_octet, random_word_text, run_line, schedule_lines, schedule_text, side_words, turn_words}
-use Rattle.radio_replay.specs.Text.{words_of}
-use Rattle.radio_replay.specs.TurnLine.{fates_in, fed_of, line_in, plain_turn, radios_of, turn_feeding, turns_of}
+use Rattle.radio_replay.specs.SideLine.{config_in_words, config_in_line, random_words_in, letter_of, all_random_words}
+use Rattle.radio_replay.specs.Spelling.{CanBeDone, CanBeSet, CanBeTaken, fate_word, feed_words, random_word_text, run_line, schedule_lines, schedule_text, side_words, turn_words}
+use Rattle.line_words.specs.Signs.{sign_of}
+use Rattle.line_words.specs.Text.{words_of, line_of}
+use Rattle.radio_replay.specs.TurnLine.{fates_in, feed_in, line_in, plain_turn, radios_of, turn_after_feed_a, line_turns}
+use Rattle.ble_base.specs.declared.limits.TheConstants.{AIR_PACKET_OCTETS, RANDOM_WORDS}
+use Rattle.radio_replay.specs.declared.limits.TheConstants.{LAST_PLACE, MOST_FED, MOST_REPEATED, MOST_TURNS}
 
 -- ---- fates
 
@@ -39,17 +43,17 @@ not_empty : (front : List ℕ) (octet : ℕ) (back : List ℕ) → front ++ octe
 not_empty [] octet back e = absurd (cc)
 not_empty (x ∷ front) octet back e = absurd (cc)
 
-place_is : (at : ℕ) → at ≤ 263 → within 0 263 (number_of (decimal at)) ≡ Some at
-place_is at small = rw (number_of-decimal at, le-leb 0 at (omega arith), le-leb at 263 small) refl
+place_is : (at : ℕ) → at ≤ LAST_PLACE → in_range 0 LAST_PLACE (number_in (decimal at)) ≡ Some at
+place_is at small = rw (number_in-decimal at (omega arith), le-leb 0 at (omega arith), le-leb at LAST_PLACE small) refl
 
-pattern_is : (octets : List ℕ) → 1 ≤ length octets → length octets ≤ 264 → IsBytes octets → pattern_in (encode_lower octets) ≡ Some octets
+pattern_is : (octets : List ℕ) → 1 ≤ length octets → length octets ≤ AIR_PACKET_OCTETS → IsBytes octets → pattern_in (encode_lower octets) ≡ Some octets
 pattern_is octets some most bytes =
-    rw (decode_of-encode_lower octets bytes, le-leb 1 (length octets) some, le-leb (length octets) 264 most) refl
+    rw (decode_of-encode_lower octets bytes, le-leb 1 (length octets) some, le-leb (length octets) AIR_PACKET_OCTETS most) refl
 
-colon_parts : (at : ℕ) (octets : List ℕ) → IsBytes octets
+colon_parts : (at : ℕ) (octets : List ℕ) → at ≤ LAST_PLACE → IsBytes octets
     → slice_split (λ octet. octet == 58) (decimal at ++ 58 ∷ encode_lower octets) ≡ decimal at ∷ encode_lower octets ∷ []
-colon_parts at octets bytes =
-    slice_split_at (λ octet. octet == 58) (decimal at) 58 (encode_lower octets) (no_colon-decimal at) refl
+colon_parts at octets small bytes =
+    slice_split_at (λ octet. octet == 58) (decimal at) 58 (encode_lower octets) (no_colon-decimal at (omega arith)) refl
     ∙ ap (λ (parts : List (List ℕ)). decimal at ∷ parts) (slice_split_none (λ octet. octet == 58) (encode_lower octets) (no_colon-encode_lower octets bytes))
 
 fate_in-word : (fate : Fate) → CanBeDone fate → fate_in (fate_word fate) ≡ Some fate
@@ -57,7 +61,7 @@ fate_in-word Pass h = refl
 fate_in-word Lost h = refl
 fate_in-word (Damage at pattern) h =
     damage_word (decimal at ++ 58 ∷ encode_lower pattern.items) (not_empty (decimal at) 58 (encode_lower pattern.items))
-    ∙ rw (colon_parts at pattern.items h.3, place_is at h.0, pattern_is pattern.items h.1 h.2 h.3) refl
+    ∙ rw (colon_parts at pattern.items h.0 h.3, place_is at h.0, pattern_is pattern.items h.1 h.2 h.3) refl
 
 fates_in-words : (fates : List Fate) → All CanBeDone fates → fates_in (map fate_word fates) ≡ Some fates
 fates_in-words [] h = refl
@@ -68,15 +72,16 @@ above-fate : (fate : Fate) → CanBeDone fate → is_above 32 (fate_word fate) �
 above-fate Pass h = refl
 above-fate Lost h = refl
 above-fate (Damage at pattern) h =
-    rw (list_all-append (λ octet. nat_lt 32 octet) (decimal at) (58 ∷ encode_lower pattern.items), above-decimal at) (above-encode_lower pattern.items h.3)
+    let small : at ≤ LAST_PLACE = h.0 in
+    rw (list_all-append (λ octet. nat_lt 32 octet) (decimal at) (58 ∷ encode_lower pattern.items), above-decimal at (omega arith)) (above-encode_lower pattern.items h.3)
 
 above-fates : (fates : List Fate) → All CanBeDone fates → list_all (λ w. is_above 32 w) (map fate_word fates) ≡ true
 above-fates [] h = refl
 above-fates (fate ∷ fates) h =
     rw (above-fate fate (All-head CanBeDone fate fates h), above-fates fates (All-tail CanBeDone fate fates h)) refl
 
--- no word of a fate says what is fed
-fed_nothing : (side : Side) (fates : List Fate) → fed_of (letter_of side) (map fate_word fates) ≡ Some (record { count = 0; behind = map fate_word fates })
+-- a word of a fate is not a feed
+fed_nothing : (side : Side) (fates : List Fate) → feed_in (letter_of side) (map fate_word fates) ≡ Some (record { count = 0; words = map fate_word fates })
 fed_nothing A [] = refl
 fed_nothing A (Pass ∷ fates) = refl
 fed_nothing A (Lost ∷ fates) = refl
@@ -88,24 +93,24 @@ fed_nothing B (Damage at pattern ∷ fates) = refl
 
 -- ---- turn lines
 
-within_all : (count : ℕ) → 0 < count → count ≤ 1048576 → within 1 1048576 (Some count) ≡ Some count
-within_all count p h = rw (le-leb 1 count (omega arith), le-leb count 1048576 h) refl
+in_range-all : (count : ℕ) → 0 < count → count ≤ MOST_FED → in_range 1 MOST_FED (Some count) ≡ Some count
+in_range-all count p h = rw (le-leb 1 count (omega arith), le-leb count MOST_FED h) refl
 
-fed_a : (count : ℕ) (words : List (List ℕ)) → count < 1048576 → fed_of 97 ((97 ∷ decimal (suc count)) ∷ words) ≡ Some (record { count = suc count; behind = words })
-fed_a count words h = rw (number_of-decimal (suc count), within_all (suc count) (omega arith) (omega arith)) refl
+fed_a : (count : ℕ) (words : List (List ℕ)) → count < MOST_FED → feed_in 97 ((97 ∷ decimal (suc count)) ∷ words) ≡ Some (record { count = suc count; words = words })
+fed_a count words h = rw (number_in-decimal (suc count) (omega arith), in_range-all (suc count) (omega arith) (omega arith)) refl
 
-fed_b : (count : ℕ) (words : List (List ℕ)) → count < 1048576 → fed_of 98 ((98 ∷ decimal (suc count)) ∷ words) ≡ Some (record { count = suc count; behind = words })
-fed_b count words h = rw (number_of-decimal (suc count), within_all (suc count) (omega arith) (omega arith)) refl
+fed_b : (count : ℕ) (words : List (List ℕ)) → count < MOST_FED → feed_in 98 ((98 ∷ decimal (suc count)) ∷ words) ≡ Some (record { count = suc count; words = words })
+fed_b count words h = rw (number_in-decimal (suc count) (omega arith), in_range-all (suc count) (omega arith) (omega arith)) refl
 
-feeding : (a_on b_on : Bool) (a b : ℕ) (fates : List Fate) → a ≤ 1048576 → b ≤ 1048576 → All CanBeDone fates
-    → turn_feeding (a_on, b_on) (fed_of 97 (feed_words 97 a ++ (feed_words 98 b ++ map fate_word fates))) ≡ Some (record { a_on = a_on; b_on = b_on; feed_a = a; feed_b = b; fates = fates })
+feeding : (a_on b_on : Bool) (a b : ℕ) (fates : List Fate) → a ≤ MOST_FED → b ≤ MOST_FED → All CanBeDone fates
+    → turn_after_feed_a (a_on, b_on) (feed_in 97 (feed_words 97 a ++ (feed_words 98 b ++ map fate_word fates))) ≡ Some (record { a_on = a_on; b_on = b_on; feed_a = a; feed_b = b; fates = fates })
 feeding a_on b_on zero zero fates ha hb hf = rw (fed_nothing A fates, fed_nothing B fates, fates_in-words fates hf) refl
 feeding a_on b_on zero (suc b) fates ha hb hf = rw (fed_b b (map fate_word fates) (omega arith), fates_in-words fates hf) refl
 feeding a_on b_on (suc a) zero fates ha hb hf = rw (fed_a a (map fate_word fates) (omega arith), fed_nothing B fates, fates_in-words fates hf) refl
 feeding a_on b_on (suc a) (suc b) fates ha hb hf =
     rw (fed_a a (feed_words 98 (suc b) ++ map fate_word fates) (omega arith), fed_b b (map fate_word fates) (omega arith), fates_in-words fates hf) refl
 
-radios_of-octets : (a b : Bool) → radios_of (radio_octet a ∷ radio_octet b ∷ []) ≡ Some (a, b)
+radios_of-octets : (a b : Bool) → radios_of (sign_of a ∷ sign_of b ∷ []) ≡ Some (a, b)
 radios_of-octets true true = refl
 radios_of-octets true false = refl
 radios_of-octets false true = refl
@@ -115,13 +120,13 @@ line_in-words : (turn : Turn) → CanBeTaken turn → line_in (turn_words turn) 
 line_in-words turn h =
     rw (radios_of-octets turn.a_on turn.b_on, feeding turn.a_on turn.b_on turn.feed_a turn.feed_b turn.fates h.0.0 h.0.1 h.1) refl
 
-above-radio : (on : Bool) → nat_lt 32 (radio_octet on) ≡ true
+above-radio : (on : Bool) → nat_lt 32 (sign_of on) ≡ true
 above-radio true = refl
 above-radio false = refl
 
-above-feed : (letter count : ℕ) → nat_lt 32 letter ≡ true → list_all (λ w. is_above 32 w) (feed_words letter count) ≡ true
-above-feed letter zero h = refl
-above-feed letter (suc count) h = rw (h, above-decimal (suc count)) refl
+above-feed : (letter count : ℕ) → nat_lt 32 letter ≡ true → count ≤ MOST_FED → list_all (λ w. is_above 32 w) (feed_words letter count) ≡ true
+above-feed letter zero h most = refl
+above-feed letter (suc count) h most = rw (h, above-decimal (suc count) (omega arith)) refl
 
 above-turn_words : (turn : Turn) → CanBeTaken turn → list_all (λ w. is_above 32 w) (turn_words turn) ≡ true
 above-turn_words turn h =
@@ -131,23 +136,23 @@ above-turn_words turn h =
       above-radio turn.b_on,
       list_all-append (λ w. is_above 32 w) (feed_words 97 turn.feed_a) (feed_words 98 turn.feed_b ++ fates),
       list_all-append (λ w. is_above 32 w) (feed_words 98 turn.feed_b) fates,
-      above-feed 97 turn.feed_a refl,
-      above-feed 98 turn.feed_b refl,
+      above-feed 97 turn.feed_a refl h.0.0,
+      above-feed 98 turn.feed_b refl h.0.1,
     ) (above-fates turn.fates h.1)
 
--- the words of a turn behind its first
+-- the words of a turn after its first
 more_words : Turn → List (List ℕ)
-more_words turn = (radio_octet turn.a_on ∷ radio_octet turn.b_on ∷ []) ∷ (feed_words 97 turn.feed_a ++ (feed_words 98 turn.feed_b ++ map fate_word turn.fates))
+more_words turn = (sign_of turn.a_on ∷ sign_of turn.b_on ∷ []) ∷ (feed_words 97 turn.feed_a ++ (feed_words 98 turn.feed_b ++ map fate_word turn.fates))
 
 line_in-line : (turn : Turn) → CanBeTaken turn → line_in (words_of (line_of (turn_words turn))) ≡ Some (Single turn)
 unfolding more_words
 line_in-line turn h =
     ap line_in (words_of-line_of (codes "t") (more_words turn) (above-turn_words turn h)) ∙ line_in-words turn h
 
-one_more : (before : List Turn) (turn : Turn) → length before < 100000 → with_line before (Some (turn ∷ [])) ≡ Ok (before ++ turn ∷ [])
-one_more before turn short = rw (le-leb (length before + 1) 100000 (omega arith)) refl
+one_more : (before : List Turn) (turn : Turn) → length before < MOST_TURNS → with_line before (Some (turn ∷ [])) ≡ Ok (before ++ turn ∷ [])
+one_more before turn short = rw (le-leb (length before + 1) MOST_TURNS (omega arith)) refl
 
-turns_from-lines : (number : ℕ) (before turns : List Turn) → All CanBeTaken turns → length before + length turns ≤ 100000
+turns_from-lines : (number : ℕ) (before turns : List Turn) → All CanBeTaken turns → length before + length turns ≤ MOST_TURNS
     → turns_from number before (map (λ turn. line_of (turn_words turn)) turns) ≡ Ok (before ++ turns)
 turns_from-lines number before [] h short = ap Ok (sym (append-nil before))
 turns_from-lines number before (turn ∷ turns) h short =
@@ -165,23 +170,23 @@ above-turns (turn ∷ turns) h =
 
 -- ---- runs
 
-above-run : (count : ℕ) → list_all (λ w. is_above 32 w) (codes "run" ∷ decimal count ∷ []) ≡ true
-above-run count = rw (above-decimal count) refl
+above-run : (count : ℕ) → count ≤ MOST_REPEATED → list_all (λ w. is_above 32 w) (codes "run" ∷ decimal count ∷ []) ≡ true
+above-run count most = rw (above-decimal count (omega arith)) refl
 
-pub turns_of-run : (count : ℕ) → 1 ≤ count → count ≤ 999999 → option_map turns_of (line_in (words_of (run_line count))) ≡ Some (replicate count plain_turn)
-turns_of-run count some most =
-    ap (λ (words : List (List ℕ)). option_map turns_of (line_in words)) (words_of-line_of (codes "run") (decimal count ∷ []) (above-run count))
-    ∙ rw (number_of-decimal count, le-leb 1 count some, le-leb count 999999 most) refl
+pub line_turns-run : (count : ℕ) → 1 ≤ count → count ≤ MOST_REPEATED → option_map line_turns (line_in (words_of (run_line count))) ≡ Some (replicate count plain_turn)
+line_turns-run count some most =
+    ap (λ (words : List (List ℕ)). option_map line_turns (line_in words)) (words_of-line_of (codes "run") (decimal count ∷ []) (above-run count most))
+    ∙ rw (number_in-decimal count (omega arith), le-leb 1 count some, le-leb count MOST_REPEATED most) refl
 
 -- ---- side lines
 
-random_words_of-texts : (words : List ℕ) → ((k : ℕ) → slice_index words k < 2 ^ 64) → random_words_of (map random_word_text words) ≡ Some words
-random_words_of-texts [] h = refl
-random_words_of-texts (word ∷ words) h = rw (random_word_of-text word (h 0), random_words_of-texts words (λ k. h (suc k))) refl
+all_random_words-texts : (words : List ℕ) → ((k : ℕ) → slice_index words k < 2 ^ 64) → all_random_words (map random_word_text words) ≡ Some words
+all_random_words-texts [] h = refl
+all_random_words-texts (word ∷ words) h = rw (random_word_of-text word (h 0), all_random_words-texts words (λ k. h (suc k))) refl
 
-drawn_words_of-texts : (words : List ℕ) → ((k : ℕ) → slice_index words k < 2 ^ 64) → 1 ≤ length words → length words ≤ 64 → drawn_words_of (map random_word_text words) ≡ Some words
-drawn_words_of-texts words h some most =
-    rw (length-map words random_word_text, le-leb 1 (length words) some, le-leb (length words) 64 most) (random_words_of-texts words h)
+random_words_in-texts : (words : List ℕ) → ((k : ℕ) → slice_index words k < 2 ^ 64) → 1 ≤ length words → length words ≤ RANDOM_WORDS → random_words_in (map random_word_text words) ≡ Some words
+random_words_in-texts words h some most =
+    rw (length-map words random_word_text, le-leb 1 (length words) some, le-leb (length words) RANDOM_WORDS most) (all_random_words-texts words h)
 
 above-texts : (words : List ℕ) → list_all (λ w. is_above 32 w) (map random_word_text words) ≡ true
 above-texts [] = refl
@@ -195,20 +200,20 @@ above-letter : (side : Side) → nat_lt 32 (letter_of side) ≡ true
 above-letter A = refl
 above-letter B = refl
 
-config_of-words : (side : Side) (config : Config) → CanBeSet config → config_of side (side_words side config) ≡ Some config
-config_of-words side config h =
-    rw (letters_match side, address_of-text config.public h.six h.octets, cursor_of-text config.cursor h.cursor, drawn_words_of-texts config.words.items h.words h.some h.at_most) refl
+config_in_words-spelled : (side : Side) (config : Config) → CanBeSet config → config_in_words side (side_words side config) ≡ Some config
+config_in_words-spelled side config h =
+    rw (letters_match side, address_of-text config.public h.six h.octets, cursor_of-text config.cursor h.cursor, random_words_in-texts config.words.items h.words h.some h.at_most) refl
 
 above-side_words : (side : Side) (config : Config) → CanBeSet config → list_all (λ w. is_above 32 w) (side_words side config) ≡ true
 above-side_words side config h =
     rw (above-letter side, above-encode_lower (reverse config.public) (IsBytes-reverse config.public h.octets), above-encode_lower (bytes_high_first 4 config.cursor) (IsBytes-bytes_high_first 4 config.cursor), above-texts config.words.items) refl
 
-config_in-line : (side : Side) (config : Config) → CanBeSet config → config_in side (Some (line_of (side_words side config))) ≡ Some config
-config_in-line side config h =
-    ap (config_of side) (words_of-line_of (codes "side")
+config_in_line-spelled : (side : Side) (config : Config) → CanBeSet config → config_in_line side (Some (line_of (side_words side config))) ≡ Some config
+config_in_line-spelled side config h =
+    ap (config_in_words side) (words_of-line_of (codes "side")
     ((letter_of side ∷ []) ∷ encode_lower (reverse config.public) ∷ encode_lower (to_be_bytes w32 config.cursor) ∷ map random_word_text config.words.items)
     (above-side_words side config h))
-    ∙ config_of-words side config h
+    ∙ config_in_words-spelled side config h
 
 -- ---- the whole
 
@@ -225,6 +230,6 @@ above-lines a b turns ha hb ht =
     (and_from (is_above 10 (line_of (side_words B b))) (list_all (λ l. is_above 10 l) (map (λ turn. line_of (turn_words turn)) turns))
     (above-side_line B b hb) (above-turns turns ht))
 
-pub schedule_of-schedule_text : (a b : Config) (turns : List Turn) → CanBeSet a → CanBeSet b → All CanBeTaken turns → length turns ≤ 100000 → schedule_of (schedule_text a b turns) ≡ Right a b turns
+pub schedule_of-schedule_text : (a b : Config) (turns : List Turn) → CanBeSet a → CanBeSet b → All CanBeTaken turns → length turns ≤ MOST_TURNS → schedule_of (schedule_text a b turns) ≡ Right a b turns
 schedule_of-schedule_text a b turns ha hb ht short =
-    rw (lines_of-ended (schedule_lines a b turns) (above-lines a b turns ha hb ht), config_in-line A a ha, config_in-line B b hb, turns_from-lines 4 [] turns ht (omega arith)) refl
+    rw (lines_of-with_newline (schedule_lines a b turns) (above-lines a b turns ha hb ht), config_in_line-spelled A a ha, config_in_line-spelled B b hb, turns_from-lines 4 [] turns ht (omega arith)) refl

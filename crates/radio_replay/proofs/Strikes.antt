@@ -3,11 +3,11 @@ use Rattle.std.proofs.Common.{◌≡◌, ℕ, ◌+◌, ◌<◌, ◌≤◌, List,
 use Rattle.std.specs.Prelude.{bit_xor}
 use Rattle.std.proofs.lemmas.List.{drop_more, drop-set-lt, drop_all, take_all, append-nil, take-append-drop}
 use Rattle.std.proofs.lemmas.Grind.{take-set_at}
-use Rattle.radio_replay.specs.Damage.{xored}
+use Rattle.radio_replay.specs.Damage.{xor_of}
 
--- the octets of which the places before a front are as they will be, and those behind it are still to be changed
+-- the octets while they are changed: those before a front are done, those after it are not
 abbrev pub changing : ℕ → ℕ → List ℕ → List ℕ → List ℕ
-changing at place pattern octets = take (at + place) octets ++ xored (drop place pattern) (drop (at + place) octets)
+changing at place pattern octets = take (at + place) octets ++ xor_of (drop place pattern) (drop (at + place) octets)
 
 -- one octet more is changed
 pub change_more : (at place : ℕ) (pattern octets : List ℕ) → place < length pattern → at + place < length octets
@@ -17,19 +17,19 @@ change_more at place pattern octets within reach =
     let front = take-set_at octets (at + place) (at + (place + 1)) changed (omega arith) reach in
     let back : drop (at + (place + 1)) (set octets (at + place) changed) ≡ drop (at + place + 1) octets = drop-set-lt (at + (place + 1)) octets (at + place) changed (omega arith) ∙ ap (λ n. drop n octets) (omega arith) in
     rw (front, back, drop_more pattern place 0 within, drop_more octets (at + place) 0 reach)
-    (append_assoc (take (at + place) octets) (changed ∷ []) (xored (drop (place + 1) pattern) (drop (at + place + 1) octets)))
+    (append_assoc (take (at + place) octets) (changed ∷ []) (xor_of (drop (place + 1) pattern) (drop (at + place + 1) octets)))
 
-xored_nothing : (pattern octets : List ℕ) → octets ≡ [] → xored pattern octets ≡ []
-xored_nothing [] octets e = e
-xored_nothing (change ∷ pattern) [] e = refl
-xored_nothing (change ∷ pattern) (octet ∷ octets) e = absurd (cc)
+xor_of-nothing : (pattern octets : List ℕ) → octets ≡ [] → xor_of pattern octets ≡ []
+xor_of-nothing [] octets e = e
+xor_of-nothing (change ∷ pattern) [] e = refl
+xor_of-nothing (change ∷ pattern) (octet ∷ octets) e = absurd (cc)
 
--- behind the end there is nothing to be changed
+-- after the end there is nothing to change
 pub change_past : (at place : ℕ) (pattern octets : List ℕ) → length octets ≤ at + place → changing at place pattern octets ≡ octets
 change_past at place pattern octets past =
-    rw (xored_nothing (drop place pattern) (drop (at + place) octets) (drop_all (at + place) octets past), take_all (at + place) octets past) (append-nil octets)
+    rw (xor_of-nothing (drop place pattern) (drop (at + place) octets) (drop_all (at + place) octets past), take_all (at + place) octets past) (append-nil octets)
 
--- where the whole pattern was taken
+-- after the whole pattern
 pub change_all : (at : ℕ) (pattern octets : List ℕ) → changing at (length pattern) pattern octets ≡ octets
 change_all at pattern octets =
     rw (drop_all (length pattern) pattern (omega arith)) (take-append-drop (at + length pattern) octets)

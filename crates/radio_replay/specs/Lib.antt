@@ -1,11 +1,11 @@
+-- The definitions that the contracts of this crate cite.
 pub mod Damage
 pub mod FateWord
-pub mod Kept
+pub mod Gathering
+pub mod Storage
 pub mod Numbers
-pub mod Parts
 pub mod Schedule
 pub mod Script
 pub mod SideLine
 pub mod Spelling
-pub mod Text
 pub mod TurnLine

@@ -1,4 +1,4 @@
--- What the text of a schedule says, and what reading it may answer. The format is this product's own.
+-- The schedule of a text, and the faults of reading one (our choice).
 use Rattle.std.specs.Prelude.{◌≡◌, ℕ, ◌+◌, ◌-◌, ◌^◌, nat_le, min, Bool, true, false, List, [], ◌∷◌, ◌++◌, length, drop, Option, Some, None, Result, Ok, Err, slice_get, if◌then◌else◌, codes}
 use Rattle.std.specs.Bool.{⊤}
 use Rattle.std.specs.Option.{option_map}
@@ -8,43 +8,50 @@ use Rattle.ble_base.specs.declared.Side.TheVariants.{A, B}
 use Rattle.radio_replay.specs.declared.faults.ScheduleFault.{ScheduleFault}
 use Rattle.radio_replay.specs.declared.faults.ScheduleFault.TheVariants.{BadLine, TooLong, Memory}
 use Rattle.radio_replay.specs.Script.{Turn}
-use Rattle.radio_replay.specs.SideLine.{config_in}
-use Rattle.radio_replay.specs.Text.{lines_of, words_of}
-use Rattle.radio_replay.specs.TurnLine.{line_in, turns_of}
+use Rattle.radio_replay.specs.SideLine.{config_in_line}
+use Rattle.line_words.specs.Text.{lines_of, words_of}
+use Rattle.radio_replay.specs.declared.lines.Line.{Line}
+use Rattle.radio_replay.specs.TurnLine.{line_in, line_turns}
+use Rattle.radio_replay.specs.declared.limits.TheConstants.{MOST_TURNS}
 
--- what a text is: a schedule, or one whose first line at fault is this, counted from 1: a line outside the grammar, or one with which there are too many turns
+-- a text is right, with these settings and turns; or it has a first line at fault, counted from 1: a line outside the
+-- grammar, or one with which there are too many turns
 pub data Reading : Type 0 where
   Right : Config → Config → List Turn → Reading
   Wrong : ℕ → Reading
   TooMany : ℕ → Reading
 
--- why a line is at fault: it is outside the grammar, or with it there are too many turns
+-- why a line is at fault: it is outside the grammar, or there are too many turns with it
 pub data LineFault : Type 0 where
   Outside : LineFault
   PastLimit : LineFault
 
--- whether the first line is there and is `ble-schedule 1` (own)
+-- whether there is a first line and it is `ble-schedule 1`
 abbrev pub is_heading : Option (List ℕ) → Bool
 is_heading None = false
 is_heading (Some line) = bytes_eq line (codes "ble-schedule 1")
 
--- the turns before a line with those of the line behind them: at most 100,000 (own)
+-- the turns before a line and then those of the line: at most 100,000
 abbrev pub with_line : List Turn → Option (List Turn) → Result (List Turn) LineFault
 with_line turns None = Err Outside
-with_line turns (Some more) = if nat_le (length turns + length more) 100000 then Ok (turns ++ more) else Err PastLimit
+with_line turns (Some more) =
+    if nat_le (length turns + length more) MOST_TURNS then Ok (turns ++ more) else Err PastLimit
 
--- what follows a line of this number, where it is not at fault
-abbrev pub go_on : ℕ → Result (List Turn) LineFault → (List Turn → Result (List Turn) (LineFault × ℕ)) → Result (List Turn) (LineFault × ℕ)
-go_on number (Err fault) later = Err (fault, number)
-go_on number (Ok turns) later = later turns
+-- the turns after a line of this number, if it is not at fault
+abbrev pub turns_then : ℕ → Result (List Turn) LineFault → (List Turn → Result (List Turn) (LineFault × ℕ))
+    → Result (List Turn) (LineFault × ℕ)
+turns_then number (Err fault) later = Err (fault, number)
+turns_then number (Ok turns) later = later turns
 
--- these turns and those of these lines, of which the first has this number, or why and where the first of them is at fault (own)
+-- these turns and then those of these lines, of which the first has this number; or why and where a line is first at
+-- fault
 abbrev pub turns_from : ℕ → List Turn → List (List ℕ) → Result (List Turn) (LineFault × ℕ)
 turns_from number turns [] = Ok turns
 turns_from number turns (line ∷ lines) =
-    go_on number (with_line turns (option_map turns_of (line_in (words_of line)))) (λ longer. turns_from (number + 1) longer lines)
+    turns_then number (with_line turns (option_map line_turns (line_in (words_of line))))
+    (λ longer. turns_from (number + 1) longer lines)
 
--- the first of the three lines and the turns that is at fault, if there is one (own)
+-- the reading of a text by its heading, its settings and its turns: the first of them that is at fault decides
 abbrev pub reading : Bool → Option Config → Option Config → Result (List Turn) (LineFault × ℕ) → Reading
 reading false a b turns = Wrong 1
 reading true None b turns = Wrong 2
@@ -53,24 +60,44 @@ reading true (Some a) (Some b) (Err (Outside, line)) = Wrong line
 reading true (Some a) (Some b) (Err (PastLimit, line)) = TooMany line
 reading true (Some a) (Some b) (Ok turns) = Right a b turns
 
--- line 1 is the heading, line 2 is that of side A, line 3 that of side B, and each further line says turns. A line of these three that is missing is at fault (own)
+-- line 1 is the heading, line 2 that of side A, line 3 that of side B, and the further lines are turns; a missing line
+-- of the first three is at fault
 abbrev pub schedule_of : List ℕ → Reading
 schedule_of text =
-    reading (is_heading (slice_get (lines_of text) 0)) (config_in A (slice_get (lines_of text) 1))
-    (config_in B (slice_get (lines_of text) 2)) (turns_from 4 [] (drop 3 (lines_of text)))
+    reading (is_heading (slice_get (lines_of text) 0)) (config_in_line A (slice_get (lines_of text) 1))
+    (config_in_line B (slice_get (lines_of text) 2)) (turns_from 4 [] (drop 3 (lines_of text)))
 
--- a number of a line as a fault carries it, which stands still at 2 ^ 32 - 1 (own)
+-- the number of a line in a fault, at most 2 ^ 32 - 1
 abbrev pub line_number : ℕ → ℕ
 line_number number = min number (2 ^ 32 - 1)
 
--- what a fault says where these lines are outside the grammar and those have too many turns: want of memory says nothing
+-- a fault names a line that is outside the grammar or one that has too many turns; out of memory names none
 abbrev pub IsFault : (ℕ → Type 0) → (ℕ → Type 0) → ScheduleFault → Type 0
 IsFault is_wrong is_past Memory = ⊤
 IsFault is_wrong is_past (BadLine number) = (line : ℕ) × is_wrong line × (number ≡ line_number line)
 IsFault is_wrong is_past (TooLong number) = (line : ℕ) × is_past line × (number ≡ line_number line)
 
--- what a fault says of the line of this number, of which this was read
+-- a fault of the line of this number, of which this was read
 abbrev pub IsLineFault : ℕ → Result (List Turn) LineFault → ScheduleFault → Type 0
 IsLineFault number read Memory = ⊤
 IsLineFault number read (BadLine line) = (read ≡ Err Outside) × (line ≡ number)
 IsLineFault number read (TooLong line) = (read ≡ Err PastLimit) × (line ≡ number)
+
+-- a line that was read, or its fault by its number: it is outside the grammar, or there are too many turns with it
+abbrev pub checked_line : Option Line → ℕ → ℕ → Result Line ScheduleFault
+checked_line None turns number = Err (BadLine number)
+checked_line (Some line) turns number =
+    if nat_le (turns + length (line_turns line)) MOST_TURNS then Ok line else Err (TooLong number)
+
+-- the settings that were read of lines 2 and 3, or the fault of the first of the three lines that is at fault
+abbrev pub settings_read : Bool → Option Config → Option Config → Result (Config × Config) ScheduleFault
+settings_read false a b = Err (BadLine 1)
+settings_read true None b = Err (BadLine 2)
+settings_read true (Some a) None = Err (BadLine 3)
+settings_read true (Some a) (Some b) = Ok (a, b)
+
+-- the settings in the first three of these lines
+abbrev pub read_settings : List (List ℕ) → Result (Config × Config) ScheduleFault
+read_settings lines =
+    settings_read (is_heading (slice_get lines 0)) (config_in_line A (slice_get lines 1))
+    (config_in_line B (slice_get lines 2))

@@ -1,76 +1,52 @@
-//! The words that say what happens to packets.
-ghost use Rattle.std.specs.Prelude.{◌≡◌, ◌==◌, ◌≤◌, IfOk, IfSome, length};
-ghost use Rattle.std.specs.List.{slice_split};
-ghost use Rattle.std.specs.Option.{option_copied, option_map};
-ghost use Rattle.radio_replay.specs.FateWord.{damage_in, fate_in, only_part, pattern_in, two_parts};
+//! The words for the fates of packets.
+ghost use Rattle.std.specs.Prelude.{◌≡◌};
+ghost use Rattle.std.specs.Option.{option_map};
+ghost use Rattle.radio_replay.specs.FateWord.{damage_in, fate_in, pattern_in};
 
-use crate::kept_fates::KeptFate;
-use crate::numbers::read_number;
-use crate::parts::cut;
-use hex::FromHexError;
-use std::alloc::{AllocError, Global};
+use crate::fates::Fate;
+use crate::limits::LAST_PLACE;
+use arrayvec::ArrayVec;
+use ble_base::AIR_PACKET_OCTETS;
+use line_words::{read_number, two_parts};
+use wire_fields::put_octets;
 
-/// The last place from which on a packet may be changed.
-const LAST_PLACE: u32 = 263;
-
-/// The most octets of a pattern.
-const MOST_CHANGED: usize = 264;
-
-/// The octets, where no colon is among them.
-fn whole(octets: &[u8]) -> Option<&[u8]>
-    ensures { option_copied result ≡ only_part (slice_split (λ octet. octet == 58) octets.now) }
+/// The pattern that hexadecimal digits spell: 1 to 264 octets.
+fn read_pattern(digits: &[u8]) -> Option<ArrayVec<u8, AIR_PACKET_OCTETS>>
+    ensures { option_map (λ pattern. pattern.items) result ≡ pattern_in digits.now }
 {
-    match cut(octets, b':') {
-        (part, None) => Some(part),
-        (_, Some(_)) => None,
+    let count = digits.len() / 2;
+    if count == 0 || count > AIR_PACKET_OCTETS {
+        return None;
     }
+    let mut room = [0; AIR_PACKET_OCTETS];
+    let octets = &mut room[..count];
+    hex::decode_to_slice(digits, octets).ok()?;
+    let mut pattern = ArrayVec::new();
+    put_octets(&mut pattern, octets);
+    Some(pattern)
 }
 
-/// The octets before and behind the one colon.
-fn parts_of(octets: &[u8]) -> Option<(&[u8], &[u8])>
-    ensures { option_map (λ parts. (parts.0.now, parts.1.now)) result ≡ two_parts (slice_split (λ octet. octet == 58) octets.now) }
+/// The damage that the octets after the letter spell.
+fn read_damage(octets: &[u8]) -> Option<Fate>
+    ensures { result ≡ damage_in octets.now }
 {
-    let (front, behind) = cut(octets, b':');
-    Some((front, whole(behind?)?))
+    let (place, digits) = two_parts(octets, b':')?;
+    let at = read_number(place, 0, LAST_PLACE as u64)?;
+    let pattern = read_pattern(digits)?;
+    Some(Fate::Damage {
+        at: at as u16,
+        pattern,
+    })
 }
 
-/// The pattern of 1 to 264 octets that hexadecimal digits spell.
-fn read_pattern(alloc: Global, digits: &[u8]) -> Result<Option<Vec<u8>>, AllocError>
-    ensures value { IfOk result (λ pattern. option_map (λ octets. octets.items) pattern ≡ pattern_in digits.now) }
-    ensures fits { IfOk result (λ pattern. IfSome pattern (λ octets. length octets.items ≤ 264)) }
-{
-    match hex::decode(alloc, digits) {
-        Ok(octets) if octets.is_empty() || octets.len() > MOST_CHANGED => Ok(None),
-        Ok(octets) => Ok(Some(octets)),
-        Err(FromHexError::OutOfMemory) => Err(AllocError),
-        Err(_) => Ok(None),
-    }
-}
-
-/// The damage of a word behind its letter.
-fn read_damage(alloc: Global, octets: &[u8]) -> Result<Option<KeptFate>, AllocError>
-    ensures { IfOk result (λ fate. fate ≡ damage_in octets.now) }
-{
-    let Some((place, digits)) = parts_of(octets) else {
-        return Ok(None);
-    };
-    let Some(place) = read_number(place, 0, LAST_PLACE) else {
-        return Ok(None);
-    };
-    let Some(pattern) = read_pattern(alloc, digits)? else {
-        return Ok(None);
-    };
-    Ok(Some(KeptFate::damage(place as u16, pattern)))
-}
-
-/// The fate that a word spells.
-pub(crate) fn read_fate(alloc: Global, word: &[u8]) -> Result<Option<KeptFate>, AllocError>
-    ensures { IfOk result (λ fate. fate ≡ fate_in word.now) }
+/// The fate that a word spells. It takes no memory.
+pub(crate) fn read_fate(word: &[u8]) -> Option<Fate>
+    ensures { result ≡ fate_in word.now }
 {
     match word {
-        [b'.'] => Ok(Some(KeptFate::pass())),
-        [b'x'] => Ok(Some(KeptFate::lost())),
-        [b'e', octets @ ..] => read_damage(alloc, octets),
-        _ => Ok(None),
+        [b'.'] => Some(Fate::Pass),
+        [b'x'] => Some(Fate::Lost),
+        [b'e', octets @ ..] => read_damage(octets),
+        _ => None,
     }
 }

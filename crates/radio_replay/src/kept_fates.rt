@@ -1,13 +1,16 @@
-//! How a schedule keeps the fates of its packets: in little memory, since most packets pass.
-ghost use Rattle.std.specs.Prelude.{◌≡◌, ◌≤◌, length};
+//! The fates of a schedule as it keeps them: in little memory, since most packets pass.
+ghost use Rattle.std.specs.Prelude.{◌≡◌, ◌≤◌, IfOk, length};
 
 use crate::fates::Fate;
 use arrayvec::ArrayVec;
+use ble_base::AIR_PACKET_OCTETS;
+use std::alloc::{AllocError, Global};
 use std::marker::Model;
+use wire_fields::put_octets;
 
-/// A fate whose pattern is as long as it is.
+/// A fate whose pattern takes as much memory as it is long.
 #[derive(Debug, Drop)]
-enum Kept {
+enum Storage {
     Pass,
     Lost,
     Damage { at: u16, pattern: Vec<u8> },
@@ -16,65 +19,54 @@ enum Kept {
 /// A fate that is kept. A clause sees it as the fate.
 #[derive(Debug, Drop)]
 pub(crate) struct KeptFate {
-    kept: Kept,
+    storage: Storage,
 }
 
 impl Model for KeptFate {
     ghost use Rattle.radio_replay.specs.declared.fates.Fate.{Fate};
-    ghost use Rattle.radio_replay.specs.Kept.{fate_kept, Fits};
+    ghost use Rattle.radio_replay.specs.Storage.{stored_fate, Fits};
 
     ghost Value = { Fate };
 
-    ghost view = { λ fate. fate_kept fate.kept };
+    ghost view = { λ fate. stored_fate fate.storage };
 
-    ghost invariant = { λ fate. Fits fate.kept };
+    ghost invariant = { λ fate. Fits fate.storage };
 }
 
-/// The octets in a vector of their own.
-fn copy_of(octets: &[u8]) -> ArrayVec<u8, 264>
-    requires { length octets.now ≤ 264 }
+/// A copy of these octets that takes no memory.
+fn copy_of(octets: &[u8]) -> ArrayVec<u8, AIR_PACKET_OCTETS>
+    requires { length octets.now ≤ AIR_PACKET_OCTETS }
     ensures { result.items ≡ octets.now }
 {
     let mut copy = ArrayVec::new();
-    for octet in octets {
-        copy.push(*octet);
-    }
+    put_octets(&mut copy, octets);
     copy
 }
 
 impl KeptFate {
-    /// A packet passes as it is.
-    pub(crate) fn pass() -> KeptFate
-        ensures { result ≡ Fate.Pass }
+    /// Keeps a fate. Only a damage takes memory.
+    pub(crate) fn keep(alloc: Global, fate: &Fate) -> Result<KeptFate, AllocError>
+        ensures { IfOk result (λ kept. kept ≡ fate.now) }
     {
-        KeptFate { kept: Kept::Pass }
+        let storage = match fate {
+            Fate::Pass => Storage::Pass,
+            Fate::Lost => Storage::Lost,
+            Fate::Damage { at, pattern } => Storage::Damage {
+                at: *at,
+                pattern: Vec::from_slice(alloc, pattern.as_slice())?,
+            },
+        };
+        Ok(KeptFate { storage })
     }
 
-    /// A packet is lost.
-    pub(crate) fn lost() -> KeptFate
-        ensures { result ≡ Fate.Lost }
-    {
-        KeptFate { kept: Kept::Lost }
-    }
-
-    /// A pattern of at most 264 octets is xored in from place `at` on.
-    pub(crate) fn damage(at: u16, pattern: Vec<u8>) -> KeptFate
-        requires { length pattern.items ≤ 264 }
-        ensures { result ≡ Fate.Damage at (record { items = pattern.items }) }
-    {
-        KeptFate {
-            kept: Kept::Damage { at, pattern },
-        }
-    }
-
-    /// The fate, which takes no memory.
+    /// The fate. It takes no memory.
     pub(crate) fn fate(&self) -> Fate
         ensures { result ≡ self.now }
     {
-        match &self.kept {
-            Kept::Pass => Fate::Pass,
-            Kept::Lost => Fate::Lost,
-            Kept::Damage { at, pattern } => Fate::Damage {
+        match &self.storage {
+            Storage::Pass => Fate::Pass,
+            Storage::Lost => Fate::Lost,
+            Storage::Damage { at, pattern } => Fate::Damage {
                 at: *at,
                 pattern: copy_of(pattern.as_slice()),
             },

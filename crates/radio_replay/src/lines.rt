@@ -1,26 +1,23 @@
-//! The lines behind the first three: turns, one by one or many alike.
+//! The lines after the first three: single turns, and runs of turns.
 ghost use Rattle.std.specs.Prelude.{◌≡◌, ◌++◌, IfOk, OnOk, length, replicate};
-ghost use Rattle.radio_replay.specs.Text.{words_of};
-ghost use Rattle.radio_replay.specs.TurnLine.{count_in, line_in, plain_turn, turns_of};
+ghost use Rattle.line_words.specs.Text.{words_of};
+ghost use Rattle.radio_replay.specs.TurnLine.{count_in, line_in, plain_turn, line_turns};
 
-use crate::numbers::read_number;
-use crate::parts::Words;
+use crate::limits::MOST_REPEATED;
 use crate::turns::{KeptTurn, read_turn};
+use line_words::{Words, read_number};
 use std::alloc::{AllocError, Global};
 
-/// The largest number of six digits.
-const MOST_REPEATED: u32 = 999_999;
-
-/// What a line says.
+/// A line of turns.
 #[derive(Drop)]
 pub(crate) enum Line {
-    /// So many plain turns.
+    /// This number of plain turns.
     Run(u32),
     /// One turn.
     Single(KeptTurn),
 }
 
-/// The number of turns that a line repeats.
+/// The number of turns in a run.
 fn read_count(mut words: Words<'_>) -> Option<u32>
     ensures { result ≡ count_in words.entry }
 {
@@ -28,10 +25,11 @@ fn read_count(mut words: Words<'_>) -> Option<u32>
     if words.next_word().is_some() {
         return None;
     }
-    read_number(word, 1, MOST_REPEATED)
+    let count = read_number(word, 1, u64::from(MOST_REPEATED))?;
+    Some(count as u32)
 }
 
-/// What a line says.
+/// Reads a line of turns. None if it is outside the grammar.
 pub(crate) fn read_line(alloc: Global, line: &[u8]) -> Result<Option<Line>, AllocError>
     ensures { IfOk result (λ read. read ≡ line_in (words_of line.now)) }
 {
@@ -48,7 +46,7 @@ pub(crate) fn read_line(alloc: Global, line: &[u8]) -> Result<Option<Line>, Allo
     Ok(None)
 }
 
-/// Adds so many plain turns.
+/// Adds `count` plain turns.
 fn add_plain(alloc: Global, turns: &mut Vec<KeptTurn>, count: u32) -> Result<(), AllocError>
     ensures { OnOk result (turns.new.items ≡ turns.old.items ++ replicate count plain_turn) }
 {
@@ -59,9 +57,9 @@ fn add_plain(alloc: Global, turns: &mut Vec<KeptTurn>, count: u32) -> Result<(),
 }
 
 impl Line {
-    /// How many turns it says.
+    /// The number of its turns.
     pub(crate) fn count(&self) -> usize
-        ensures { result ≡ length (turns_of self.now) }
+        ensures { result ≡ length (line_turns self.now) }
     {
         match self {
             Line::Run(count) => *count as usize,
@@ -71,7 +69,7 @@ impl Line {
 
     /// Adds its turns.
     pub(crate) fn add_to(self, alloc: Global, turns: &mut Vec<KeptTurn>) -> Result<(), AllocError>
-        ensures { OnOk result (turns.new.items ≡ turns.old.items ++ turns_of self) }
+        ensures { OnOk result (turns.new.items ≡ turns.old.items ++ line_turns self) }
     {
         match self {
             Line::Run(count) => add_plain(alloc, turns, count),

@@ -1,27 +1,25 @@
-//! A schedule, how its text is read, and what is asked of it.
-ghost use Rattle.std.specs.Prelude.{◌≡◌, ◌≤◌, ◌<◌, Ok, Err, Some, IfOk, IfErr, IfSome, OnOk, [], length, slice_get};
+//! Schedules, reading their text, and their turns.
+ghost use Rattle.std.specs.Prelude.{◌≡◌, ◌≤◌, ◌<◌, ◌^◌, Ok, Err, Some, IfOk, IfErr, IfSome, OnOk, [], length, slice_get, drop};
 ghost use Rattle.std.specs.List.{All};
 ghost use Rattle.std.specs.Option.{option_map};
-ghost use Rattle.radio_replay.specs.Schedule.{Right, Wrong, TooMany, Outside, PastLimit, schedule_of, turns_from, with_line, IsFault, IsLineFault};
+ghost use Rattle.radio_replay.specs.Schedule.{Right, Wrong, TooMany, Outside, PastLimit, checked_line, read_settings, schedule_of, turns_from, with_line, IsFault, IsLineFault};
 ghost use Rattle.radio_replay.specs.Script.{CanBeFed, fate_of};
-ghost use Rattle.radio_replay.specs.Text.{words_of};
-ghost use Rattle.radio_replay.specs.TurnLine.{line_in, turns_of};
+ghost use Rattle.line_words.specs.Text.{words_of};
+ghost use Rattle.radio_replay.specs.TurnLine.{line_in, line_turns};
 
 use crate::fates::Fate;
 use crate::faults::ScheduleFault;
-use crate::lines::read_line;
-use crate::parts::Lines;
-use crate::side_lines::read_config_in;
+use crate::limits::MOST_TURNS;
+use crate::lines::{Line, read_line};
+use crate::side_lines::read_config_in_line;
 use crate::turns::KeptTurn;
 use ble_base::{Config, Side};
+use line_words::Lines;
 use std::alloc::Global;
 use std::marker::Model;
 
-/// The most turns of a schedule (own).
-const MOST_TURNS: usize = 100_000;
-
-/// The schedule of a run (own): both controllers' settings, and its turns in order. It keeps the allocator
-/// that it was made with.
+/// The schedule of a run (our choice): the settings of both controllers, and the turns in order. It
+/// keeps the allocator that it was made with.
 #[derive(Debug, Drop)]
 pub struct Schedule {
     /// The settings of A.
@@ -33,39 +31,55 @@ pub struct Schedule {
 
 impl Model for Schedule {
     ghost use Rattle.std.specs.Prelude.{◌≤◌, length};
+    ghost use Rattle.radio_replay.specs.declared.limits.TheConstants.{MOST_TURNS};
     ghost use Rattle.radio_replay.specs.Script.{Script};
 
     ghost Value = { Script };
 
-    ghost view = { λ schedule. record { a = schedule.a; b = schedule.b; turns = schedule.turns.items } };
+    ghost view = { λ schedule.
+        record { a = schedule.a; b = schedule.b; turns = schedule.turns.items } };
 
-    ghost invariant = { λ schedule. length schedule.turns.items ≤ 100000 };
+    ghost invariant = { λ schedule. length schedule.turns.items ≤ MOST_TURNS };
 }
 
-/// Adds the turns of a line, which has this number.
+/// The line with this number, if it is in the grammar and there is room for its turns after `turns`
+/// turns. The fault is never out of memory.
+fn checked_line(line: Option<Line>, turns: usize, number: u32) -> Result<Line, ScheduleFault>
+    requires { turns < 2 ^ 63 }
+    ensures { result ≡ checked_line line turns number }
+{
+    let Some(line) = line else {
+        return Err(ScheduleFault::BadLine(number));
+    };
+    if turns + line.count() > MOST_TURNS {
+        return Err(ScheduleFault::TooLong(number));
+    }
+    Ok(line)
+}
+
+/// Adds the turns of the line with this number.
 fn add_line(
     alloc: Global,
     turns: &mut Vec<KeptTurn>,
     line: &[u8],
     number: u32,
 ) -> Result<(), ScheduleFault>
-    ensures ok { OnOk result (with_line turns.old.items (option_map turns_of (line_in (words_of line.now))) ≡ Ok turns.new.items) }
-    ensures err { IfErr result (IsLineFault number (with_line turns.old.items (option_map turns_of (line_in (words_of line.now))))) }
+    ensures ok { OnOk result
+        (with_line turns.old.items (option_map line_turns (line_in (words_of line.now)))
+        ≡ Ok turns.new.items) }
+    ensures err { IfErr result (IsLineFault number
+        (with_line turns.old.items (option_map line_turns (line_in (words_of line.now))))) }
 {
-    let read = read_line(alloc, line).map_err(|_| ScheduleFault::Memory)?;
-    let Some(line) = read else {
-        return Err(ScheduleFault::BadLine(number));
-    };
-    if turns.len() + line.count() > MOST_TURNS {
-        return Err(ScheduleFault::TooLong(number));
-    }
-    line.add_to(alloc, turns).map_err(|_| ScheduleFault::Memory)
+    let line = checked_line(read_line(alloc, line)?, turns.len(), number)?;
+    line.add_to(alloc, turns)?;
+    Ok(())
 }
 
-/// The turns of these lines, which begin with line 4.
+/// The turns of these lines, of which the first has the number 4.
 fn read_turns(alloc: Global, mut lines: Lines<'_>) -> Result<Vec<KeptTurn>, ScheduleFault>
     ensures ok { IfOk result (λ turns. turns_from 4 [] lines.entry ≡ Ok turns.items) }
-    ensures err { IfErr result (IsFault (λ line. turns_from 4 [] lines.entry ≡ Err (Outside, line)) (λ line. turns_from 4 [] lines.entry ≡ Err (PastLimit, line))) }
+    ensures err { IfErr result (IsFault (λ line. turns_from 4 [] lines.entry ≡ Err (Outside, line))
+        (λ line. turns_from 4 [] lines.entry ≡ Err (PastLimit, line))) }
 {
     let mut turns = Vec::new(alloc);
     let mut number: u32 = 4;
@@ -76,36 +90,51 @@ fn read_turns(alloc: Global, mut lines: Lines<'_>) -> Result<Vec<KeptTurn>, Sche
     Ok(turns)
 }
 
-/// The schedule of a text.
+/// The settings of A and of B in the first three of these lines. The fault is never out of memory.
 #[tactic(auto, using(crate::proofs::Firsts::second_of, crate::proofs::Firsts::third_of, crate::proofs::Firsts::fourth_on))]
-fn read_text(alloc: Global, octets: &[u8]) -> Result<Schedule, ScheduleFault>
-    ensures ok { IfOk result (λ schedule. schedule_of octets.now ≡ Right schedule.a schedule.b schedule.turns) }
-    ensures err { IfErr result (IsFault (λ line. schedule_of octets.now ≡ Wrong line) (λ line. schedule_of octets.now ≡ TooMany line)) }
+fn read_settings(lines: &mut Lines<'_>) -> Result<(Config, Config), ScheduleFault>
+    ensures value { result ≡ read_settings lines.old }
+    ensures rest { OnOk result (lines.new ≡ drop 3 lines.old) }
 {
-    let mut lines = Lines::of(octets);
     if lines.next_line() != Some(b"ble-schedule 1".as_slice()) {
         return Err(ScheduleFault::BadLine(1));
     }
-    let Some(a) = read_config_in(Side::A, lines.next_line()) else {
+    let Some(a) = read_config_in_line(Side::A, lines.next_line()) else {
         return Err(ScheduleFault::BadLine(2));
     };
-    let Some(b) = read_config_in(Side::B, lines.next_line()) else {
+    let Some(b) = read_config_in_line(Side::B, lines.next_line()) else {
         return Err(ScheduleFault::BadLine(3));
     };
+    Ok((a, b))
+}
+
+/// The schedule of a text.
+fn read_text(alloc: Global, octets: &[u8]) -> Result<Schedule, ScheduleFault>
+    ensures ok { IfOk result (λ schedule.
+        schedule_of octets.now ≡ Right schedule.a schedule.b schedule.turns) }
+    ensures err { IfErr result (IsFault (λ line. schedule_of octets.now ≡ Wrong line)
+        (λ line. schedule_of octets.now ≡ TooMany line)) }
+{
+    let mut lines = Lines::of(octets);
+    let (a, b) = read_settings(&mut lines)?;
     let turns = read_turns(alloc, lines)?;
     Ok(Schedule { a, b, turns })
 }
 
 impl Schedule {
-    /// Reads the text of a schedule, in the grammar that the crate's page gives.
+    /// Reads the text of a schedule, in the grammar on the page of this crate.
     ///
-    /// Answers `BadLine` exactly where the first line at fault is outside the grammar, or is one of the
-    /// first three and missing, `TooLong` exactly where it is one with which there are more than 100,000
-    /// turns, each with the number of that line, and `Memory` where there is no memory.
+    /// Errors: `BadLine` exactly if the first line at fault is outside the grammar, or is one of
+    /// the first three and missing; `TooLong` exactly if it is the line with which there are more
+    /// than 100,000 turns, each with the number of that line. `Memory` comes only from a refused
+    /// allocation; the turns before a line at fault may ask for memory first, and so may the fates
+    /// of that line.
     pub fn read(alloc: Global, octets: &[u8]) -> Result<Schedule, ScheduleFault>
-        ensures ok { IfOk result (λ schedule. schedule_of octets.now ≡ Right schedule.a schedule.b schedule.turns) }
-        ensures err { IfErr result (IsFault (λ line. schedule_of octets.now ≡ Wrong line) (λ line. schedule_of octets.now ≡ TooMany line)) }
-        ensures limit { IfOk result (λ schedule. length schedule.turns ≤ 100000) }
+        ensures ok { IfOk result (λ schedule.
+            schedule_of octets.now ≡ Right schedule.a schedule.b schedule.turns) }
+        ensures err { IfErr result (IsFault (λ line. schedule_of octets.now ≡ Wrong line)
+            (λ line. schedule_of octets.now ≡ TooMany line)) }
+        ensures limit { IfOk result (λ schedule. length schedule.turns ≤ MOST_TURNS) }
         ensures bounded { IfOk result (λ schedule. All CanBeFed schedule.turns) }
         ensures a_has_words { IfOk result (λ schedule. 1 ≤ length schedule.a.words.items) }
         ensures b_has_words { IfOk result (λ schedule. 1 ≤ length schedule.b.words.items) }
@@ -113,10 +142,10 @@ impl Schedule {
         read_text(alloc, octets)
     }
 
-    /// How many turns there are.
+    /// The number of turns.
     pub fn turns(&self) -> u32
         ensures count { result ≡ length self.now.turns }
-        ensures limit { result ≤ 100000 }
+        ensures limit { result ≤ MOST_TURNS }
     {
         self.turns.len() as u32
     }
@@ -145,8 +174,8 @@ impl Schedule {
         self.turn(turn).b_on
     }
 
-    /// How many octets of its host's stream A is fed in a turn, counted from 0, or as many as are left;
-    /// 0 where nothing is fed.
+    /// The number of octets of its host's stream that A is fed in a turn, counted from 0; 0 if it
+    /// is fed nothing. A stream with fewer octets left gives those.
     pub fn feed_a(&self, turn: u32) -> u32
         requires { turn < length self.now.turns }
         ensures { IfSome (slice_get self.now.turns turn) (λ t. result ≡ t.feed_a) }
@@ -154,8 +183,8 @@ impl Schedule {
         self.turn(turn).feed_a
     }
 
-    /// How many octets of its host's stream B is fed in a turn, counted from 0, or as many as are left;
-    /// 0 where nothing is fed.
+    /// The number of octets of its host's stream that B is fed in a turn, counted from 0; 0 if it
+    /// is fed nothing. A stream with fewer octets left gives those.
     pub fn feed_b(&self, turn: u32) -> u32
         requires { turn < length self.now.turns }
         ensures { IfSome (slice_get self.now.turns turn) (λ t. result ≡ t.feed_b) }
@@ -163,7 +192,8 @@ impl Schedule {
         self.turn(turn).feed_b
     }
 
-    /// What happens to a packet of a turn, both counted from 0. A packet past the fates of its turn passes.
+    /// The fate of a packet of a turn, both counted from 0. A packet past the fates of its turn
+    /// passes.
     pub fn fate(&self, turn: u32, packet: u32) -> Fate
         requires { turn < length self.now.turns }
         ensures { IfSome (slice_get self.now.turns turn) (λ t. result ≡ fate_of t packet) }

@@ -1,13 +1,13 @@
 //! The lines of the two sides.
 ghost use Rattle.std.specs.Prelude.{◌≡◌};
 ghost use Rattle.std.specs.Option.{option_map, option_copied};
-ghost use Rattle.radio_replay.specs.SideLine.{letter_of, drawn_words_of, config_of, config_in};
-ghost use Rattle.radio_replay.specs.Text.{words_of};
+ghost use Rattle.radio_replay.specs.SideLine.{letter_of, random_words_in, config_in_words, config_in_line};
+ghost use Rattle.line_words.specs.Text.{words_of};
 
 use crate::numbers::{read_address, read_cursor, read_random_word};
-use crate::parts::Words;
 use arrayvec::ArrayVec;
-use ble_base::{Config, Side};
+use ble_base::{Config, RANDOM_WORDS, Side};
+use line_words::Words;
 
 /// The letter that names a side.
 fn letter(side: Side) -> u8
@@ -20,8 +20,8 @@ fn letter(side: Side) -> u8
 }
 
 /// The random words of a side: one to 64.
-fn read_drawn_words(mut words: Words<'_>) -> Option<ArrayVec<u64, 64>>
-    ensures { option_map (λ values. values.items) result ≡ drawn_words_of words.entry }
+fn read_random_words(mut words: Words<'_>) -> Option<ArrayVec<u64, RANDOM_WORDS>>
+    ensures { option_map (λ values. values.items) result ≡ random_words_in words.entry }
 {
     let mut values = ArrayVec::new();
     while let Some(word) = words.next_word() {
@@ -34,9 +34,9 @@ fn read_drawn_words(mut words: Words<'_>) -> Option<ArrayVec<u64, 64>>
     }
 }
 
-/// The settings of a side in its line.
-fn read_config(side: Side, line: &[u8]) -> Option<Config>
-    ensures { result ≡ config_of side (words_of line.now) }
+/// The settings of a side in the words of its line.
+fn read_config_in_words(side: Side, line: &[u8]) -> Option<Config>
+    ensures { result ≡ config_in_words side (words_of line.now) }
 {
     let mut words = Words::of(line);
     let head = words.next_word()?;
@@ -49,13 +49,13 @@ fn read_config(side: Side, line: &[u8]) -> Option<Config>
     Some(Config {
         public: read_address(address)?,
         cursor: read_cursor(cursor)?,
-        words: read_drawn_words(words)?,
+        words: read_random_words(words)?,
     })
 }
 
-/// The settings of a side in its line, where there is that line.
-pub(crate) fn read_config_in(side: Side, line: Option<&[u8]>) -> Option<Config>
-    ensures { result ≡ config_in side (option_copied line.entry) }
+/// The settings of a side in its line; None if there is no line.
+pub(crate) fn read_config_in_line(side: Side, line: Option<&[u8]>) -> Option<Config>
+    ensures { result ≡ config_in_line side (option_copied line.entry) }
 {
-    read_config(side, line?)
+    read_config_in_words(side, line?)
 }

@@ -1,29 +1,34 @@
+//! Tests of what no contract says: texts in and outside the grammar, the texts of faults, and
+//! damages.
+ghost use Rattle.std.specs.Prelude.{◌≤◌, length};
+
 use crate::{Fate, Schedule, ScheduleFault, a_run_is_plain_turns, every_schedule_is_read};
 use arrayvec::ArrayVec;
 use std::alloc::Global;
 use std::test::Fail;
+use wire_fields::put_octets;
 
 const HEAD: &str =
     "ble-schedule 1\nside a c0ffee00000a 71764129 0000000000000001\nside b c0ffee00000b 71764129 0000000000000002\n";
 
-/// How many turns these lines have behind the first three, or why they are no schedule's.
+/// The number of turns in these lines, after the first three; or their fault.
 fn turn_count(alloc: Global, lines: &str) -> Result<u32, ScheduleFault> {
-    let mut text = String::from_str(alloc, HEAD).map_err(|_| ScheduleFault::Memory)?;
-    text.push_str(lines).map_err(|_| ScheduleFault::Memory)?;
+    let mut text = String::from_str(alloc, HEAD)?;
+    text.push_str(lines)?;
     Ok(Schedule::read(alloc, text.as_bytes())?.turns())
 }
 
 /// A damage.
-fn damage(at: u16, octets: &[u8]) -> Fate {
+fn damage(at: u16, octets: &[u8]) -> Fate
+    requires { length octets.now ≤ 264 }
+{
     let mut pattern = ArrayVec::new();
-    for octet in octets {
-        let _ = pattern.try_push(*octet);
-    }
+    put_octets(&mut pattern, octets);
     Fate::Damage { at, pattern }
 }
 
-/// The radios of A and B and what they are fed in a turn, where there is that turn.
-fn turn_told(schedule: &Schedule, turn: u32) -> Option<(bool, bool, u32, u32)> {
+/// The radios and feeds of A and B in a turn, if there is that turn.
+fn turn_facts(schedule: &Schedule, turn: u32) -> Option<(bool, bool, u32, u32)> {
     if turn >= schedule.turns() {
         return None;
     }
@@ -35,8 +40,8 @@ fn turn_told(schedule: &Schedule, turn: u32) -> Option<(bool, bool, u32, u32)> {
     ))
 }
 
-/// The fate of a packet of a turn, where there is that turn.
-fn fate_told(schedule: &Schedule, turn: u32, packet: u32) -> Option<Fate> {
+/// The fate of a packet of a turn, if there is that turn.
+fn fate_at(schedule: &Schedule, turn: u32, packet: u32) -> Option<Fate> {
     if turn >= schedule.turns() {
         return None;
     }
@@ -68,7 +73,7 @@ fn every_part_is_read(rt: HostRuntime) -> Result<(), Fail> {
     a_run_is_plain_turns();
     assert_eq!(rt; schedule.turns(), 5);
     for (turn, want) in (0..5).zip(turns) {
-        assert_eq!(rt; turn_told(&schedule, turn), Some(want));
+        assert_eq!(rt; turn_facts(&schedule, turn), Some(want));
     }
     let fates = [
         (0, 0, Fate::Pass),
@@ -81,13 +86,13 @@ fn every_part_is_read(rt: HostRuntime) -> Result<(), Fail> {
         (4, u32::MAX, Fate::Pass),
     ];
     for (turn, packet, want) in fates {
-        assert_eq!(rt; fate_told(&schedule, turn, packet), Some(want));
+        assert_eq!(rt; fate_at(&schedule, turn, packet), Some(want));
     }
     Ok(())
 }
 
 #[test]
-fn the_first_lines_are_asked_for(rt: HostRuntime) {
+fn the_first_lines_must_be_there(rt: HostRuntime) {
     let texts = [
         ("", 1),
         ("ble-schedule 1\n", 2),
@@ -115,7 +120,7 @@ fn the_first_lines_are_asked_for(rt: HostRuntime) {
 }
 
 #[test]
-fn a_line_is_in_the_grammar_or_not(rt: HostRuntime) {
+fn lines_are_in_the_grammar(rt: HostRuntime) {
     let right = [
         ("", 0),
         ("t ++ a4", 1),
@@ -129,6 +134,10 @@ fn a_line_is_in_the_grammar_or_not(rt: HostRuntime) {
     for (lines, count) in right {
         assert_eq!(rt; turn_count(rt.alloc(), lines), Ok(count), "{lines}");
     }
+}
+
+#[test]
+fn lines_are_outside_the_grammar(rt: HostRuntime) {
     let wrong = [
         ("t +\n", 4),
         ("t ++\n\nt ++\n", 5),
@@ -167,7 +176,7 @@ fn a_line_is_in_the_grammar_or_not(rt: HostRuntime) {
 }
 
 #[test]
-fn the_first_line_at_fault_is_told(rt: HostRuntime) -> Result<(), Fail> {
+fn the_first_line_at_fault_is_named(rt: HostRuntime) -> Result<(), Fail> {
     let faults = [
         ("run 100001\n", ScheduleFault::TooLong(4)),
         ("run 999999\n", ScheduleFault::TooLong(4)),
@@ -231,7 +240,7 @@ fn a_pattern_has_one_to_264_octets(rt: HostRuntime) -> Result<(), Fail> {
 
 #[test]
 fn only_a_damage_changes_a_packet(rt: HostRuntime) {
-    let strikes = [
+    let damages = [
         (Fate::Pass, [1, 2, 3]),
         (Fate::Lost, [1, 2, 3]),
         (damage(0, &[0xff]), [0xfe, 2, 3]),
@@ -240,9 +249,9 @@ fn only_a_damage_changes_a_packet(rt: HostRuntime) {
         (damage(3, &[0x01]), [1, 2, 3]),
         (damage(263, &[0x01]), [1, 2, 3]),
     ];
-    for (fate, want) in strikes {
+    for (fate, want) in damages {
         let mut packet = [1, 2, 3];
-        fate.strike(&mut packet);
+        fate.damage_packet(&mut packet);
         assert_eq!(rt; packet, want);
     }
 }

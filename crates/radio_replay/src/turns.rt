@@ -1,14 +1,14 @@
-//! Turns, and how one is read.
+//! Turns, and reading them.
 ghost use Rattle.std.specs.Prelude.{◌≡◌, IfOk};
 ghost use Rattle.std.specs.Option.{option_map};
 ghost use Rattle.radio_replay.specs.Script.{fate_of};
-ghost use Rattle.radio_replay.specs.TurnLine.{radio_of, radios_of, fed_of, fates_in, plain_turn, turn_in};
+ghost use Rattle.radio_replay.specs.TurnLine.{radios_of, feed_in, fates_in, plain_turn, turn_in};
 
 use crate::fate_words::read_fate;
 use crate::fates::Fate;
 use crate::kept_fates::KeptFate;
-use crate::numbers::read_number;
-use crate::parts::Words;
+use crate::limits::MOST_FED;
+use line_words::{Words, read_number, read_sign};
 use std::alloc::{AllocError, Global};
 use std::marker::Model;
 
@@ -27,7 +27,13 @@ impl Model for KeptTurn {
 
     ghost Value = { Turn };
 
-    ghost view = { λ turn. record { a_on = turn.a_on; b_on = turn.b_on; feed_a = turn.feed_a; feed_b = turn.feed_b; fates = turn.fates.items } };
+    ghost view = { λ turn. record {
+      a_on = turn.a_on;
+      b_on = turn.b_on;
+      feed_a = turn.feed_a;
+      feed_b = turn.feed_b;
+      fates = turn.fates.items;
+    } };
 }
 
 impl KeptTurn {
@@ -44,7 +50,7 @@ impl KeptTurn {
         }
     }
 
-    /// The fate of a packet, counted from 0: those past the fates of the turn pass.
+    /// The fate of a packet, counted from 0. Packets past the fates of the turn pass.
     pub(crate) fn fate(&self, packet: u32) -> Fate
         ensures { result ≡ fate_of self.now packet }
     {
@@ -55,58 +61,48 @@ impl KeptTurn {
     }
 }
 
-/// The most octets that a turn feeds to one side.
-const MOST_FED: u32 = 1_048_576;
-
-/// Whether a character says that a radio is on.
-fn read_radio(octet: u8) -> Option<bool>
-    ensures { result ≡ radio_of octet }
-{
-    match octet {
-        b'+' => Some(true),
-        b'-' => Some(false),
-        _ => None,
-    }
-}
-
 /// The radios of A and of B.
 fn read_radios(word: &[u8]) -> Option<(bool, bool)>
     ensures { result ≡ radios_of word.now }
 {
     match word {
-        [a, b] => Some((read_radio(*a)?, read_radio(*b)?)),
+        [a, b] => Some((read_sign(*a)?, read_sign(*b)?)),
         _ => None,
     }
 }
 
-/// Takes the next word where it is what is fed to the side of this letter: 0 where it is not.
+/// The number of octets fed to the side of this letter. It takes the next word if that begins with
+/// the letter; otherwise the number is 0.
 fn read_feed(letter: u8, words: &mut Words<'_>) -> Option<u32>
-    ensures { option_map (λ count. record { count = count; behind = words.new }) result ≡ fed_of letter words.old }
+    ensures { option_map (λ count. record { count = count; words = words.new }) result
+        ≡ feed_in letter words.old }
 {
     match words.peek_word() {
         Some([first, digits @ ..]) if *first == letter => {
             words.next_word();
-            read_number(digits, 1, MOST_FED)
+            let count = read_number(digits, 1, u64::from(MOST_FED))?;
+            Some(count as u32)
         }
         _ => Some(0),
     }
 }
 
-/// The fates of all words that are left.
+/// Reads the fates that all remaining words spell. None if one of them spells no fate.
 fn read_fates(alloc: Global, mut words: Words<'_>) -> Result<Option<Vec<KeptFate>>, AllocError>
     ensures { IfOk result (λ fates. option_map (λ kept. kept.items) fates ≡ fates_in words.entry) }
 {
     let mut fates = Vec::new(alloc);
     while let Some(word) = words.next_word() {
-        let Some(fate) = read_fate(alloc, word)? else {
+        let Some(fate) = read_fate(word) else {
             return Ok(None);
         };
-        fates.push(fate)?;
+        fates.push(KeptFate::keep(alloc, &fate)?)?;
     }
     Ok(Some(fates))
 }
 
-/// The turn of a turn line, behind its first word.
+/// Reads a turn from the words after the first word of its line. None if they are outside the
+/// grammar.
 pub(crate) fn read_turn(alloc: Global, mut words: Words<'_>) -> Result<Option<KeptTurn>, AllocError>
     ensures { IfOk result (λ turn. turn ≡ turn_in words.entry) }
 {

@@ -1,3 +1,4 @@
+-- Invariants of `lines::add_plain`.
 use Rattle.std.proofs.Common.{◌≡◌, ◌++◌}
 use Rattle.std.specs.Prelude.{replicate}
 use Rattle.radio_replay.specs.TurnLine.{plain_turn}

@@ -1,3 +1,4 @@
+-- Invariants of `schedules::read_turns`.
 use Rattle.std.proofs.Common.{◌≡◌, ◌≤◌, ◌+◌, ◌-◌, [], length}
 use Rattle.radio_replay.specs.Schedule.{line_number, turns_from}
 use Rattle.radio_replay.proofs.schedules.read_turns.Given as goal

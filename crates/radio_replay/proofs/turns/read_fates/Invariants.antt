@@ -1,3 +1,4 @@
+-- Invariants of `turns::read_fates`.
 use Rattle.std.proofs.Common.{◌≡◌, length}
 use Rattle.radio_replay.specs.TurnLine.{fates_in}
 use Rattle.radio_replay.proofs.Gathered.{values_then}

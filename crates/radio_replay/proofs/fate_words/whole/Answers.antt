@@ -1,8 +1,0 @@
-use Rattle.std.proofs.Common.{sym}
-use Rattle.radio_replay.proofs.Cuts.{second_part}
-use Rattle.radio_replay.proofs.fate_words.whole.Goals as goal
-
-pub returns-in_default-Some : goal.returns-in_default-Some
-returns-in_default-Some c =
-    let first = rw c.in_default-Some.is-1 at c.cut.ensures in
-    sym (second_part 58 c.args.octets.now c.cut.result.0.now c.in_default-Some.field-0-1.now first)

@@ -1,9 +1,0 @@
-use Rattle.std.proofs.Common.{sym, refl}
-use Rattle.std.specs.Option.{option_copied}
-use Rattle.radio_replay.proofs.Cuts.{first_line}
-use Rattle.radio_replay.proofs.parts.Lines.next_line.Goals as goal
-
-pub returns-clause-first : goal.returns-clause-first
-returns-clause-first c =
-    let lines = first_line c.self.inside.text.now c.cut.result.0.now (option_copied c.cut.result.1) (sym c.if-is_empty.ensures) c.cut.ensures in
-    rw (← c.self.view_is, lines) refl
