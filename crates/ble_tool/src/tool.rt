@@ -62,7 +62,8 @@ pub fn ble_tool<F: Files, O: Sink, E: Sink>(
     // The words are not a command exactly where the status is 1.
     ensures usage { (result ≡ 1) ↔ IsNone (command_of (map string_bytes words.now.items)) }
 
-    // Where the command can do its work, it does, or an allocation fails: if no count of faults rose,
+    // Where the command can do its work, it does, or an allocation fails: if no count of faults has
+    // risen,
     ensures complete { (command : Command)
         → let given = map string_bytes words.now.items in
         let world = world_of
