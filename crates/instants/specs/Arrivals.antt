@@ -1,12 +1,13 @@
--- The indications of a link, event by event: which are taken, and from which event each holds (Core 5.2, volume 6 part B, section 5.5).
-use Rattle.std.specs.Prelude.{ℕ, suc, ◌+◌, ◌%◌, ◌^◌, ◌==◌, nat_le, nat_lt, max, Bool, ◌&&◌, List, [], ◌∷◌, map, filter, Option, Some, None, option_map, if◌then◌else◌}
+-- The indications of a link, event by event: which are taken, and from which event each holds (Core 5.2,
+-- volume 6 part B, section 5.5).
+use Rattle.std.specs.Prelude.{ℕ, suc, ◌+◌, ◌==◌, nat_le, nat_lt, max, Bool, ◌&&◌, List, [], ◌∷◌, map}
+use Rattle.std.specs.Prelude.{filter, Option, Some, None, option_map, if◌then◌else◌}
 use Rattle.std.specs.List.{position}
-use Rattle.ble_base.specs.Instant.{gap_of}
 use Rattle.instants.specs.declared.indications.Params.{Params}
 use Rattle.instants.specs.declared.indications.Indication.{Indication}
 use Rattle.instants.specs.declared.track.Change.{Change}
-use Rattle.instants.specs.Parameters.{instant_of}
-use Rattle.instants.specs.Track.{TrackFacts, first_facts, is_free, gap_in, taken_of, entered_of}
+use Rattle.instants.specs.Track.{TrackFacts, first_facts, event_of, is_free, gap_ahead, track_after_take}
+use Rattle.instants.specs.Track.{track_after_enter}
 
 -- an indication that was taken, the event that its Instant names, and the event in which it was taken
 pub record Taking : Type 0 where
@@ -14,12 +15,9 @@ pub record Taking : Type 0 where
   pub taken_in : ℕ
 
 -- it holds from the event of its Instant, and at the earliest from the event after the one in which it was taken
+-- (our choice)
 abbrev pub first_event : Taking → ℕ
 first_event taking = max taking.change.at.0 (taking.taken_in + 1)
-
--- how far an Instant is ahead of an event
-abbrev pub gap_ahead : ℕ → Indication → ℕ
-gap_ahead event indication = gap_of (instant_of indication) (event % 2 ^ 16)
 
 -- an indication that is taken in an event
 abbrev pub taking_of : ℕ → Indication → Taking
@@ -43,26 +41,29 @@ takings_from event free (Some indication ∷ more) =
     else takings_from (suc event) free more)
 
 -- what is taken of the indications that come in events 0, 1, 2 and so on
-abbrev pub takings_of : List (Option Indication) → List Taking
-takings_of arrivals = takings_from 0 0 arrivals
+abbrev pub all_takings : List (Option Indication) → List Taking
+all_takings arrivals = takings_from 0 0 arrivals
 
--- the changes of which the first event has come
-abbrev pub changes_by : ℕ → List Taking → List Change
-changes_by event takings = map (λ taking. taking.change) (filter (λ taking. nat_le (first_event taking) event) takings)
+-- the changes that hold in an event: their first event has come
+abbrev pub changes_in_force : ℕ → List Taking → List Change
+changes_in_force event takings =
+    map (λ taking. taking.change) (filter (λ taking. nat_le (first_event taking) event) takings)
 
--- the number of the one that holds from this event on, counted from 1
-abbrev pub number_from : ℕ → List Taking → Option ℕ
-number_from event takings = option_map (λ place. place + 1) (position (λ taking. first_event taking == event) takings)
+-- the number of the taking of which this is the first event, counted from 1
+abbrev pub number_starting_in : ℕ → List Taking → Option ℕ
+number_starting_in event takings =
+    option_map (λ place. place + 1) (position (λ taking. first_event taking == event) takings)
 
 -- an end that takes an indication where its call may be made and does not answer Passed
-abbrev pub offered : Option Indication → TrackFacts → TrackFacts
-offered None t = t
-offered (Some indication) t = (if is_free t && nat_lt (gap_in t indication) 32767 then taken_of t indication else t)
+abbrev pub track_after_offer : Option Indication → TrackFacts → TrackFacts
+track_after_offer None t = t
+track_after_offer (Some indication) t =
+    (if is_free t && nat_lt (gap_ahead (event_of t) indication) 32767 then track_after_take t indication else t)
 
--- an end that enters one event after the other, and in each is offered what comes
+-- an end that enters one event after the other, and in each is offered the indication that comes in it
 abbrev pub track_from : TrackFacts → List (Option Indication) → TrackFacts
 track_from t [] = t
-track_from t (arrival ∷ more) = track_from (offered arrival (entered_of t)) more
+track_from t (arrival ∷ more) = track_from (track_after_offer arrival (track_after_enter t)) more
 
-abbrev pub track_of : Params → ℕ → List (Option Indication) → TrackFacts
-track_of first slot arrivals = track_from (first_facts first slot) arrivals
+abbrev pub track_after : Params → ℕ → List (Option Indication) → TrackFacts
+track_after first slot arrivals = track_from (first_facts first slot) arrivals

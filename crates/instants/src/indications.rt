@@ -1,13 +1,14 @@
 //! The parameters of a link, and the indications that change them.
 ghost use Rattle.std.specs.Prelude.{◌≡◌};
-ghost use Rattle.instants.specs.Parameters.{changed_by, instant_of, offset_of};
+ghost use Rattle.instants.specs.Parameters.{params_after, instant_of, win_offset_of};
 
 use ble_base::ChannelMap;
 
 /// What an indication may change on a link.
 #[derive(Clone, Copy, Debug, PartialEq, Eq)]
 pub struct Params {
-    /// connInterval, in units of 1.25 ms, which is in slots (Core 5.2, volume 6 part B, section 4.5.1).
+    /// connInterval, in units of 1.25 ms, which are slots (Core 5.2, volume 6 part B,
+    /// section 4.5.1).
     pub interval: u16,
     /// connSlaveLatency, in connection events (section 4.5.1).
     pub latency: u16,
@@ -19,8 +20,8 @@ pub struct Params {
 
 impl Params {
     /// These parameters after this indication.
-    pub(crate) fn changed_by(&self, indication: &Indication) -> Self
-        ensures { result ≡ changed_by self.now indication.now }
+    pub(crate) fn after(&self, indication: &Indication) -> Self
+        ensures { result ≡ params_after self.now indication.now }
     {
         match *indication {
             Indication::Update {
@@ -39,12 +40,12 @@ impl Params {
     }
 }
 
-/// An indication of the central: the parameters that change, and the counter of the connection event
-/// from which they hold.
+/// An indication of the central: the parameters that change, and the counter of the connection
+/// event from which they hold.
 #[derive(Clone, Copy, Debug, PartialEq, Eq)]
 pub enum Indication {
-    /// LL_CONNECTION_UPDATE_IND (Core 5.2, volume 6 part B, section 2.4.2.1). The event of the instant
-    /// comes later by `win_offset` slots.
+    /// LL_CONNECTION_UPDATE_IND (Core 5.2, volume 6 part B, section 2.4.2.1), with the units of
+    /// `Params`. The event of its Instant comes later by `win_offset` slots.
     Update {
         win_offset: u16,
         interval: u16,
@@ -71,7 +72,7 @@ impl Indication {
 
     /// By how many slots the event of its Instant comes later.
     pub(crate) fn win_offset(&self) -> u16
-        ensures { result ≡ offset_of self.now }
+        ensures { result ≡ win_offset_of self.now }
     {
         match *self {
             Indication::Update { win_offset, .. } => win_offset,

@@ -1,5 +1,5 @@
-//! The parameters of a link by connection event: from which event an indication holds, and where the
-//! anchors are (Core 5.2, volume 6 part B, sections 5.1.1, 5.1.2 and 5.5).
+//! The parameters of a link by connection event: from which event an indication holds, and where
+//! the anchors are (Core 5.2, volume 6 part B, sections 5.1.1, 5.1.2 and 5.5).
 #![tactic(auto)]
 
 mod indications;

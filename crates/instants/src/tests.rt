@@ -25,7 +25,7 @@ fn new_track() -> ParamTrack {
     ParamTrack::new(first_params(), SlotNo(2))
 }
 
-/// An update to 48 slots, or as many as are given.
+/// An update to an interval of 48 slots.
 fn update(win_offset: u16, instant: u16) -> Indication
     ensures { HasInterval result }
 {
@@ -79,8 +79,8 @@ fn gaps_from_32767_have_passed(rt: HostRuntime) {
     }
 }
 
-/// The central sends an update in event 1 with the instant 7. The peripheral takes it in event 7, and
-/// after that no more.
+/// The central sends an update in event 1 with the Instant 7. A peripheral takes it in event 7. One
+/// that hears it in event 8 does not.
 #[test]
 fn late_indication_holds_from_the_next_event(rt: HostRuntime) {
     let mut central = new_track();
@@ -114,7 +114,8 @@ fn late_indication_holds_from_the_next_event(rt: HostRuntime) {
     assert_eq!(rt; too_late.next_anchor(), SlotNo(2 + 9 * 24));
 }
 
-/// A map with the instant 7, and after it an update that is first sent in event 8, with the instant 14.
+/// A map with the Instant 7, and after it an update that is first sent in event 8, with the
+/// Instant 14.
 #[test]
 fn second_indication_holds_from_its_own_event(rt: HostRuntime) -> Result<(), Fail> {
     let map = ChannelMap::new(0x01_ffff_ffff).ok_or("no map")?;

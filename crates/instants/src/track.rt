@@ -1,8 +1,9 @@
 //! The parameters of one end of a link, event by event.
 ghost use Rattle.std.specs.Prelude.{◌≡◌, ◌<◌, ◌≤◌, ◌^◌, ◌↔◌, IsTrue, IsErr, OnOk, OnErr};
-ghost use Rattle.instants.specs.Track.{TrackFacts, first_facts, is_free, gap_in, taken_of, event_of};
-ghost use Rattle.instants.specs.Track.{is_due, params_before, offset_by, spacing_of, next_anchor_of};
-ghost use Rattle.instants.specs.Track.{entered_of, number_of, HasInterval};
+ghost use Rattle.instants.specs.Track.{TrackFacts, first_facts, is_free, gap_ahead};
+ghost use Rattle.instants.specs.Track.{track_after_take};
+ghost use Rattle.instants.specs.Track.{event_of, is_due, last_params, waiting_offset, spacing_of};
+ghost use Rattle.instants.specs.Track.{next_anchor_of, track_after_enter, next_number, HasInterval};
 
 use crate::{Indication, Params};
 use ble_base::{EventNo, SlotNo, instant_gap};
@@ -72,8 +73,8 @@ impl Model for ParamTrack {
 }
 
 impl ParamTrack {
-    /// The track of a new link, before event 0, with its first parameters and the slot of the anchor of
-    /// event 0.
+    /// The track of a new link, before event 0, with its first parameters and the slot of the
+    /// anchor of event 0.
     pub fn new(first: Params, anchor: SlotNo) -> Self
         requires interval { 1 ≤ first.interval }
         requires slot { anchor.0 < 2 ^ 32 }
@@ -95,14 +96,14 @@ impl ParamTrack {
         self.waits.is_none()
     }
 
-    /// Takes an indication in the event entered last. An Instant that is 32767 events or more ahead has
-    /// passed: it answers `Passed` and changes nothing.
+    /// Takes an indication in the event entered last. Where its Instant is 32767 events or more
+    /// ahead, counted modulo 65536, it has passed: the answer is `Passed` and nothing changes.
     pub fn take(&mut self, indication: Indication) -> Result<(), Passed>
         requires free { IsTrue (is_free self.old) }
         requires entered { 1 ≤ self.old.entered }
         requires interval { HasInterval indication }
-        ensures passed { IsErr result ↔ (32767 ≤ gap_in self.old indication) }
-        ensures ok { OnOk result (self.new ≡ taken_of self.old indication) }
+        ensures passed { IsErr result ↔ (32767 ≤ gap_ahead (event_of self.old) indication) }
+        ensures ok { OnOk result (self.new ≡ track_after_take self.old indication) }
         ensures err { OnErr result (self.new ≡ self.old) }
     {
         let event = self.event();
@@ -125,19 +126,19 @@ impl ParamTrack {
         SlotNo(self.anchor.0 + spacing(&self.waits, &self.params, self.entered))
     }
 
-    /// Enters the next event. It gives the number of the indication that holds from this event on, if
-    /// one does, counted from 1.
+    /// Enters the next event. It gives the number of the indication that holds from this event on,
+    /// if one does, counted from 1.
     pub fn enter(&mut self) -> Option<u64>
         requires { next_anchor_of self.old < 2 ^ 32 }
-        ensures track { self.new ≡ entered_of self.old }
-        ensures number { result ≡ number_of self.old }
+        ensures track { self.new ≡ track_after_enter self.old }
+        ensures number { result ≡ next_number self.old }
     {
         let next = self.entered;
         self.anchor = self.next_anchor();
         self.entered += 1;
         match &self.waits {
             Some(change) if is_due(change, next) => {
-                self.params = self.params.changed_by(&change.indication);
+                self.params = self.params.after(&change.indication);
                 self.waits = None;
                 self.applied += 1;
                 Some(self.applied)
@@ -164,39 +165,40 @@ impl ParamTrack {
     }
 }
 
-/// Whether a change holds from this event on, when it waits before it.
+/// Whether a change that waits holds from this event on.
 fn is_due(change: &Change, next: u64) -> bool
     ensures { result ≡ is_due change.now next }
 {
     change.at.0 <= next
 }
 
-/// How many slots the anchor of this event is after that of the one before, which has these parameters.
+/// How many slots the anchor of this event is after that of the one before, which has these
+/// parameters.
 fn spacing(waits: &Option<Change>, params: &Params, next: u64) -> u64
     ensures value { result ≡ spacing_of waits.now params.now next }
     ensures small { result < 2 ^ 17 }
 {
     match waits {
         None => u64::from(params.interval),
-        Some(change) => u64::from(interval_before(change, params, next))
-            + u64::from(offset_by(change, next)),
+        Some(change) => u64::from(last_interval(change, params, next))
+            + u64::from(waiting_offset(change, next)),
     }
 }
 
 /// The interval in the event before this one.
-fn interval_before(change: &Change, params: &Params, next: u64) -> u16
-    ensures { result ≡ (params_before change.now params.now next).interval }
+fn last_interval(change: &Change, params: &Params, next: u64) -> u16
+    ensures { result ≡ (last_params change.now params.now next).interval }
 {
     if change.at.0 < next {
-        params.changed_by(&change.indication).interval
+        params.after(&change.indication).interval
     } else {
         params.interval
     }
 }
 
 /// The slots by which the anchors from this event on come later.
-fn offset_by(change: &Change, next: u64) -> u16
-    ensures { result ≡ offset_by change.now next }
+fn waiting_offset(change: &Change, next: u64) -> u16
+    ensures { result ≡ waiting_offset change.now next }
 {
     if change.at.0 == 0 || next < change.at.0 {
         0

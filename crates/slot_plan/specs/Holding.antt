@@ -3,7 +3,7 @@ use Rattle.std.specs.Prelude.{ℕ, ◌+◌, ◌<◌, ◌≤◌, List, Option, So
 use Rattle.slot_plan.specs.declared.plan.Hold.{Hold}
 use Rattle.slot_plan.specs.declared.wants.Want.{Want}
 
--- what wants the radio, in the order in which it was said, and for which slots it is held, if it is
+-- what wants the radio, in the order of the calls, and for which slots it is held, if it is
 pub record PlanFacts : Type 0 where
   pub wants : List Want
   pub hold : Option Hold

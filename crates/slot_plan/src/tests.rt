@@ -2,8 +2,8 @@
 use crate::{Activity, Plan, winner_exists, winner_is_unique};
 use ble_base::SlotNo;
 
-/// The activity that has slot 50, of two that want it. Each comes with the slot in which it was last
-/// served.
+/// The activity that has slot 50, of two that want it. Each comes with the slot in which it was
+/// last served.
 fn winner_of(first: (Activity, u64), second: (Activity, u64)) -> Option<Activity> {
     let mut plan = Plan::new();
     plan.want(first.0, SlotNo(first.1));
