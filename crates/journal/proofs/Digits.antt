@@ -8,7 +8,7 @@ unfolding encode_with
 encode-append digits [] ys = refl
 encode-append digits (x ∷ xs) ys = cc (encode-append digits xs ys)
 
--- n octets are written, and then what is behind them
+-- n octets are written, and then those after them
 pub encode-parts : (n : ℕ) (text octets : List ℕ)
     → (text ++ encode_lower (take n octets)) ++ encode_lower (drop n octets) ≡ text ++ encode_lower octets
 encode-parts n text octets =

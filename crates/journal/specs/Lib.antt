@@ -1,2 +1,3 @@
-pub mod Words
+-- The definitions that the contracts of this crate cite.
 pub mod Text
+pub mod Words

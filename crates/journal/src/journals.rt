@@ -1,4 +1,5 @@
-ghost use Rattle.std.specs.Prelude.{◌≡◌, [], ◌∷◌, ◌++◌, OnOk, OnErr};
+//! The journal: the entries of a run.
+ghost use Rattle.std.specs.Prelude.{◌≡◌, ◌<◌, Some, [], ◌∷◌, ◌++◌, OnOk, OnErr, length, slice_get};
 
 use crate::entries::Entry;
 use std::alloc::{AllocError, Global};
@@ -20,7 +21,7 @@ impl Model for Journal {
 }
 
 impl Journal {
-    /// A journal without an entry. It takes no memory yet.
+    /// A journal without entries. It takes no memory.
     pub fn new(alloc: Global) -> Self
         ensures { result ≡ [] }
     {
@@ -29,7 +30,7 @@ impl Journal {
         }
     }
 
-    /// Adds an entry at the end. An entry that finds no memory is let go, and the journal stays as it was.
+    /// Adds an entry at the end. After an error the entry is dropped and the journal is unchanged.
     pub fn push(&mut self, entry: Entry) -> Result<(), AllocError>
         ensures ok { OnOk result (self.new ≡ self.old ++ entry ∷ []) }
         ensures err { OnErr result (self.new ≡ self.old) }
@@ -38,10 +39,25 @@ impl Journal {
         Ok(())
     }
 
-    /// The entries, the first one first.
+    /// The entries in order.
     pub fn as_slice(&self) -> &[Entry]
         ensures { result.now ≡ self.now }
     {
         self.entries.as_slice()
+    }
+
+    /// The number of entries.
+    pub fn len(&self) -> usize
+        ensures { result ≡ length self.now }
+    {
+        self.entries.len()
+    }
+
+    /// The entry at this place, counted from 0.
+    pub fn get(&self, place: usize) -> &Entry
+        requires { place < length self.now }
+        ensures { slice_get self.now place ≡ Some result.now }
+    {
+        &self.entries[place]
     }
 }

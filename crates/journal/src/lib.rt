@@ -1,4 +1,4 @@
-//! The journal of a run, entry by entry, and its text: a line for each entry (own).
+//! The journal of a run, entry by entry, and its text: a line for each entry (our choice).
 #![tactic(auto)]
 
 mod entries;
@@ -11,5 +11,5 @@ mod words;
 
 pub use crate::entries::{Entry, Mark};
 pub use crate::journals::Journal;
-pub use crate::lines::write_lines;
+pub use crate::lines::{write_line, write_lines};
 pub use crate::octets::Octets;

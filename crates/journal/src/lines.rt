@@ -1,5 +1,7 @@
+//! Writing the lines of entries.
 ghost use Rattle.std.specs.Prelude.{◌≡◌, ◌++◌, OnOk, IfOk};
-ghost use Rattle.journal.specs.Text.{words_of, joined, text};
+ghost use Rattle.line_words.specs.Text.{line_of};
+ghost use Rattle.journal.specs.Text.{entry_words, line, text};
 
 use crate::entries::Entry;
 use crate::octets::Octets;
@@ -9,7 +11,8 @@ use crate::words::{
 };
 use std::alloc::{AllocError, Global};
 
-/// Writes an entry. A row has the entry, its first word, and what writes each further word, in order.
+/// Writes an entry. A row has the entry, its first word, and the calls that write the further
+/// words, in order.
 macro_rules! put_rows {
     (
         $text:ident, $entry:ident;
@@ -27,7 +30,7 @@ macro_rules! put_rows {
 
 /// Writes the words of an entry.
 fn put_entry(text: &mut Vec<u8>, entry: &Entry) -> Result<(), AllocError>
-    ensures { OnOk result (text.new.items ≡ text.old.items ++ joined (words_of entry.now)) }
+    ensures { OnOk result (text.new.items ≡ text.old.items ++ line_of (entry_words entry.now)) }
 {
     put_rows! {
         text, entry;
@@ -39,7 +42,8 @@ fn put_entry(text: &mut Vec<u8>, entry: &Entry) -> Result<(), AllocError>
             put_word(verdict_word(*verdict));
         Opened { side, link, handle, role } = b"open": put_side(*side), put_number(*link),
             put_number(u64::from(*handle)), put_word(role_word(*role));
-        Shut { side, link, reason } = b"shut": put_side(*side), put_number(*link), put_code(*reason);
+        Shut { side, link, reason } = b"shut": put_side(*side), put_number(*link),
+            put_code(*reason);
         Sent { side, link, number, llid, body } = b"sent": put_side(*side), put_number(*link),
             put_number(*number), put_number(u64::from(*llid)), put_octets(body.as_slice());
         Took { side, link, number, llid, body } = b"took": put_side(*side), put_number(*link),
@@ -57,15 +61,32 @@ fn put_entry(text: &mut Vec<u8>, entry: &Entry) -> Result<(), AllocError>
     }
 }
 
-/// The text of these entries in ASCII: a line for each, its words parted by one space, and a newline
-/// behind it (own). Where memory is wanting there is no text.
+/// Writes the line of an entry.
+fn put_line(text: &mut Vec<u8>, entry: &Entry) -> Result<(), AllocError>
+    ensures { OnOk result (text.new.items ≡ text.old.items ++ line entry.now) }
+{
+    put_entry(text, entry)?;
+    text.push(b'\n')?;
+    Ok(())
+}
+
+/// The text of these entries in ASCII: a line for each, with one space between two words and a
+/// newline at its end (our choice). The error is out of memory.
 pub fn write_lines(alloc: Global, entries: &[Entry]) -> Result<Octets, AllocError>
     ensures { IfOk result (λ written. written ≡ text entries.now) }
 {
     let mut lines = Vec::new(alloc);
     for entry in entries {
-        put_entry(&mut lines, entry)?;
-        lines.push(b'\n')?;
+        put_line(&mut lines, entry)?;
     }
     Ok(Octets::from(lines))
+}
+
+/// The line of an entry, with its newline. The error is out of memory.
+pub fn write_line(alloc: Global, entry: &Entry) -> Result<Octets, AllocError>
+    ensures { IfOk result (λ written. written ≡ line entry.now) }
+{
+    let mut text = Vec::new(alloc);
+    put_line(&mut text, entry)?;
+    Ok(Octets::from(text))
 }

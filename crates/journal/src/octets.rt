@@ -1,9 +1,10 @@
+//! Octets with memory of their own.
 ghost use Rattle.std.specs.Prelude.{◌≡◌, ℕ, List, IfOk};
 
 use std::alloc::{AllocError, Global};
 use std::marker::Model;
 
-/// Octets of a packet, a host stream or a text, in the order in which they go.
+/// The octets of a packet, of a host's stream or of a text, in order.
 #[derive(Drop)]
 pub struct Octets {
     octets: Vec<u8>,
@@ -18,7 +19,7 @@ impl Model for Octets {
 }
 
 impl Octets {
-    /// A copy of these octets. Where memory is wanting there is none.
+    /// A copy of these octets. The error is out of memory.
     pub fn copy(alloc: Global, octets: &[u8]) -> Result<Self, AllocError>
         ensures { IfOk result (λ copied. copied ≡ octets.now) }
     {

@@ -1,3 +1,4 @@
+//! Tests of what no contract says: written-out lines.
 use crate::{Entry, Journal, Mark, Octets, write_lines};
 use ble_base::{ErrCode, Kind, Role, Side, Verdict};
 use std::alloc::{AllocError, Global};

@@ -1,3 +1,4 @@
+//! Writing the words of a line.
 ghost use Rattle.std.specs.Prelude.{◌≡◌, ◌≤◌, ◌∷◌, [], ◌++◌, length, codes, decimal, OnOk};
 ghost use Rattle.hex.specs.Hex.{encode_lower};
 ghost use Rattle.journal.specs.Words.{side_name, role_name, kind_name, verdict_name, radios, hexadecimal, mark_word};
@@ -7,7 +8,7 @@ use ble_base::{ErrCode, Kind, Role, Side, Verdict};
 use itoa::Buffer;
 use std::alloc::AllocError;
 
-/// How many octets are written in hexadecimal at once.
+/// The number of octets that are written in hexadecimal at once.
 const BLOCK: usize = 32;
 
 /// The word of a side.
@@ -58,7 +59,7 @@ pub fn verdict_word(verdict: Verdict) -> &'static [u8]
     }
 }
 
-/// A plus for each radio that is on and a minus for each that is off, A first.
+/// The radios of a turn: a plus for one that is on and a minus for one that is off, A first.
 pub fn radio_word(a_on: bool, b_on: Option<bool>) -> &'static [u8]
     ensures { result.now ≡ radios a_on b_on }
 {
@@ -119,7 +120,7 @@ fn put_digits(text: &mut Vec<u8>, octets: &[u8]) -> Result<(), AllocError>
     put_block(text, rest)
 }
 
-/// Writes octets in hexadecimal, and a dash where there are none.
+/// Writes octets in hexadecimal; a dash if there are none.
 fn put_hexadecimal(text: &mut Vec<u8>, octets: &[u8]) -> Result<(), AllocError>
     ensures { OnOk result (text.new.items ≡ text.old.items ++ hexadecimal octets.now) }
 {
@@ -146,7 +147,7 @@ pub fn put_code(text: &mut Vec<u8>, code: ErrCode) -> Result<(), AllocError>
     put_block(text, &[code.0])
 }
 
-/// Writes what the radio did as a further word.
+/// Writes a mark as a further word.
 pub fn put_mark(text: &mut Vec<u8>, mark: &Mark) -> Result<(), AllocError>
     ensures { OnOk result (text.new.items ≡ text.old.items ++ 32 ∷ mark_word mark.now) }
 {

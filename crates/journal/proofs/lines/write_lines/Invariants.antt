@@ -1,3 +1,4 @@
+-- Invariants of `lines::write_lines`.
 use Rattle.std.proofs.Common.{◌≡◌, take}
 use Rattle.journal.specs.Text.{text}
 use Rattle.journal.proofs.lines.write_lines.Given as goal

@@ -1,3 +1,4 @@
+-- Proof of `words::put_digits`.
 use Rattle.std.proofs.Common.{◌∙◌}
 use Rattle.journal.proofs.Digits.{encode-parts}
 use Rattle.journal.proofs.words.put_digits.Goals as goal

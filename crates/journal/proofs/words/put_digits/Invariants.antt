@@ -1,3 +1,4 @@
+-- Invariants of `words::put_digits`.
 use Rattle.std.proofs.Common.{◌≡◌, ◌++◌, length}
 use Rattle.hex.specs.Hex.{encode_lower}
 use Rattle.journal.proofs.words.put_digits.Given as goal
