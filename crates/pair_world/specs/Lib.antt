@@ -1,3 +1,4 @@
+pub mod Faults
 pub mod History
 pub mod Order
 pub mod Run

@@ -2,6 +2,7 @@
 ghost use Rattle.std.specs.Prelude.{◌≡◌, [], length, IfOk, IfErr};
 ghost use Rattle.ble_base.specs.declared.roles.Side.TheVariants.{A, B};
 ghost use Rattle.pair_world.specs.Run.{Given, given_of, IsRun, IsRunFault};
+ghost use Rattle.pair_world.specs.Faults.{fault_of};
 ghost use Rattle.pair_world.specs.Turns.{AtTurnEnd, IsAllRun, HasStopped};
 
 use crate::stations::Station;
@@ -35,7 +36,8 @@ pub enum RunFault {
 impl RunFault {
     /// Why the turn in this slot stopped the run, whose journal so far this is.
     fn of(stop: Stop, turn: u32, journal: Journal) -> RunFault
-        ensures { (given : Given) → HasStopped given turn journal stop → IsRunFault given result }
+        ensures value { result ≡ fault_of stop turn journal }
+        ensures cause { (given : Given) → HasStopped given turn journal stop → IsRunFault given result }
     {
         match stop {
             Stop::Memory => RunFault::Memory,
