@@ -1,3 +1,7 @@
 -- The definitions that the contracts of this crate cite.
+pub mod Fields
+pub mod Range
+pub mod Reading
 pub mod Text
 pub mod Words
+pub mod WordTuples

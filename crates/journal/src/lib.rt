@@ -2,14 +2,21 @@
 #![tactic(auto)]
 
 mod entries;
+mod fields;
 mod journals;
+mod laws;
+mod line_reading;
 mod lines;
 mod octets;
+mod readers;
 #[cfg(test)]
 mod tests;
+mod word_tuples;
 mod words;
 
 pub use crate::entries::{Entry, Mark};
 pub use crate::journals::Journal;
+pub use crate::laws::{a_line_has_one_entry, a_text_has_one_journal};
+pub use crate::line_reading::read_line;
 pub use crate::lines::{write_line, write_lines};
 pub use crate::octets::Octets;

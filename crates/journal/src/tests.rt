@@ -1,5 +1,8 @@
 //! Tests of what no contract says: written-out lines.
-use crate::{Entry, Journal, Mark, Octets, write_lines};
+use crate::{
+    Entry, Journal, Mark, Octets, a_line_has_one_entry, a_text_has_one_journal, read_line,
+    write_line, write_lines,
+};
 use ble_base::{ErrCode, Kind, Role, Side, Verdict};
 use std::alloc::{AllocError, Global};
 use std::test::Fail;
@@ -196,5 +199,85 @@ fn writes_many_octets(rt: HostRuntime) -> Result<(), Fail> {
             .chunks(2)
             .all(|pair| pair == b"a5".as_slice())
     );
+    Ok(())
+}
+
+/// The line of the entry that this line spells, if there is one.
+fn line_again(alloc: Global, line: &str) -> Result<Option<Octets>, AllocError> {
+    match read_line(alloc, line.as_bytes())? {
+        Some(entry) => Ok(Some(write_line(alloc, &entry)?)),
+        None => Ok(None),
+    }
+}
+
+#[test]
+fn reads_each_kind_of_line(rt: HostRuntime) -> Result<(), Fail> {
+    a_line_has_one_entry();
+    a_text_has_one_journal();
+    let lines = [
+        "turn 578 -+\n",
+        "turn 18446744073709551615 +\n",
+        "in a 01030c00\n",
+        "up b 040e0401030c00\n",
+        "air b 37 d6be898e . good\n",
+        "air a 0 00 x missed\n",
+        "air b 39 d6 e11:01c0b401 broken\n",
+        "open a 1 0 central\n",
+        "shut a 1 3e\n",
+        "sent a 1 1 2 01020304\n",
+        "took b 1 2 3 -\n",
+        "enter a 1 65536 20\n",
+        "applied b 2 1 7\n",
+        "began a 1 map\n",
+        "refused b 1 request 2a\n",
+        "done a 1 encrypt\n",
+    ];
+    for line in lines {
+        let again = line_again(rt.alloc(), line)?.ok_or("not read")?;
+        assert_eq!(rt; again.as_slice(), line.as_bytes());
+    }
+    Ok(())
+}
+
+#[test]
+fn reads_no_other_line(rt: HostRuntime) -> Result<(), Fail> {
+    let lines = [
+        "",
+        "\n",
+        "turn 578 -+",
+        "turn 578 -+\nturn 579 -+\n",
+        "turn 0578 -+\n",
+        "turn 18446744073709551616 -+\n",
+        "turn 578  -+\n",
+        "turn 578 -+ \n",
+        "turn 578\n",
+        "in a 01030C00\n",
+        "in a 01030c0\n",
+        "in a \n",
+        "in c 00\n",
+        "air b 256 d6 . good\n",
+        "air b 37 d6 y good\n",
+        "air b 37 d6 e65536:00 good\n",
+        "shut a 1 e\n",
+        "finished a 1 map\n",
+    ];
+    for line in lines {
+        assert!(rt; line_again(rt.alloc(), line)?.is_none(), "{line}");
+    }
+    Ok(())
+}
+
+#[test]
+fn a_journal_is_asked_by_place(rt: HostRuntime) -> Result<(), Fail> {
+    let alloc = rt.alloc();
+    let mut journal = Journal::new(alloc);
+    for line in ["turn 0 ++\n", "began a 1 map\n"] {
+        journal.push(read_line(alloc, line.as_bytes())?.ok_or("not read")?)?;
+    }
+    assert_eq!(rt; journal.len(), 2);
+    if journal.len() > 1 {
+        let line = write_line(alloc, journal.get(1))?;
+        assert_eq!(rt; line.as_slice(), b"began a 1 map\n".as_slice());
+    }
     Ok(())
 }

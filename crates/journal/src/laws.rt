@@ -1,0 +1,17 @@
+//! Laws of the text of a journal. The bodies do nothing: the contracts are the laws.
+ghost use Rattle.std.specs.Prelude.{◌≡◌, List};
+ghost use Rattle.std.specs.List.{All};
+ghost use Rattle.journal.specs.declared.entries.Entry.{Entry};
+ghost use Rattle.journal.specs.Range.{IsEntry};
+ghost use Rattle.journal.specs.Text.{line, text};
+
+/// Two entries with the same line are equal.
+pub fn a_line_has_one_entry()
+    ensures { (x y : Entry) → IsEntry x → IsEntry y → line x ≡ line y → x ≡ y }
+{}
+
+/// Two journals with the same text are equal.
+pub fn a_text_has_one_journal()
+    ensures { (xs ys : List Entry) → All IsEntry xs → All IsEntry ys → text xs ≡ text ys
+        → xs ≡ ys }
+{}
