@@ -24,6 +24,8 @@ def main():
         ("channels by algorithm 2", "channels", 10_000_000, ["2"], 0),
         ("control PDUs read and written", "pdus", 1_000_000, [], 0),
         ("winners among eight wants", "winners", 1_000_000, [], 0),
+        ("values put into a pool and taken", "cells", 1_000_000, [], 0),
+        ("packets through a bank", "packets", 4_000, [], 250),
     )
     for name, kind, count, more, octets in loads:
         half = seconds(program, [kind, str(count // 2), *more])

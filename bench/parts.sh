@@ -4,7 +4,7 @@
 set -e
 cd "$(dirname "$0")/.."
 # The crates that parts.txt calls, and those that they depend on.
-called="aes_block ble_base ccm_link chan_select data_pdu slot_plan"
+called="acl_banks aes_block ble_base ccm_link cell_pool chan_select data_pdu slot_plan"
 below="wire_fields"
 folder=$(mktemp -d)
 trap 'rm -rf "$folder"' EXIT
