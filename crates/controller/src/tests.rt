@@ -43,6 +43,26 @@ const DIRECTED_REPORT: [u8; 15] = [
     0x04, 0x3E, 0x0C, 0x02, 0x01, 0x01, 0x00, 0x0A, 0x00, 0x00, 0xEE, 0xFF, 0xC0, 0x00, 0x7F,
 ];
 
+/// ADV_IND from the random address C0FFEE00000A with the data 02 01 06, on channel 37, and its report.
+const CONNECTABLE: [u8; 18] = [
+    0xD6, 0xBE, 0x89, 0x8E, 0xED, 0xDB, 0x5D, 0xA1, 0x3D, 0x49, 0x99, 0x70, 0x77, 0x30, 0x17, 0xEA,
+    0xF8, 0x63,
+];
+
+const CONNECTABLE_REPORT: [u8; 18] = [
+    0x04, 0x3E, 0x0F, 0x02, 0x01, 0x00, 0x01, 0x0A, 0x00, 0x00, 0xEE, 0xFF, 0xC0, 0x03, 0x02, 0x01,
+    0x06, 0x7F,
+];
+
+/// ADV_SCAN_IND from the public address C0FFEE00000A with the data 5A, on channel 37, and its report.
+const SCANNABLE: [u8; 16] = [
+    0xD6, 0xBE, 0x89, 0x8E, 0x8B, 0xD5, 0x5D, 0xA1, 0x3D, 0x49, 0x99, 0x70, 0x2F, 0xF4, 0xDF, 0x65,
+];
+
+const SCANNABLE_REPORT: [u8; 16] = [
+    0x04, 0x3E, 0x0D, 0x02, 0x01, 0x02, 0x00, 0x0A, 0x00, 0x00, 0xEE, 0xFF, 0xC0, 0x01, 0x5A, 0x7F,
+];
+
 /// LE Set Advertising Parameters: 20 ms, not connectable, the public address, all channels.
 const PARAMETERS: [u8; 19] = [
     0x01, 0x06, 0x20, 0x0F, 0x20, 0x00, 0x20, 0x00, 0x03, 0x00, 0x00, 0x00, 0x00, 0x00, 0x00, 0x00,
@@ -266,6 +286,31 @@ fn refuses_by_the_table(rt: HostRuntime) {
     command(&rt, &mut controller, &PARAMETERS, 0x0C);
 }
 
+/// Two octets of the parameters are changed: the first condition that holds gives the status. The last
+/// row asks for a random address, and none is set.
+#[test]
+fn takes_the_first_of_two_refusals(rt: HostRuntime) {
+    let mut controller = Controller::new(PUBLIC_A);
+    for ([(first, one), (second, other)], status) in [
+        ([(4, 0x1F), (8, 0x01)], 0x12),
+        ([(8, 0x01), (9, 0x04)], 0x11),
+        ([(8, 0x05), (9, 0x02)], 0x12),
+        ([(9, 0x02), (10, 0x02)], 0x11),
+        ([(6, 0x00), (7, 0x40)], 0x00),
+        ([(9, 0x01), (18, 0x03)], 0x00),
+    ] {
+        let mut octets = PARAMETERS;
+        if let Some(changed) = octets.get_mut(first) {
+            *changed = one;
+        }
+        if let Some(changed) = octets.get_mut(second) {
+            *changed = other;
+        }
+        command(&rt, &mut controller, &octets, status);
+    }
+    command(&rt, &mut controller, &ADVERTISE, 0x12);
+}
+
 #[test]
 fn advertises_on_three_channels(rt: HostRuntime) {
     an_advertiser_keeps_its_interval();
@@ -339,6 +384,17 @@ fn reports_what_it_scans(rt: HostRuntime) {
     damaged[0] ^= 0x01;
     assert_eq!(rt; controller.judge(&damaged), Verdict::Missed);
     controller.end_turn();
+}
+
+#[test]
+fn reports_the_type_and_the_address_of_the_sender(rt: HostRuntime) {
+    let mut controller = Controller::new(PUBLIC_B);
+    command(&rt, &mut controller, &MASK, 0x00);
+    command(&rt, &mut controller, &SCAN, 0x00);
+    let report = Some(CONNECTABLE_REPORT.as_slice());
+    hearing(&rt, &mut controller, 0, &CONNECTABLE, report);
+    let report = Some(SCANNABLE_REPORT.as_slice());
+    hearing(&rt, &mut controller, 1, &SCANNABLE, report);
 }
 
 #[test]
