@@ -1,3 +1,4 @@
+-- The lemmas of this crate.
 pub mod Growth
 pub mod Endings
 pub mod Digits

@@ -1,3 +1,4 @@
+//! What a controller wants of the radio in a phase.
 use arrayvec::ArrayVec;
 
 /// What a controller does in a phase of a turn.

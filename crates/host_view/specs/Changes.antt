@@ -1,5 +1,5 @@
 -- How an accepted command changes the view (Core 5.2, volume 4 part E, section 7).
-use Rattle.std.specs.Prelude.{ℕ, ◌+◌, ◌-◌, min, ◌==◌, ◌&&◌, not, Bool, true, false, List, [], ◌∷◌, ◌++◌, filter, fold, slice_set, Option, Some, None, if◌then◌else◌}
+use Rattle.std.specs.Prelude.{ℕ, ◌+◌, ◌-◌, min, ◌==◌, not, Bool, true, false, List, [], ◌∷◌, ◌++◌, filter, fold, slice_set, Option, Some, None, if◌then◌else◌}
 use Rattle.std.specs.List.{list_any}
 use Rattle.std.specs.Option.{option_map}
 use Rattle.ble_base.specs.declared.addresses.Address.{Address}
@@ -55,7 +55,9 @@ changed_by (Taken count) link = record link { outstanding = link.outstanding - c
 -- the accept list with an address, and without it
 abbrev pub list_with : ℕ → List ℕ → List Address → List Address
 list_with kind octets list =
-    if list_any (is_address kind octets) list then list else list ++ record { random = (kind == 1); octets = octets } ∷ []
+    if list_any (is_address kind octets) list
+    then list
+    else list ++ record { random = (kind == 1); octets = octets } ∷ []
 
 abbrev pub list_without : ℕ → List ℕ → List Address → List Address
 list_without kind octets list = filter (λ address. not (is_address kind octets address)) list
@@ -74,12 +76,14 @@ after_completed view counts = if view.flow.on then record view { links = after_c
 abbrev pub link_changed_by : Command → View → View
 link_changed_by (Disconnect handle reason) view = on_link handle (changed_by Disconnecting) view
 link_changed_by (ReadRemoteVersion handle) view = on_link handle (changed_by (Asks Version)) view
-link_changed_by (LeConnectionUpdate handle min max latency timeout lengths) view = on_link handle (changed_by AsksUpdate) view
+link_changed_by (LeConnectionUpdate handle min max latency timeout lengths) view =
+    on_link handle (changed_by AsksUpdate) view
 link_changed_by (LeReadRemoteFeatures handle) view = on_link handle (changed_by (Asks Features)) view
 link_changed_by (LeEnableEncryption handle rand ediv key) view = on_link handle (changed_by (Asks Encrypt)) view
 link_changed_by (LeKeyReply handle key) view = on_link handle (changed_by (Key false)) view
 link_changed_by (LeKeyNegative handle) view = on_link handle (changed_by (Key false)) view
-link_changed_by (LeParamReply handle min max latency timeout lengths) view = on_link handle (changed_by (Parameters false)) view
+link_changed_by (LeParamReply handle min max latency timeout lengths) view =
+    on_link handle (changed_by (Parameters false)) view
 link_changed_by (LeParamNegative handle reason) view = on_link handle (changed_by (Parameters false)) view
 link_changed_by (LeSetDataLength handle most time) view = on_link handle (changed_by (Asks Length)) view
 link_changed_by (LeSetPhy handle all tx rx options) view = on_link handle (changed_by (Asks Phy)) view
@@ -100,7 +104,8 @@ view_after view (LeSetAdvParams min max kind own peer_kind peer channels policy)
 view_after view (LeSetAdvEnable value) = record view { advertising = record view.advertising { on = (value == 1) } }
 view_after view (LeSetScanParams kind interval window own policy) =
     record view { scanning = record view.scanning { own = own; policy = policy } }
-view_after view (LeSetScanEnable value duplicates) = record view { scanning = record view.scanning { on = (value == 1) } }
+view_after view (LeSetScanEnable value duplicates) =
+    record view { scanning = record view.scanning { on = (value == 1) } }
 view_after view (LeCreateConnection interval window policy peer_kind peer own min max latency timeout lengths) =
     record view { initiating = Some policy }
 view_after view LeCreateCancel = record view { initiating = None }

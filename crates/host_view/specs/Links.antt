@@ -27,7 +27,8 @@ abbrev pub is_central_role : Role → Bool
 is_central_role Central = true
 is_central_role Peripheral = false
 
--- the procedure that LE Connection Update starts: the central sends the indication, the peripheral asks for it (our choice)
+-- the procedure that LE Connection Update starts: the central sends the indication, the peripheral asks for it (our
+-- choice)
 abbrev pub update_kind : Role → Kind
 update_kind Central = Update
 update_kind Peripheral = Request

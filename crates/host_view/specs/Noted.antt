@@ -12,6 +12,17 @@ use Rattle.host_view.specs.View.{View}
 use Rattle.host_view.specs.Links.{link_in}
 use Rattle.host_view.specs.Changes.{on_link, changed_by}
 
+abbrev pub nothing_asked : Asked
+nothing_asked = record {
+  update = false;
+  request = false;
+  phy = false;
+  features = false;
+  version = false;
+  length = false;
+  encrypt = false;
+}
+
 -- a link as it is opened: nothing was asked for on it yet
 abbrev pub opened_link : Role → Address → Address → Link
 opened_link role own peer = record {
@@ -19,7 +30,7 @@ opened_link role own peer = record {
   own = own;
   peer = peer;
   disconnecting = false;
-  asked = record { update = false; request = false; phy = false; features = false; version = false; length = false; encrypt = false };
+  asked = nothing_asked;
   waits_for_key = false;
   waits_for_parameters = false;
   outstanding = 0;
@@ -57,7 +68,8 @@ acl_handle octets = two_octets 1 octets % 4096
 
 -- an LE event with this subevent code, whose handle is next
 abbrev pub is_le_event : ℕ → List ℕ → Bool
-is_le_event code octets = (slice_index octets 0 == 4) && ((slice_index octets 1 == 0x3E) && (slice_index octets 3 == code))
+is_le_event code octets =
+    (slice_index octets 0 == 4) && ((slice_index octets 1 == 0x3E) && (slice_index octets 3 == code))
 
 abbrev pub event_handle : List ℕ → ℕ
 event_handle octets = two_octets 4 octets

@@ -1,6 +1,7 @@
--- The status of each command: the conditions under which it is refused, in the order in which they are looked at
--- (Core 5.2, volume 4 part E, section 7; which code each has, and their order, are our choice where the standard leaves them open).
-use Rattle.std.specs.Prelude.{ℕ, ◌+◌, ◌^◌, ◌==◌, ◌||◌, ◌&&◌, not, nat_lt, nat_le, Bool, true, false, List, [], ◌∷◌, length, Option, is_some, is_none, if◌then◌else◌}
+-- The status of each command: the conditions under which it is refused, in the order in which they are looked at (Core
+-- 5.2, volume 4 part E, section 7; which code each has, and their order, are our choice where the standard leaves them
+-- open).
+use Rattle.std.specs.Prelude.{ℕ, ◌^◌, ◌==◌, ◌||◌, ◌&&◌, not, nat_lt, nat_le, Bool, true, false, List, [], ◌∷◌, length, Option, is_some, is_none, if◌then◌else◌}
 use Rattle.std.specs.List.{list_any, list_all, filter}
 use Rattle.std.specs.Bool.{beq}
 use Rattle.std.specs.Str.{bytes_eq}
@@ -8,7 +9,7 @@ use Rattle.std.specs.Option.{option_map_or}
 use Rattle.std.specs.Prelude.{sum_by}
 use Rattle.ble_base.specs.ErrorCodes.{command_disallowed, connection_already_exists, connection_limit_exceeded, invalid_hci_parameters, limited_resources, memory_capacity_exceeded, unsupported_feature_or_value}
 use Rattle.ble_base.specs.declared.addresses.Address.{Address}
-use Rattle.ble_base.specs.declared.procedure_kinds.Kind.TheVariants.{Update, Request, Phy, Features, Version, Length, Encrypt}
+use Rattle.ble_base.specs.declared.procedure_kinds.Kind.TheVariants.{Phy, Features, Version, Length, Encrypt}
 use Rattle.hci_cmd.specs.declared.command.HandleCount.{HandleCount}
 use Rattle.hci_cmd.specs.declared.command.Command.{Command}
 use Rattle.hci_cmd.specs.declared.command.Command.TheVariants.{Disconnect, ReadRemoteVersion, SetHostFlow, HostBufferSize, HostCompleted, LeSetRandomAddress, LeSetAdvParams, LeSetAdvData, LeSetScanResponse, LeSetAdvEnable, LeSetScanParams, LeSetScanEnable, LeCreateConnection, LeCreateCancel, LeClearList, LeAddToList, LeRemoveFromList, LeConnectionUpdate, LeSetChannels, LeReadChannelMap, LeReadRemoteFeatures, LeEnableEncryption, LeKeyReply, LeKeyNegative, LeParamReply, LeParamNegative, LeSetDataLength, LeReadPhy, LeSetDefaultPhy, LeSetPhy}
@@ -16,7 +17,7 @@ use Rattle.ble_base.specs.ChannelMap.{used_channels}
 use Rattle.host_view.specs.declared.links.Link.{Link}
 use Rattle.host_view.specs.View.{View}
 use Rattle.host_view.specs.Links.{link_in, is_asked, is_central_role, link_has, update_kind}
-use Rattle.host_view.specs.Refusals.{first_refusal, link_rows, asked_row, parameters_row, is_generated, own_rows, is_connectable, is_full, room_row, list_row, both_phys_rows, scan_times_row}
+use Rattle.host_view.specs.Refusals.{link_rows, asked_row, parameters_row, is_generated, own_rows, is_connectable, is_full, room_row, list_row, both_phys_rows, scan_times_row}
 
 -- ---- flow control towards the host (sections 7.3.38 to 7.3.40)
 
@@ -25,7 +26,9 @@ has_link view = list_any is_some view.links
 
 abbrev pub set_host_flow_rows : View → ℕ → List (Bool × ℕ)
 set_host_flow_rows view value =
-    (has_link view, command_disallowed) ∷ ((value == 2) || (value == 3), unsupported_feature_or_value) ∷ (nat_lt 3 value, invalid_hci_parameters) ∷ []
+    (has_link view, command_disallowed)
+    ∷ ((value == 2) || (value == 3), unsupported_feature_or_value)
+    ∷ (nat_lt 3 value, invalid_hci_parameters) ∷ []
 
 abbrev pub host_buffer_size_rows : View → ℕ → ℕ → List (Bool × ℕ)
 host_buffer_size_rows view acl_length acl_count =
@@ -36,7 +39,8 @@ abbrev pub count_for : ℕ → List HandleCount → ℕ
 count_for handle counts = sum_by (λ pair. pair.count) (filter (λ pair. pair.handle == handle) counts)
 
 abbrev pub may_complete : List (Option Link) → List HandleCount → HandleCount → Bool
-may_complete links counts pair = link_has (link_in links pair.handle) (λ link. nat_le (count_for pair.handle counts) link.outstanding)
+may_complete links counts pair =
+    link_has (link_in links pair.handle) (λ link. nat_le (count_for pair.handle counts) link.outstanding)
 
 abbrev pub host_completed_rows : View → List HandleCount → List (Bool × ℕ)
 host_completed_rows view counts =
@@ -49,7 +53,8 @@ is_active view = view.advertising.on || (view.scanning.on || is_some view.initia
 
 -- 20 ms to 10.24 s, in units of 0.625 ms
 abbrev pub are_intervals : ℕ → ℕ → Bool
-are_intervals min max = nat_le 0x0020 min && (nat_le min 0x4000 && (nat_le 0x0020 max && (nat_le max 0x4000 && nat_le min max)))
+are_intervals min max =
+    nat_le 0x0020 min && (nat_le min 0x4000 && (nat_le 0x0020 max && (nat_le max 0x4000 && nat_le min max)))
 
 abbrev pub advertising_parameters_rows : View → ℕ → ℕ → ℕ → ℕ → ℕ → ℕ → ℕ → List (Bool × ℕ)
 advertising_parameters_rows view min max kind own peer_kind channels policy =
@@ -77,11 +82,13 @@ if_turned_on false rows = []
 -- connectable advertising is turned on only where another link could be held
 abbrev pub advertising_on_rows : View → List (Bool × ℕ)
 advertising_on_rows view =
-    own_rows view view.advertising.own ((is_connectable view.advertising.kind && is_full view, connection_limit_exceeded) ∷ [])
+    own_rows view view.advertising.own (
+    (is_connectable view.advertising.kind && is_full view, connection_limit_exceeded) ∷ [])
 
 abbrev pub advertising_enable_rows : View → ℕ → List (Bool × ℕ)
 advertising_enable_rows view value =
-    (nat_lt 1 value, invalid_hci_parameters) ∷ if_turned_on ((value == 1) && not view.advertising.on) (advertising_on_rows view)
+    (nat_lt 1 value, invalid_hci_parameters)
+    ∷ if_turned_on ((value == 1) && not view.advertising.on) (advertising_on_rows view)
 
 -- ---- scanning (sections 7.8.10 and 7.8.11)
 
@@ -102,13 +109,17 @@ scan_on_rows view = (is_some view.initiating, command_disallowed) ∷ own_rows v
 
 abbrev pub scan_enable_rows : View → ℕ → ℕ → List (Bool × ℕ)
 scan_enable_rows view value duplicates =
-    (nat_lt 1 value || nat_lt 1 duplicates, invalid_hci_parameters) ∷ if_turned_on ((value == 1) && not view.scanning.on) (scan_on_rows view)
+    (nat_lt 1 value || nat_lt 1 duplicates, invalid_hci_parameters)
+    ∷ if_turned_on ((value == 1) && not view.scanning.on) (scan_on_rows view)
 
 -- ---- connecting (sections 7.8.12 and 7.8.13)
 
 -- the link has the own address of this type: the random one for type 1, else the public one
 abbrev pub has_own : View → ℕ → Link → Bool
-has_own view own link = if own == 1 then (link.own.random && option_map_or (λ random. bytes_eq link.own.octets random) view.random false) else not link.own.random
+has_own view own link =
+    if own == 1
+    then (link.own.random && option_map_or (λ random. bytes_eq link.own.octets random) view.random false)
+    else not link.own.random
 
 -- the link is with the peer of this address type and these octets
 abbrev pub has_peer : ℕ → List ℕ → Link → Bool
@@ -119,7 +130,8 @@ has_addresses view own peer_kind peer link = has_own view own link && has_peer p
 
 -- a link with these addresses is open
 abbrev pub is_connected : View → ℕ → ℕ → List ℕ → Bool
-is_connected view own peer_kind peer = list_any (λ link. link_has link (has_addresses view own peer_kind peer)) view.links
+is_connected view own peer_kind peer =
+    list_any (λ link. link_has link (has_addresses view own peer_kind peer)) view.links
 
 -- a row that is looked at only where a peer is named, and not where the accept list names it (policy 1)
 abbrev pub if_named : ℕ → Bool → Bool
@@ -150,7 +162,10 @@ abbrev pub is_list_full : View → ℕ → List ℕ → Bool
 is_list_full view kind octets = nat_le 8 (length view.accepted) && not (list_any (is_address kind octets) view.accepted)
 
 abbrev pub add_to_list_rows : View → ℕ → List ℕ → List (Bool × ℕ)
-add_to_list_rows view kind octets = list_row view ∷ (nat_lt 1 kind, invalid_hci_parameters) ∷ (is_list_full view kind octets, memory_capacity_exceeded) ∷ []
+add_to_list_rows view kind octets =
+    list_row view
+    ∷ (nat_lt 1 kind, invalid_hci_parameters)
+    ∷ (is_list_full view kind octets, memory_capacity_exceeded) ∷ []
 
 abbrev pub remove_from_list_rows : View → ℕ → List (Bool × ℕ)
 remove_from_list_rows view kind = list_row view ∷ (nat_lt 1 kind, invalid_hci_parameters) ∷ []
@@ -160,14 +175,17 @@ remove_from_list_rows view kind = list_row view ∷ (nat_lt 1 kind, invalid_hci_
 -- a host may give these reasons to end a link (section 7.1.6)
 abbrev pub is_reason : ℕ → Bool
 is_reason reason =
-    (reason == 0x05) || ((reason == 0x13) || ((reason == 0x14) || ((reason == 0x15) || ((reason == 0x1A) || ((reason == 0x29) || (reason == 0x3B))))))
+    (reason == 0x05) || ((reason == 0x13) || ((reason == 0x14)
+    || ((reason == 0x15) || ((reason == 0x1A) || ((reason == 0x29) || (reason == 0x3B))))))
 
 abbrev pub disconnect_rows : Option Link → ℕ → List (Bool × ℕ)
 disconnect_rows link reason = link_rows link ((not (is_reason reason), invalid_hci_parameters) ∷ [])
 
 abbrev pub connection_update_rows : Option Link → ℕ → ℕ → ℕ → ℕ → List (Bool × ℕ)
 connection_update_rows link min max latency timeout =
-    link_rows link (parameters_row min max latency timeout ∷ (link_has link (λ l. is_asked (update_kind l.role) l.asked), command_disallowed) ∷ [])
+    link_rows link (
+    parameters_row min max latency timeout
+    ∷ (link_has link (λ l. is_asked (update_kind l.role) l.asked), command_disallowed) ∷ [])
 
 -- a map has two data channels at least
 abbrev pub channels_rows : ℕ → List (Bool × ℕ)
@@ -175,7 +193,10 @@ channels_rows map = (nat_lt (length (used_channels map)) 2 || nat_le (2 ^ 37) ma
 
 abbrev pub enable_encryption_rows : Option Link → List (Bool × ℕ)
 enable_encryption_rows link =
-    link_rows link ((link_has link (λ l. not (is_central_role l.role)), command_disallowed) ∷ asked_row Encrypt link ∷ [])
+    link_rows link (
+    (link_has link (λ l. not (is_central_role l.role)), command_disallowed)
+    ∷ asked_row Encrypt link
+    ∷ [])
 
 abbrev pub key_rows : Option Link → List (Bool × ℕ)
 key_rows link = link_rows link ((link_has link (λ l. not l.waits_for_key), command_disallowed) ∷ [])
@@ -188,15 +209,18 @@ abbrev pub is_data_length : ℕ → ℕ → Bool
 is_data_length most time = nat_le 0x001B most && (nat_le most 0x00FB && (nat_le 0x0148 time && nat_le time 0x4290))
 
 abbrev pub data_length_rows : Option Link → ℕ → ℕ → List (Bool × ℕ)
-data_length_rows link most time = link_rows link ((not (is_data_length most time), invalid_hci_parameters) ∷ asked_row Length link ∷ [])
+data_length_rows link most time =
+    link_rows link ((not (is_data_length most time), invalid_hci_parameters) ∷ asked_row Length link ∷ [])
 
 -- ---- all commands
 
 abbrev pub rows_of : View → Command → List (Bool × ℕ)
 rows_of view (Disconnect handle reason) = disconnect_rows (link_in view.links handle) reason
-rows_of view (ReadRemoteVersion handle) = link_rows (link_in view.links handle) (asked_row Version (link_in view.links handle) ∷ [])
+rows_of view (ReadRemoteVersion handle) =
+    link_rows (link_in view.links handle) (asked_row Version (link_in view.links handle) ∷ [])
 rows_of view (SetHostFlow value) = set_host_flow_rows view value
-rows_of view (HostBufferSize acl_length sco_length acl_count sco_count) = host_buffer_size_rows view acl_length acl_count
+rows_of view (HostBufferSize acl_length sco_length acl_count sco_count) =
+    host_buffer_size_rows view acl_length acl_count
 rows_of view (HostCompleted counts) = host_completed_rows view counts.items
 rows_of view (LeSetRandomAddress address) = (is_active view, command_disallowed) ∷ []
 rows_of view (LeSetAdvParams min max kind own peer_kind peer channels policy) =
@@ -204,7 +228,8 @@ rows_of view (LeSetAdvParams min max kind own peer_kind peer channels policy) =
 rows_of view (LeSetAdvData count text) = data_rows count
 rows_of view (LeSetScanResponse count text) = data_rows count
 rows_of view (LeSetAdvEnable value) = advertising_enable_rows view value
-rows_of view (LeSetScanParams kind interval window own policy) = scan_parameters_rows view kind interval window own policy
+rows_of view (LeSetScanParams kind interval window own policy) =
+    scan_parameters_rows view kind interval window own policy
 rows_of view (LeSetScanEnable value duplicates) = scan_enable_rows view value duplicates
 rows_of view (LeCreateConnection interval window policy peer_kind peer own min max latency timeout lengths) =
     create_connection_rows view interval window policy peer_kind peer own min max latency timeout
@@ -222,7 +247,8 @@ rows_of view (LeEnableEncryption handle rand ediv key) = enable_encryption_rows 
 rows_of view (LeKeyReply handle key) = key_rows (link_in view.links handle)
 rows_of view (LeKeyNegative handle) = key_rows (link_in view.links handle)
 rows_of view (LeParamReply handle min max latency timeout lengths) =
-    link_rows (link_in view.links handle) (parameter_request_row (link_in view.links handle) ∷ parameters_row min max latency timeout ∷ [])
+    link_rows (link_in view.links handle) (
+    parameter_request_row (link_in view.links handle) ∷ parameters_row min max latency timeout ∷ [])
 rows_of view (LeParamNegative handle reason) =
     link_rows (link_in view.links handle) (parameter_request_row (link_in view.links handle) ∷ [])
 rows_of view (LeSetDataLength handle most time) = data_length_rows (link_in view.links handle) most time

@@ -1,5 +1,5 @@
 -- What a command that the table accepts is answered as long as this controller does not carry it out (our choice).
-use Rattle.std.specs.Prelude.{ℕ, ◌==◌, ◌||◌, ◌&&◌, not, Bool, true, List, [], ◌∷◌, Option, if◌then◌else◌}
+use Rattle.std.specs.Prelude.{ℕ, ◌==◌, ◌||◌, ◌&&◌, not, Bool, Option, if◌then◌else◌}
 use Rattle.std.specs.List.{list_any}
 use Rattle.ble_base.specs.ErrorCodes.{command_disallowed, success, unknown_hci_command, unsupported_feature_or_value}
 use Rattle.hci_cmd.specs.declared.command.Command.{Command}
@@ -17,11 +17,15 @@ turns_on_unbuilt view value = ((value == 1) && not view.advertising.on) && not (
 abbrev pub is_central_link : Option Link → Bool
 is_central_link link = link_has link (λ l. is_central_role l.role)
 
--- 01 as an unknown command, 0C as one that is not allowed now, 11 as a value that is not supported; 00 where it is carried out
+-- 01 as an unknown command, 0C as one that is not allowed now, 11 as a value that is not supported; 00 where it is
+-- carried out
 abbrev pub unbuilt_status_of : View → Command → ℕ
-unbuilt_status_of view (LeSetAdvEnable value) = if turns_on_unbuilt view value then unsupported_feature_or_value else success
-unbuilt_status_of view (LeSetScanParams kind interval window own policy) = if (kind == 1) || (policy == 1) then unsupported_feature_or_value else success
-unbuilt_status_of view (LeCreateConnection interval window policy peer_kind peer own min max latency timeout lengths) = unsupported_feature_or_value
+unbuilt_status_of view (LeSetAdvEnable value) =
+    if turns_on_unbuilt view value then unsupported_feature_or_value else success
+unbuilt_status_of view (LeSetScanParams kind interval window own policy) =
+    if (kind == 1) || (policy == 1) then unsupported_feature_or_value else success
+unbuilt_status_of view (LeCreateConnection interval window policy peer_kind peer own min max latency timeout lengths) =
+    unsupported_feature_or_value
 unbuilt_status_of view (Disconnect handle reason) = command_disallowed
 unbuilt_status_of view (ReadRemoteVersion handle) = command_disallowed
 unbuilt_status_of view (LeReadRemoteFeatures handle) = command_disallowed

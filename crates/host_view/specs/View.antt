@@ -1,6 +1,6 @@
 -- What a controller knows of its host's settings and of its links, as far as the status of a command depends on it
 -- (Core 5.2, volume 4 part E, section 7).
-use Rattle.std.specs.Prelude.{ℕ, Bool, true, false, List, [], ◌∷◌, Option, Some, None}
+use Rattle.std.specs.Prelude.{ℕ, Bool, false, List, [], ◌∷◌, Option, None}
 use Rattle.ble_base.specs.declared.addresses.Address.{Address}
 use Rattle.host_view.specs.declared.links.Link.{Link}
 use Rattle.host_view.specs.declared.view.Advertising.{Advertising}

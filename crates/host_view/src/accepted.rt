@@ -47,7 +47,8 @@ impl HostView {
     /// Takes an address into the accept list, where it is not there yet.
     fn accept(&mut self, kind: u8, octets: &[u8; 6])
         requires { status_of self.old (LeAddToList kind octets.now) ≡ 0 }
-        ensures { self.new ≡ record self.old { accepted = list_with kind octets.now self.old.accepted } }
+        ensures { self.new
+            ≡ record self.old { accepted = list_with kind octets.now self.old.accepted } }
     {
         if !self.accepts(kind, octets) {
             self.accepted.push(Address {

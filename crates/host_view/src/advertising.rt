@@ -7,7 +7,8 @@ use crate::refusals::{first_refusal, is_connectable, is_generated};
 use crate::view::HostView;
 use ble_base::ErrCode;
 
-/// Advertising_Type of high duty cycle directed advertising (Core 5.2, volume 4 part E, section 7.8.5).
+/// Advertising_Type of high duty cycle directed advertising (Core 5.2, volume 4 part E, section
+/// 7.8.5).
 const HIGH_DUTY_DIRECTED: u8 = 1;
 
 /// The greatest Advertising_Type, that of low duty cycle directed advertising.
@@ -56,8 +57,8 @@ impl HostView {
     }
 
     pub(crate) fn advertising_parameters_status(&self, asked: AdvertisingRequest) -> ErrCode
-        ensures { result.0 ≡ first_refusal (advertising_parameters_rows self.now asked.min asked.max asked.kind
-            asked.own asked.peer_kind asked.channels asked.policy) }
+        ensures { result.0 ≡ first_refusal (advertising_parameters_rows self.now asked.min asked.max
+            asked.kind asked.own asked.peer_kind asked.channels asked.policy) }
     {
         let invalid = ErrCode::INVALID_HCI_PARAMETERS;
         let unsupported = ErrCode::UNSUPPORTED_FEATURE_OR_VALUE;

@@ -65,9 +65,9 @@ impl HostView {
     }
 
     pub(crate) fn create_connection_status(&self, asked: ConnectionRequest) -> ErrCode
-        ensures { result.0 ≡ first_refusal (create_connection_rows self.now asked.interval asked.window asked.policy
-            asked.peer_kind asked.peer asked.own asked.proposal.min asked.proposal.max asked.proposal.latency
-            asked.proposal.timeout) }
+        ensures { result.0 ≡ first_refusal (create_connection_rows self.now asked.interval
+            asked.window asked.policy asked.peer_kind asked.peer asked.own asked.proposal.min
+            asked.proposal.max asked.proposal.latency asked.proposal.timeout) }
     {
         let invalid = ErrCode::INVALID_HCI_PARAMETERS;
         let named = asked.policy == 0;

@@ -23,8 +23,8 @@ pub(crate) fn disconnect_status(link: Option<Link>, reason: u8) -> ErrCode
     )
 }
 
-/// Connection parameters that the host proposes: intervals in units of 1.25 ms, the latency in events, the
-/// timeout in units of 10 ms.
+/// Connection parameters that the host proposes: intervals in units of 1.25 ms, the latency in
+/// events, the timeout in units of 10 ms.
 #[derive(Clone, Copy)]
 pub(crate) struct Proposal {
     pub min: u16,

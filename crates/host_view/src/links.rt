@@ -4,8 +4,8 @@ ghost use Rattle.host_view.specs.Links.{link_in, is_asked, is_central_role, upda
 
 use ble_base::{Address, Kind, Role};
 
-/// Which control procedures the host asked for on a link: those that are neither done nor refused yet.
-/// A map of channels is set for all links at once, and is not asked for on one.
+/// Which control procedures the host asked for on a link: those that are neither done nor refused
+/// yet. A map of channels is set for all links at once, and is not asked for on one.
 #[derive(Clone, Copy, Debug, PartialEq, Eq, Default)]
 pub struct Asked {
     pub update: bool,
@@ -49,7 +49,8 @@ pub struct Link {
     pub waits_for_key: bool,
     /// The host was asked for connection parameters, and has not answered.
     pub waits_for_parameters: bool,
-    /// How many ACL packets the host was handed and has not returned, while host flow control is on.
+    /// How many ACL packets the host was handed and has not returned, while host flow control is
+    /// on.
     pub outstanding: u16,
 }
 

@@ -101,8 +101,8 @@ impl HostView {
         }
     }
 
-    /// Takes a note of the controller. A link is opened only under a handle that the controller can hold and
-    /// that no open link has.
+    /// Takes a note of the controller. A link is opened only under a handle that the controller can
+    /// hold and that no open link has.
     #[tactic(auto, unfolding(crate::specs::Noted::view_noted))]
     pub fn note(&mut self, note: &Note)
         requires { HasPlace self.old note.now }

@@ -21,8 +21,8 @@ pub(crate) fn first_refusal(refusals: &[Refusal]) -> ErrCode
     ErrCode::SUCCESS
 }
 
-/// Whether these are parameters of a connection: intervals in units of 1.25 ms, the latency in events, the
-/// timeout in units of 10 ms, more than twice (1 + latency) intervals.
+/// Whether these are parameters of a connection: intervals in units of 1.25 ms, the latency in
+/// events, the timeout in units of 10 ms, more than twice (1 + latency) intervals.
 pub(crate) fn are_parameters(min: u16, max: u16, latency: u16, timeout: u16) -> bool
     ensures { result ≡ are_parameters min max latency timeout }
 {
@@ -60,8 +60,8 @@ pub(crate) fn are_scan_times(interval: u16, window: u16) -> bool
         && window <= interval
 }
 
-/// Refuses a choice of PHYs: transmitting first, then receiving. Bits 0 and 1 of `all` say that there is no
-/// preference. Then come further refusals.
+/// Refuses a choice of PHYs: transmitting first, then receiving. Bits 0 and 1 of `all` say that
+/// there is no preference. Then come further refusals.
 #[derive(Clone, Copy)]
 pub(crate) struct Phys {
     pub all: u8,
@@ -72,7 +72,8 @@ pub(crate) struct Phys {
 impl Phys {
     pub(crate) fn status(self, others: &[Refusal]) -> ErrCode
         ensures { result.0
-            ≡ first_refusal (both_phys_rows self.all self.transmit self.receive (refusals_of others.now)) }
+            ≡ first_refusal (both_phys_rows self.all self.transmit self.receive
+            (refusals_of others.now)) }
     {
         let any_transmit = has_bit(u64::from(self.all), 0);
         let any_receive = has_bit(u64::from(self.all), 1);
@@ -92,7 +93,8 @@ impl Phys {
     }
 }
 
-/// The status of a command on a link: no such link is open; it is to be disconnected; then further refusals.
+/// The status of a command on a link: no such link is open; it is to be disconnected; then further
+/// refusals.
 pub(crate) fn link_status(link: Option<Link>, others: &[Refusal]) -> ErrCode
     ensures { result.0 ≡ first_refusal (link_rows link (refusals_of others.now)) }
 {
@@ -104,7 +106,8 @@ pub(crate) fn link_status(link: Option<Link>, others: &[Refusal]) -> ErrCode
 }
 
 impl HostView {
-    /// The status of something that is done under an own address of this type, then further refusals.
+    /// The status of something that is done under an own address of this type, then further
+    /// refusals.
     pub(crate) fn own_status(&self, own: u8, others: &[Refusal]) -> ErrCode
         ensures { result.0 ≡ first_refusal (own_rows self.now own (refusals_of others.now)) }
     {
@@ -125,8 +128,8 @@ impl HostView {
         self.links.iter().filter(|link| link.is_some()).count()
     }
 
-    /// Whether the links that are open, and those that advertising and initiating may open, are all that the
-    /// controller can hold.
+    /// Whether the links that are open, and those that advertising and initiating may open, are all
+    /// that the controller can hold.
     pub(crate) fn is_full(&self) -> bool
         ensures { result ≡ is_full self.now }
     {

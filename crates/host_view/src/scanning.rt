@@ -19,8 +19,8 @@ pub(crate) struct ScanRequest {
 
 impl HostView {
     pub(crate) fn scan_parameters_status(&self, asked: ScanRequest) -> ErrCode
-        ensures { result.0 ≡ first_refusal (scan_parameters_rows self.now asked.kind asked.interval asked.window
-            asked.own asked.policy) }
+        ensures { result.0 ≡ first_refusal (scan_parameters_rows self.now asked.kind asked.interval
+            asked.window asked.own asked.policy) }
     {
         let invalid = ErrCode::INVALID_HCI_PARAMETERS;
         let unsupported = ErrCode::UNSUPPORTED_FEATURE_OR_VALUE;

@@ -61,8 +61,8 @@ fn set_phy_status(link: Option<Link>, phys: Phys) -> ErrCode
 }
 
 /// The status of a command in a view: success where it is accepted, and else the code of the first
-/// condition that holds, in the order of the table of commands. A command that this controller does not
-/// carry out yet is refused where the table accepts it.
+/// condition that holds, in the order of the table of commands. A command that this controller does
+/// not carry out yet is refused where the table accepts it.
 #[tactic(auto, unfolding(crate::specs::Unbuilt::status_of))]
 pub fn status(view: &HostView, command: &Command) -> ErrCode
     ensures { result.0 ≡ status_of view.now command.now }

@@ -1,4 +1,5 @@
-//! What a command that the table accepts is answered as long as this controller does not carry it out.
+//! What a command that the table accepts is answered as long as this controller does not carry it
+//! out.
 ghost use Rattle.std.specs.Prelude.{◌≡◌};
 ghost use Rattle.std.specs.List.{list_any};
 ghost use Rattle.host_view.specs.Unbuilt.{is_central_link, turns_on_unbuilt, unbuilt_status_of};
@@ -8,8 +9,8 @@ use crate::view::HostView;
 use ble_base::ErrCode;
 use hci_cmd::Command;
 
-/// Advertising_Type of advertising that is neither connectable nor scannable (Core 5.2, volume 4 part E,
-/// section 7.8.5).
+/// Advertising_Type of advertising that is neither connectable nor scannable (Core 5.2, volume 4
+/// part E, section 7.8.5).
 const NONCONNECTABLE: u8 = 3;
 
 fn is_central_link(link: Option<Link>) -> bool

@@ -13,8 +13,8 @@ pub const MOST_LINKS: usize = 6;
 /// How many addresses the accept list holds (Core 5.2, volume 4 part E, section 7.8.14).
 pub const ACCEPT_LIST_SIZE: usize = 8;
 
-/// Advertising: whether it is on, and what LE Set Advertising Parameters set last, by the codes of the
-/// standard (Core 5.2, volume 4 part E, section 7.8.5).
+/// Advertising: whether it is on, and what LE Set Advertising Parameters set last, by the codes of
+/// the standard (Core 5.2, volume 4 part E, section 7.8.5).
 #[derive(Clone, Copy, Debug, PartialEq, Eq)]
 pub struct Advertising {
     pub on: bool,
@@ -26,8 +26,8 @@ pub struct Advertising {
     pub policy: u8,
 }
 
-/// Scanning: whether it is on, and what LE Set Scan Parameters set last (Core 5.2, volume 4 part E, section
-/// 7.8.10).
+/// Scanning: whether it is on, and what LE Set Scan Parameters set last (Core 5.2, volume 4 part E,
+/// section 7.8.10).
 #[derive(Clone, Copy, Debug, PartialEq, Eq)]
 pub struct Scanning {
     pub on: bool,
@@ -48,8 +48,8 @@ pub struct HostFlow {
     pub acl_count: u16,
 }
 
-/// What a controller knows of its host's settings and of its links, as far as the status of a command
-/// depends on it.
+/// What a controller knows of its host's settings and of its links, as far as the status of a
+/// command depends on it.
 #[derive(Debug, Drop)]
 pub struct HostView {
     pub(crate) limit: u16,

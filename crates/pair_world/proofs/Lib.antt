@@ -1,3 +1,4 @@
+-- The lemmas of this crate.
 pub mod Adds
 pub mod Pasts
 pub mod Dues

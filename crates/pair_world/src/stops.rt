@@ -1,3 +1,4 @@
+//! What stops a turn.
 use journal::Octets;
 use std::alloc::AllocError;
 

@@ -1,3 +1,4 @@
+//! Runs that were worked out by hand.
 use crate::{
     RunFault, a_host_is_answered_in_order, a_run_has_one_journal, a_turn_sends_all_that_is_due,
     an_unseen_packet_is_due, each_packet_on_the_air_is_due, run_pair,

@@ -1,3 +1,4 @@
+-- Proof of `messages::put_digits`.
 use Rattle.std.proofs.Common.{◌≡◌, ◌++◌, subst}
 use Rattle.hex.specs.Hex.{encode_lower}
 use Rattle.ble_tool.specs.Puts.{IsPut}

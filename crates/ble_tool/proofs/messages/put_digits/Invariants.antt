@@ -1,3 +1,4 @@
+-- Invariants of `messages::put_digits`.
 use Rattle.std.proofs.Common.{length}
 use Rattle.std.specs.Prelude.{Result}
 use Rattle.hex.specs.Hex.{encode_lower}

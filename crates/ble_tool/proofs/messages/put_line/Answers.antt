@@ -1,3 +1,4 @@
+-- Proof of `messages::put_line`.
 use Rattle.std.proofs.Common.{[], ◌∷◌}
 use Rattle.ble_tool.proofs.Growth.{put_then, put_no_more, put_handed_on}
 use Rattle.ble_tool.proofs.messages.put_line.Goals as goal

@@ -1,3 +1,4 @@
+-- Proof of `messages::put_unseen`.
 use Rattle.std.proofs.Common.{◌++◌}
 use Rattle.std.specs.Prelude.{codes, decimal}
 use Rattle.journal.specs.Words.{hexadecimal}

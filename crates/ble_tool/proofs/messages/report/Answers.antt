@@ -1,3 +1,4 @@
+-- Proof of `messages::report`.
 use Rattle.ble_tool.proofs.messages.report.Goals as goal
 
 pub returns-in-CannotRead : goal.returns-in-CannotRead

@@ -1,3 +1,4 @@
+-- Proof of `pairs::pair`.
 use Rattle.ble_tool.specs.Commands.{pair_name}
 use Rattle.ble_tool.specs.World.{Reads, Writes, reads_of, writes_of}
 use Rattle.ble_tool.proofs.Endings.{AreRead, files_done, files_not_done}

@@ -1,3 +1,4 @@
+-- Proof of `pairs::pair_octets`.
 use Rattle.ble_tool.specs.World.{writes_of}
 use Rattle.ble_tool.proofs.Endings.{octets_not_done}
 use Rattle.ble_tool.proofs.pairs.pair_octets.Goals as goal

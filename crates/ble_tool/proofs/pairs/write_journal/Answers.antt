@@ -1,3 +1,4 @@
+-- Proof of `pairs::write_journal`.
 use Rattle.std.proofs.Common.{◌≡◌, List, ◌++◌, ◌∙◌, ap, sym, append_assoc, arith}
 use Rattle.std.proofs.lemmas.Grind.{flat_map-append}
 use Rattle.journal.specs.declared.entries.Entry.{Entry}

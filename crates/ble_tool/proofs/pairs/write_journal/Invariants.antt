@@ -1,3 +1,4 @@
+-- Invariants of `pairs::write_journal`.
 use Rattle.std.proofs.Common.{◌≡◌, ℕ, List, ◌++◌, ◌≤◌, length}
 use Rattle.journal.specs.Text.{text}
 use Rattle.ble_tool.specs.World.{writes_of, HasWritten}

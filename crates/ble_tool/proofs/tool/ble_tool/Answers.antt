@@ -1,3 +1,4 @@
+-- Proof of `tool::ble_tool`.
 use Rattle.std.proofs.Common.{rules, ◌≡◌, ℕ, List, Some, map}
 use Rattle.std.specs.Prelude.{string_bytes}
 use Rattle.ble_tool.specs.Commands.{command_of}

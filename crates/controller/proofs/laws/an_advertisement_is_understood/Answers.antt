@@ -1,3 +1,4 @@
+-- Proof of `laws::an_advertisement_is_understood`.
 use Rattle.controller.proofs.Understood.{understood_good, understood_says}
 use Rattle.controller.proofs.laws.an_advertisement_is_understood.Goals as goal
 

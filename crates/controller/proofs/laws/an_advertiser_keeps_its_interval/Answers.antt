@@ -1,3 +1,4 @@
+-- Proof of `laws::an_advertiser_keeps_its_interval`.
 use Rattle.controller.proofs.Intervals.{does_by_place, keeps_place}
 use Rattle.controller.proofs.laws.an_advertiser_keeps_its_interval.Goals as goal
 

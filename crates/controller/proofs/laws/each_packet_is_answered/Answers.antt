@@ -1,3 +1,4 @@
+-- Proof of `laws::each_packet_is_answered`.
 use Rattle.controller.proofs.Answered.{answered, kept, one_answer}
 use Rattle.controller.proofs.laws.each_packet_is_answered.Goals as goal
 

@@ -1,3 +1,4 @@
+-- Proof of `laws::past_grows`.
 use Rattle.controller.proofs.Views.{told_by-more, view_of-more}
 use Rattle.controller.proofs.laws.past_grows.Goals as goal
 

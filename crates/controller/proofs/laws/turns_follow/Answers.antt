@@ -1,3 +1,4 @@
+-- Proof of `laws::turns_follow`.
 use Rattle.controller.proofs.Views.{rested-ready}
 use Rattle.controller.proofs.laws.turns_follow.Goals as goal
 

@@ -1,4 +1,5 @@
-use Rattle.std.proofs.Common.{◌≡◌, ◌≤◌, ◌++◌, take, drop, length}
+-- Invariants of `accepted::list_without`.
+use Rattle.std.proofs.Common.{◌≡◌, ◌≤◌, ◌++◌, drop, length}
 use Rattle.host_view.specs.Changes.{list_without}
 use Rattle.host_view.proofs.accepted.list_without.Given as goal
 

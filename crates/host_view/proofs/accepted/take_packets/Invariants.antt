@@ -1,3 +1,4 @@
+-- Invariants of `accepted::take_packets`.
 use Rattle.std.proofs.Common.{◌≡◌, drop}
 use Rattle.host_view.specs.Changes.{after_counts}
 use Rattle.host_view.proofs.accepted.take_packets.Given as goal

@@ -1,3 +1,4 @@
+-- Invariants of `flow::count_for`.
 use Rattle.std.proofs.Common.{◌≡◌, ◌+◌, ◌*◌, ◌≤◌, drop}
 use Rattle.host_view.specs.Status.{count_for}
 use Rattle.host_view.proofs.flow.count_for.Given as goal

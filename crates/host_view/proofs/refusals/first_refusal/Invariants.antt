@@ -1,3 +1,4 @@
+-- Invariants of `refusals::first_refusal`.
 use Rattle.std.proofs.Common.{◌≡◌, drop}
 use Rattle.host_view.specs.Refusals.{first_refusal, refusals_of}
 use Rattle.host_view.proofs.refusals.first_refusal.Given as goal

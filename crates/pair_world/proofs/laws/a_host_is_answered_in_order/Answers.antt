@@ -1,3 +1,4 @@
+-- Proof of `laws::a_host_is_answered_in_order`.
 use Rattle.pair_world.proofs.Answered.{answered, kept}
 use Rattle.pair_world.proofs.laws.a_host_is_answered_in_order.Goals as goal
 

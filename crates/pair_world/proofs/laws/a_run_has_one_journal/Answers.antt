@@ -1,3 +1,4 @@
+-- Proof of `laws::a_run_has_one_journal`.
 use Rattle.pair_world.proofs.Aired.{one_unseen, one_ending, one_whole}
 use Rattle.pair_world.proofs.laws.a_run_has_one_journal.Goals as goal
 

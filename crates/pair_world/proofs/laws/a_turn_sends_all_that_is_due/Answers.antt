@@ -1,3 +1,4 @@
+-- Proof of `laws::a_turn_sends_all_that_is_due`.
 use Rattle.pair_world.proofs.Aired.{sent_at_end, sent_at_turn}
 use Rattle.pair_world.proofs.laws.a_turn_sends_all_that_is_due.Goals as goal
 

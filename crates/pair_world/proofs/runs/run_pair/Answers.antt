@@ -1,3 +1,4 @@
+-- Proof of `runs::run_pair`.
 use Rattle.std.proofs.Common.{[], refl, ap, ◌∙◌}
 use Rattle.radio_replay.specs.Script.{Script}
 use Rattle.controller.specs.State.{rested}

@@ -1,3 +1,4 @@
+-- Proof of `runs::run_turns`.
 use Rattle.pair_world.proofs.runs.run_turns.Goals as goal
 
 pub returns-in-Err-clause-err : goal.returns-in-Err-clause-err

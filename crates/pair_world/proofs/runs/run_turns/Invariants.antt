@@ -1,3 +1,4 @@
+-- Invariants of `runs::run_turns`.
 use Rattle.std.proofs.Common.{◌≡◌, []}
 use Rattle.ble_base.specs.declared.roles.Side.TheVariants.{A, B}
 use Rattle.pair_world.specs.Run.{Given}

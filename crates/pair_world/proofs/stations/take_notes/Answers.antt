@@ -1,3 +1,4 @@
+-- Proof of `stations::take_notes`.
 use Rattle.std.proofs.Common.{◌++◌, ◌∷◌, [], take, get_or, length, subst, sym, ap, ◌∙◌, append_assoc}
 use Rattle.std.proofs.Common.{◌<◌, List}
 use Rattle.ble_base.specs.declared.notes.Note.{Note}

@@ -1,3 +1,4 @@
+-- Invariants of `stations::take_notes`.
 use Rattle.std.proofs.Common.{◌≡◌, ℕ, List, ◌++◌, take}
 use Rattle.controller.specs.Past.{notes_of}
 use Rattle.pair_world.specs.Pieces.{ups}

@@ -1,3 +1,4 @@
+-- Proof of `turns::open_turn`.
 use Rattle.std.proofs.Common.{ap, ◌∙◌}
 use Rattle.std.specs.Prelude.{slice_get}
 use Rattle.pair_world.proofs.Opening.{opening, fed_to_next}

@@ -1,3 +1,4 @@
+-- Proof of `turns::run_phase`.
 use Rattle.std.proofs.Common.{ap}
 use Rattle.pair_world.proofs.Outcomes.{handed_on}
 use Rattle.pair_world.proofs.Phases.{phase_done, phase_stops_a, phase_stops_b}

@@ -1,3 +1,4 @@
+-- Proof of `turns::run_phases`.
 use Rattle.std.proofs.Common.{subst, ◌∙◌}
 use Rattle.pair_world.specs.Turns.{IsActed, HasStopped}
 use Rattle.pair_world.proofs.Outcomes.{handed_on}

@@ -1,3 +1,4 @@
+-- Proof of `controllers::Controller::begin_turn`.
 use Rattle.std.proofs.Common.{ap, ◌∙◌}
 use Rattle.controller.specs.State.{doing_in}
 use Rattle.controller.proofs.Acting.{acts_first}

@@ -1,3 +1,4 @@
+-- Proof of `controllers::Controller::heard`.
 use Rattle.std.proofs.Common.{◌++◌, ap, ◌∙◌}
 use Rattle.controller.specs.Past.{notes_of}
 use Rattle.controller.proofs.Acting.{acts_heard, tells_heard}

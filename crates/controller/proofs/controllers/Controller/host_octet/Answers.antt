@@ -1,3 +1,4 @@
+-- Proof of `controllers::Controller::host_octet`.
 use Rattle.std.proofs.Common.{◌++◌, refl, ap, sym, ◌∙◌}
 use Rattle.controller.specs.Past.{notes_of}
 use Rattle.controller.specs.Table.{device_after}

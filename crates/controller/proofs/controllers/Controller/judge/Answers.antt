@@ -1,3 +1,4 @@
+-- Proof of `controllers::Controller::judge`.
 use Rattle.std.proofs.Common.{ap, ◌∙◌}
 use Rattle.controller.specs.Packets.{verdict_of}
 use Rattle.controller.proofs.Acting.{listens}

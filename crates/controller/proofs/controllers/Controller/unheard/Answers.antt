@@ -1,3 +1,4 @@
+-- Proof of `controllers::Controller::unheard`.
 use Rattle.std.proofs.Common.{◌∙◌}
 use Rattle.controller.proofs.Acting.{acts_next}
 use Rattle.controller.proofs.controllers.Controller.unheard.Goals as goal

@@ -1,4 +1,5 @@
-use Rattle.std.proofs.Common.{◌≡◌, ℕ, ◌<◌, List, length, ap, sym, ◌∙◌, arith}
+-- Proof of `HostView::accept`.
+use Rattle.std.proofs.Common.{ap, sym, ◌∙◌, arith}
 use Rattle.host_view.specs.View.{View}
 use Rattle.host_view.proofs.AcceptList.{has_room}
 use Rattle.host_view.proofs.view.HostView.accept.Goals as goal

@@ -1,3 +1,4 @@
+-- Proof of `runs::RunFault::of`.
 use Rattle.pair_world.proofs.Journals.{unseen_is}
 use Rattle.pair_world.proofs.runs.RunFault.of.Goals as goal
 

@@ -1,3 +1,4 @@
+-- Proof of `stations::Station::feed_octets`.
 use Rattle.std.proofs.Common.{sym}
 use Rattle.pair_world.proofs.Outcomes.{on_ok_more}
 use Rattle.pair_world.proofs.Feeding.{fed-none, fed-parts}

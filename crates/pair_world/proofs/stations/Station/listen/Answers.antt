@@ -1,3 +1,4 @@
+-- Proof of `stations::Station::listen`.
 use Rattle.std.proofs.Common.{◌++◌, sym, ap, ◌∙◌}
 use Rattle.controller.specs.Past.{Heard, tells, view_of}
 use Rattle.pair_world.specs.Pieces.{ups}

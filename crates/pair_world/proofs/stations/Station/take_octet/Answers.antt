@@ -1,3 +1,4 @@
+-- Proof of `stations::Station::take_octet`.
 use Rattle.std.proofs.Common.{◌≡◌, ◌++◌, [], ◌∷◌, sym, ap, ◌∙◌}
 use Rattle.controller.specs.Past.{Given, tells, view_of}
 use Rattle.controller.specs.State.{ready}

@@ -1,3 +1,4 @@
+-- Proof of `stations::Station::take_octets`.
 use Rattle.std.proofs.Common.{◌++◌, [], ◌∷◌, take, get_or, refl, sym, ap, ◌∙◌, append-nil, append_assoc}
 use Rattle.controller.specs.State.{ready}
 use Rattle.pair_world.specs.Pieces.{given_all}

@@ -1,3 +1,4 @@
+-- Invariants of `stations::Station::take_octets`.
 use Rattle.std.proofs.Common.{◌≡◌, ℕ, List, [], ◌++◌, take}
 use Rattle.controller.specs.Past.{Input}
 use Rattle.controller.specs.State.{ready}
