@@ -1,6 +1,7 @@
 -- Lemmas on lists, packets and banks.
 pub mod AllLinks
 pub mod Histories
+pub mod InCells
 pub mod Links
 pub mod Octets
 pub mod OneLink

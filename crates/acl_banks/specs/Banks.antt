@@ -1,4 +1,5 @@
--- The data of all links that waits to be sent, and the counts of complete packets (Core 5.2, volume 4 part E, section 4.1).
+-- The data of all links that waits to be sent, and the counts of complete packets (Core 5.2, volume 4 part E,
+-- section 4.1).
 use Rattle.std.specs.Prelude.{◌≡◌, ℕ, ◌+◌, ◌-◌, ◌<◌, ◌≤◌, ◌==◌, ◌⊎◌, Bool, true, false, not, ◌&&◌, if◌then◌else◌, List, [], ◌∷◌, ◌++◌, length, slice_index, slice_set, Option, Some, None}
 use Rattle.std.specs.Option.{option_map}
 use Rattle.std.specs.List.{filter, find, flat_map}
@@ -12,8 +13,8 @@ pub record Bank : Type 0 where
   pub counts : List ℕ
 
 -- how many buffers are taken
-abbrev pub taken : Bank → ℕ
-taken bank = length bank.packets
+abbrev pub taken_buffers : Bank → ℕ
+taken_buffers bank = length bank.packets
 
 abbrev pub credits_of : Bank → ℕ → ℕ
 credits_of bank handle = slice_index bank.counts handle

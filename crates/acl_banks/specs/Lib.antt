@@ -3,3 +3,4 @@ pub mod Packets
 pub mod Banks
 pub mod Lending
 pub mod History
+pub mod Cells

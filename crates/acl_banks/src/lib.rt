@@ -1,5 +1,5 @@
-//! Buffers for the data of links: packets of the host that wait to be sent in pieces, and pieces that
-//! were received and wait for the host (Core 5.2, volume 4 part E, section 4.1).
+//! Buffers for the data of links: packets of the host that wait to be sent in pieces, and pieces
+//! that were received and wait for the host (Core 5.2, volume 4 part E, section 4.1).
 #![tactic(auto)]
 
 mod laws;

@@ -68,7 +68,8 @@ impl<const R: usize> RxBank<R> {
         Ok(())
     }
 
-    /// Hands up the piece that was kept first, with the handle of its link; `None` where none is kept.
+    /// Hands up the piece that was kept first, with the handle of its link; `None` exactly where
+    /// none is kept.
     pub fn hand_up(&mut self) -> Option<(u16, Piece)>
         ensures first { result ≡ slice_get self.old 0 }
         ensures rest { self.new ≡ drop 1 self.old }

@@ -1,4 +1,5 @@
-//! Rows of data through the banks: a packet in two pieces, nine packets at once, and received pieces.
+//! Rows of data through the banks: a packet in two pieces, nine packets at once, and received
+//! pieces.
 
 use crate::{Full, Overflow, Piece, RxBank, TxBank};
 use std::test::Fail;

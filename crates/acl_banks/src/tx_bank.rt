@@ -3,7 +3,7 @@
 ghost use Rattle.std.specs.Prelude.{◌≡◌, ℕ, ◌<◌, ◌≤◌, ◌↔◌, ◌⊎◌, ◌+◌, [], IfOk, IsTrue, IsErr, IsSome, IsNone, OnOk, OnErr, IfSome, None, Some, length, take, slice_index_or};
 ghost use Rattle.std.specs.List.{position};
 ghost use Rattle.acl_banks.specs.Packets.{new_packet, has_unsent, has_piece_out, marked_octets};
-ghost use Rattle.acl_banks.specs.Banks.{Bank, taken, credits_of, unsent_of, next_piece, next_length, packet_out, bank_after_offer, bank_after_went, bank_after_acked, bank_after_credited, bank_after_drop};
+ghost use Rattle.acl_banks.specs.Banks.{Bank, taken_buffers, credits_of, unsent_of, next_piece, next_length, packet_out, bank_after_offer, bank_after_went, bank_after_acked, bank_after_credited, bank_after_drop};
 
 use crate::packets::Buffer;
 use crate::pieces::Piece;
@@ -64,7 +64,7 @@ impl<const T: usize> TxBank<T> {
     /// nothing changes.
     pub fn offer(&mut self, handle: u16, start: bool, body: &[u8]) -> Result<(), Overflow>
         requires { 1 ≤ length body.now }
-        ensures overflow { IsErr result ↔ ((251 < length body.now) ⊎ (taken self.old ≡ T)) }
+        ensures overflow { IsErr result ↔ ((251 < length body.now) ⊎ (taken_buffers self.old ≡ T)) }
         ensures taken { OnOk result
             (self.new ≡ bank_after_offer self.old (new_packet handle start body.now)) }
         ensures unchanged { OnErr result (self.new ≡ self.old) }
@@ -129,7 +129,8 @@ impl<const T: usize> TxBank<T> {
         }
     }
 
-    /// Whether the link has another piece after the one that `peek` gives; false where it gives none.
+    /// Whether the link has another piece after the one that `peek` gives; false where it gives
+    /// none.
     pub fn waits(&self, handle: u16, limit: u16) -> bool
         requires { 1 ≤ limit }
         ensures { IsTrue result ↔
@@ -152,8 +153,8 @@ impl<const T: usize> TxBank<T> {
         count
     }
 
-    /// The piece that is out was acknowledged. A packet that is complete with it frees its buffer and
-    /// is counted.
+    /// The piece that is out was acknowledged. A packet that is complete with it frees its buffer
+    /// and is counted.
     pub fn acked(&mut self, handle: u16)
         requires out { IsSome (packet_out self.old handle) }
         requires counts { credits_of self.old handle < 65535 }
