@@ -1,5 +1,5 @@
 -- The packets of one link after each call, for the link that the call is for and for all others.
-use Rattle.std.proofs.Common.{◌≡◌, ◌≢◌, ◌⊎◌, inl, inr, ℕ, zero, suc, ◌+◌, ◌-◌, ◌<◌, ◌≤◌, ◌==◌, min, Bool, true, false, cond, not, ◌&&◌, if◌then◌else◌, List, [], ◌∷◌, ◌++◌, length, take, drop, Option, Some, None, IsSome, refl, sym, ap, subst, ◌∙◌, arith, nat_lt, true≢false}
+use Rattle.std.proofs.Common.{◌≡◌, ◌≢◌, inl, inr, ℕ, ◌<◌, ◌==◌, Bool, true, false, cond, not, ◌&&◌, List, [], ◌∷◌, ◌++◌, length, Option, Some, None, refl, sym, ap, subst, ◌∙◌, arith, true≢false}
 use Rattle.std.proofs.lemmas.Bool.{cases_eq}
 use Rattle.std.proofs.lemmas.Bool.Decides.{nat_tests}
 use Rattle.std.proofs.lemmas.List.{append-nil}
@@ -7,7 +7,7 @@ use Rattle.std.proofs.lemmas.List.Elements.{filter-append}
 use Rattle.std.proofs.lemmas.List.Folds.{find-append}
 use Rattle.std.specs.Option.{option_or}
 use Rattle.std.specs.List.{filter, find}
-use Rattle.acl_banks.specs.Packets.{DataPacket, new_packet, is_of, sent_length, has_unsent, has_piece_out, packet_after_went, packet_after_acked, is_all_sent, IsFresh, AreFresh, IsInWork, AreInOrder, IsInOrder, with_first, without_first}
+use Rattle.acl_banks.specs.Packets.{DataPacket, new_packet, is_of, has_unsent, has_piece_out, packet_after_went, packet_after_acked, is_all_sent, IsFresh, AreInOrder, IsInOrder, with_first, without_first}
 use Rattle.acl_banks.proofs.Links.{find-filter, filter-without_first, filter-with_first, others-without_first, others-with_first, others-filter, none-filter}
 use Rattle.acl_banks.proofs.Order.{is_left, is_out, IsHead, in_order-append, in_order-fresh, head_out, head_left, is_out-head, is_left-head, link-went, link-acked, link-completed, in_order-went, in_order-acked, none_out-acked, none_out-rest}
 

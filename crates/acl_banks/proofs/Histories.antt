@@ -1,15 +1,15 @@
 -- Over every list of calls, the bank and the past of a link stay together.
-use Rattle.std.proofs.Common.{◌≡◌, ◌≢◌, ◌⊎◌, inl, inr, ℕ, zero, suc, ◌+◌, ◌-◌, ◌<◌, ◌≤◌, ◌==◌, min, Bool, true, false, cond, not, ◌&&◌, if◌then◌else◌, List, [], ◌∷◌, ◌++◌, length, map, take, drop, set, get_or, Option, Some, None, IsSome, refl, sym, ap, subst, ◌∙◌, arith, nat_lt, true≢false, length-set}
+use Rattle.std.proofs.Common.{◌≡◌, inl, inr, ℕ, ◌+◌, ◌<◌, ◌≤◌, ◌==◌, Bool, true, false, cond, not, ◌&&◌, if◌then◌else◌, List, [], ◌∷◌, ◌++◌, length, set, get_or, Option, Some, None, IsSome, refl, sym, ap, subst, ◌∙◌, arith, true≢false, length-set}
 use Rattle.std.proofs.lemmas.Bool.{cases_eq}
 use Rattle.std.proofs.lemmas.Bool.Decides.{nat_tests}
-use Rattle.std.proofs.lemmas.List.{get_or-set_same, get_or-set_other, append-nil}
+use Rattle.std.proofs.lemmas.List.{get_or-set_same, get_or-set_other}
 use Rattle.std.proofs.lemmas.Option.{none-some}
 use Rattle.std.specs.Option.{option_map}
-use Rattle.std.specs.List.{filter, find}
-use Rattle.acl_banks.specs.Packets.{Marked, marked_octets, DataPacket, new_packet, is_of, has_unsent, has_piece_out, piece_of, packet_after_went, packet_after_acked, is_all_sent, IsFresh, IsInOrder, with_first, without_first}
-use Rattle.acl_banks.specs.Banks.{Bank, credits_of, unsent_of, piece_out, next_piece, packet_out, is_completed, bank_after_offer, bank_after_went, bank_after_acked, bank_after_credited, bank_after_drop}
-use Rattle.acl_banks.specs.History.{Call, offer, went, acked, credited, drop_link, IsAllowed, is_refused, bank_after, Past, no_past, octets_of_piece, past_after, Run, run_of, AreAllowed, IsEmptyBank, IsFaithful}
-use Rattle.acl_banks.proofs.Order.{IsHead, is_out}
+use Rattle.std.specs.List.{find}
+use Rattle.acl_banks.specs.Packets.{marked_octets, DataPacket, new_packet, has_unsent, has_piece_out, piece_of, packet_after_went, packet_after_acked, is_all_sent, IsFresh, IsInOrder, with_first, without_first}
+use Rattle.acl_banks.specs.Banks.{Bank, credits_of, piece_out, next_piece, packet_out, is_completed, bank_after_offer, bank_after_went, bank_after_acked, bank_after_credited, bank_after_drop}
+use Rattle.acl_banks.specs.History.{Call, offer, went, acked, credited, drop_link, IsAllowed, is_refused, bank_after, Past, no_past, octets_of_piece, past_after, run_of, AreAllowed, IsEmptyBank, IsFaithful}
+use Rattle.acl_banks.proofs.Order.{is_out}
 use Rattle.acl_banks.proofs.AllLinks.{own, own-offer, own-offer-other, other-went, other-acked, other-completed, other-drop, own-drop, head-left, head-out, own-out, own-after_went, own-after_acked, own-after_completed, IsInOrder-offer, IsInOrder-went, IsInOrder-acked, IsInOrder-completed, IsInOrder-drop, IsInOrder-empty}
 use Rattle.acl_banks.proofs.OneLink.{IsKept, outs, kept-empty, kept-offer, kept-went, kept-acked, kept-completed, kept-credited, all_octets, all_counted}
 

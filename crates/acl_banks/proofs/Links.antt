@@ -1,8 +1,7 @@
 -- The packets of one link among all packets, before and after each call.
-use Rattle.std.proofs.Common.{◌≡◌, ◌≢◌, ◌⊎◌, inl, inr, ℕ, zero, suc, ◌+◌, ◌-◌, ◌<◌, ◌≤◌, ◌==◌, min, Bool, true, false, cond, not, ◌&&◌, if◌then◌else◌, List, [], ◌∷◌, ◌++◌, length, take, drop, Option, Some, None, IsSome, refl, sym, ap, subst, ◌∙◌, arith, nat_lt, true≢false}
-use Rattle.std.proofs.lemmas.Bool.Decides.{nat_tests}
+use Rattle.std.proofs.Common.{◌≡◌, Bool, true, false, not, ◌&&◌, List, [], ◌∷◌, refl, ap}
 use Rattle.std.specs.List.{filter, find}
-use Rattle.acl_banks.specs.Packets.{DataPacket, new_packet, is_of, sent_length, has_unsent, has_piece_out, packet_after_went, packet_after_acked, is_all_sent, IsFresh, AreFresh, IsInWork, AreInOrder, with_first, without_first}
+use Rattle.acl_banks.specs.Packets.{with_first, without_first}
 
 module _ {A : Type 0} (of : A → Bool) where
   module _ (test : A → Bool) where

@@ -1,13 +1,10 @@
 -- The marked octets of packets and pieces, and what a link has of them.
-use Rattle.std.proofs.Common.{◌≡◌, ◌≢◌, ◌⊎◌, inl, inr, ℕ, zero, suc, ◌+◌, ◌-◌, ◌<◌, ◌≤◌, ◌==◌, min, Bool, true, false, cond, not, ◌&&◌, List, [], ◌∷◌, ◌++◌, length, map, get_or, set, take, drop, Option, Some, None, refl, sym, ap, subst, ◌∙◌, arith, nat_lt, length-append, true≢false}
+use Rattle.std.proofs.Common.{◌≡◌, ℕ, zero, suc, ◌+◌, ◌-◌, ◌<◌, ◌≤◌, ◌==◌, min, Bool, true, false, cond, ◌&&◌, List, [], ◌∷◌, ◌++◌, length, map, get_or, take, drop, Some, None, refl, sym, ap, subst, ◌∙◌, arith, nat_lt, length-append, true≢false}
 use Rattle.std.proofs.lemmas.Bool.Decides.{nat_tests}
-use Rattle.std.proofs.lemmas.List.{take_all, drop_all, take-map, take-append-le, take_min, take_more, append-nil, append_assoc, length-take, length-drop, length-map}
+use Rattle.std.proofs.lemmas.List.{drop_all, take-map, take_more, append-nil, append_assoc, length-take, length-drop, length-map}
 use Rattle.std.proofs.lemmas.Option.{none-some, same_Some}
-use Rattle.std.specs.List.{filter, find, flat_map, position}
-use Rattle.std.specs.Option.{option_map}
-use Rattle.acl_banks.specs.declared.pieces.Piece.{Piece}
-use Rattle.acl_banks.specs.Packets.{Marked, marked_octets, DataPacket, is_of, sent_length, has_unsent, has_piece_out, piece_of, unsent_octets, octets_out}
-use Rattle.acl_banks.specs.Banks.{Bank, unsent_of, next_piece, piece_length}
+use Rattle.std.specs.List.{filter, find, flat_map}
+use Rattle.acl_banks.specs.Packets.{Marked, marked_octets, DataPacket, is_of, sent_length, has_unsent, piece_of, unsent_octets}
 
 abbrev plain : ℕ → Marked
 plain octet = (false, octet)

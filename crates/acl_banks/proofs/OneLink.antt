@@ -1,11 +1,11 @@
 -- The packets of one link beside its past, and how each call keeps them together.
-use Rattle.std.proofs.Common.{◌≡◌, ◌≢◌, ◌⊎◌, inl, inr, ℕ, zero, suc, ◌+◌, ◌-◌, ◌<◌, ◌≤◌, ◌==◌, min, Bool, true, false, cond, not, ◌&&◌, if◌then◌else◌, List, [], ◌∷◌, ◌++◌, length, map, take, drop, Option, Some, None, IsSome, refl, sym, ap, subst, ◌∙◌, arith, nat_lt, true≢false, length-append}
+use Rattle.std.proofs.Common.{◌≡◌, ℕ, zero, suc, ◌+◌, ◌-◌, ◌<◌, min, true, false, List, [], ◌∷◌, ◌++◌, length, map, take, drop, refl, sym, ap, ◌∙◌, arith, nat_lt, length-append}
 use Rattle.std.proofs.lemmas.Bool.Decides.{nat_tests}
-use Rattle.std.proofs.lemmas.List.{append-nil, append_assoc, take_min, take_all, take-append-drop, drop-drop, length-drop, length-take, length-take-le}
+use Rattle.std.proofs.lemmas.List.{append-nil, append_assoc, take_min, take_all, take-append-drop, length-drop, length-take-le}
 use Rattle.std.specs.List.{flat_map}
-use Rattle.acl_banks.specs.Packets.{Marked, marked_octets, DataPacket, new_packet, sent_length, piece_of, packet_after_went, packet_after_acked, is_all_sent, unsent_octets, octets_out, IsFresh, AreFresh, IsInWork, AreInOrder}
+use Rattle.acl_banks.specs.Packets.{Marked, marked_octets, DataPacket, sent_length, piece_of, packet_after_went, packet_after_acked, is_all_sent, unsent_octets, octets_out, IsFresh, AreFresh, AreInOrder}
 use Rattle.acl_banks.specs.History.{HostData, Past, no_past, octets_of, whole_packets}
-use Rattle.acl_banks.proofs.Octets.{length-marked_octets, length-unsent_octets, piece_of-octets}
+use Rattle.acl_banks.proofs.Octets.{length-marked_octets, piece_of-octets}
 use Rattle.acl_banks.proofs.Order.{in_order-append, in_order-fresh, in_order-went, in_order-acked}
 
 abbrev given : DataPacket → HostData

@@ -1,9 +1,9 @@
 -- The packets of one link, in order: what each call finds and leaves of them.
-use Rattle.std.proofs.Common.{◌≡◌, ◌≢◌, ◌⊎◌, inl, inr, ℕ, zero, suc, ◌+◌, ◌-◌, ◌<◌, ◌≤◌, ◌==◌, min, Bool, true, false, cond, not, ◌&&◌, if◌then◌else◌, List, [], ◌∷◌, ◌++◌, length, take, drop, Option, Some, None, IsSome, refl, sym, ap, subst, ◌∙◌, arith, nat_lt, true≢false}
+use Rattle.std.proofs.Common.{◌≡◌, ℕ, ◌<◌, Bool, true, false, cond, List, [], ◌∷◌, ◌++◌, length, Some, None, refl, sym, ap, subst, ◌∙◌, arith, nat_lt}
 use Rattle.std.proofs.lemmas.Bool.Decides.{nat_tests}
 use Rattle.std.proofs.lemmas.Option.{none-some, same_Some}
-use Rattle.std.specs.List.{filter, find}
-use Rattle.acl_banks.specs.Packets.{DataPacket, new_packet, is_of, sent_length, has_unsent, has_piece_out, packet_after_went, packet_after_acked, is_all_sent, IsFresh, AreFresh, IsInWork, AreInOrder, IsInOrder, with_first, without_first}
+use Rattle.std.specs.List.{find}
+use Rattle.acl_banks.specs.Packets.{DataPacket, sent_length, packet_after_went, packet_after_acked, is_all_sent, IsFresh, AreFresh, IsInWork, AreInOrder, with_first, without_first}
 
 abbrev pub is_left : DataPacket → Bool
 is_left packet = nat_lt (sent_length packet) (length packet.body)

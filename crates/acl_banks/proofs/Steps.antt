@@ -1,14 +1,13 @@
 -- What each call leaves of a bank, from the place that it works at.
-use Rattle.std.proofs.Common.{◌≡◌, ◌↔◌, ℕ, ◌+◌, ◌-◌, ◌<◌, ◌≤◌, min, Bool, true, false, IsTrue, List, [], ◌∷◌, ◌++◌, length, get_or, set, take, Option, Some, None, IsSome, refl, sym, ap, subst, ◌∙◌, arith, nat_lt, length-append}
+use Rattle.std.proofs.Common.{◌≡◌, ◌↔◌, ℕ, ◌+◌, ◌-◌, ◌<◌, ◌≤◌, min, Bool, true, false, IsTrue, List, [], length, get_or, set, take, Some, None, IsSome, refl, sym, ap, subst, ◌∙◌, arith, nat_lt, length-append}
 use Rattle.std.proofs.lemmas.Bool.Decides.{nat_tests}
 use Rattle.std.proofs.lemmas.List.{take-append-le, take_min, get_or_read}
 use Rattle.std.specs.Option.{option_map}
 use Rattle.std.specs.List.{position, find, remove}
-use Rattle.acl_banks.specs.declared.pieces.Piece.{Piece}
-use Rattle.acl_banks.specs.Packets.{Marked, marked_octets, DataPacket, has_unsent, has_piece_out, piece_of, packet_after_went, packet_after_acked, is_all_sent, sent_length, unsent_octets, IsInOrder, with_first, without_first}
+use Rattle.acl_banks.specs.Packets.{marked_octets, DataPacket, has_unsent, has_piece_out, piece_of, packet_after_went, packet_after_acked, is_all_sent, sent_length, unsent_octets, IsInOrder, with_first, without_first}
 use Rattle.acl_banks.specs.Banks.{Bank, credits_of, unsent_of, next_piece, next_length, piece_length, packet_out, is_completed, bank_after_went, bank_after_acked}
 use Rattle.acl_banks.proofs.Places.{IsFirst, first_from_position, find-first, find_none, with_first-set, without_first-remove}
-use Rattle.acl_banks.proofs.Octets.{unsent_in, unsent_in-is, IsFront, unsent_in-none, unsent_in-first, length-unsent_octets, piece_of-octets, length-piece_of}
+use Rattle.acl_banks.proofs.Octets.{unsent_in-is, IsFront, unsent_in-none, unsent_in-first, length-unsent_octets, piece_of-octets, length-piece_of}
 use Rattle.acl_banks.proofs.Order.{is_out}
 use Rattle.acl_banks.proofs.AllLinks.{own-out, own-after_went, IsInOrder-went, IsInOrder-acked, IsInOrder-completed, none_out-after_acked, none_out-after_completed}
 

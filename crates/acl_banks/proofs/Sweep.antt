@@ -1,6 +1,6 @@
 -- A list from which elements are removed from its end on.
-use Rattle.std.proofs.Common.{◌≡◌, ℕ, zero, suc, ◌+◌, ◌-◌, ◌<◌, ◌≤◌, Bool, true, false, cond, not, List, [], ◌∷◌, ◌++◌, length, get_or, set, take, drop, refl, sym, ap, subst, ◌∙◌, arith, if◌then◌else◌}
-use Rattle.std.proofs.lemmas.List.{take_all, drop_all, drop_more, take_more, append_assoc, get_or_append_left, length-take-le, get_or-take, append-nil, length-append, get_or_at}
+use Rattle.std.proofs.Common.{◌≡◌, ℕ, ◌+◌, ◌-◌, ◌<◌, ◌≤◌, Bool, true, false, cond, not, List, [], ◌∷◌, ◌++◌, length, get_or, take, drop, refl, sym, ap, subst, ◌∙◌, arith, if◌then◌else◌}
+use Rattle.std.proofs.lemmas.List.{take_all, drop_all, drop_more, take_more, append_assoc, length-take-le, append-nil, length-append, get_or_at}
 use Rattle.std.specs.List.{filter, remove}
 
 module _ {A : Type 0} (test : A → Bool) where

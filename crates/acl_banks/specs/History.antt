@@ -1,9 +1,9 @@
 -- What the host gave a link, and what of it was sent, acknowledged and reported (Core 5.2, volume 4 part E,
 -- section 4.1).
-use Rattle.std.specs.Prelude.{◌≡◌, ℕ, ◌+◌, ◌-◌, ◌<◌, ◌≤◌, ◌==◌, nat_lt, Bool, not, ◌&&◌, ◌||◌, if◌then◌else◌, List, [], ◌∷◌, ◌++◌, length, Option, Some, None, IsSome}
+use Rattle.std.specs.Prelude.{◌≡◌, ℕ, ◌+◌, ◌-◌, ◌≤◌, ◌==◌, nat_lt, Bool, not, ◌&&◌, ◌||◌, if◌then◌else◌, List, [], ◌∷◌, ◌++◌, length, Option, Some, None, IsSome}
 use Rattle.std.specs.List.{flat_map}
 use Rattle.acl_banks.specs.declared.pieces.Piece.{Piece}
-use Rattle.acl_banks.specs.Packets.{Marked, marked_octets, DataPacket, new_packet}
+use Rattle.acl_banks.specs.Packets.{Marked, marked_octets, new_packet}
 use Rattle.acl_banks.specs.Banks.{Bank, taken_buffers, credits_of, unsent_of, piece_out, next_piece, packet_out, bank_after_offer, bank_after_went, bank_after_acked, bank_after_credited, bank_after_drop}
 
 -- a call that changes a bank

@@ -1,6 +1,6 @@
 -- The data packets of the host, and the pieces that they are sent in (Core 5.2, volume 6 part B, section 2.4.1).
-use Rattle.std.specs.Prelude.{◌≡◌, ℕ, ◌+◌, ◌-◌, ◌<◌, ◌≤◌, ◌==◌, min, nat_lt, Bool, true, false, ◌&&◌, if◌then◌else◌, List, [], ◌∷◌, ◌++◌, map, length, take, drop}
-use Rattle.std.specs.List.{filter, flat_map}
+use Rattle.std.specs.Prelude.{◌≡◌, ℕ, ◌+◌, ◌-◌, ◌<◌, ◌≤◌, ◌==◌, min, nat_lt, Bool, false, ◌&&◌, if◌then◌else◌, List, [], ◌∷◌, map, length, take, drop}
+use Rattle.std.specs.List.{filter}
 use Rattle.acl_banks.specs.declared.pieces.Piece.{Piece}
 
 -- a marked octet: whether it is the first octet of a start, and the octet

@@ -1,4 +1,3 @@
-use Rattle.std.proofs.Common.{◌≡◌, length, refl, sym, ap, subst, ◌∙◌, arith}
 use Rattle.acl_banks.proofs.InCells.{values_in-empty, IsSound-make}
 use Rattle.acl_banks.proofs.queue.Queue.make.Goals as goal
 

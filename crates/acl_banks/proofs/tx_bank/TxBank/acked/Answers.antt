@@ -1,4 +1,4 @@
-use Rattle.std.proofs.Common.{◌≡◌, ◌+◌, get_or, set, refl, sym, ap, subst, ◌∙◌, None, IsSome, arith, length-set}
+use Rattle.std.proofs.Common.{◌≡◌, ◌+◌, get_or, sym, ap, subst, ◌∙◌, None, arith, length-set}
 use Rattle.acl_banks.specs.Packets.{IsInOrder}
 use Rattle.acl_banks.specs.Banks.{Bank, packet_out}
 use Rattle.acl_banks.proofs.Steps.{none_out-absurd, acked-whole, acked-part, acked-whole-in_order, acked-part-in_order, acked-none_out, count_read}

@@ -1,7 +1,5 @@
-use Rattle.std.proofs.Common.{◌≡◌, None, Some, get_or, length, take, refl, sym, ap, ◌∙◌}
-use Rattle.acl_banks.specs.declared.pieces.Piece.{Piece}
-use Rattle.acl_banks.specs.Packets.{marked_octets}
-use Rattle.acl_banks.specs.Banks.{Bank, unsent_of}
+use Rattle.std.proofs.Common.{Some, get_or, refl, sym, ap, ◌∙◌}
+use Rattle.acl_banks.specs.Banks.{Bank}
 use Rattle.acl_banks.proofs.Steps.{next_piece-none, unsent_of-none, next_piece-first, unsent_of-some, piece-octets}
 use Rattle.acl_banks.proofs.tx_bank.TxBank.peek.Goals as goal
 

@@ -1,4 +1,4 @@
-use Rattle.std.proofs.Common.{◌≡◌, get_or, sym, ap, ◌∙◌, arith}
+use Rattle.std.proofs.Common.{get_or, sym, ap, ◌∙◌, arith}
 use Rattle.acl_banks.specs.Banks.{Bank}
 use Rattle.acl_banks.proofs.Steps.{waits-none, waits-is}
 use Rattle.acl_banks.proofs.tx_bank.TxBank.waits.Goals as goal

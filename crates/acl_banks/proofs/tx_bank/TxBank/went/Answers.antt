@@ -1,6 +1,6 @@
-use Rattle.std.proofs.Common.{◌≡◌, get_or, set, refl, sym, ap, subst, ◌∙◌, None, IsSome}
+use Rattle.std.proofs.Common.{get_or, sym, ap, subst, ◌∙◌, IsSome}
 use Rattle.acl_banks.specs.Packets.{IsInOrder}
-use Rattle.acl_banks.specs.Banks.{Bank, next_piece, packet_out}
+use Rattle.acl_banks.specs.Banks.{Bank, packet_out}
 use Rattle.acl_banks.proofs.Steps.{next_piece-absurd, went-is, went-in_order, went-out}
 use Rattle.acl_banks.proofs.tx_bank.TxBank.went.Goals as goal
 
