@@ -1,5 +1,5 @@
 -- The text of a schedule in the plainest form (our choice).
-use Rattle.std.specs.Prelude.{ℕ, zero, suc, ◌<◌, ◌≤◌, ◌≡◌, ◌^◌, Bool, List, [], ◌∷◌, ◌++◌, length, map, reverse, slice_index, if◌then◌else◌, codes, decimal}
+use Rattle.std.specs.Prelude.{ℕ, zero, suc, ◌<◌, ◌≤◌, ◌≡◌, ◌^◌, List, [], ◌∷◌, ◌++◌, length, map, reverse, slice_index, codes, decimal}
 use Rattle.std.specs.Int.{w32, w64, to_be_bytes}
 use Rattle.std.specs.Bool.{⊤}
 use Rattle.std.specs.List.{All, concat}

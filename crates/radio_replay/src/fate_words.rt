@@ -1,5 +1,5 @@
 //! The words for the fates of packets.
-ghost use Rattle.std.specs.Prelude.{◌≡◌};
+ghost use Rattle.std.specs.Prelude.{◌≡◌, ◌&&◌, nat_le};
 ghost use Rattle.std.specs.Option.{option_map};
 ghost use Rattle.radio_replay.specs.FateWord.{damage_in, fate_in, pattern_in};
 
@@ -10,12 +10,19 @@ use ble_base::AIR_PACKET_OCTETS;
 use line_words::{read_number, two_parts};
 use wire_fields::put_octets;
 
+/// Whether a pattern can have this number of octets.
+fn is_pattern_size(count: usize) -> bool
+    ensures { result ≡ (nat_le 1 count && nat_le count AIR_PACKET_OCTETS) }
+{
+    1 <= count && count <= AIR_PACKET_OCTETS
+}
+
 /// The pattern that hexadecimal digits spell: 1 to 264 octets.
 fn read_pattern(digits: &[u8]) -> Option<ArrayVec<u8, AIR_PACKET_OCTETS>>
     ensures { option_map (λ pattern. pattern.items) result ≡ pattern_in digits.now }
 {
     let count = digits.len() / 2;
-    if count == 0 || count > AIR_PACKET_OCTETS {
+    if !is_pattern_size(count) {
         return None;
     }
     let mut room = [0; AIR_PACKET_OCTETS];

@@ -1,8 +1,6 @@
 -- Proof of `schedules::read_text`.
-use Rattle.std.proofs.Common.{◌≡◌, Err, Ok, [], sym, arith}
+use Rattle.std.proofs.Common.{[], sym, arith}
 use Rattle.std.proofs.lemmas.List.Elements.{All-nil}
-use Rattle.line_words.specs.Text.{lines_of}
-use Rattle.radio_replay.specs.Schedule.{read_settings}
 use Rattle.radio_replay.specs.Script.{CanBeFed}
 use Rattle.radio_replay.proofs.Facts.{held}
 use Rattle.radio_replay.proofs.Settings.{err_of, fault_of_settings, fault_of_turns, right_text}
