@@ -1,5 +1,6 @@
 //! The statuses of the table of commands, row by row, and what accepted commands and notes change.
 use super::*;
+use arrayvec::ArrayVec;
 use ble_base::{Address, Kind, Note, Role};
 use hci_cmd::Command;
 use std::process::Abort;
@@ -89,10 +90,9 @@ fn links(rt: HostRuntime) {
 #[test]
 fn a_key_is_asked_for_and_given(rt: HostRuntime) {
     let mut view = view_with_link(Role::Peripheral);
-    let mut request = arrayvec::ArrayVec::new();
-    for octet in [4, 0x3E, 13, 5, 0, 0, 1, 2, 3, 4, 5, 6, 7, 8, 9, 10] {
-        request.push(octet);
-    }
+    let mut request = ArrayVec::new();
+    let octets = [4, 0x3E, 13, 5, 0, 0, 1, 2, 3, 4, 5, 6, 7, 8, 9, 10];
+    assert!(rt; request.try_extend_from_slice(&octets).is_ok());
     view.note(&Note::Up(request));
     let reply = Command::LeKeyNegative { handle: 0 };
     let answer = status(&view, &reply);
