@@ -1,0 +1,40 @@
+-- Proof of `rows::worked_advertisement`: the definitions compute.
+use Rattle.std.proofs.Common.{refl}
+use Rattle.h4_frames.specs.Frames.{frames}
+use Rattle.wire_fields.specs.Field.{little_endian}
+use Rattle.frame_bits.specs.Crc.{crc, crc_octets, crc_of_bits, remainder}
+use Rattle.frame_bits.specs.Whitening.{mask_of, next_mask, whitening_bit, whitening_of}
+use Rattle.air_frame.specs.Hearing.{heard_in}
+use Rattle.adv_pdu.specs.Header.{kept_bits}
+use Rattle.adv_pdu.specs.Reading.{read_of}
+use Rattle.hci_cmd.specs.Command.{command_of, layout_of, layouts}
+use Rattle.host_view.specs.Changes.{view_after}
+use Rattle.host_view.specs.Unbuilt.{status_of}
+use Rattle.one_side.specs.Heard.{advertisement_heard, verdict_of}
+use Rattle.one_side.specs.Radio.{activity_of, advertisement_on, use_of}
+use Rattle.one_side.specs.Side.{facts_of, notes_of, result_of}
+use Rattle.one_side.proofs.rows.worked_advertisement.Goals as goal
+
+pub returns-clause-sends : goal.returns-clause-sends
+unfolding facts_of notes_of result_of frames little_endian command_of layout_of layouts view_after status_of activity_of use_of advertisement_on verdict_of advertisement_heard heard_in read_of kept_bits crc crc_octets crc_of_bits remainder mask_of next_mask whitening_bit whitening_of
+returns-clause-sends c = refl
+
+pub returns-clause-listens : goal.returns-clause-listens
+unfolding facts_of notes_of result_of frames little_endian command_of layout_of layouts view_after status_of activity_of use_of advertisement_on verdict_of advertisement_heard heard_in read_of kept_bits crc crc_octets crc_of_bits remainder mask_of next_mask whitening_bit whitening_of
+returns-clause-listens c = refl
+
+pub returns-clause-good : goal.returns-clause-good
+unfolding facts_of notes_of result_of frames little_endian command_of layout_of layouts view_after status_of activity_of use_of advertisement_on verdict_of advertisement_heard heard_in read_of kept_bits crc crc_octets crc_of_bits remainder mask_of next_mask whitening_bit whitening_of
+returns-clause-good c = refl
+
+pub returns-clause-broken : goal.returns-clause-broken
+unfolding facts_of notes_of result_of frames little_endian command_of layout_of layouts view_after status_of activity_of use_of advertisement_on verdict_of advertisement_heard heard_in read_of kept_bits crc crc_octets crc_of_bits remainder mask_of next_mask whitening_bit whitening_of
+returns-clause-broken c = refl
+
+pub returns-clause-missed : goal.returns-clause-missed
+unfolding facts_of notes_of result_of frames little_endian command_of layout_of layouts view_after status_of activity_of use_of advertisement_on verdict_of advertisement_heard heard_in read_of kept_bits crc crc_octets crc_of_bits remainder mask_of next_mask whitening_bit whitening_of
+returns-clause-missed c = refl
+
+pub returns-clause-reports : goal.returns-clause-reports
+unfolding facts_of notes_of result_of frames little_endian command_of layout_of layouts view_after status_of activity_of use_of advertisement_on verdict_of advertisement_heard heard_in read_of kept_bits crc crc_octets crc_of_bits remainder mask_of next_mask whitening_bit whitening_of
+returns-clause-reports c = refl

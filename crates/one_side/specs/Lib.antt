@@ -1,0 +1,9 @@
+-- The definitions of this crate.
+pub mod Step
+pub mod Facts
+pub mod Answers
+pub mod Commands
+pub mod Radio
+pub mod Heard
+pub mod Side
+pub mod Rows
