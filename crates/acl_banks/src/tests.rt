@@ -42,6 +42,18 @@ fn packet_goes_out_in_two_pieces(rt: HostRuntime) -> Result<(), Fail> {
 }
 
 #[test]
+fn no_piece_has_octets_of_two_packets(rt: HostRuntime) -> Result<(), Fail> {
+    let mut bank: TxBank<8> = TxBank::make(rt.alloc())?;
+    assert_eq!(rt; bank.offer(1, true, &[1, 2]), Ok(()));
+    assert_eq!(rt; bank.offer(1, true, &[3]), Ok(()));
+    let first = bank.peek(1, 27).ok_or("no piece")?;
+    assert_eq!(rt; first, Piece::new(true, &[1, 2]));
+    bank.went(1, 27);
+    assert_eq!(rt; bank.peek(1, 27), Some(Piece::new(true, &[3])));
+    Ok(())
+}
+
+#[test]
 fn ninth_packet_and_long_packet_overflow(rt: HostRuntime) -> Result<(), Fail> {
     let mut bank: TxBank<8> = TxBank::make(rt.alloc())?;
     assert_eq!(rt; bank.offer(1, true, &[0; 252]), Err(Overflow));
