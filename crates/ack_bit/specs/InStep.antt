@@ -4,7 +4,7 @@ use Rattle.ack_bit.specs.AckBits.{is_odd}
 use Rattle.ack_bit.specs.AckLink.{End, IsReliable}
 
 module _ {C : Type 0} where
-  -- the PDU that s sent last is not acknowledged yet, as far as s knows: this holds of every end that has just sent
+  -- s has heard no acknowledgement of the PDU that it sent last: this holds of every end that has just sent
   abbrev pub IsOut : End C → Type 0
   IsOut s = s.acked < length s.sent
 

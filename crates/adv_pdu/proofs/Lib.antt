@@ -1,3 +1,4 @@
+-- The lemmas of this crate.
 pub mod Bits
 pub mod Rows
 pub mod Octets

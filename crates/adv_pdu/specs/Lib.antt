@@ -1,3 +1,4 @@
+-- The definitions of this crate.
 pub mod Header
 pub mod Pdu
 pub mod Reading

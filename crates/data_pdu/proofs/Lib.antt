@@ -1,3 +1,4 @@
+-- The lemmas of this crate.
 pub mod Outcomes
 pub mod RangeTests
 pub mod Rows

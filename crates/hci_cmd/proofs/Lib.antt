@@ -1,3 +1,4 @@
+-- The lemmas of this crate.
 pub mod Parameters
 pub mod Counts
 pub mod Opcodes

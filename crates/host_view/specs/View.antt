@@ -1,4 +1,4 @@
--- What a controller knows of its host's settings and of its links, as far as the status of a command depends on it
+-- What the status of a command depends on: the settings that the host has made, and the links
 -- (Core 5.2, volume 4 part E, section 7).
 use Rattle.std.specs.Prelude.{ℕ, Bool, false, List, [], ◌∷◌, Option, None}
 use Rattle.ble_base.specs.declared.addresses.Address.{Address}

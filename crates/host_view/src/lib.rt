@@ -1,6 +1,6 @@
-//! What a controller knows of its host's settings and of its links, as far as the status of a
-//! command depends on it (Core 5.2, volume 4 part E, section 7): the view, the status of each
-//! command in it, and how accepted commands and notes change it.
+//! What the status of a command depends on, the settings that the host has made and the links
+//! (Core 5.2, volume 4 part E, section 7): the view, the status of each command in it, and how
+//! accepted commands and notes change it.
 #![tactic(auto)]
 
 mod accepted;

@@ -48,8 +48,7 @@ pub struct HostFlow {
     pub acl_count: u16,
 }
 
-/// What a controller knows of its host's settings and of its links, as far as the status of a
-/// command depends on it.
+/// What the status of a command depends on: the settings that the host has made, and the links.
 #[derive(Debug, Drop)]
 pub struct HostView {
     pub(crate) limit: u16,

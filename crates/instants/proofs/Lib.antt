@@ -1,3 +1,4 @@
+-- The lemmas of this crate.
 pub mod Changes
 pub mod Following
 pub mod Standing

@@ -1,3 +1,4 @@
+-- The definitions of this crate.
 pub mod Arrivals
 pub mod Follows
 pub mod Parameters

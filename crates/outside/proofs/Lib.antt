@@ -1,3 +1,4 @@
+-- The lemmas of this crate.
 pub mod CallNumbers
 pub mod FilesByName
 pub mod StoreChanges

@@ -1,3 +1,4 @@
+-- The definitions of this crate.
 pub mod Count
 pub mod Known
 pub mod Growth

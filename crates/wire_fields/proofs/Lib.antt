@@ -1,3 +1,4 @@
+-- The lemmas of this crate.
 pub mod Layouts
 pub mod LittleEndian
 pub mod Spelling

@@ -1,3 +1,4 @@
+-- The definitions of this crate.
 pub mod Field
 pub mod Layout
 pub mod Kind

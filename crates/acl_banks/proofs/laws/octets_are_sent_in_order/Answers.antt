@@ -1,3 +1,4 @@
+-- The proof of the law `octets_are_sent_in_order`.
 use Rattle.acl_banks.proofs.Histories.{faithful-run}
 use Rattle.acl_banks.proofs.laws.octets_are_sent_in_order.Goals as goal
 

@@ -1,3 +1,4 @@
+-- The proof of the law `written_is_read`.
 use Rattle.data_pdu.proofs.Rows.{written_is_known, written_is_one}
 use Rattle.data_pdu.proofs.laws.written_is_read.Goals as goal
 

@@ -1,3 +1,4 @@
+-- The proof of `read_ctrl`.
 use Rattle.std.proofs.Common.{ap, ◌∙◌, sym}
 use Rattle.data_pdu.specs.Reading.{ctrl_of}
 use Rattle.data_pdu.proofs.Rows.{written_is_known}

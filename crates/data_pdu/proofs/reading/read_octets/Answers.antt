@@ -1,3 +1,4 @@
+-- The proof of `read_octets`.
 use Rattle.std.proofs.Common.{◌≡◌, ◌<◌, get_or, drop, sym, ap, ◌∙◌, cond, Bool, true, false, arith}
 use Rattle.data_pdu.specs.declared.ctrl.CtrlRead.TheVariants.{Known, Unknown}
 use Rattle.data_pdu.specs.Ranges.{is_in_range}

@@ -1,3 +1,4 @@
+-- The proof of `write_ctrl`.
 use Rattle.std.proofs.Common.{[], ap, ◌∙◌}
 use Rattle.wire_fields.proofs.Spelling.{appended-spelled}
 use Rattle.data_pdu.specs.Layouts.{fields_of}

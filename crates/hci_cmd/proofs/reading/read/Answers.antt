@@ -1,3 +1,4 @@
+-- The proof of `read`.
 use Rattle.std.proofs.Common.{◌∙◌, sym, arith}
 use Rattle.hci_cmd.specs.Command.{command_of}
 use Rattle.hci_cmd.proofs.Parameters.{known_is, only_is, unknown_is, is_unknown, none_has, has_none, bad_is, is_bad}

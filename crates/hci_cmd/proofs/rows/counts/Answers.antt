@@ -1,3 +1,4 @@
+-- The proof of `counts`.
 use Rattle.std.proofs.Common.{arith}
 use Rattle.hci_cmd.proofs.Counts.{Taken-more, Taken-all, Taken-none}
 use Rattle.hci_cmd.proofs.rows.counts.Goals as goal

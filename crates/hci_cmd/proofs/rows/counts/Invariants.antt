@@ -1,3 +1,4 @@
+-- The loop invariants of `counts`.
 use Rattle.std.proofs.Common.{[]}
 use Rattle.wire_fields.specs.Layout.{value_of}
 use Rattle.hci_cmd.specs.Command.{counts_layout}

@@ -1,3 +1,4 @@
+-- The proof of `host_completed`.
 use Rattle.std.proofs.Common.{◌≡◌, ◌*◌, length, arith, sym, ◌∙◌}
 use Rattle.std.proofs.lemmas.Bool.{eqb-false, eqb-true}
 use Rattle.hci_cmd.specs.declared.command.Command.TheVariants.{HostCompleted}

@@ -1,3 +1,4 @@
+-- The proof of `event`.
 use Rattle.std.proofs.Common.{arith}
 use Rattle.hci_evt.proofs.Packet.{first_and_rest, le_some}
 use Rattle.hci_evt.proofs.reading.event.Goals as goal

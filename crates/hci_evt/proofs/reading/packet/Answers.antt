@@ -1,3 +1,4 @@
+-- The proof of `packet`.
 use Rattle.std.proofs.Common.{◌∙◌, sym, arith}
 use Rattle.hci_evt.proofs.Packet.{not_packet, packet_is, some_is_event}
 use Rattle.hci_evt.proofs.reading.packet.Goals as goal

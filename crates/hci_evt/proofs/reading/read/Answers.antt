@@ -1,3 +1,4 @@
+-- The proof of `read`.
 use Rattle.std.proofs.Common.{◌∙◌}
 use Rattle.hci_evt.proofs.Packet.{only_is, none_is}
 use Rattle.hci_evt.proofs.reading.read.Goals as goal

@@ -1,3 +1,4 @@
+-- The proof of `write`.
 use Rattle.std.proofs.Common.{◌≡◌, ◌∙◌, []}
 use Rattle.wire_fields.specs.Field.{spelled}
 use Rattle.wire_fields.proofs.Spelling.{appended-spelled}

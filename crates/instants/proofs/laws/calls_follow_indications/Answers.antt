@@ -1,3 +1,4 @@
+-- The proof of the law `calls_follow_indications`.
 use Rattle.instants.proofs.Following.{Follows-first, Follows-taken, Follows-entered}
 use Rattle.instants.proofs.laws.calls_follow_indications.Goals as goal
 

@@ -1,3 +1,4 @@
+-- The proof of the law `ends_agree`.
 use Rattle.instants.proofs.Standing.{together, ends_are_together}
 use Rattle.instants.proofs.laws.ends_agree.Goals as goal
 

@@ -1,3 +1,4 @@
+-- The proof of the law `track_follows_indications`.
 use Rattle.instants.proofs.Standing.{events_are_counted, track_follows, next_anchor_follows, number_follows}
 use Rattle.instants.proofs.laws.track_follows_indications.Goals as goal
 

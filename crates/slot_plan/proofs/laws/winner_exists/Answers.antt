@@ -1,3 +1,4 @@
+-- The proof of the law `winner_exists`.
 use Rattle.slot_plan.proofs.FirstWant.{winner_of_wants}
 use Rattle.slot_plan.proofs.laws.winner_exists.Goals as goal
 

@@ -1,3 +1,4 @@
+-- The proof of `put_u24`.
 use Rattle.std.proofs.Common.{arith}
 use Rattle.wire_fields.proofs.LittleEndian.{take_3}
 use Rattle.wire_fields.proofs.put.put_u24.Goals as goal

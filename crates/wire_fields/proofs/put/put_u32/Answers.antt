@@ -1,3 +1,4 @@
+-- The proof of `put_u32`.
 use Rattle.std.proofs.Common.{arith}
 use Rattle.wire_fields.proofs.LittleEndian.{to_le_bytes_4}
 use Rattle.wire_fields.proofs.put.put_u32.Goals as goal

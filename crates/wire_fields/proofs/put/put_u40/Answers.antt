@@ -1,3 +1,4 @@
+-- The proof of `put_u40`.
 use Rattle.std.proofs.Common.{arith}
 use Rattle.wire_fields.proofs.LittleEndian.{take_5}
 use Rattle.wire_fields.proofs.put.put_u40.Goals as goal

@@ -1,3 +1,4 @@
+-- The proof of `put_u64`.
 use Rattle.std.proofs.Common.{arith}
 use Rattle.wire_fields.proofs.LittleEndian.{to_le_bytes_8}
 use Rattle.wire_fields.proofs.put.put_u64.Goals as goal

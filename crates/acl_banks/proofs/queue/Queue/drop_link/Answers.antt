@@ -1,3 +1,4 @@
+-- The proof of `Queue::drop_link`.
 use Rattle.std.proofs.Common.{◌==◌, arith}
 use Rattle.acl_banks.proofs.Sweep.{swept_from_end, swept_whole, swept_within, swept_more}
 use Rattle.acl_banks.proofs.queue.Queue.drop_link.Goals as goal

@@ -1,3 +1,4 @@
+-- The loop invariants of `Queue::drop_link`.
 use Rattle.std.proofs.Common.{◌==◌}
 use Rattle.acl_banks.proofs.Sweep.{IsSwept}
 use Rattle.acl_banks.proofs.queue.Queue.drop_link.Given as goal

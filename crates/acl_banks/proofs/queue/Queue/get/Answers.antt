@@ -1,3 +1,4 @@
+-- The proof of `Queue::get`.
 use Rattle.std.proofs.Common.{length, ap, arith}
 use Rattle.acl_banks.proofs.InCells.{length-values_in, some_at, read_at}
 use Rattle.acl_banks.proofs.queue.Queue.get.Goals as goal

@@ -1,3 +1,4 @@
+-- The proof of `Queue::get_mut`.
 use Rattle.std.proofs.Common.{length, refl, sym, ap, arith}
 use Rattle.acl_banks.proofs.InCells.{length-values_in, some_at, read_at, values_in-write, IsSound-write}
 use Rattle.acl_banks.proofs.queue.Queue.get_mut.Goals as goal

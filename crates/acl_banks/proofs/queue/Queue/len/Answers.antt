@@ -1,3 +1,4 @@
+-- The proof of `Queue::len`.
 use Rattle.std.proofs.Common.{length, ap, arith}
 use Rattle.acl_banks.proofs.InCells.{length-values_in}
 use Rattle.acl_banks.proofs.queue.Queue.len.Goals as goal

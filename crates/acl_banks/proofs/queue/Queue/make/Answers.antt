@@ -1,3 +1,4 @@
+-- The proof of `Queue::make`.
 use Rattle.acl_banks.proofs.InCells.{values_in-empty, IsSound-make}
 use Rattle.acl_banks.proofs.queue.Queue.make.Goals as goal
 

@@ -1,3 +1,4 @@
+-- The proof of `Queue::push`.
 use Rattle.std.proofs.Common.{length, refl, ap, arith}
 use Rattle.acl_banks.proofs.InCells.{length-values_in, values_in-push, IsSound-push}
 use Rattle.acl_banks.proofs.queue.Queue.push.Goals as goal

@@ -1,3 +1,4 @@
+-- The proof of `Queue::remove`.
 use Rattle.std.proofs.Common.{length, sym, ap, arith}
 use Rattle.acl_banks.proofs.InCells.{length-values_in, some_at, read_at, values_in-remove, IsSound-remove}
 use Rattle.acl_banks.proofs.queue.Queue.remove.Goals as goal

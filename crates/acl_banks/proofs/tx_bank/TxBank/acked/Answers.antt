@@ -1,3 +1,4 @@
+-- The proof of `TxBank::acked`.
 use Rattle.std.proofs.Common.{◌≡◌, ◌+◌, get_or, sym, ap, subst, ◌∙◌, None, arith, length-set}
 use Rattle.acl_banks.specs.Packets.{IsInOrder}
 use Rattle.acl_banks.specs.Banks.{Bank, packet_out}

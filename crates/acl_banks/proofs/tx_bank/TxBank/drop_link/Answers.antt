@@ -1,3 +1,4 @@
+-- The proof of `TxBank::drop_link`.
 use Rattle.std.proofs.Common.{◌∙◌, length-set}
 use Rattle.acl_banks.proofs.AllLinks.{IsInOrder-drop, out-drop}
 use Rattle.acl_banks.proofs.tx_bank.TxBank.drop_link.Goals as goal

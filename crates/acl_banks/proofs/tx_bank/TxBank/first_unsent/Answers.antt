@@ -1,3 +1,4 @@
+-- The proof of `TxBank::first_unsent`.
 use Rattle.std.proofs.Common.{sym, ◌∙◌, arith}
 use Rattle.acl_banks.specs.Packets.{has_unsent}
 use Rattle.acl_banks.proofs.Places.{none_before_first, none_before_next, found_first, found_none}

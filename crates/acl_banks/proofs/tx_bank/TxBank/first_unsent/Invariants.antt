@@ -1,3 +1,4 @@
+-- The loop invariants of `TxBank::first_unsent`.
 use Rattle.acl_banks.specs.Packets.{has_unsent}
 use Rattle.acl_banks.proofs.Places.{IsNoneBefore}
 use Rattle.acl_banks.proofs.tx_bank.TxBank.first_unsent.Given as goal

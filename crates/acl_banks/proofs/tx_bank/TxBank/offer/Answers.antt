@@ -1,3 +1,4 @@
+-- The proof of `TxBank::offer`.
 use Rattle.std.proofs.Common.{arith}
 use Rattle.acl_banks.proofs.AllLinks.{IsInOrder-offer, out-offer}
 use Rattle.acl_banks.proofs.tx_bank.TxBank.offer.Goals as goal

@@ -1,3 +1,4 @@
+-- The proof of `TxBank::peek`.
 use Rattle.std.proofs.Common.{Some, get_or, refl, sym, ap, ◌∙◌}
 use Rattle.acl_banks.specs.Banks.{Bank}
 use Rattle.acl_banks.proofs.Steps.{next_piece-none, unsent_of-none, next_piece-first, unsent_of-some, piece-octets}

@@ -1,3 +1,4 @@
+-- The proof of `TxBank::place_of_piece_out`.
 use Rattle.std.proofs.Common.{sym, ◌∙◌, arith}
 use Rattle.acl_banks.specs.Packets.{has_piece_out}
 use Rattle.acl_banks.proofs.Places.{none_before_first, none_before_next, found_first, found_none}

@@ -1,3 +1,4 @@
+-- The loop invariants of `TxBank::place_of_piece_out`.
 use Rattle.acl_banks.specs.Packets.{has_piece_out}
 use Rattle.acl_banks.proofs.Places.{IsNoneBefore}
 use Rattle.acl_banks.proofs.tx_bank.TxBank.place_of_piece_out.Given as goal

@@ -1,3 +1,4 @@
+-- The proof of `TxBank::unsent`.
 use Rattle.std.proofs.Common.{sym, ap, length, ◌∙◌, arith}
 use Rattle.std.proofs.lemmas.List.{take_all}
 use Rattle.acl_banks.proofs.Octets.{unsent_in, unsent_in-is, length-unsent_none, length-unsent_more}

@@ -1,3 +1,4 @@
+-- The loop invariants of `TxBank::unsent`.
 use Rattle.std.proofs.Common.{◌≡◌, ◌*◌, ◌≤◌, length, take}
 use Rattle.acl_banks.proofs.Octets.{unsent_in}
 use Rattle.acl_banks.proofs.tx_bank.TxBank.unsent.Given as goal

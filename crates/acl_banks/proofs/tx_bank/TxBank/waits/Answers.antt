@@ -1,3 +1,4 @@
+-- The proof of `TxBank::waits`.
 use Rattle.std.proofs.Common.{get_or, sym, ap, ◌∙◌, arith}
 use Rattle.acl_banks.specs.Banks.{Bank}
 use Rattle.acl_banks.proofs.Steps.{waits-none, waits-is}

@@ -1,3 +1,4 @@
+-- The proof of `AdvPdu::read`.
 use Rattle.std.proofs.Common.{Some, ap, ◌∙◌}
 use Rattle.adv_pdu.proofs.Octets.{packet_of_pdu, read_is_pdu, read_is_only}
 use Rattle.adv_pdu.proofs.Places.{read_is_reading}

@@ -1,3 +1,4 @@
+-- The proof of `AdvPdu::write`.
 use Rattle.std.proofs.Common.{rules, ◌≡◌, ◌∙◌, [], refl, sym, ap}
 use Rattle.wire_fields.specs.Field.{spelled}
 use Rattle.wire_fields.proofs.Spelling.{appended-spelled}

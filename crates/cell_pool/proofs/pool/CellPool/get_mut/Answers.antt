@@ -1,3 +1,4 @@
+-- The proof of `CellPool::get_mut`.
 use Rattle.std.proofs.Common.{refl, arith, ap, ◌∙◌}
 use Rattle.cell_pool.specs.Cells.{value_of}
 use Rattle.cell_pool.proofs.Numbers.{held_within, read_cell, read_value, read_is_held, values_of-fill}

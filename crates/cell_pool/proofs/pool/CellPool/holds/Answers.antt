@@ -1,3 +1,4 @@
+-- The proof of `CellPool::holds`.
 use Rattle.std.proofs.Common.{arith}
 use Rattle.cell_pool.proofs.Numbers.{held_within, read_at}
 use Rattle.cell_pool.proofs.pool.CellPool.holds.Goals as goal

@@ -1,3 +1,4 @@
+-- The proof of `CellPool::make`.
 use Rattle.cell_pool.proofs.Numbers.{values_of-nil}
 use Rattle.cell_pool.proofs.Soundness.{IsSound-make}
 use Rattle.cell_pool.proofs.pool.CellPool.make.Goals as goal

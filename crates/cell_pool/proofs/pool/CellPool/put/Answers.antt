@@ -1,3 +1,4 @@
+-- The proof of `CellPool::put`.
 use Rattle.std.proofs.Common.{◌≡◌, length, arith, ap, ◌∙◌}
 use Rattle.std.proofs.lemmas.List.{get_or_past}
 use Rattle.cell_pool.specs.declared.cell.Cell.TheVariants.{Free}

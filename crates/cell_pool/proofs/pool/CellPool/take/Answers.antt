@@ -1,3 +1,4 @@
+-- The proof of `CellPool::take`.
 use Rattle.std.proofs.Common.{arith, ap, ◌∙◌}
 use Rattle.cell_pool.specs.Cells.{value_of}
 use Rattle.cell_pool.proofs.Numbers.{held_within, read_cell, read_value, read_is_held, values_of-empty, len_after_remove}

@@ -1,3 +1,4 @@
+-- The proof of `MemFiles::hold`.
 use Rattle.std.proofs.Common.{rules, ◌≡◌, Some, None, ◌∙◌, ap}
 use Rattle.std.specs.List.{position}
 use Rattle.std.specs.Str.{bytes_eq}

@@ -1,3 +1,4 @@
+-- The proof of `MemFiles::read`.
 use Rattle.std.proofs.Common.{rules, ◌≡◌, true, false, Some, None, ◌∙◌, arith, ap}
 use Rattle.std.specs.List.{position}
 use Rattle.std.specs.Str.{bytes_eq}

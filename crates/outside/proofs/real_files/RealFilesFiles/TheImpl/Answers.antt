@@ -1,3 +1,4 @@
+-- The proof of `RealFilesFiles::TheImpl`.
 use Rattle.std.proofs.Common.{arith, Result, Ok, Err, refl, IfOk}
 use Rattle.outside.proofs.real_files.RealFilesFiles.TheImpl.Goals as goal
 

@@ -1,3 +1,4 @@
+-- The proof of `Fields::u24`.
 use Rattle.std.proofs.Common.{sym, rules}
 use Rattle.wire_fields.proofs.LittleEndian.{read_3, number_taken, number_left}
 use Rattle.wire_fields.proofs.fields.Fields.u24.Goals as goal

@@ -1,3 +1,4 @@
+-- The proof of `Fields::u40`.
 use Rattle.std.proofs.Common.{sym, rules}
 use Rattle.wire_fields.proofs.LittleEndian.{read_5, number_taken, number_left}
 use Rattle.wire_fields.proofs.fields.Fields.u40.Goals as goal

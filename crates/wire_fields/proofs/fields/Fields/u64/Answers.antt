@@ -1,3 +1,4 @@
+-- The proof of `Fields::u64`.
 use Rattle.std.proofs.Common.{sym, arith, rules}
 use Rattle.wire_fields.proofs.LittleEndian.{read_8, number_taken, number_left}
 use Rattle.wire_fields.proofs.fields.Fields.u64.Goals as goal

@@ -1,3 +1,4 @@
+-- The proof of `Fields::u8`.
 use Rattle.std.proofs.Common.{sym, rules}
 use Rattle.wire_fields.proofs.LittleEndian.{read_1, octet_1, number_taken, number_left}
 use Rattle.wire_fields.proofs.fields.Fields.u8.Goals as goal
