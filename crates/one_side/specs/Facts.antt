@@ -1,5 +1,6 @@
 -- What a controller holds: plain facts of its host, of the turn, of advertising and of scanning (our choice).
 use Rattle.std.specs.Prelude.{ℕ, Bool, true, false, List, [], Option, None}
+use Rattle.ble_base.specs.declared.Config.{Config}
 use Rattle.ble_base.specs.declared.addresses.Address.{Address}
 use Rattle.host_view.specs.View.{View, first_view}
 
@@ -7,11 +8,25 @@ use Rattle.host_view.specs.View.{View, first_view}
 pub record Setup : Type 0 where
   -- its public address, least significant octet first
   pub public : List ℕ
+  -- the access address at which the search for those of new links begins
+  pub cursor : ℕ
   -- the random words that it draws, round and round
   pub words : List ℕ
-  -- how many links it can hold, and how many ACL packets of its host
+  -- how many links it can hold, how many ACL packets of its host, and how many pieces of data from the air
   pub links : ℕ
   pub host_buffers : ℕ
+  pub air_buffers : ℕ
+
+-- what a controller with these settings and of this size is set up with
+abbrev pub setup_of : Config → ℕ → ℕ → ℕ → Setup
+setup_of config links host_buffers air_buffers = record {
+  public = config.public;
+  cursor = config.cursor;
+  words = config.words.items;
+  links = links;
+  host_buffers = host_buffers;
+  air_buffers = air_buffers;
+}
 
 -- the turn
 pub record Turn : Type 0 where

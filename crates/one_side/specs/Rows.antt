@@ -5,12 +5,22 @@ use Rattle.ble_base.specs.declared.notes.Note.TheVariants.{Up}
 use Rattle.one_side.specs.Step.{Step, HostOctet, TurnBegins, PacketHeard}
 use Rattle.one_side.specs.Facts.{Setup}
 
--- the controllers of these public addresses: they hold one link and eight packets, and draw one random word
+-- the controllers of these public addresses: they hold three links and eight packets each way, and draw one random word
+abbrev pub setup_with : List ℕ → ℕ → Setup
+setup_with public word = record {
+  public = public;
+  cursor = 0x71764129;
+  words = word ∷ [];
+  links = 3;
+  host_buffers = 8;
+  air_buffers = 8;
+}
+
 abbrev pub setup_a : Setup
-setup_a = record { public = 0x0A ∷ 0x00 ∷ 0x00 ∷ 0xEE ∷ 0xFF ∷ 0xC0 ∷ []; words = 1 ∷ []; links = 1; host_buffers = 8 }
+setup_a = setup_with (0x0A ∷ 0x00 ∷ 0x00 ∷ 0xEE ∷ 0xFF ∷ 0xC0 ∷ []) 1
 
 abbrev pub setup_b : Setup
-setup_b = record { public = 0x0B ∷ 0x00 ∷ 0x00 ∷ 0xEE ∷ 0xFF ∷ 0xC0 ∷ []; words = 2 ∷ []; links = 1; host_buffers = 8 }
+setup_b = setup_with (0x0B ∷ 0x00 ∷ 0x00 ∷ 0xEE ∷ 0xFF ∷ 0xC0 ∷ []) 2
 
 abbrev pub fed : List ℕ → List Step
 fed octets = map HostOctet octets
