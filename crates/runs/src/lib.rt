@@ -1,0 +1,7 @@
+//! Definitions of a run of any number of controllers over a simulated radio, and its journal. None of
+//! them names code.
+#![tactic(auto)]
+
+mod laws;
+
+pub use crate::laws::a_run_has_one_journal;
