@@ -5,3 +5,4 @@ pub mod Links
 pub mod Journal
 pub mod Pair
 pub mod Due
+pub mod Rows

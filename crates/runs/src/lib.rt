@@ -3,5 +3,7 @@
 #![tactic(auto)]
 
 mod laws;
+mod rows;
 
 pub use crate::laws::a_run_has_one_journal;
+pub use crate::rows::worked_runs;
