@@ -1,3 +1,13 @@
 -- The lemmas of this crate.
 pub mod AnsweredOnce
 pub mod Pasts
+pub mod Feds
+pub mod InOrder
+pub mod Opcodes
+pub mod Alone
+pub mod ByFrames
+pub mod Rands
+pub mod LeftOn
+pub mod Lengths
+pub mod Understood
+pub mod Addresses

@@ -6,4 +6,8 @@ pub mod Commands
 pub mod Radio
 pub mod Heard
 pub mod Side
+pub mod Host
+pub mod Intervals
+pub mod Notes
+pub mod Addresses
 pub mod Rows

@@ -1,7 +1,9 @@
 //! Worked examples, which the definitions compute.
-ghost use Rattle.std.specs.Prelude.{◌≡◌, [], ◌∷◌, ◌++◌};
+ghost use Rattle.std.specs.Prelude.{◌≡◌, true, [], ◌∷◌, ◌++◌};
 ghost use Rattle.ble_base.specs.declared.Verdict.TheVariants.{Missed, Broken, Good};
 ghost use Rattle.one_side.specs.Heard.{verdict_of};
+ghost use Rattle.one_side.specs.Host.{commands_of};
+ghost use Rattle.one_side.specs.Notes.{answers_among};
 ghost use Rattle.one_side.specs.Radio.{Listens, Sends, use_of};
 ghost use Rattle.one_side.specs.Rows.{advertisement_ending, advertiser_in_turn, fed, scanner_heard_it};
 ghost use Rattle.one_side.specs.Rows.{scanner_in_turn, setup_a, setup_b, up};
@@ -51,4 +53,14 @@ pub fn worked_advertisement()
         ∷ up (0x04 ∷ 0x0E ∷ 0x04 ∷ 0x01 ∷ 0x0C ∷ 0x20 ∷ 0x00 ∷ [])
         ∷ up (0x04 ∷ 0x3E ∷ 0x0C ∷ 0x02 ∷ 0x01 ∷ 0x03 ∷ 0x00
         ∷ 0x0A ∷ 0x00 ∷ 0x00 ∷ 0xEE ∷ 0xFF ∷ 0xC0 ∷ 0x00 ∷ 0x7F ∷ []) ∷ [] }
+{}
+
+/// The commands of a host that sends an HCI_Reset and LE Rand, and what the answers say of them.
+pub fn worked_answers()
+    ensures commands { commands_of setup_a
+        (fed (0x01 ∷ 0x03 ∷ 0x0C ∷ 0x00 ∷ 0x01 ∷ 0x18 ∷ 0x20 ∷ 0x00 ∷ []))
+        ≡ (0x0C03, true) ∷ (0x2018, true) ∷ [] }
+    ensures answers { answers_among (notes_of setup_a
+        (fed (0x01 ∷ 0x03 ∷ 0x0C ∷ 0x00 ∷ 0x01 ∷ 0x18 ∷ 0x20 ∷ 0x00 ∷ [])))
+        ≡ (1, 0x0C03) ∷ (1, 0x2018) ∷ [] }
 {}
