@@ -2,7 +2,7 @@
 use Rattle.std.proofs.Common.{◌≡◌, inl, inr, ℕ, zero, suc, ◌+◌, ◌<◌, ◌≤◌, Bool, true, false, List, [], ◌∷◌, length, get_or, set, Some, None, refl, sym, ap, ◌∙◌, arith, nat_lt}
 use Rattle.std.proofs.lemmas.Bool.Decides.{nat_tests}
 use Rattle.std.proofs.lemmas.Bool.{cases_lt}
-use Rattle.std.proofs.lemmas.List.{get_or_read}
+use Rattle.std.proofs.lemmas.List.{get_or_read, get_or_default}
 use Rattle.std.proofs.lemmas.List.Folds.{find_at}
 use Rattle.std.proofs.lemmas.Option.{slice_get_past, none-some}
 use Rattle.std.proofs.lemmas.List.Sums.{position_or_len_is}
@@ -52,6 +52,10 @@ module _ {A : Type 0} (test : A → Bool) where
   first_from_position xs place d at =
       let facts = position-Some test xs place d at in
       record { within = facts.0; passes = facts.1; fails = facts.2 }
+
+  -- the element there, read with itself as the default
+  pub read_first : (xs : List A) (place : ℕ) (d : A) → position test xs ≡ Some place → get_or xs place d ≡ get_or xs place (get_or xs place d)
+  read_first xs place d at = get_or_default xs place d (get_or xs place d) (first_from_position xs place d at).within
 
   later : (y : A) (ys : List A) (place : ℕ) (d : A) → IsFirst (y ∷ ys) (suc place) d → IsFirst ys place d
   later y ys place d first =

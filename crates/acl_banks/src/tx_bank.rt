@@ -2,7 +2,7 @@
 
 ghost use Rattle.std.specs.Prelude.{◌≡◌, ℕ, ◌<◌, ◌≤◌, ◌↔◌, ◌⊎◌, ◌+◌, [], IfOk, IsTrue, IsErr, IsSome, IsNone, OnOk, OnErr, IfSome, None, Some, length, take, slice_index_or};
 ghost use Rattle.std.specs.List.{position};
-ghost use Rattle.acl_banks.specs.Packets.{new_packet, has_unsent, has_piece_out, marked_octets};
+ghost use Rattle.acl_banks.specs.Packets.{DataPacket, new_packet, has_unsent, has_piece_out, piece_of, marked_octets};
 ghost use Rattle.acl_banks.specs.Banks.{Bank, taken_buffers, credits_of, unsent_of, next_piece, next_length, packet_out, bank_after_offer, bank_after_went, bank_after_acked, bank_after_credited, bank_after_drop};
 
 use crate::packets::Buffer;
@@ -99,6 +99,15 @@ impl<const T: usize> TxBank<T> {
         None
     }
 
+    /// The next piece of the packet at a place.
+    fn piece_at(&self, place: usize, limit: u16) -> Piece
+        requires { place < length self.now.packets }
+        ensures { (d : DataPacket) → result
+            ≡ piece_of limit (slice_index_or self.now.packets place d) }
+    {
+        self.packets.get(place).piece(limit)
+    }
+
     /// The next piece of a link, of at most `limit` octets: from its first packet that is not sent
     /// whole. The first piece of a start is a start; all others continue. `None` exactly where all
     /// octets of the link were sent.
@@ -112,7 +121,7 @@ impl<const T: usize> TxBank<T> {
         let Some(place) = self.first_unsent(handle) else {
             return None;
         };
-        Some(self.packets.get(place).piece(limit))
+        Some(self.piece_at(place, limit))
     }
 
     /// The piece that `peek` gives with this limit is out.
