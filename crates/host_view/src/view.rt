@@ -129,6 +129,42 @@ impl HostView {
         HostView::initial(links, true)
     }
 
+    /// The mask of events: each bit lets some through (Core 5.2, volume 4 part E, section 7.3.1).
+    pub fn mask(&self) -> u64
+        ensures { result ≡ self.now.mask }
+    {
+        self.mask
+    }
+
+    /// The mask of LE events (Core 5.2, volume 4 part E, section 7.8.1).
+    pub fn le_mask(&self) -> u64
+        ensures { result ≡ self.now.le_mask }
+    {
+        self.le_mask
+    }
+
+    /// The random address, least significant octet first, once the host set one (Core 5.2, volume 4
+    /// part E, section 7.8.4).
+    pub fn random(&self) -> Option<[u8; 6]>
+        ensures { result ≡ self.now.random }
+    {
+        self.random
+    }
+
+    /// Whether advertising is on, and how it is set.
+    pub fn advertising(&self) -> Advertising
+        ensures { result ≡ self.now.advertising }
+    {
+        self.advertising
+    }
+
+    /// Whether scanning is on, and how it is set.
+    pub fn scanning(&self) -> Scanning
+        ensures { result ≡ self.now.scanning }
+    {
+        self.scanning
+    }
+
     /// Whether there is an access address for another link.
     pub fn address_left(&mut self, left: bool)
         ensures { self.new ≡ record self.old { has_address = left } }
