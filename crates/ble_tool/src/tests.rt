@@ -14,7 +14,8 @@ const USAGE: &str = "usage: ble pair A B SCHEDULE, ble make NUMBER, ble solo HOS
 
 /// The host of an advertiser: its parameters, of type 3, and then on.
 const ADVERTISE: &[u8] =
-    b"\x01\x06\x20\x0f\x20\x00\x20\x00\x03\x00\x00\x00\x00\x00\x00\x00\x00\x07\x00\x01\x0a\x20\x01\x01";
+    b"\x01\x06\x20\x0f\x20\x00\x20\x00\x03\x00\x00\x00\x00\x00\x00\x00\x00\x07\x00\
+    \x01\x0a\x20\x01\x01";
 
 /// The host of a scanner: an event mask with the LE events, and then on, with each report anew.
 const SCAN: &[u8] = b"\x01\x01\x0c\x08\xff\xff\xff\xff\xff\x1f\x00\x20\x01\x0c\x20\x02\x01\x00";
@@ -29,8 +30,8 @@ up b 040e04010c2000
 ";
 
 /// The error line on the advertisement where the damage fits its CRC.
-const UNSEEN: &str =
-    "unseen damage: turn 0 packet 1 sent d6be898e8fd45da13d499970f84ada heard d6be898e8fd45da13d49997138fedb\n";
+const UNSEEN: &str = "unseen damage: turn 0 packet 1 sent d6be898e8fd45da13d499970f84ada \
+    heard d6be898e8fd45da13d49997138fedb\n";
 
 /// The words of `pair` with the three files that are held.
 const PAIR: &str = "pair a.bin b.bin schedule";
@@ -145,10 +146,17 @@ fn commands_are_answered(rt: HostRuntime) -> Result<(), Fail> {
         ),
         // Advertising of types 0 and 2 is not turned on; off is 0, and 2 is no value.
         (
-            b"\x01\x0a\x20\x01\x01\x01\x06\x20\x0f\x00\x08\x00\x08\x02\x00\x00\x00\x00\x00\x00\x00\x00\x07\x00\x01\x0a\x20\x01\x01\x01\x0a\x20\x01\x00\x01\x0a\x20\x01\x02\x01\x06\x20\x0f\x00\x08\x00\x08\x03\x00\x00\x00\x00\x00\x00\x00\x00\x07\x00".as_slice(),
+            b"\x01\x0a\x20\x01\x01\
+            \x01\x06\x20\x0f\x00\x08\x00\x08\x02\x00\x00\x00\x00\x00\x00\x00\x00\x07\x00\
+            \x01\x0a\x20\x01\x01\
+            \x01\x0a\x20\x01\x00\
+            \x01\x0a\x20\x01\x02\
+            \x01\x06\x20\x0f\x00\x08\x00\x08\x03\x00\x00\x00\x00\x00\x00\x00\x00\x07\x00"
+                .as_slice(),
             "t ++ a58\n",
             "turn 0 ++
-in a 010a2001010106200f000800080200000000000000000700010a200101010a200100010a2001020106200f000800080300000000000000000700
+in a 010a2001010106200f000800080200000000000000000700010a200101\
+010a200100010a2001020106200f000800080300000000000000000700
 up a 040e04010a2011
 up a 040e0401062000
 up a 040e04010a2011

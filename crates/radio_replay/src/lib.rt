@@ -8,7 +8,8 @@
 //! - Line 1 is `ble-schedule 1`.
 //! - Line 2 is `side a PUBLIC CURSOR WORD..`: the public device address in 12 hexadecimal digits,
 //!   most significant octet first; the access address at which the search begins in 8; and one to
-//!   64 random words of 16 each. Digits have either case. Line 3 is `side b ..` with the same parts.
+//!   64 random words of 16 each. Digits have either case. Line 3 is `side b ..` with the same
+//!   parts.
 //! - Each further line is a turn or a run of turns. There are at most 100,000 turns.
 //! - A run is `run N`, N from 1 and of at most six digits: N turns with both radios on, in which
 //!   nothing is fed and all packets pass.

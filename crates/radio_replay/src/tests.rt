@@ -8,8 +8,10 @@ use std::alloc::Global;
 use std::test::Fail;
 use wire_fields::put_octets;
 
-const HEAD: &str =
-    "ble-schedule 1\nside a c0ffee00000a 71764129 0000000000000001\nside b c0ffee00000b 71764129 0000000000000002\n";
+const HEAD: &str = "ble-schedule 1
+side a c0ffee00000a 71764129 0000000000000001
+side b c0ffee00000b 71764129 0000000000000002
+";
 
 /// The number of turns in these lines, after the first three; or their fault.
 fn turn_count(alloc: Global, lines: &str) -> Result<u32, ScheduleFault> {
@@ -50,8 +52,13 @@ fn fate_at(schedule: &Schedule, turn: u32, packet: u32) -> Option<Fate> {
 
 #[test]
 fn every_part_is_read(rt: HostRuntime) -> Result<(), Fail> {
-    let text =
-        b"ble-schedule 1\nside a c0ffee00000a 71764129 0000000000000001\nside b C0FFEE00000B 0000000a 0000000000000002 fedcba9876543210\nt ++ a41 b17\nrun 2\nt +- b1048576 . x e11:01C0b401\nt -- a1 e0:ff";
+    let text = b"ble-schedule 1
+side a c0ffee00000a 71764129 0000000000000001
+side b C0FFEE00000B 0000000a 0000000000000002 fedcba9876543210
+t ++ a41 b17
+run 2
+t +- b1048576 . x e11:01C0b401
+t -- a1 e0:ff";
     let schedule = Schedule::read(rt.alloc(), text)?;
     assert_eq!(rt; schedule.a.public, [0x0a, 0, 0, 0xee, 0xff, 0xc0]);
     assert_eq!(rt; schedule.a.cursor, 0x7176_4129);
@@ -101,11 +108,17 @@ fn the_first_lines_must_be_there(rt: HostRuntime) {
             3,
         ),
         (
-            "ble-schedule 1\nside a c0ffee00000a 71764129\nside b c0ffee00000b 71764129 0000000000000002\n",
+            "ble-schedule 1
+side a c0ffee00000a 71764129
+side b c0ffee00000b 71764129 0000000000000002
+",
             2,
         ),
         (
-            "ble-schedule 1\nside b c0ffee00000b 71764129 0000000000000002\nside a c0ffee00000a 71764129 0000000000000001\n",
+            "ble-schedule 1
+side b c0ffee00000b 71764129 0000000000000002
+side a c0ffee00000a 71764129 0000000000000001
+",
             2,
         ),
     ];
