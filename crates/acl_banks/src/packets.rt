@@ -32,7 +32,8 @@ impl Model for Buffer {
       out = b.out;
     } };
 
-    ghost invariant = { λ b. (length b.body.items ≤ 251) × (b.acknowledged + b.out ≤ length b.body.items) };
+    ghost invariant = { λ b.
+        (length b.body.items ≤ 251) × (b.acknowledged + b.out ≤ length b.body.items) };
 }
 
 impl HasHandle for Buffer {

@@ -34,7 +34,8 @@ impl<const T: usize> Model for TxBank<T> {
 
     ghost view = { λ bank. record { packets = bank.packets; counts = bank.counts.items } };
 
-    ghost invariant = { λ bank. (length bank.counts.items ≡ 65536) × (T ≤ 255) × IsInOrder bank.packets };
+    ghost invariant = { λ bank.
+        (length bank.counts.items ≡ 65536) × (T ≤ 255) × IsInOrder bank.packets };
 }
 
 impl<const T: usize> TxBank<T> {

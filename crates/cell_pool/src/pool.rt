@@ -36,7 +36,8 @@ impl<T, const N: usize> Model for CellPool<T, N> {
 
     ghost view = { λ p. values_of p.cells.items };
 
-    ghost invariant = { λ p. IsSound N p.cells.items p.free.items (vec_capacity p.cells) (vec_capacity p.free) };
+    ghost invariant = { λ p.
+        IsSound N p.cells.items p.free.items (vec_capacity p.cells) (vec_capacity p.free) };
 }
 
 impl<T, const N: usize> CellPool<T, N> {
