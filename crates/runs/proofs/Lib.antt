@@ -1,1 +1,20 @@
 -- The lemmas of this crate.
+pub mod Calls
+pub mod Places
+pub mod Stations
+pub mod Walk
+pub mod Dues
+pub mod Notes
+pub mod Feeds
+pub mod Sending
+pub mod Unseen
+pub mod Openings
+pub mod Rounds
+pub mod OfStations
+pub mod Journals
+pub mod Stages
+pub mod Ordered
+pub mod EntryEvents
+pub mod Fates
+pub mod UpToDate
+pub mod Answers

@@ -2,7 +2,7 @@
 use Rattle.std.specs.Prelude.{◌≡◌, ℕ, ◌+◌, ◌-◌, ◌<◌, Bool, List, [], ◌∷◌, ◌++◌, length, take, map, flat_map, Option, Some, None, slice_get, ⊤}
 use Rattle.one_side.specs.Step.{Step, HostOctet, TurnBegins, PacketHeard, NothingHeard, TurnEnds}
 use Rattle.one_side.specs.Radio.{Use, Sends, Listens, Idle}
-use Rattle.runs.specs.History.{Event, TurnBegan, HostFed, Called, Noted, Transmitted, Hearing, one_if, past_of, fed_to, turns_begun, packet_received}
+use Rattle.runs.specs.History.{Event, TurnBegan, HostFed, Called, Noted, Transmitted, Hearing, past_of, fed_to, turns_begun, packet_received}
 use Rattle.runs.specs.Run.{Given, Plan, use_at, octets_left, hearings_of, unseen_in}
 
 -- each of these events, which come after this history, has the fact
@@ -41,7 +41,8 @@ pub record IsFeedDue (given : Given) (history : List Event) (station : ℕ) (oct
 
 -- a packet is on the air: its station wants to transmit it, each other station has the next fate of the turn and judges
 -- what the fate leaves of it, and no change goes unseen
-pub record IsPacketDue (given : Given) (history : List Event) (station channel : ℕ) (octets : List ℕ) (hearings : List Hearing) : Type 0 where
+pub record IsPacketDue (given : Given) (history : List Event) (station channel : ℕ) (octets : List ℕ)
+    (hearings : List Hearing) : Type 0 where
   pub plan : Plan
   pub is_now : plan_at given history ≡ Some plan
   pub is_wanted : use_at given station history ≡ Sends channel octets

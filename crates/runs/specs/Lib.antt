@@ -6,3 +6,10 @@ pub mod Journal
 pub mod Pair
 pub mod Due
 pub mod Rows
+pub mod Feeding
+pub mod OnAir
+pub mod Turns
+pub mod Readers
+pub mod Order
+pub mod Entries
+pub mod Answered

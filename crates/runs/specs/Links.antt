@@ -1,9 +1,9 @@
--- The numbers of links: the n-th CONNECT_IND on the air begins link n, from 1 (our choice). A station knows a link by its
--- connection handle (Core 5.2, volume 4 part E, section 5.3.1).
+-- The numbers of links: the n-th CONNECT_IND on the air begins link n, from 1 (our choice). A station knows a link by
+-- its connection handle (Core 5.2, volume 4 part E, section 5.3.1).
 use Rattle.std.specs.Prelude.{ℕ, ◌+◌, ◌==◌, ◌&&◌, ◌||◌, Bool, true, false, List, fold, Option, Some, None, if◌then◌else◌}
 use Rattle.std.specs.Option.{option_and_then}
 use Rattle.ble_base.specs.declared.notes.Note.{Note}
-use Rattle.ble_base.specs.declared.notes.Note.TheVariants.{Up, Opened, Shut, Sent, Took, Enter, Applied, Began, Refused, Done}
+use Rattle.ble_base.specs.declared.notes.Note.TheVariants.{Opened}
 use Rattle.adv_pdu.specs.declared.pdu.AdvPdu.{AdvPdu}
 use Rattle.adv_pdu.specs.declared.pdu.AdvPdu.TheVariants.{Connect}
 use Rattle.adv_pdu.specs.Reading.{read_of}
@@ -35,7 +35,8 @@ first_links = record { begun = 0; last_of = λ station. 0; link_of = λ station 
 abbrev pub with_link : ℕ → List Hearing → Links → Links
 with_link sender hearings links = record links {
   begun = links.begun + 1;
-  last_of = λ station. if (station == sender) || has_received station hearings then links.begun + 1 else links.last_of station;
+  last_of = λ station.
+      if (station == sender) || has_received station hearings then links.begun + 1 else links.last_of station;
 }
 
 abbrev pub with_handle : ℕ → ℕ → Links → Links

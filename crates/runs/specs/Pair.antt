@@ -1,10 +1,10 @@
 -- What a run of two controllers is given, and what it makes of it (our choice).
-use Rattle.std.specs.Prelude.{◌≡◌, ℕ, zero, suc, Bool, List, [], ◌∷◌, map}
+use Rattle.std.specs.Prelude.{◌≡◌, ℕ, zero, suc, List, [], ◌∷◌, map}
 use Rattle.journal.specs.declared.entries.Entry.{Entry}
 use Rattle.radio_replay.specs.Script.{Script, Turn}
 use Rattle.one_side.specs.Facts.{Setup, setup_of}
 use Rattle.runs.specs.History.{Event}
-use Rattle.runs.specs.Run.{Given, Station, Plan, Run, GoesOn, Stops, Stop, run_of}
+use Rattle.runs.specs.Run.{Given, Station, Plan, GoesOn, Stops, Stop, run_of}
 use Rattle.runs.specs.Journal.{journal_of}
 
 -- the first of two for station 0, and the second for all others

@@ -1,16 +1,13 @@
 -- Small runs of two controllers, A and B, as worked examples set them up.
-use Rattle.std.specs.Prelude.{ℕ, zero, suc, Bool, true, List, [], ◌∷◌, Some}
+use Rattle.std.specs.Prelude.{ℕ, true, List, [], ◌∷◌, Option, Some, None}
 use Rattle.ble_base.specs.declared.roles.Side.TheVariants.{A, B}
-use Rattle.ble_base.specs.declared.verdicts.Verdict.TheVariants.{Good, Broken, Missed}
 use Rattle.journal.specs.declared.entries.Entry.{Entry}
-use Rattle.journal.specs.declared.entries.Entry.TheVariants.{Turn, Fed, Up, Air}
-use Rattle.journal.specs.declared.entries.Mark.{Mark}
+use Rattle.journal.specs.declared.entries.Entry.TheVariants.{Turn, Fed, Up}
 use Rattle.radio_replay.specs.declared.fates.Fate.{Fate}
-use Rattle.one_side.specs.Rows.{setup_a, setup_b, advertising_octets, scanning_octets, advertisement_ending}
-use Rattle.runs.specs.History.{Event}
-use Rattle.runs.specs.Run.{Given, Plan, Run, history_of, run_of}
+use Rattle.radio_replay.specs.declared.fates.Fate.TheVariants.{Damage}
+use Rattle.one_side.specs.Rows.{setup_a, setup_b, advertising_octets, scanning_octets}
+use Rattle.runs.specs.Run.{Given, Plan, Run, GoesOn, Stop, Stops}
 use Rattle.runs.specs.Pair.{one_of, station_with}
-use Rattle.runs.specs.Journal.{journal_of}
 
 -- one turn with both radios on, in which A and B are fed these numbers of octets, with these fates
 abbrev pub plan_with : ℕ → ℕ → List Fate → Plan
@@ -57,3 +54,20 @@ abbrev pub advertisement_opening : List Entry → List Entry
 advertisement_opening rest =
     turn_entry 0 ∷ Fed A advertising_octets ∷ Up A (answer 0x06 0x20) ∷ Up A (answer 0x0A 0x20)
     ∷ Fed B scanning_octets ∷ Up B (answer 0x01 0x0C) ∷ Up B (answer 0x0C 0x20) ∷ rest
+
+-- the pattern is xored into the packet from this place on
+abbrev pub damage_at : ℕ → List ℕ → Fate
+damage_at place pattern = Damage place (record { items = pattern })
+
+-- the change of one bit of the address, and of the CRC with it
+abbrev pub unseen_pattern : List ℕ
+unseen_pattern = 0x80 ∷ 0x00 ∷ 0x60 ∷ 0xDA ∷ []
+
+-- what it leaves of the advertisement
+abbrev pub other_advertisement : List ℕ
+other_advertisement =
+    0xD6 ∷ 0xBE ∷ 0x89 ∷ 0x8E ∷ 0x8F ∷ 0xD4 ∷ 0x5D ∷ 0xA1 ∷ 0x3D ∷ 0x49 ∷ 0x99 ∷ 0xF0 ∷ 0xF8 ∷ 0x2A ∷ 0x00 ∷ []
+
+abbrev pub stop_of : Run → Option Stop
+stop_of (GoesOn history) = None
+stop_of (Stops history stop) = Some stop

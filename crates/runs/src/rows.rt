@@ -1,14 +1,17 @@
 //! Worked examples, which the definitions compute.
-ghost use Rattle.std.specs.Prelude.{◌≡◌, [], ◌∷◌};
+ghost use Rattle.std.specs.Prelude.{◌≡◌, [], ◌∷◌, Some};
 ghost use Rattle.ble_base.specs.declared.roles.Side.TheVariants.{A, B};
-ghost use Rattle.ble_base.specs.declared.verdicts.Verdict.TheVariants.{Good, Missed};
+ghost use Rattle.ble_base.specs.declared.verdicts.Verdict.TheVariants.{Broken, Good, Missed};
 ghost use Rattle.journal.specs.declared.entries.Entry.TheVariants.{Up, Air};
 ghost use Rattle.journal.specs.declared.entries.Mark.TheVariants.{Pass as Passed, Lost as WasLost};
+ghost use Rattle.journal.specs.declared.entries.Mark.TheVariants.{Damage as Damaged};
 ghost use Rattle.radio_replay.specs.declared.fates.Fate.TheVariants.{Lost};
 ghost use Rattle.one_side.specs.Rows.{advertisement_ending};
 ghost use Rattle.runs.specs.Run.{history_of, run_of};
 ghost use Rattle.runs.specs.Journal.{journal_of};
-ghost use Rattle.runs.specs.Rows.{first_reset, first_reset_journal, one_advertisement, advertisement_opening, report};
+ghost use Rattle.runs.specs.Rows.{advertisement_opening, first_reset, first_reset_journal};
+ghost use Rattle.runs.specs.Rows.{one_advertisement, report};
+ghost use Rattle.runs.specs.Rows.{damage_at, other_advertisement, stop_of, unseen_pattern};
 
 /// The journals of three runs: a first HCI_Reset; one advertisement that is reported; and one that
 /// the radio loses.
@@ -19,4 +22,24 @@ pub fn worked_runs()
         ∷ Up B report ∷ []) }
     ensures lost { journal_of (history_of (run_of (one_advertisement (Lost ∷ []))))
         ≡ advertisement_opening (Air A 37 (advertisement_ending 0xDA) WasLost Missed ∷ []) }
+{}
+
+/// The same advertisement with its last octet changed, which is broken; and with a change of its
+/// address and CRC that no receiver can see, which stops the run.
+pub fn worked_damage()
+    ensures broken { journal_of (history_of (run_of
+        (one_advertisement (damage_at 14 (0x01 ∷ []) ∷ []))))
+        ≡ advertisement_opening (Air A 37 (advertisement_ending 0xDA)
+        (Damaged 14 (0x01 ∷ [])) Broken ∷ []) }
+    ensures stop { stop_of (run_of (one_advertisement (damage_at 11 unseen_pattern ∷ [])))
+        ≡ Some (record {
+          slot = 0;
+          place = 1;
+          sender = 0;
+          channel = 37;
+          sent = advertisement_ending 0xDA;
+          heard = other_advertisement;
+        }) }
+    ensures journal { journal_of (history_of (run_of
+        (one_advertisement (damage_at 11 unseen_pattern ∷ [])))) ≡ advertisement_opening [] }
 {}

@@ -14,7 +14,7 @@ use Rattle.one_side.specs.Radio.{activity_of, advertisement_on, use_of}
 use Rattle.one_side.specs.Heard.{advertisement_heard, verdict_of}
 use Rattle.one_side.specs.Side.{facts_of, result_of}
 use Rattle.runs.specs.History.{fates_used, packet_received, packets_on_air, turns_begun}
-use Rattle.runs.specs.Links.{begins_link, links_of}
+use Rattle.runs.specs.Links.{begins_link}
 use Rattle.runs.specs.Run.{after_opening, after_phase, after_phases, after_turn, run_of}
 use Rattle.runs.specs.Journal.{journal_of}
 use Rattle.runs.proofs.rows.worked_runs.Goals as goal
