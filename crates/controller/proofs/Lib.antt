@@ -1,7 +1,5 @@
 -- The lemmas of this crate.
-pub mod Views
-pub mod Acting
-pub mod Taking
-pub mod Understood
-pub mod Answered
-pub mod Intervals
+pub mod Keeping
+pub mod Going
+pub mod ScanTimes
+pub mod Words

@@ -1,12 +1,7 @@
--- The definitions that the contracts of this crate cite.
-pub mod Commands
-pub mod Table
-pub mod Masks
-pub mod Advertising
-pub mod Scanning
-pub mod Packets
-pub mod Turns
-pub mod Past
-pub mod Answers
-pub mod Events
-pub mod State
+-- The definitions of this crate.
+pub mod Activities
+pub mod Held
+pub mod Knowing
+pub mod Phases
+pub mod ReportKinds
+pub mod Reports

@@ -1,219 +1,171 @@
 //! A controller between its host and the radio.
-ghost use Rattle.std.specs.Prelude.{◌≡◌, ℕ, suc, ◌+◌, ◌<◌, ◌^◌, List, [], ◌∷◌, ◌++◌, Some};
-ghost use Rattle.arrayvec.specs.ArrayVec.{array_vec_len};
-ghost use Rattle.controller.specs.declared.devices.Activity.{Activity};
-ghost use Rattle.controller.specs.Masks.{told};
-ghost use Rattle.controller.specs.Packets.{verdict_of};
-ghost use Rattle.controller.specs.Table.{device_after, events_for};
-ghost use Rattle.controller.specs.Past.{Input, Given, Heard, notes_of, tells, view_of, intent_of};
-ghost use Rattle.controller.specs.State.{listened, heard_on, wanted, doing_in, advertisement_by, ready, acting, rested, IsTurn, Acts, HasChannel};
+ghost use Rattle.std.specs.Prelude.{◌≡◌, ◌*◌, ◌+◌, ◌<◌, ◌≤◌, ◌^◌};
+ghost use Rattle.std.specs.Prelude.{List, [], ◌∷◌, ◌++◌, length, IfOk};
+ghost use Rattle.ble_base.specs.declared.Config.{Config};
+ghost use Rattle.one_side.specs.Facts.{Setup, setup_of};
+ghost use Rattle.one_side.specs.Heard.{verdict_of};
+ghost use Rattle.one_side.specs.Radio.{use_of};
+ghost use Rattle.one_side.specs.Side.{facts_of};
+ghost use Rattle.one_side.specs.Step.{Step, HostOctet, TurnBegins};
+ghost use Rattle.one_side.specs.Step.{PacketHeard, NothingHeard, TurnEnds};
+ghost use Rattle.controller.specs.Knowing.{Goes, Knows, use_wanted};
 
-use crate::devices::{Activity, Device};
+use crate::advertisers::Advertiser;
 use crate::intents::Intent;
-use crate::masks::tell;
-use crate::packets::{advertisement, judge, pdu};
-use crate::scanners::{Advertisement, read_advertisement};
-use ble_base::{Outbox, SlotNo, Verdict};
-use h4_frames::{Fed, Framer};
+use crate::scanners::Scanner;
+use crate::turns::Turn;
+use arrayvec::ArrayVec;
+use ble_base::{Config, Outbox, RANDOM_WORDS, SlotNo, Verdict};
+use h4_frames::Framer;
+use host_view::HostView;
+use std::alloc::{AllocError, Global};
 use std::marker::Model;
 
-/// What a controller does in the phase that comes next.
-#[derive(Clone, Copy, Debug, PartialEq, Eq)]
-enum Doing {
-    /// It sends its advertisement on this channel.
-    Advertises { channel: u8 },
-    /// It listens on this channel for an answer to its advertisement.
-    Awaits { channel: u8 },
-    /// It listens on this channel for advertisements.
-    Scans { channel: u8 },
-    Rests,
-}
-
-/// A controller.
+/// A controller that can hold `L` links, `T` ACL packets of its host and `R` pieces of data from
+/// the air.
 ///
-/// Its calls come in this order: octets of the host between turns; then, for each turn, `begin_turn`, then `heard`
-/// or `unheard` once for each of three phases, then `end_turn`. A call that
-/// sends the host something adds a note to an outbox, which has room for one.
+/// The calls of a turn come in this order: `host_octet` for each octet of the host; `begin_turn`;
+/// `heard` or `unheard` for each of three phases; `end_turn`. The outbox of a call is empty before
+/// it, and has what the call notes after it.
 #[derive(Drop)]
-pub struct Controller {
-    public: [u8; 6],
-    framer: Framer,
-    /// The slot of the turn that comes next.
-    next_slot: u64,
-    device: Device,
-    doing: Doing,
+pub struct Controller<const L: usize, const T: usize, const R: usize> {
+    pub(crate) public: [u8; 6],
+    pub(crate) cursor: u32,
+    pub(crate) words: ArrayVec<u64, RANDOM_WORDS>,
+    /// The place among the random words of the one that is drawn next.
+    pub(crate) next_word: usize,
+    pub(crate) framer: Framer,
+    pub(crate) view: HostView,
+    pub(crate) turn: Turn,
+    pub(crate) advertiser: Advertiser,
+    pub(crate) scanner: Scanner,
 }
 
-impl Model for Controller {
-    ghost use Rattle.controller.specs.State.{State};
-    ghost use Rattle.controller.specs.State.{HasChannel};
+impl<const L: usize, const T: usize, const R: usize> Model for Controller<L, T, R> {
+    ghost use Rattle.std.specs.Prelude.{◌<◌, ◌≤◌, [], length};
+    ghost use Rattle.controller.specs.Held.{Held};
 
-    ghost Value = { State };
+    ghost Value = { Held };
 
-    ghost view = { λ c. record { public = c.public; framer = c.framer; next_slot = c.next_slot; device = c.device; doing = c.doing } };
+    ghost invariant = { λ c. (c.next_word < length c.words.items) × (T ≤ 255) };
 
-    ghost invariant = { λ c. HasChannel c.doing };
+    ghost view = { λ c. record {
+      setup = record {
+        public = c.public;
+        cursor = c.cursor;
+        words = c.words.items;
+        links = L;
+        host_buffers = T;
+        air_buffers = R;
+      };
+      framer = c.framer;
+      facts = record {
+        octets = [];
+        view = c.view;
+        drawn = c.next_word;
+        turn = c.turn;
+        advertiser = c.advertiser;
+        scanner = c.scanner;
+      };
+    } };
 }
 
-impl Doing {
-    /// What is done in the first phase of a turn.
-    fn first(activity: Activity) -> Doing
-        ensures { result ≡ doing_in 0 activity }
+impl<const L: usize, const T: usize, const R: usize> Controller<L, T, R> {
+    /// A controller that starts with these settings. It draws the random words in order, and then
+    /// again from the first. With these sizes an outbox has room for all notes of a call.
+    ///
+    /// # Errors
+    ///
+    /// Out of memory.
+    #[tactic(auto, unfolding(crate::specs::Knowing::Knows, crate::specs::Held::kept, one_side::specs::Side::facts_of))]
+    pub fn start(alloc: Global, config: Config) -> Result<Self, AllocError>
+        requires words { 1 ≤ length config.words.items }
+        requires sizes { (1 ≤ L) × (1 ≤ T) × (T ≤ 255) × (1 ≤ R) × (8 * L + R + 8 ≤ 64) }
+        ensures knows { IfOk result (λ controller. Knows (setup_of config L T R) controller []) }
     {
-        match activity {
-            Activity::Advertises { channel } => Doing::Advertises { channel },
-            Activity::Scans { channel } => Doing::Scans { channel },
-            Activity::Rests => Doing::Rests,
-        }
-    }
-
-    /// What is done in the phase after this one.
-    fn next(self) -> Doing
-        ensures doing { (phase : ℕ) (activity : Activity) → self ≡ doing_in phase activity → result ≡ doing_in (suc phase) activity }
-        ensures channel { HasChannel self → HasChannel result }
-    {
-        match self {
-            Doing::Advertises { channel } => Doing::Awaits { channel },
-            _ => Doing::Rests,
-        }
-    }
-
-    /// The channel on which it listens, if it does.
-    fn listens_on(self) -> Option<u8>
-        ensures { result ≡ heard_on self }
-    {
-        match self {
-            Doing::Awaits { channel } | Doing::Scans { channel } => Some(channel),
-            Doing::Advertises { .. } | Doing::Rests => None,
-        }
-    }
-}
-
-impl Controller {
-    /// A controller that was fed nothing, with this public address, least significant octet first.
-    #[tactic(auto, unfolding(crate::specs::State::rested, crate::specs::Past::view_of, crate::specs::Turns::after_turn))]
-    pub fn new(public: [u8; 6]) -> Controller
-        ensures { result ≡ rested public [] }
-    {
-        Controller {
+        let public = config.public;
+        Ok(Controller {
             public,
+            cursor: config.cursor,
+            words: config.words,
+            next_word: 0,
             framer: Framer::new(),
-            next_slot: 0,
-            device: Device::initial(),
-            doing: Doing::Rests,
-        }
+            view: HostView::new(L as u16),
+            turn: Turn::new(),
+            advertiser: Advertiser::new(),
+            scanner: Scanner::new(),
+        })
     }
 
-    /// Takes the next octet of the host.
+    /// Takes the next octet of the host (Core 5.2, volume 4 part A, section 2).
     pub fn host_octet(&mut self, octet: u8, out: &mut Outbox)
-        requires room { array_vec_len out.old < 64 }
-        ensures state { (public : List ℕ) (past : List Input) → self.old ≡ ready public past
-            → self.new ≡ ready public (past ++ Given octet ∷ []) }
-        ensures notes { (public : List ℕ) (past : List Input) → self.old ≡ ready public past
-            → out.new.items ≡ out.old.items ++ notes_of (tells (view_of public past) (Given octet)) }
+        requires empty { out.old.items ≡ [] }
+        ensures goes { (setup : Setup) (past : List Step) → Knows setup self.old past
+            → Goes setup self.new past (HostOctet octet) out.new.items }
     {
         let fed = self.framer.feed(octet);
-        if let Fed::More = fed {
-            return;
-        }
         self.take(&fed, out);
     }
 
-    /// Takes what an octet of the host completed, and answers it.
-    fn take(&mut self, fed: &Fed, out: &mut Outbox)
-        requires room { array_vec_len out.old < 64 }
-        ensures state { self.new ≡ record self.old { device = device_after self.old.next_slot self.old.device fed.now } }
-        ensures notes { out.new.items
-            ≡ out.old.items ++ notes_of (told self.old.device.mask (events_for self.old.public self.old.device fed.now)) }
+    /// Begins a turn in this slot, with the radio on or off, and gives what is wanted in its first
+    /// phase. A slot is 1.25 ms long, and slots come in order from 0.
+    pub fn begin_turn(&mut self, slot: SlotNo, radio_on: bool, out: &mut Outbox) -> Intent
+        requires slot { slot.0 < 2 ^ 32 }
+        requires empty { out.old.items ≡ [] }
+        ensures goes { (setup : Setup) (past : List Step) → Knows setup self.old past
+            → Goes setup self.new past (TurnBegins slot.0 radio_on) out.new.items }
+        ensures wants { (setup : Setup) (past : List Step) → Knows setup self.old past
+            → use_wanted result
+            ≡ use_of setup (facts_of setup (past ++ TurnBegins slot.0 radio_on ∷ [])) }
     {
-        let mask = self.device.mask;
-        let event = self.device.take(self.next_slot, &self.public, fed);
-        tell(mask, event, out);
-    }
-
-    /// What this controller wants in the phase that comes next.
-    fn intent(&self) -> Intent
-        ensures { result ≡ wanted self.now.public self.now.doing }
-    {
-        match self.doing {
-            Doing::Advertises { channel } => Intent::Send {
-                channel,
-                octets: advertisement(self.public, channel),
-            },
-            Doing::Awaits { channel } | Doing::Scans { channel } => Intent::Listen { channel },
-            Doing::Rests => Intent::Idle,
-        }
-    }
-
-    /// Begins a turn in this slot, with the radio on or off, and gives what is wanted in its first phase.
-    /// The slots come in order from 0.
-    pub fn begin_turn(&mut self, slot: SlotNo, radio_on: bool) -> Intent
-        requires { slot.0 < 2 ^ 32 }
-        ensures { (public : List ℕ) (past : List Input) → self.old ≡ ready public past
-            → IsTurn slot.0 radio_on (view_of public past) → Acts 0 public past self.new result }
-    {
-        let activity = self.device.activity(slot.0, radio_on);
-        self.device.serve(slot.0, radio_on);
-        self.next_slot = slot.0 + 1;
-        self.doing = Doing::first(activity);
+        self.begin(slot.0, radio_on);
         self.intent()
     }
 
-    /// What becomes of octets that are on the air in the phase that comes next: missed, where it does not listen. The octets are
-    /// those of a packet in the order of the air, without preamble (Core 5.2, volume 6 part B, section 2.1).
+    /// What this controller makes of octets that are on the air in the phase that comes next:
+    /// missed where it does not listen. The octets are those of a packet in the order of the air,
+    /// without preamble (Core 5.2, volume 6 part B, section 2.1).
     pub fn judge(&self, octets: &[u8]) -> Verdict
-        ensures { (phase : ℕ) (public : List ℕ) (past : List Input) → self.now ≡ acting phase public past
-            → result ≡ verdict_of (listened (intent_of phase (view_of public past))) octets.now }
+        ensures { (setup : Setup) (past : List Step) → Knows setup self.now past
+            → result ≡ verdict_of setup (facts_of setup past) octets.now }
     {
-        match self.doing.listens_on() {
-            None => Verdict::Missed,
-            Some(channel) => judge(channel, octets),
-        }
+        self.verdict(octets)
     }
 
-    /// The advertisement that a packet is, where this controller scans.
-    fn advertisement(&self, octets: &[u8]) -> Option<Advertisement>
-        ensures { result ≡ advertisement_by self.now.public self.now.doing octets.now }
-    {
-        let Doing::Scans { channel } = self.doing else {
-            return None;
-        };
-        read_advertisement(&self.public, pdu(channel, octets)?.as_slice())
-    }
-
-    /// Takes a packet that was heard in this phase, its octets in the order of the air, without preamble (Core 5.2, volume 6
-    /// part B, section 2.1), and gives what is wanted in the next one.
+    /// Takes a packet that was heard in this phase, and gives what is wanted in the next one. The
+    /// octets are in the order of the air, without preamble (Core 5.2, volume 6 part B, section
+    /// 2.1).
     pub fn heard(&mut self, octets: &[u8], out: &mut Outbox) -> Intent
-        requires room { array_vec_len out.old < 64 }
-        ensures acts { (phase channel : ℕ) (public : List ℕ) (past : List Input) → self.old ≡ acting phase public past
-            → listened (intent_of phase (view_of public past)) ≡ Some channel
-            → Acts (suc phase) public (past ++ Heard octets.now ∷ []) self.new result }
-        ensures notes { (phase channel : ℕ) (public : List ℕ) (past : List Input) → self.old ≡ acting phase public past
-            → listened (intent_of phase (view_of public past)) ≡ Some channel
-            → out.new.items ≡ out.old.items ++ notes_of (tells (view_of public past) (Heard octets.now)) }
+        requires empty { out.old.items ≡ [] }
+        ensures goes { (setup : Setup) (past : List Step) → Knows setup self.old past
+            → Goes setup self.new past (PacketHeard octets.now) out.new.items }
+        ensures wants { (setup : Setup) (past : List Step) → Knows setup self.old past
+            → use_wanted result
+            ≡ use_of setup (facts_of setup (past ++ PacketHeard octets.now ∷ [])) }
     {
-        let advertisement = self.advertisement(octets);
-        let event = self.device.hear(advertisement);
-        tell(self.device.mask, event, out);
-        self.doing = self.doing.next();
+        self.hear(octets, out);
+        self.pass_phase();
         self.intent()
     }
 
     /// Takes that nothing was heard in this phase, and gives what is wanted in the next one.
-    pub fn unheard(&mut self) -> Intent
-        ensures { (phase : ℕ) (public : List ℕ) (past : List Input) → self.old ≡ acting phase public past
-            → Acts (suc phase) public past self.new result }
+    pub fn unheard(&mut self, out: &mut Outbox) -> Intent
+        requires empty { out.old.items ≡ [] }
+        ensures goes { (setup : Setup) (past : List Step) → Knows setup self.old past
+            → Goes setup self.new past NothingHeard out.new.items }
+        ensures wants { (setup : Setup) (past : List Step) → Knows setup self.old past
+            → use_wanted result ≡ use_of setup (facts_of setup (past ++ NothingHeard ∷ [])) }
     {
-        self.doing = self.doing.next();
+        self.pass_phase();
         self.intent()
     }
 
     /// Ends the turn.
-    #[tactic(auto, unfolding(crate::specs::State::rested, crate::specs::State::acting))]
-    pub fn end_turn(&mut self)
-        ensures { (phase : ℕ) (public : List ℕ) (past : List Input) → self.old ≡ acting phase public past
-            → self.new ≡ rested public past }
+    pub fn end_turn(&mut self, out: &mut Outbox)
+        requires empty { out.old.items ≡ [] }
+        ensures goes { (setup : Setup) (past : List Step) → Knows setup self.old past
+            → Goes setup self.new past TurnEnds out.new.items }
     {
-        self.doing = Doing::Rests;
+        self.end();
     }
 }

@@ -1,13 +1,15 @@
 //! What a controller wants of the radio in a phase.
 use arrayvec::ArrayVec;
+use ble_base::AIR_PACKET_OCTETS;
 
 /// What a controller does in a phase of a turn.
 #[derive(Debug, PartialEq, Eq, Drop)]
 pub enum Intent {
-    /// It sends these octets on this channel, 0 to 39: the access address, the PDU and the CRC.
+    /// It sends these octets on this channel, 0 to 39: the access address, the PDU and the CRC, in
+    /// the order of the air, without preamble (Core 5.2, volume 6 part B, section 2.1).
     Send {
         channel: u8,
-        octets: ArrayVec<u8, 264>,
+        octets: ArrayVec<u8, AIR_PACKET_OCTETS>,
     },
     /// It listens on this channel.
     Listen {

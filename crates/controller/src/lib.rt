@@ -1,26 +1,34 @@
-//! A controller, step by step: the octets of its host, the turns of the radio, and what it sends to the air and to its host.
+//! A controller, call by call: the octets of its host, the turns of the radio, and what it sends to
+//! the air and to its host.
 //!
-//! It carries out six commands, advertises without being connectable, and scans passively (Core 5.2, volume 6
-//! part B, sections 4.4.2 and 4.4.3, and volume 4 part E). A turn is a slot of 1.25 ms and has three phases; in each the
-//! controller sends a packet, listens on a channel, or is idle.
+//! It answers all commands of the table, and carries out those that need no link. It advertises
+//! without being connectable, and scans passively (Core 5.2, volume 6 part B, sections 4.4.2 and
+//! 4.4.3, and volume 4 part E). A turn is a slot of 1.25 ms and has three phases; in each the
+//! controller sends a packet, listens on a channel, or is idle. What it does is defined in
+//! `one_side`, by the calls on it.
 #![tactic(auto)]
 
 mod advertisers;
+#[cfg(test)]
+mod advertising_tests;
+#[cfg(test)]
+mod answer_tests;
+mod answers;
+#[cfg(test)]
+mod command_tests;
 mod commands;
 mod controllers;
-mod devices;
 mod intents;
-mod laws;
 mod masks;
 mod packets;
+mod radio;
+mod reports;
 mod scanners;
-mod statuses;
+#[cfg(test)]
+mod scanning_tests;
 #[cfg(test)]
 mod tests;
+mod turns;
 
 pub use crate::controllers::Controller;
 pub use crate::intents::Intent;
-pub use crate::laws::{
-    an_advertisement_is_understood, an_advertiser_keeps_its_interval, each_packet_is_answered,
-    past_grows, turns_follow,
-};

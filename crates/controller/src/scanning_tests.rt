@@ -1,0 +1,211 @@
+//! Scanning, turn by turn, and what it reports, as worked out by hand.
+use crate::tests::{
+    ADVERTISEMENTS, PUBLIC_A, PUBLIC_B, RESET, Small, begin, channel_of, command, rest, started,
+    turn, up,
+};
+use crate::{Intent, packets};
+use arrayvec::ArrayVec;
+use ble_base::{Address, Outbox, Verdict};
+use std::process::Abort;
+
+/// ADV_DIRECT_IND from the device with the first address to that with the second, on channel 37.
+const TO_B: [u8; 21] = [
+    0xD6, 0xBE, 0x89, 0x8E, 0x8C, 0xDE, 0x5D, 0xA1, 0x3D, 0x49, 0x99, 0x70, 0x7E, 0x31, 0x11, 0xA6,
+    0x69, 0xB7, 0xCF, 0x2B, 0x92,
+];
+
+/// The same to a device with another address.
+const TO_ANOTHER: [u8; 21] = [
+    0xD6, 0xBE, 0x89, 0x8E, 0x8C, 0xDE, 0x5D, 0xA1, 0x3D, 0x49, 0x99, 0x70, 0x79, 0x31, 0x11, 0xA6,
+    0x69, 0xB7, 0x2E, 0x3A, 0x77,
+];
+
+/// What the host of the second device receives of the advertisement of the first, and of the
+/// directed one.
+const REPORT: [u8; 15] = [
+    0x04, 0x3E, 0x0C, 0x02, 0x01, 0x03, 0x00, 0x0A, 0x00, 0x00, 0xEE, 0xFF, 0xC0, 0x00, 0x7F,
+];
+
+const DIRECTED_REPORT: [u8; 15] = [
+    0x04, 0x3E, 0x0C, 0x02, 0x01, 0x01, 0x00, 0x0A, 0x00, 0x00, 0xEE, 0xFF, 0xC0, 0x00, 0x7F,
+];
+
+/// ADV_IND from the random address C0FFEE00000A with the data 02 01 06, on channel 37, and its
+/// report.
+const CONNECTABLE: [u8; 18] = [
+    0xD6, 0xBE, 0x89, 0x8E, 0xED, 0xDB, 0x5D, 0xA1, 0x3D, 0x49, 0x99, 0x70, 0x77, 0x30, 0x17, 0xEA,
+    0xF8, 0x63,
+];
+
+const CONNECTABLE_REPORT: [u8; 18] = [
+    0x04, 0x3E, 0x0F, 0x02, 0x01, 0x00, 0x01, 0x0A, 0x00, 0x00, 0xEE, 0xFF, 0xC0, 0x03, 0x02, 0x01,
+    0x06, 0x7F,
+];
+
+/// ADV_SCAN_IND from the public address C0FFEE00000A with the data 5A, on channel 37, and its
+/// report.
+const SCANNABLE: [u8; 16] = [
+    0xD6, 0xBE, 0x89, 0x8E, 0x8B, 0xD5, 0x5D, 0xA1, 0x3D, 0x49, 0x99, 0x70, 0x2F, 0xF4, 0xDF, 0x65,
+];
+
+const SCANNABLE_REPORT: [u8; 16] = [
+    0x04, 0x3E, 0x0D, 0x02, 0x01, 0x02, 0x00, 0x0A, 0x00, 0x00, 0xEE, 0xFF, 0xC0, 0x01, 0x5A, 0x7F,
+];
+
+const SCAN: [u8; 6] = [0x01, 0x0C, 0x20, 0x02, 0x01, 0x00];
+
+const SCAN_ONCE: [u8; 6] = [0x01, 0x0C, 0x20, 0x02, 0x01, 0x01];
+
+const STOP_SCANNING: [u8; 6] = [0x01, 0x0C, 0x20, 0x02, 0x00, 0x00];
+
+/// Set Event Mask, with the bit of the LE events.
+const MASK: [u8; 12] = [
+    0x01, 0x01, 0x0C, 0x08, 0xFF, 0xFF, 0xFF, 0xFF, 0xFF, 0x1F, 0x00, 0x20,
+];
+
+/// In this slot it scans on this channel.
+fn scans(rt: &impl Abort, controller: &mut Small, slot: u32, channel: u8) {
+    let (first, second) = turn(controller, slot, true);
+    assert_eq!(rt; channel_of(first), Some(channel), "in {slot}");
+    assert_eq!(rt; second, Intent::Idle, "in {slot}");
+}
+
+/// A turn in which the packet is heard in the first phase, on channel 37, and its report, if it
+/// makes one.
+fn hearing(
+    rt: &impl Abort,
+    controller: &mut Small,
+    slot: u32,
+    packet: &[u8],
+    report: Option<&[u8]>,
+) {
+    let mut out = Outbox::new();
+    assert_eq!(rt; begin(controller, slot), Intent::Listen { channel: 37 });
+    assert_eq!(rt; controller.judge(packet), Verdict::Good);
+    assert_eq!(rt; controller.heard(packet, &mut out), Intent::Idle);
+    assert_eq!(rt; controller.judge(packet), Verdict::Missed);
+    assert_eq!(rt;
+        out.as_slice().first(),
+        report.map(|octets| up(rt, octets)).as_ref()
+    );
+    rest(controller);
+}
+
+/// A turn in which an advertisement of another device is heard, whose address begins with this
+/// octet.
+fn hearing_from(rt: &impl Abort, controller: &mut Small, slot: u32, device: u8, is_reported: bool) {
+    let mut public = PUBLIC_A;
+    public[0] = device;
+    let mut report = REPORT;
+    report[7] = device;
+    let mut out = Outbox::new();
+    let channel = channel_of(begin(controller, slot)).unwrap_or(0);
+    assert!(rt; (37..40).contains(&channel), "in {slot}");
+    let from = Address {
+        random: false,
+        octets: public,
+    };
+    let packet = packets::advertisement(channel, from, ArrayVec::new());
+    controller.heard(packet.as_slice(), &mut out);
+    assert_eq!(rt;
+        out.as_slice().first(),
+        is_reported.then(|| up(rt, &report)).as_ref(),
+        "in {slot}"
+    );
+    rest(controller);
+}
+
+#[test]
+fn reports_what_it_scans(rt: HostRuntime) {
+    let mut controller = started(&rt, rt.alloc(), PUBLIC_B, &[2]);
+    let [advertisement, ..] = ADVERTISEMENTS;
+    command(&rt, &mut controller, &SCAN, 0x00);
+    hearing(&rt, &mut controller, 0, &advertisement, None);
+    command(&rt, &mut controller, &MASK, 0x00);
+    hearing(&rt, &mut controller, 1, &advertisement, Some(&REPORT));
+    hearing(&rt, &mut controller, 2, &advertisement, Some(&REPORT));
+    hearing(&rt, &mut controller, 3, &TO_B, Some(&DIRECTED_REPORT));
+    hearing(&rt, &mut controller, 4, &TO_ANOTHER, None);
+    let mut damaged = advertisement;
+    damaged[6] ^= 0x01;
+    assert_eq!(rt; begin(&mut controller, 5), Intent::Listen { channel: 37 });
+    assert_eq!(rt; controller.judge(&damaged), Verdict::Broken);
+    damaged[0] ^= 0x01;
+    assert_eq!(rt; controller.judge(&damaged), Verdict::Missed);
+    controller.end_turn(&mut Outbox::new());
+}
+
+#[test]
+fn reports_the_type_and_the_address_of_the_sender(rt: HostRuntime) {
+    let mut controller = started(&rt, rt.alloc(), PUBLIC_B, &[2]);
+    command(&rt, &mut controller, &MASK, 0x00);
+    command(&rt, &mut controller, &SCAN, 0x00);
+    let report = Some(CONNECTABLE_REPORT.as_slice());
+    hearing(&rt, &mut controller, 0, &CONNECTABLE, report);
+    let report = Some(SCANNABLE_REPORT.as_slice());
+    hearing(&rt, &mut controller, 1, &SCANNABLE, report);
+}
+
+#[test]
+fn withholds_duplicates_until_a_reset(rt: HostRuntime) {
+    let mut controller = started(&rt, rt.alloc(), PUBLIC_B, &[2]);
+    let [advertisement, ..] = ADVERTISEMENTS;
+    command(&rt, &mut controller, &MASK, 0x00);
+    command(&rt, &mut controller, &SCAN_ONCE, 0x00);
+    hearing(&rt, &mut controller, 0, &advertisement, Some(&REPORT));
+    hearing(&rt, &mut controller, 1, &advertisement, None);
+    command(&rt, &mut controller, &RESET, 0x00);
+    assert_eq!(rt;
+        turn(&mut controller, 2, true),
+        (Intent::Idle, Intent::Idle)
+    );
+    command(&rt, &mut controller, &MASK, 0x00);
+    command(&rt, &mut controller, &SCAN_ONCE, 0x00);
+    hearing(&rt, &mut controller, 3, &advertisement, Some(&REPORT));
+}
+
+#[test]
+fn scans_on_one_channel_an_interval(rt: HostRuntime) {
+    let mut controller = started(&rt, rt.alloc(), PUBLIC_B, &[2]);
+    command(&rt, &mut controller, &SCAN, 0x00);
+    for (slots, channel) in [(0..8, 37), (8..16, 38), (16..24, 39), (24..26, 37)] {
+        for slot in slots {
+            scans(&rt, &mut controller, slot, channel);
+        }
+    }
+}
+
+#[test]
+fn remembers_16_reports(rt: HostRuntime) {
+    let mut controller = started(&rt, rt.alloc(), PUBLIC_B, &[2]);
+    command(&rt, &mut controller, &MASK, 0x00);
+    command(&rt, &mut controller, &SCAN_ONCE, 0x00);
+    for slot in 0..16 {
+        hearing_from(&rt, &mut controller, slot, slot as u8, true);
+    }
+    for (slot, device, is_reported) in [
+        (16, 0, false),
+        (17, 16, true),
+        (18, 0, true),
+        (19, 16, false),
+        (20, 1, true),
+    ] {
+        hearing_from(&rt, &mut controller, slot, device, is_reported);
+    }
+}
+
+#[test]
+fn a_scanner_begins_anew(rt: HostRuntime) {
+    let mut scanner = started(&rt, rt.alloc(), PUBLIC_B, &[2]);
+    command(&rt, &mut scanner, &SCAN, 0x00);
+    for slot in 0..10 {
+        turn(&mut scanner, slot, true);
+    }
+    command(&rt, &mut scanner, &STOP_SCANNING, 0x00);
+    command(&rt, &mut scanner, &SCAN, 0x00);
+    for (slots, channel) in [(10..18, 37), (18..20, 38)] {
+        for slot in slots {
+            scans(&rt, &mut scanner, slot, channel);
+        }
+    }
+}
