@@ -5,9 +5,11 @@ use Rattle.std.specs.Result.{IsErrAnd}
 use Rattle.outside.specs.Known.{WhereKnown}
 use Rattle.journal.specs.declared.entries.Entry.{Entry}
 use Rattle.journal.specs.Text.{text}
-use Rattle.pair_world.specs.Run.{Given, given_of, IsRun, IsRunFault}
-use Rattle.pair_world.specs.declared.runs.RunFault.{RunFault}
-use Rattle.pair_world.specs.declared.runs.RunFault.TheVariants.{Unseen as EndedUnseen, Memory as NoRoomForRun}
+use Rattle.pair_world.specs.Faults.{IsRunFault}
+use Rattle.runs.specs.Pair.{given_of, IsRun}
+use Rattle.runs.specs.Run.{Given}
+use Rattle.pair_world.specs.declared.run.RunFault.{RunFault}
+use Rattle.pair_world.specs.declared.run.RunFault.TheVariants.{Unseen as EndedUnseen, Memory as NoRoomForRun}
 use Rattle.radio_replay.specs.declared.faults.ScheduleFault.{ScheduleFault}
 use Rattle.radio_replay.specs.declared.faults.ScheduleFault.TheVariants.{BadLine as OutsideGrammar, TooLong as PastTurns, Memory as NoRoomForTurns}
 use Rattle.radio_replay.specs.Schedule.{Right, Wrong, TooMany, schedule_of, IsFault}

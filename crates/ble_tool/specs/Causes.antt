@@ -4,7 +4,8 @@ use Rattle.outside.specs.Known.{WhereKnown}
 use Rattle.ble_base.specs.declared.Config.{Config}
 use Rattle.journal.specs.declared.entries.Entry.{Entry}
 use Rattle.journal.specs.Text.{text}
-use Rattle.pair_world.specs.Run.{Given, given_of, IsRun, EndsUnseen}
+use Rattle.runs.specs.Pair.{given_of, IsRun, EndsUnseen}
+use Rattle.runs.specs.Run.{Given}
 use Rattle.radio_replay.specs.Schedule.{Right, Wrong, TooMany, schedule_of, line_number}
 use Rattle.radio_replay.specs.Script.{Turn}
 use Rattle.ble_tool.specs.declared.faults.Fault.{Fault}

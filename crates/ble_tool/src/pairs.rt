@@ -2,7 +2,7 @@
 ghost use Rattle.std.specs.Prelude.{◌≡◌, ℕ, List, ◌++◌, ◌<◌, ◌≤◌, length, OnOk, IfOk, IfErr};
 ghost use Rattle.outside.specs.Known.{WhereKnown};
 ghost use Rattle.journal.specs.Text.{text};
-ghost use Rattle.pair_world.specs.Run.{given_of};
+ghost use Rattle.runs.specs.Pair.{given_of};
 ghost use Rattle.radio_replay.specs.Schedule.{Right, schedule_of};
 ghost use Rattle.ble_tool.specs.Causes.{IsWithinLimit, IsReadFault, IsWriteFault, OfRun};
 ghost use Rattle.ble_tool.specs.Causes.{IsScheduleFault, IsEndOf, IsWrittenEnd, IsOctetsFault};
@@ -99,6 +99,8 @@ fn write_journal<O: Sink>(alloc: Global, journal: &Journal, out: &mut O) -> Resu
 fn read_schedule(alloc: Global, octets: &[u8]) -> Result<Schedule, Fault>
     ensures ok { IfOk result (λ schedule.
         schedule_of octets.now ≡ Right schedule.a schedule.b schedule.turns) }
+    ensures words_a { IfOk result (λ schedule. 1 ≤ length schedule.a.words.items) }
+    ensures words_b { IfOk result (λ schedule. 1 ≤ length schedule.b.words.items) }
     ensures err { IfErr result (IsScheduleFault octets.now) }
 {
     match Schedule::read(alloc, octets) {
@@ -116,6 +118,8 @@ fn run_streams(
     b: &[u8],
     schedule: &Schedule,
 ) -> Result<(Journal, Option<Fault>), Fault>
+    requires words_a { 1 ≤ length schedule.now.a.words.items }
+    requires words_b { 1 ≤ length schedule.now.b.words.items }
     ensures ok { IfOk result (λ end.
         IsEndOf (given_of a.now b.now schedule.now) end.0 end.1) }
     ensures err { IfErr result (λ fault. fault ≡ Fault.NoMemory) }

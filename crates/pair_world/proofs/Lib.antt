@@ -1,14 +1,16 @@
 -- The lemmas of this crate.
-pub mod Adds
-pub mod Pasts
-pub mod Dues
-pub mod Steps
+pub mod Histories
+pub mod Calls
+pub mod Numbers
+pub mod Keeping
 pub mod Outcomes
+pub mod Noting
 pub mod Feeding
-pub mod OnAir
-pub mod Phases
-pub mod Opening
-pub mod Reasons
-pub mod Journals
-pub mod Aired
-pub mod Answered
+pub mod ConnectInds
+pub mod Channels
+pub mod Flying
+pub mod Transmitting
+pub mod BothCalled
+pub mod ThreePhases
+pub mod WholeTurns
+pub mod WholeRuns

@@ -1,29 +1,36 @@
--- What holds of an answer holds of it in other words.
-use Rattle.std.proofs.Common.{◌≡◌, ℕ, List, Result, Ok, Err, subst, sym}
-use Rattle.std.specs.Prelude.{OnOk, IfOk, IfErr, IsErrAnd}
-use Rattle.controller.specs.Past.{Input}
+-- Results and what holds of them.
+use Rattle.std.proofs.Common.{◌≡◌, Result, Ok, Err, subst, sym}
+use Rattle.std.specs.Prelude.{OnOk, OnErr, IfOk, IfErr, IsErrAnd}
 
--- what is so for every past, where the answer is Ok
-pub on_ok_past : {X E : Type 0} (result : Result X E) (knows fact : List ℕ → List Input → Type 0)
-    → ((public : List ℕ) (past : List Input) → knows public past → OnOk result (fact public past))
-    → OnOk result ((public : List ℕ) (past : List Input) → knows public past → fact public past)
-on_ok_past (Ok value) knows fact is = is
-on_ok_past (Err error) knows fact is = tt
+pub on_ok_more : {X E : Type 0} (r : Result X E) (P Q : Type 0) → (P → Q) → OnOk r P → OnOk r Q
+on_ok_more (Ok value) P Q follows p = follows p
+on_ok_more (Err fault) P Q follows p = tt
 
-pub on_ok_more : {X E : Type 0} (result : Result X E) (before after : Type 0) → (before → after) → OnOk result before → OnOk result after
-on_ok_more (Ok value) before after goes is = goes is
-on_ok_more (Err error) before after goes is = tt
+-- two facts of a success, and what follows from them
+pub on_ok_two : {X E : Type 0} (r : Result X E) (P Q R : Type 0) → (P → Q → R) → OnOk r P → OnOk r Q → OnOk r R
+on_ok_two (Ok value) P Q R follows p q = follows p q
+on_ok_two (Err fault) P Q R follows p q = tt
 
--- an error that is handed on
-pub handed_on : {X E : Type 0} (result : Result X E) (fact : E → Type 0) (error : E)
-    → IsErrAnd result (λ other. other ≡ error) → fact error → IfErr result fact
-handed_on (Ok value) fact error is holds = tt
-handed_on (Err other) fact error is holds = subst fact (sym is) holds
+pub if_ok_more : {X E : Type 0} (r : Result X E) (P Q : X → Type 0) → ((value : X) → P value → Q value) → IfOk r P → IfOk r Q
+if_ok_more (Ok value) P Q follows p = follows value p
+if_ok_more (Err fault) P Q follows p = tt
 
-pub ok_more : {X E : Type 0} (result : Result X E) (before after : X → Type 0) → ((value : X) → before value → after value) → IfOk result before → IfOk result after
-ok_more (Ok value) before after goes is = goes value is
-ok_more (Err error) before after goes is = tt
+pub if_err_more : {X E : Type 0} (r : Result X E) (P Q : E → Type 0) → ((fault : E) → P fault → Q fault) → IfErr r P → IfErr r Q
+if_err_more (Ok value) P Q follows p = tt
+if_err_more (Err fault) P Q follows p = follows fault p
 
-pub err_more : {X E : Type 0} (result : Result X E) (before after : E → Type 0) → ((error : E) → before error → after error) → IfErr result before → IfErr result after
-err_more (Ok value) before after goes is = tt
-err_more (Err error) before after goes is = goes error is
+-- a fact of a success, what also holds then, and what follows from both
+pub if_ok_two : {X E : Type 0} (r : Result X E) (P : X → Type 0) (Q : Type 0) (R : X → Type 0) → ((value : X) → P value → Q → R value)
+    → IfOk r P → OnOk r Q → IfOk r R
+if_ok_two (Ok value) P Q R follows p q = follows value p q
+if_ok_two (Err fault) P Q R follows p q = tt
+
+pub if_err_two : {X E : Type 0} (r : Result X E) (P : E → Type 0) (Q : Type 0) (R : E → Type 0) → ((fault : E) → P fault → Q → R fault)
+    → IfErr r P → OnErr r Q → IfErr r R
+if_err_two (Ok value) P Q R follows p q = tt
+if_err_two (Err fault) P Q R follows p q = follows fault p q
+
+-- a fault that `?` hands on
+pub handed_on : {X E : Type 0} (r : Result X E) (P : E → Type 0) (fault : E) → IsErrAnd r (λ other. other ≡ fault) → P fault → IfErr r P
+handed_on (Ok value) P fault is holds = tt
+handed_on (Err other) P fault is holds = subst P (sym is) holds

@@ -1,38 +1,116 @@
--- What holds of a packet on the air (our choice).
-use Rattle.std.specs.Prelude.{◌≡◌, ◌≢◌, ℕ, ◌+◌, List, Some, slice_get}
+-- A packet of one station on its way to the other (our choice).
+use Rattle.std.specs.Prelude.{◌≡◌, ℕ, ◌+◌, ◌&&◌, not, Bool, true, false, List, [], ◌∷◌, Option, Some, None, ⊤, if◌then◌else◌}
+use Rattle.std.specs.Str.{bytes_eq}
 use Rattle.ble_base.specs.declared.roles.Side.{Side}
+use Rattle.ble_base.specs.declared.roles.Side.TheVariants.{A}
 use Rattle.ble_base.specs.declared.verdicts.Verdict.{Verdict}
-use Rattle.ble_base.specs.declared.verdicts.Verdict.TheVariants.{Good}
-use Rattle.journal.specs.declared.entries.Entry.{Entry}
-use Rattle.journal.specs.declared.entries.Mark.{Mark}
+use Rattle.ble_base.specs.Side.{other_side}
+use Rattle.journal.specs.declared.entries.Entry.TheVariants.{Air}
+use Rattle.radio_replay.specs.declared.fates.Fate.{Fate}
 use Rattle.radio_replay.specs.Damage.{damaged_packet}
-use Rattle.pair_world.specs.History.{aired}
-use Rattle.pair_world.specs.Run.{Given, Flight, flights, fate_at, mark_of, verdict_of}
+use Rattle.one_side.specs.Facts.{Setup}
+use Rattle.one_side.specs.Step.{Step}
+use Rattle.one_side.specs.Radio.{channel_listened, use_of}
+use Rattle.one_side.specs.Side.{facts_of}
+use Rattle.controller.specs.declared.intents.Intent.{Intent}
+use Rattle.controller.specs.declared.intents.Intent.TheVariants.{Send, Listen, Idle}
+use Rattle.controller.specs.Knowing.{use_wanted}
+use Rattle.runs.specs.History.{Event, is_good, turns_begun, packets_on_air, fates_used, packet_received}
+use Rattle.runs.specs.Journal.{mark_of}
+use Rattle.runs.specs.Links.{begins_link}
+use Rattle.runs.specs.Run.{Given, reaches, use_at, verdict_where}
+use Rattle.pair_world.specs.declared.stops.Stop.{Stop}
+use Rattle.pair_world.specs.declared.stops.Stop.TheVariants.{Unseen, Memory}
+use Rattle.pair_world.specs.Logs.{LogState, with_entries}
+use Rattle.pair_world.specs.Stations.{StationState, Keeps, Writes, number_of}
 
--- after this history the packet is on the air with this fate and this verdict
-pub record IsAired (given : Given) (history : List Entry) (side : Side) (channel : ℕ) (octets : List ℕ) (fate : Mark) (verdict : Verdict) : Type 0 where
-  pub flight : Flight
-  -- it is the next of those that the turn requires
-  pub is_next : slice_get (flights given history) (aired history) ≡ Some flight
-  pub side_is : side ≡ flight.side
-  pub channel_is : channel ≡ flight.channel
-  pub octets_are : octets ≡ flight.octets
-  -- its fate is the next of the turn
-  pub fate_is : fate ≡ mark_of (fate_at given history)
-  -- the verdict is that of the other side
-  pub verdict_is : verdict ≡ verdict_of given history flight
-  -- what is judged good was not changed
-  pub unchanged : verdict ≡ Good → damaged_packet (fate_at given history) octets ≡ octets
+-- ---- the verdict
 
--- after this history the next packet, at this place of its turn, counted from 1, is changed by its fate into what would be judged good
-pub record IsUnseenNext (given : Given) (history : List Entry) (packet : ℕ) (sent heard : List ℕ) : Type 0 where
-  pub flight : Flight
-  -- it is the next of those that the turn requires
-  pub is_next : slice_get (flights given history) (aired history) ≡ Some flight
-  pub packet_is : packet ≡ aired history + 1
-  pub sent_is : sent ≡ flight.octets
-  -- what is heard is what its fate, the next of the turn, leaves of it
-  pub heard_is : heard ≡ damaged_packet (fate_at given history) sent
-  pub differs : heard ≢ sent
-  -- and the verdict of the other side on it is good
-  pub verdict_is : verdict_of given history flight ≡ Good
+-- the verdict of a listener on a packet that is on the air with this fate
+abbrev pub verdict_by : Fate → Setup → List Step → ℕ → List ℕ → Verdict
+verdict_by fate setup past channel octets =
+    verdict_where (reaches fate channel (channel_listened (use_of setup (facts_of setup past))))
+    setup (facts_of setup past) (damaged_packet fate octets)
+
+-- the packet is changed, and has the verdict good
+abbrev pub goes_unseen : Fate → Verdict → List ℕ → Bool
+goes_unseen fate verdict octets = is_good verdict && not (bytes_eq (damaged_packet fate octets) octets)
+
+-- this is the verdict, and no change goes unseen
+pub record IsReceived (fate : Fate) (setup : Setup) (past : List Step) (channel : ℕ) (octets : List ℕ)
+    (verdict : Verdict) : Type 0 where
+  pub verdict_is : verdict ≡ verdict_by fate setup past channel octets
+  pub is_seen : goes_unseen fate verdict octets ≡ false
+
+-- a change goes unseen, at this place of the turn
+pub record IsUnseen (fate : Fate) (setup : Setup) (past : List Step) (channel : ℕ) (octets : List ℕ)
+    (place packet : ℕ) (sent heard : List ℕ) : Type 0 where
+  pub packet_is : packet ≡ place
+  pub sent_is : sent ≡ octets
+  pub heard_is : heard ≡ damaged_packet fate octets
+  pub is_unseen : goes_unseen fate (verdict_by fate setup past channel octets) octets ≡ true
+
+-- that is why the run stops, or there is no memory
+abbrev pub IsUnseenOr : Fate → Setup → List Step → ℕ → List ℕ → ℕ → Stop → Type 0
+IsUnseenOr fate setup past channel octets place Memory = ⊤
+IsUnseenOr fate setup past channel octets place (Unseen packet sent heard) =
+    IsUnseen fate setup past channel octets place packet sent heard
+
+-- ---- the numbers of links
+
+abbrev pub with_last : ℕ → StationState → StationState
+with_last link state = record state { links = record state.links { last = link } }
+
+-- where a packet begins a link, its sender knows that, and the listener too where it received the packet
+pub record HasLinked (begins good : Bool) (sender listener : StationState) (log : LogState)
+    (new_sender new_listener : StationState) (new_log : LogState) : Type 0 where
+  pub sender_is : new_sender ≡ (if begins then with_last (log.links + 1) sender else sender)
+  pub listener_is : new_listener ≡ (if begins && good then with_last (log.links + 1) listener else listener)
+  pub log_is : new_log ≡ (if begins then record log { links = log.links + 1 } else log)
+
+-- a packet was on the air: this is its entry, and the numbers of links are up to it
+pub record IsSent (fate : Fate) (side : Side) (setup : Setup) (past : List Step) (channel : ℕ) (octets : List ℕ)
+    (good : Bool) (sender listener : StationState) (log : LogState) (new_sender new_listener : StationState)
+    (new_log : LogState) : Type 0 where
+  pub is_seen : goes_unseen fate (verdict_by fate setup past channel octets) octets ≡ false
+  pub good_is : good ≡ is_good (verdict_by fate setup past channel octets)
+  pub linked : HasLinked (begins_link channel octets) good sender listener
+      (with_entries (Air side channel octets (mark_of fate) (verdict_by fate setup past channel octets) ∷ []) log)
+      new_sender new_listener new_log
+
+-- ---- a packet of a side
+
+-- the octets of a packet that was good
+abbrev pub heard_of : Bool → Intent → Option (List ℕ)
+heard_of true (Send channel packet) = Some packet.items
+heard_of true (Listen channel) = None
+heard_of true Idle = None
+heard_of false intent = None
+
+-- in a phase: both stations are up to this history and want this, and so many packets were on the air in this turn
+pub record InAir (given : Given) (slot : ℕ) (history : List Event) (side : Side) (sender listener : StationState)
+    (log : LogState) (wanted listens : Intent) (packets : ℕ) : Type 0 where
+  pub stations_are : given.stations ≡ 0 ∷ 1 ∷ []
+  pub keeps_sender : Keeps given (number_of side) history sender
+  pub keeps_listener : Keeps given (number_of (other_side side)) history listener
+  pub writes : Writes history log
+  pub wants_sender : use_wanted wanted ≡ use_at given (number_of side) history
+  pub wants_listener : use_wanted listens ≡ use_at given (number_of (other_side side)) history
+  pub turns_are : turns_begun history ≡ slot + 1
+  pub fates_are : fates_used history ≡ packets
+  pub packets_are : packets_on_air history ≡ packets
+
+-- what a side wanted to transmit was on the air, if it wanted to
+pub record HasFlown (given : Given) (slot : ℕ) (before : List Event) (side : Side) (sender listener : StationState)
+    (log : LogState) (wanted listens : Intent) (packets : ℕ) (good : Bool) (after : List Event) : Type 0 where
+  pub air : InAir given slot after side sender listener log wanted listens packets
+  pub own : packet_received (number_of side) after ≡ packet_received (number_of side) before
+  pub other : packet_received (number_of (other_side side)) before ≡ None
+      → packet_received (number_of (other_side side)) after ≡ heard_of good wanted
+
+-- a phase begins
+pub record InPhase (given : Given) (slot : ℕ) (a b : StationState) (log : LogState) (wanted_a wanted_b : Intent)
+    (packets : ℕ) (history : List Event) : Type 0 where
+  pub air : InAir given slot history A a b log wanted_a wanted_b packets
+  pub received_a : packet_received 0 history ≡ None
+  pub received_b : packet_received 1 history ≡ None

@@ -1,8 +1,8 @@
 -- The definitions that the contracts of this crate cite.
-pub mod Faults
-pub mod History
-pub mod Order
-pub mod Run
-pub mod Pieces
-pub mod Turns
+pub mod KnownLinks
+pub mod Logs
+pub mod Stations
+pub mod Outcomes
 pub mod Air
+pub mod Turns
+pub mod Faults

@@ -1,76 +1,41 @@
--- The state of a run at the end of a turn, and in a phase of one (our choice).
-use Rattle.std.specs.Prelude.{◌≡◌, ℕ, ◌+◌, List, [], ◌++◌, length, take, drop, slice_get, None}
-use Rattle.ble_base.specs.declared.roles.Side.TheVariants.{A, B}
-use Rattle.journal.specs.declared.entries.Entry.{Entry}
-use Rattle.controller.specs.declared.intents.Intent.{Intent}
-use Rattle.controller.specs.Past.{told_by}
-use Rattle.controller.specs.State.{State, acting, rested, Acts}
-use Rattle.pair_world.specs.declared.stops.Stop.{Stop}
-use Rattle.pair_world.specs.declared.stops.Stop.TheVariants.{Unseen as Stopped, Memory}
-use Rattle.pair_world.specs.History.{turns_begun, aired, past_of, told_to, fed_to}
-use Rattle.pair_world.specs.Run.{Given, public_of, feed_total, feeds_at, view_at, flights, flights_from, due, Unseen, AreDue}
+-- A turn of a run, as the code of both stations goes through it (our choice).
+use Rattle.std.specs.Prelude.{◌≡◌, ℕ, ◌+◌, List, [], ◌∷◌, ◌++◌, map, Option}
+use Rattle.radio_replay.specs.Script.{Turn as Plan}
+use Rattle.runs.specs.History.{Event, TurnBegan, turns_begun, packets_on_air, fates_used, packet_received}
+use Rattle.runs.specs.Pair.{plan_of}
+use Rattle.runs.specs.Run.{Given, Plan as TurnPlan, after_feeds}
+use Rattle.pair_world.specs.Logs.{LogState}
+use Rattle.pair_world.specs.Stations.{StationState, Keeps, Writes}
 
--- the history of a run, and what is still to come after it before the next packet: to the hosts, and from them
-pub record Stands (given : Given) (history : List Entry) (told_a told_b : List (List ℕ)) (fed_a fed_b : List ℕ) : Type 0 where
-  pub followed : AreDue given [] history
-  pub lag_a : told_by (public_of A given) (past_of A history) ≡ told_to A history ++ told_a
-  pub lag_b : told_by (public_of B given) (past_of B history) ≡ told_to B history ++ told_b
-  pub left_a : feeds_at given A history ≡ fed_to A history ++ fed_a
-  pub left_b : feeds_at given B history ≡ fed_to B history ++ fed_b
+-- both stations and the log are up to this history, in which so many turns began
+pub record IsUpTo (given : Given) (turns : ℕ) (a b : StationState) (log : LogState)
+    (history : List Event) : Type 0 where
+  pub stations_are : given.stations ≡ 0 ∷ 1 ∷ []
+  pub keeps_a : Keeps given 0 history a
+  pub keeps_b : Keeps given 1 history b
+  pub writes : Writes history log
+  pub turns_are : turns_begun history ≡ turns
 
--- nothing is
-abbrev pub IsQuiet : Given → List Entry → Type 0
-IsQuiet given history = Stands given history [] [] [] []
+-- both are fed, and have still to begin the turn in this slot
+pub record HasFed (given : Given) (slot : ℕ) (a b : StationState) (log : LogState) (history : List Event) : Type 0 where
+  pub is : IsUpTo given (slot + 1) a b log history
+  pub fates_are : fates_used history ≡ 0
+  pub packets_are : packets_on_air history ≡ 0
 
--- what of the streams is still to be fed after this number of turns
-pub record IsFedTo (given : Given) (turns : ℕ) (unfed_a unfed_b : List ℕ) : Type 0 where
-  pub a_is : unfed_a ≡ drop (feed_total A (take turns given.script.turns)) given.a
-  pub b_is : unfed_b ≡ drop (feed_total B (take turns given.script.turns)) given.b
+-- the packets of a phase were on the air, and the stations have still to take what they heard
+pub record HasHeard (given : Given) (slot : ℕ) (a b : StationState) (log : LogState) (packets : ℕ) (at_a at_b : Option
+    (List ℕ)) (history : List Event) : Type 0 where
+  pub is : IsUpTo given (slot + 1) a b log history
+  pub fates_are : fates_used history ≡ packets
+  pub packets_are : packets_on_air history ≡ packets
+  pub heard_a : packet_received 0 history ≡ at_a
+  pub heard_b : packet_received 1 history ≡ at_b
 
--- this number of turns are over
-pub record AtTurnEnd (given : Given) (slot : ℕ) (history : List Entry) (a b : State) (unfed_a unfed_b : List ℕ) : Type 0 where
-  pub quiet : IsQuiet given history
-  pub begun : length (turns_begun history) ≡ slot
-  pub sent : slice_get (flights given history) (aired history) ≡ None
-  pub state_a : a ≡ rested (public_of A given) (past_of A history)
-  pub state_b : b ≡ rested (public_of B given) (past_of B history)
-  pub next_a : (view_at given A history).next ≡ slot
-  pub next_b : (view_at given B history).next ≡ slot
-  pub unfed : IsFedTo given slot unfed_a unfed_b
+-- a turn begins, and all stations are fed
+abbrev pub after_feeding : Given → ℕ → TurnPlan → List Event → List Event
+after_feeding given slot plan history =
+    after_feeds given plan given.stations (history ++ TurnBegan slot (map plan.radio_of given.stations) ∷ [])
 
--- this phase of a turn begins, before which this number of its packets were on the air, and both sides want this
-pub record InPhase (given : Given) (slot phase left packets : ℕ) (history : List Entry) (a b : State) (wanted_a wanted_b : Intent) : Type 0 where
-  pub quiet : IsQuiet given history
-  pub begun : length (turns_begun history) ≡ slot + 1
-  pub packets_are : aired history ≡ packets
-  pub flights_are : drop packets (flights given history) ≡ flights_from given history phase left
-  pub acts_a : Acts phase (public_of A given) (past_of A history) a wanted_a
-  pub acts_b : Acts phase (public_of B given) (past_of B history) b wanted_b
-  pub next_a : (view_at given A history).next ≡ slot + 1
-  pub next_b : (view_at given B history).next ≡ slot + 1
-
--- the phases of the turn in this slot are over
-pub record IsActed (given : Given) (slot : ℕ) (history : List Entry) (a b : State) : Type 0 where
-  pub quiet : IsQuiet given history
-  pub begun : length (turns_begun history) ≡ slot + 1
-  pub sent : slice_get (flights given history) (aired history) ≡ None
-  pub state_a : a ≡ acting 3 (public_of A given) (past_of A history)
-  pub state_b : b ≡ acting 3 (public_of B given) (past_of B history)
-  pub next_a : (view_at given A history).next ≡ slot + 1
-  pub next_b : (view_at given B history).next ≡ slot + 1
-
--- the run ends here
-pub record IsUnseen (given : Given) (slot : ℕ) (history : List Entry) (packet : ℕ) (sent heard : List ℕ) : Type 0 where
-  pub quiet : IsQuiet given history
-  pub begun : length (turns_begun history) ≡ slot + 1
-  pub unseen : due given history ≡ Unseen packet sent heard
-
-abbrev pub HasStopped : Given → ℕ → List Entry → Stop → Type 0
-HasStopped given slot history Memory = Unit {0}
-HasStopped given slot history (Stopped packet sent heard) = IsUnseen given slot history packet sent heard
-
--- all turns are over
-pub record IsAllRun (given : Given) (history : List Entry) : Type 0 where
-  pub quiet : IsQuiet given history
-  pub begun : length (turns_begun history) ≡ length given.script.turns
-  pub sent : slice_get (flights given history) (aired history) ≡ None
+-- the schedule of a run
+abbrev pub HasPlans : Given → List Plan → Type 0
+HasPlans given turns = given.plans ≡ map plan_of turns

@@ -1,203 +1,218 @@
-//! One side of a run: its controller, and the stream of its host.
-ghost use Rattle.std.specs.Prelude.{◌≡◌, ℕ, suc, List, [], ◌∷◌, ◌++◌, take, drop, Some, IfOk, OnOk};
+//! One station of a run: its controller, the links that it knows, and the stream of its host.
+ghost use Rattle.std.specs.Prelude.{◌≡◌, ℕ, ◌+◌, ◌<◌, ◌≤◌, ◌^◌, List, [], ◌∷◌, ◌++◌, length, take, drop, IfOk, OnOk};
 ghost use Rattle.std.specs.Option.{option_copied};
-ghost use Rattle.journal.specs.declared.entries.Entry.TheVariants.{Up};
-ghost use Rattle.controller.specs.Past.{Input, view_of, intent_of, notes_of};
-ghost use Rattle.controller.specs.State.{ready, rested, acting, listened, IsTurn, Acts};
-ghost use Rattle.pair_world.specs.Pieces.{fed, fed_entry, told_after, given_all, note_of, ups, inputs_of, MayHear};
+ghost use Rattle.one_side.specs.Step.{Step, HostOctet, TurnBegins, TurnEnds};
+ghost use Rattle.one_side.specs.Facts.{Setup, setup_of};
+ghost use Rattle.one_side.specs.Heard.{verdict_of};
+ghost use Rattle.one_side.specs.Radio.{use_of};
+ghost use Rattle.one_side.specs.Side.{facts_of};
+ghost use Rattle.controller.specs.Knowing.{Knows, use_wanted};
+ghost use Rattle.runs.specs.History.{Event};
+ghost use Rattle.runs.specs.Run.{Given, after_call, after_octets, after_feed, step_of};
+ghost use Rattle.pair_world.specs.Logs.{entries_noted, known_after, with_entries};
+ghost use Rattle.pair_world.specs.Stations.{number_of, Keeps, Writes, IsAt, Took, IsFirst};
 
-use ble_base::{Note, Outbox, Side, SlotNo};
+use crate::links::{LINKS, LinkNumbers};
+use crate::logs::Log;
+use crate::notes::write_notes;
+use ble_base::{Config, Outbox, Side, SlotNo, Verdict};
 use controller::{Controller, Intent};
-use journal::{Entry, Journal, Octets};
+use journal::Entry;
 use std::alloc::{AllocError, Global};
+use std::marker::Model;
 
-/// Writes down what a note hands to the host of a side.
-fn take_note(
-    alloc: Global,
-    side: Side,
-    note: &Note,
-    journal: &mut Journal,
-) -> Result<(), AllocError>
-    ensures { (packet : List ℕ) → note.now ≡ note_of packet
-        → OnOk result (journal.new ≡ journal.old ++ Up side packet ∷ []) }
-{
-    match note {
-        Note::Up(packet) => journal.push(Entry::Up {
-            side,
-            octets: Octets::copy(alloc, packet.as_slice())?,
-        }),
-        Note::Opened { .. }
-        | Note::Shut { .. }
-        | Note::Sent { .. }
-        | Note::Took { .. }
-        | Note::Enter { .. }
-        | Note::Applied { .. }
-        | Note::Began { .. }
-        | Note::Refused { .. }
-        | Note::Done { .. } => Ok(()),
-    }
-}
+/// How many packets of its host, and how many pieces of data from the air, a controller of a run can
+/// hold.
+const BUFFERS: usize = 8;
 
-/// Writes down what the host of a side is handed, and empties the outbox.
-fn take_notes(
-    alloc: Global,
-    side: Side,
-    out: &mut Outbox,
-    journal: &mut Journal,
-) -> Result<(), AllocError>
-    ensures told { (packets : List (List ℕ)) → out.old.items ≡ notes_of packets
-        → OnOk result (journal.new ≡ journal.old ++ ups side packets) }
-    ensures empty { OnOk result (out.new.items ≡ []) }
-{
-    for note in out.as_slice() {
-        take_note(alloc, side, note, journal)?;
-    }
-    out.clear();
-    Ok(())
-}
-
-/// A side of the run: its controller, and the octets of its host that are not fed yet.
+/// A station of a run.
 #[derive(Drop)]
-pub(crate) struct Station<'a> {
-    pub side: Side,
-    pub controller: Controller,
-    pub unfed: &'a [u8],
+pub(crate) struct Station<'s> {
+    controller: Controller<LINKS, BUFFERS, BUFFERS>,
+    links: LinkNumbers,
+    /// The octets of its host that are not fed yet.
+    unfed: &'s [u8],
 }
 
-impl<'a> Station<'a> {
-    /// A new controller with this public address, and the whole stream of its host.
-    pub(crate) fn new(side: Side, public: [u8; 6], stream: &'a [u8]) -> Self
-        ensures side { result.side ≡ side }
-        ensures state { result.controller ≡ rested public [] }
-        ensures unfed { result.unfed.now ≡ stream.now }
+impl<'s> Model for Station<'s> {
+    ghost use Rattle.pair_world.specs.Stations.{StationState};
+
+    ghost Value = { StationState };
+
+    ghost view = { λ s. record { held = s.controller; links = s.links; unfed = s.unfed.now } };
+}
+
+impl<'s> Station<'s> {
+    /// A station whose controller starts with these settings, with the whole stream of its host. The
+    /// error is out of memory.
+    pub(crate) fn start(alloc: Global, config: Config, stream: &'s [u8]) -> Result<Self, AllocError>
+        requires { 1 ≤ length config.words.items }
+        ensures { IfOk result (IsFirst (setup_of config 3 8 8) stream.now) }
     {
-        Station {
-            side,
-            controller: Controller::new(public),
+        Ok(Station {
+            controller: Controller::start(alloc, config)?,
+            links: LinkNumbers::new(),
             unfed: stream,
-        }
+        })
     }
 
-    /// Takes an octet of the host, and writes down what the host receives.
-    fn take_octet(
+    /// What becomes of octets on the air that reach it.
+    pub(crate) fn judge(&self, octets: &[u8]) -> Verdict
+        ensures { (setup : Setup) (past : List Step) → Knows setup self.now.held past
+            → result ≡ verdict_of setup (facts_of setup past) octets.now }
+    {
+        self.controller.judge(octets)
+    }
+
+    /// Writes what the controller noted, and empties the outbox.
+    pub(crate) fn write_notes(
         &mut self,
-        alloc: Global,
-        octet: u8,
+        side: Side,
         out: &mut Outbox,
-        journal: &mut Journal,
+        log: &mut Log,
     ) -> Result<(), AllocError>
-        requires empty { out.old.items ≡ [] }
-        ensures told { OnOk result ((public : List ℕ) (past : List Input) → self.old.controller ≡ ready public past
-            → journal.new ≡ journal.old ++ ups self.old.side (told_after public past (given_all (octet ∷ [])))) }
-        ensures state { OnOk result ((public : List ℕ) (past : List Input) → self.old.controller ≡ ready public past
-            → self.new.controller ≡ ready public (past ++ given_all (octet ∷ []))) }
-        ensures same { (self.new.side ≡ self.old.side) × (self.new.unfed ≡ self.old.unfed) }
+        ensures log { OnOk result (log.new
+            ≡ with_entries (entries_noted side self.old.links out.old.items) log.old) }
+        ensures links { OnOk result (self.new
+            ≡ record self.old { links = known_after self.old.links out.old.items }) }
         ensures empty { OnOk result (out.new.items ≡ []) }
     {
-        self.controller.host_octet(octet, out);
-        take_notes(alloc, self.side, out, journal)
+        write_notes(side, out, &mut self.links, log)
     }
 
-    /// Takes octets of the host, and writes down what the host receives.
-    fn take_octets(
+    /// The number of a link: the station began it, or received its CONNECT_IND.
+    pub(crate) fn learn_link(&mut self, link: u64)
+        ensures { self.new ≡ record self.old { links = record self.old.links { last = link } } }
+    {
+        self.links.learn(link);
+    }
+
+    /// The controller takes an octet of its host.
+    fn host_octet(&mut self, octet: u8, out: &mut Outbox)
+        requires empty { out.old.items ≡ [] }
+        ensures { (setup : Setup) (past : List Step) → Knows setup self.old.held past
+            → Took setup past (HostOctet octet) self.old self.new out.new.items }
+    {
+        self.controller.host_octet(octet, out);
+    }
+
+    /// Takes an octet of the host, and writes what the controller notes.
+    fn take_octet(
         &mut self,
-        alloc: Global,
-        octets: &[u8],
+        side: Side,
+        octet: u8,
         out: &mut Outbox,
-        journal: &mut Journal,
+        log: &mut Log,
     ) -> Result<(), AllocError>
         requires empty { out.old.items ≡ [] }
-        ensures told { OnOk result ((public : List ℕ) (past : List Input) → self.old.controller ≡ ready public past
-            → journal.new ≡ journal.old ++ ups self.old.side (told_after public past (given_all octets.now))) }
-        ensures state { OnOk result ((public : List ℕ) (past : List Input) → self.old.controller ≡ ready public past
-            → self.new.controller ≡ ready public (past ++ given_all octets.now)) }
-        ensures same { (self.new.side ≡ self.old.side) × (self.new.unfed ≡ self.old.unfed) }
+        ensures at { OnOk result ((given : Given) (history : List Event)
+            → IsAt given (number_of side) history self.old log.old
+            → IsAt given (number_of side) (after_call given (number_of side)
+            (HostOctet octet) history)
+            self.new log.new) }
+        ensures links { OnOk result (log.new.links ≡ log.old.links) }
+        ensures empty { OnOk result (out.new.items ≡ []) }
+    {
+        one_side::notes_name_links_of_the_controller();
+        self.host_octet(octet, out);
+        self.write_notes(side, out, log)
+    }
+
+    /// Takes octets of the host, one by one.
+    fn take_octets(
+        &mut self,
+        side: Side,
+        octets: &[u8],
+        out: &mut Outbox,
+        log: &mut Log,
+    ) -> Result<(), AllocError>
+        requires empty { out.old.items ≡ [] }
+        ensures at { OnOk result ((given : Given) (history : List Event)
+            → IsAt given (number_of side) history self.old log.old
+            → IsAt given (number_of side) (after_octets given (number_of side) octets.now history)
+            self.new log.new) }
+        ensures links { OnOk result (log.new.links ≡ log.old.links) }
         ensures empty { OnOk result (out.new.items ≡ []) }
     {
         for octet in octets {
-            self.take_octet(alloc, *octet, out, journal)?;
+            self.take_octet(side, *octet, out, log)?;
         }
         Ok(())
     }
 
-    /// Feeds octets of the host, and writes down that they were fed and what the host receives.
-    fn feed_octets(
+    /// Takes this many octets off the stream, or as many as are left.
+    fn next_octets(&mut self, count: u32) -> &'s [u8]
+        ensures octets { result.now ≡ take count self.old.unfed }
+        ensures unfed { self.new ≡ record self.old { unfed = drop count self.old.unfed } }
+    {
+        let (octets, unfed) = self.unfed.split_at(self.unfed.len().min(count as usize));
+        self.unfed = unfed;
+        octets
+    }
+
+    /// Feeds this many octets of the host, or as many as are left, and writes what they were and
+    /// what the controller notes.
+    pub(crate) fn feed(
         &mut self,
-        alloc: Global,
-        octets: &[u8],
+        side: Side,
+        count: u32,
         out: &mut Outbox,
-        journal: &mut Journal,
+        log: &mut Log,
     ) -> Result<(), AllocError>
         requires empty { out.old.items ≡ [] }
-        ensures fed { OnOk result ((public : List ℕ) (past : List Input) → self.old.controller ≡ ready public past
-            → journal.new ≡ journal.old ++ fed self.old.side public past octets.now) }
-        ensures state { OnOk result ((public : List ℕ) (past : List Input) → self.old.controller ≡ ready public past
-            → self.new.controller ≡ ready public (past ++ given_all octets.now)) }
-        ensures same { (self.new.side ≡ self.old.side) × (self.new.unfed ≡ self.old.unfed) }
+        ensures at { OnOk result ((given : Given) (history : List Event)
+            → IsAt given (number_of side) history self.old log.old
+            → IsAt given (number_of side) (after_feed given (number_of side)
+            (take count self.old.unfed) history)
+            self.new log.new) }
+        ensures links { OnOk result (log.new.links ≡ log.old.links) }
         ensures empty { OnOk result (out.new.items ≡ []) }
     {
+        let octets = self.next_octets(count);
         if octets.is_empty() {
             return Ok(());
         }
-        journal.push(Entry::Fed {
-            side: self.side,
-            octets: Octets::copy(alloc, octets)?,
+        log.write(Entry::Fed {
+            side,
+            octets: log.copy(octets)?,
         })?;
-        self.take_octets(alloc, octets, out, journal)
+        self.take_octets(side, octets, out, log)
     }
 
-    /// Feeds this number of octets of the stream, or as many as are left, and writes down that they were fed and what
-    /// the host receives.
-    pub(crate) fn feed(
-        &mut self,
-        alloc: Global,
-        count: u32,
-        out: &mut Outbox,
-        journal: &mut Journal,
-    ) -> Result<(), AllocError>
+    /// The controller begins a turn.
+    pub(crate) fn begin(&mut self, slot: SlotNo, radio_on: bool, out: &mut Outbox) -> Intent
+        requires slot { slot.0 < 2 ^ 32 }
         requires empty { out.old.items ≡ [] }
-        ensures fed { OnOk result ((public : List ℕ) (past : List Input) → self.old.controller ≡ ready public past
-            → journal.new ≡ journal.old ++ fed self.old.side public past (take count self.old.unfed.now)) }
-        ensures state { OnOk result ((public : List ℕ) (past : List Input) → self.old.controller ≡ ready public past
-            → self.new.controller ≡ ready public (past ++ given_all (take count self.old.unfed.now))) }
-        ensures unfed { OnOk result (self.new.unfed.now ≡ drop count self.old.unfed.now) }
-        ensures side { self.new.side ≡ self.old.side }
-        ensures empty { OnOk result (out.new.items ≡ []) }
+        ensures took { (setup : Setup) (past : List Step) → Knows setup self.old.held past
+            → Took setup past (TurnBegins slot.0 radio_on) self.old self.new out.new.items }
+        ensures wants { (setup : Setup) (past : List Step) → Knows setup self.old.held past
+            → use_wanted result ≡ use_of setup (facts_of setup
+            (past ++ TurnBegins slot.0 radio_on ∷ [])) }
     {
-        let (now, unfed) = self.unfed.split_at(self.unfed.len().min(count as usize));
-        self.feed_octets(alloc, now, out, journal)?;
-        self.unfed = unfed;
-        Ok(())
+        self.controller.begin_turn(slot, radio_on, out)
     }
 
-    /// Takes what was heard in a phase, if anything was, writes down what the host receives, and gives what the controller
-    /// wants in the next phase.
-    pub(crate) fn listen(
-        &mut self,
-        alloc: Global,
-        packet: Option<&[u8]>,
-        out: &mut Outbox,
-        journal: &mut Journal,
-    ) -> Result<Intent, AllocError>
+    /// The controller takes what was heard in a phase, if anything was.
+    pub(crate) fn listen(&mut self, heard: Option<&[u8]>, out: &mut Outbox) -> Intent
         requires empty { out.old.items ≡ [] }
-        ensures acts { IfOk result (λ intent. (phase : ℕ) (public : List ℕ) (past : List Input)
-            → self.old.controller ≡ acting phase public past
-            → MayHear (option_copied packet.entry) (listened (intent_of phase (view_of public past)))
-            → Acts (suc phase) public (past ++ inputs_of (option_copied packet.entry)) self.new.controller intent) }
-        ensures told { OnOk result ((phase : ℕ) (public : List ℕ) (past : List Input)
-            → self.old.controller ≡ acting phase public past
-            → MayHear (option_copied packet.entry) (listened (intent_of phase (view_of public past)))
-            → journal.new ≡ journal.old ++ ups self.old.side (told_after public past (inputs_of (option_copied packet.entry)))) }
-        ensures same { (self.new.side ≡ self.old.side) × (self.new.unfed ≡ self.old.unfed) }
-        ensures empty { OnOk result (out.new.items ≡ []) }
+        ensures took { (setup : Setup) (past : List Step) → Knows setup self.old.held past
+            → Took setup past (step_of (option_copied heard.entry)) self.old self.new out.new.items }
+        ensures wants { (setup : Setup) (past : List Step) → Knows setup self.old.held past
+            → use_wanted result ≡ use_of setup (facts_of setup (past ++ step_of
+            (option_copied heard.entry) ∷ [])) }
     {
-        match packet {
-            None => Ok(self.controller.unheard()),
-            Some(octets) => {
-                let intent = self.controller.heard(octets, out);
-                take_notes(alloc, self.side, out, journal)?;
-                Ok(intent)
-            }
+        match heard {
+            None => self.controller.unheard(out),
+            Some(octets) => self.controller.heard(octets, out),
         }
+    }
+
+    /// The controller ends the turn.
+    pub(crate) fn end(&mut self, out: &mut Outbox)
+        requires empty { out.old.items ≡ [] }
+        ensures { (setup : Setup) (past : List Step) → Knows setup self.old.held past
+            → Took setup past TurnEnds self.old self.new out.new.items }
+    {
+        self.controller.end_turn(out);
     }
 }

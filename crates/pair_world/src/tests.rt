@@ -1,8 +1,5 @@
 //! Runs that were worked out by hand.
-use crate::{
-    RunFault, a_host_is_answered_in_order, a_run_has_one_journal, a_turn_sends_all_that_is_due,
-    an_unseen_packet_is_due, each_packet_on_the_air_is_due, run_pair,
-};
+use crate::{RunFault, run_pair};
 use journal::{Journal, write_lines};
 use radio_replay::Schedule;
 use std::alloc::{AllocError, Global};
@@ -63,10 +60,6 @@ fn run(alloc: Global, turns: &str) -> Result<Result<Journal, RunFault>, Fail> {
 #[test]
 fn an_advertisement_is_heard_or_not(rt: HostRuntime) -> Result<(), Fail> {
     let alloc = rt.alloc();
-    a_host_is_answered_in_order();
-    a_run_has_one_journal();
-    each_packet_on_the_air_is_due();
-    a_turn_sends_all_that_is_due();
     let rows = [
         (
             "t ++ a24 b18\n",
@@ -92,7 +85,6 @@ fn an_advertisement_is_heard_or_not(rt: HostRuntime) -> Result<(), Fail> {
 #[test]
 fn damage_that_fits_the_crc_ends_the_run(rt: HostRuntime) -> Result<(), Fail> {
     let alloc = rt.alloc();
-    an_unseen_packet_is_due();
     let Err(
         RunFault::Unseen {
             turn,

@@ -1,165 +1,147 @@
 //! One turn of a run.
-ghost use Rattle.std.specs.Prelude.{◌≡◌, ℕ, suc, ◌+◌, ◌*◌, ◌^◌, ◌<◌, ◌≤◌, [], length, slice_get, Some, OnOk, IfOk, IfErr};
-ghost use Rattle.ble_base.specs.declared.roles.Side.TheVariants.{A, B};
+ghost use Rattle.std.specs.Prelude.{◌≡◌, ℕ, ◌+◌, ◌^◌, ◌<◌, ◌≤◌, List, [], length, slice_get, Some, OnOk, IfErr};
 ghost use Rattle.radio_replay.specs.Script.{Turn as Plan};
-ghost use Rattle.pair_world.specs.Run.{Given};
-ghost use Rattle.pair_world.specs.Turns.{AtTurnEnd, InPhase, IsActed, IsFedTo, HasStopped};
+ghost use Rattle.runs.specs.History.{Event};
+ghost use Rattle.runs.specs.Pair.{plan_of};
+ghost use Rattle.runs.specs.Run.{Given, after_begins, after_ends, after_opening, after_turn};
+ghost use Rattle.pair_world.specs.Air.{InPhase};
+ghost use Rattle.pair_world.specs.Outcomes.{Reaches, IsStopped};
+ghost use Rattle.pair_world.specs.Turns.{HasFed, IsUpTo, after_feeding};
 
-use crate::flights::{Turn, fly, heard_of};
-use crate::stations::Station;
+use crate::air::Turn;
+use crate::logs::Log;
+use crate::phases::{Pair, Wanted, run_phases};
 use crate::stops::Stop;
 use ble_base::{Outbox, Side, SlotNo};
-use controller::Intent;
-use journal::{Entry, Journal};
+use journal::Entry;
 use radio_replay::Schedule;
-use std::alloc::{AllocError, Global};
+use std::alloc::AllocError;
 
-/// What both sides want in a phase.
-#[derive(Drop)]
-pub(crate) struct Wanted {
-    a: Intent,
-    b: Intent,
-}
-
-/// Both sides of a run.
-#[derive(Drop)]
-pub(crate) struct Pair<'s> {
-    pub a: Station<'s>,
-    pub b: Station<'s>,
-}
-
-/// A phase: what both want to send goes on the air, and both take what they hear.
-fn run_phase(
-    alloc: Global,
-    turn: &mut Turn<'_>,
-    wanted: &Wanted,
-    pair: &mut Pair<'_>,
-    out: &mut Outbox,
-    journal: &mut Journal,
-) -> Result<Wanted, Stop>
-    requires few { turn.old.packets + 2 < 2 ^ 32 }
-    requires turn { turn.old.number < length turn.old.schedule.now.turns }
-    requires empty { out.old.items ≡ [] }
-    requires sides { (pair.old.a.side ≡ A) × (pair.old.b.side ≡ B) }
-    ensures ok { IfOk result (λ next. (given : Given) (phase left : ℕ) → given.script.turns ≡ turn.old.schedule.now.turns
-        → InPhase given turn.old.number phase (suc left) turn.old.packets journal.old pair.old.a.controller pair.old.b.controller
-        wanted.now.a wanted.now.b
-        → InPhase given turn.old.number (suc phase) left turn.new.packets journal.new pair.new.a.controller pair.new.b.controller
-        next.a next.b) }
-    ensures err { IfErr result (λ stop. (given : Given) (phase left : ℕ) → given.script.turns ≡ turn.old.schedule.now.turns
-        → InPhase given turn.old.number phase (suc left) turn.old.packets journal.old pair.old.a.controller pair.old.b.controller
-        wanted.now.a wanted.now.b
-        → HasStopped given turn.old.number journal.new stop) }
-    ensures count { OnOk result (turn.new.packets ≤ turn.old.packets + 2) }
-    ensures same_turn { (turn.new.schedule ≡ turn.old.schedule) × (turn.new.number ≡ turn.old.number) }
-    ensures same_a { (pair.new.a.side ≡ pair.old.a.side) × (pair.new.a.unfed ≡ pair.old.a.unfed) }
-    ensures same_b { (pair.new.b.side ≡ pair.old.b.side) × (pair.new.b.unfed ≡ pair.old.b.unfed) }
-    ensures empty { OnOk result (out.new.items ≡ []) }
-{
-    let good_at_b = fly(alloc, turn, Side::A, &wanted.a, &pair.b, &wanted.b, journal)?;
-    let good_at_a = fly(alloc, turn, Side::B, &wanted.b, &pair.a, &wanted.a, journal)?;
-    let a = pair
-        .a
-        .listen(alloc, heard_of(good_at_a, &wanted.b), out, journal)?;
-    let b = pair
-        .b
-        .listen(alloc, heard_of(good_at_b, &wanted.a), out, journal)?;
-    Ok(Wanted { a, b })
-}
-
-/// The three phases of a turn.
-fn run_phases(
-    alloc: Global,
-    turn: &mut Turn<'_>,
-    first: Wanted,
-    pair: &mut Pair<'_>,
-    out: &mut Outbox,
-    journal: &mut Journal,
-) -> Result<(), Stop>
-    requires none { turn.old.packets ≡ 0 }
-    requires turn { turn.old.number < length turn.old.schedule.now.turns }
-    requires empty { out.old.items ≡ [] }
-    requires sides { (pair.old.a.side ≡ A) × (pair.old.b.side ≡ B) }
-    ensures ok { OnOk result ((given : Given) → given.script.turns ≡ turn.old.schedule.now.turns
-        → InPhase given turn.old.number 0 3 0 journal.old pair.old.a.controller pair.old.b.controller first.a first.b
-        → IsActed given turn.old.number journal.new pair.new.a.controller pair.new.b.controller) }
-    ensures err { IfErr result (λ stop. (given : Given) → given.script.turns ≡ turn.old.schedule.now.turns
-        → InPhase given turn.old.number 0 3 0 journal.old pair.old.a.controller pair.old.b.controller first.a first.b
-        → HasStopped given turn.old.number journal.new stop) }
-    ensures same_a { (pair.new.a.side ≡ pair.old.a.side) × (pair.new.a.unfed ≡ pair.old.a.unfed) }
-    ensures same_b { (pair.new.b.side ≡ pair.old.b.side) × (pair.new.b.unfed ≡ pair.old.b.unfed) }
-    ensures empty { OnOk result (out.new.items ≡ []) }
-{
-    let second = run_phase(alloc, turn, &first, pair, out, journal)?;
-    let third = run_phase(alloc, turn, &second, pair, out, journal)?;
-    run_phase(alloc, turn, &third, pair, out, journal)?;
-    Ok(())
-}
-
-/// Begins a turn: both hosts' octets are fed, and both sides say what they want in the first phase.
-fn open_turn(
-    alloc: Global,
+/// Writes that a turn begins, and feeds both stations what their hosts send in it.
+fn feed_both(
     schedule: &Schedule,
     number: u32,
     pair: &mut Pair<'_>,
     out: &mut Outbox,
-    journal: &mut Journal,
-) -> Result<Wanted, AllocError>
+    log: &mut Log,
+) -> Result<(), AllocError>
     requires turn { number < length schedule.now.turns }
     requires empty { out.old.items ≡ [] }
-    requires sides { (pair.old.a.side ≡ A) × (pair.old.b.side ≡ B) }
-    ensures ok { IfOk result (λ wanted. (given : Given) → given.script.turns ≡ schedule.now.turns
-        → AtTurnEnd given number journal.old pair.old.a.controller pair.old.b.controller pair.old.a.unfed.now pair.old.b.unfed.now
-        → InPhase given number 0 3 0 journal.new pair.new.a.controller pair.new.b.controller wanted.a wanted.b) }
-    ensures unfed { OnOk result ((given : Given) → given.script.turns ≡ schedule.now.turns
-        → AtTurnEnd given number journal.old pair.old.a.controller pair.old.b.controller pair.old.a.unfed.now pair.old.b.unfed.now
-        → IsFedTo given (number + 1) pair.new.a.unfed.now pair.new.b.unfed.now) }
-    ensures sides { OnOk result ((pair.new.a.side ≡ A) × (pair.new.b.side ≡ B)) }
+    ensures ok { OnOk result ((given : Given) (plan : Plan) (history : List Event)
+        → slice_get schedule.now.turns number ≡ Some plan
+        → IsUpTo given number pair.old.a pair.old.b log.old history
+        → HasFed given number pair.new.a pair.new.b log.new (after_feeding given number
+        (plan_of plan) history)) }
+    ensures links { OnOk result (log.new.links ≡ log.old.links) }
     ensures empty { OnOk result (out.new.items ≡ []) }
 {
-    let (a_on, b_on) = (schedule.a_on(number), schedule.b_on(number));
-    journal.push(Entry::Turn {
+    log.write(Entry::Turn {
         slot: u64::from(number),
-        a_on,
-        b_on: Some(b_on),
+        a_on: schedule.a_on(number),
+        b_on: Some(schedule.b_on(number)),
     })?;
-    pair.a.feed(alloc, schedule.feed_a(number), out, journal)?;
-    pair.b.feed(alloc, schedule.feed_b(number), out, journal)?;
+    pair.a.feed(Side::A, schedule.feed_a(number), out, log)?;
+    pair.b.feed(Side::B, schedule.feed_b(number), out, log)
+}
+
+/// Both controllers begin the turn, and want something in its first phase.
+fn begin_both(
+    schedule: &Schedule,
+    number: u32,
+    wanted: &mut Wanted,
+    pair: &mut Pair<'_>,
+    out: &mut Outbox,
+    log: &mut Log,
+) -> Result<(), AllocError>
+    requires turn { number < length schedule.now.turns }
+    requires empty { out.old.items ≡ [] }
+    ensures ok { OnOk result ((given : Given) (plan : Plan) (history : List Event)
+        → slice_get schedule.now.turns number ≡ Some plan
+        → HasFed given number pair.old.a pair.old.b log.old history
+        → InPhase given number pair.new.a pair.new.b log.new wanted.new.a wanted.new.b 0
+        (after_begins given number (plan_of plan) given.stations history)) }
+    ensures links { OnOk result (log.new.links ≡ log.old.links) }
+    ensures empty { OnOk result (out.new.items ≡ []) }
+{
     let slot = SlotNo(u64::from(number));
-    let a = pair.a.controller.begin_turn(slot, a_on);
-    let b = pair.b.controller.begin_turn(slot, b_on);
-    Ok(Wanted { a, b })
+    one_side::notes_name_links_of_the_controller();
+    wanted.a = pair.a.begin(slot, schedule.a_on(number), out);
+    pair.a.write_notes(Side::A, out, log)?;
+    wanted.b = pair.b.begin(slot, schedule.b_on(number), out);
+    pair.b.write_notes(Side::B, out, log)
+}
+
+/// Opens a turn: both stations are fed, and then both begin it.
+fn open_turn(
+    schedule: &Schedule,
+    number: u32,
+    wanted: &mut Wanted,
+    pair: &mut Pair<'_>,
+    out: &mut Outbox,
+    log: &mut Log,
+) -> Result<(), AllocError>
+    requires turn { number < length schedule.now.turns }
+    requires empty { out.old.items ≡ [] }
+    ensures ok { OnOk result ((given : Given) (plan : Plan) (history : List Event)
+        → slice_get schedule.now.turns number ≡ Some plan
+        → IsUpTo given number pair.old.a pair.old.b log.old history
+        → InPhase given number pair.new.a pair.new.b log.new wanted.new.a wanted.new.b 0
+        (after_opening given number (plan_of plan) history)) }
+    ensures links { OnOk result (log.new.links ≡ log.old.links) }
+    ensures empty { OnOk result (out.new.items ≡ []) }
+{
+    feed_both(schedule, number, pair, out, log)?;
+    begin_both(schedule, number, wanted, pair, out, log)
+}
+
+/// Both controllers end the turn.
+fn end_both(pair: &mut Pair<'_>, out: &mut Outbox, log: &mut Log) -> Result<(), AllocError>
+    requires empty { out.old.items ≡ [] }
+    ensures ok { OnOk result ((given : Given) (turns : ℕ) (history : List Event)
+        → IsUpTo given turns pair.old.a pair.old.b log.old history
+        → IsUpTo given turns pair.new.a pair.new.b log.new
+        (after_ends given given.stations history)) }
+    ensures links { OnOk result (log.new.links ≡ log.old.links) }
+    ensures empty { OnOk result (out.new.items ≡ []) }
+{
+    one_side::notes_name_links_of_the_controller();
+    pair.a.end(out);
+    pair.a.write_notes(Side::A, out, log)?;
+    pair.b.end(out);
+    pair.b.write_notes(Side::B, out, log)
 }
 
 /// Runs a turn.
 pub(crate) fn run_turn(
-    alloc: Global,
     schedule: &Schedule,
     number: u32,
+    wanted: &mut Wanted,
     pair: &mut Pair<'_>,
     out: &mut Outbox,
-    journal: &mut Journal,
+    log: &mut Log,
 ) -> Result<(), Stop>
     requires turn { number < length schedule.now.turns }
+    requires links { log.old.links + 6 < 2 ^ 64 }
     requires empty { out.old.items ≡ [] }
-    requires sides { (pair.old.a.side ≡ A) × (pair.old.b.side ≡ B) }
-    ensures ok { OnOk result ((given : Given) → given.script.turns ≡ schedule.now.turns
-        → AtTurnEnd given number journal.old pair.old.a.controller pair.old.b.controller pair.old.a.unfed.now pair.old.b.unfed.now
-        → AtTurnEnd given (number + 1) journal.new pair.new.a.controller pair.new.b.controller pair.new.a.unfed.now pair.new.b.unfed.now) }
-    ensures err { IfErr result (λ stop. (given : Given) → given.script.turns ≡ schedule.now.turns
-        → AtTurnEnd given number journal.old pair.old.a.controller pair.old.b.controller pair.old.a.unfed.now pair.old.b.unfed.now
-        → HasStopped given number journal.new stop) }
-    ensures sides { OnOk result ((pair.new.a.side ≡ A) × (pair.new.b.side ≡ B)) }
+    ensures ok { OnOk result ((given : Given) (plan : Plan) (history : List Event)
+        → slice_get schedule.now.turns number ≡ Some plan
+        → IsUpTo given number pair.old.a pair.old.b log.old history
+        → Reaches (after_turn given number (plan_of plan) history)
+        (IsUpTo given (number + 1) pair.new.a pair.new.b log.new)) }
+    ensures err { IfErr result (λ stop. (given : Given) (plan : Plan) (history : List Event)
+        → slice_get schedule.now.turns number ≡ Some plan
+        → IsUpTo given number pair.old.a pair.old.b log.old history
+        → IsStopped (after_turn given number (plan_of plan) history) number log.new.entries stop) }
+    ensures links { OnOk result (log.new.links ≤ log.old.links + 6) }
     ensures empty { OnOk result (out.new.items ≡ []) }
 {
-    let wanted = open_turn(alloc, schedule, number, pair, out, journal)?;
+    open_turn(schedule, number, wanted, pair, out, log)?;
     let mut turn = Turn {
         schedule,
         number,
         packets: 0,
     };
-    run_phases(alloc, &mut turn, wanted, pair, out, journal)?;
-    pair.a.controller.end_turn();
-    pair.b.controller.end_turn();
+    run_phases(&mut turn, wanted, pair, out, log)?;
+    end_both(pair, out, log)?;
     Ok(())
 }

@@ -1,18 +1,17 @@
 -- Proof of `stations::Station::take_octet`.
-use Rattle.std.proofs.Common.{◌≡◌, ◌++◌, [], ◌∷◌, sym, ap, ◌∙◌}
-use Rattle.controller.specs.Past.{Given, tells, view_of}
-use Rattle.controller.specs.State.{ready}
-use Rattle.pair_world.specs.Pieces.{ups, told_after}
-use Rattle.pair_world.proofs.Outcomes.{on_ok_more, on_ok_past}
-use Rattle.pair_world.proofs.Pasts.{told_after-one}
+use Rattle.one_side.specs.Step.{HostOctet}
+use Rattle.runs.specs.Run.{setup_at}
+use Rattle.runs.specs.History.{past_of}
+use Rattle.pair_world.specs.Stations.{number_of}
+use Rattle.pair_world.proofs.Keeping.{called}
+use Rattle.pair_world.proofs.Outcomes.{on_ok_two}
 use Rattle.pair_world.proofs.stations.Station.take_octet.Goals as goal
 
-pub returns-clause-told : goal.returns-clause-told
-returns-clause-told c =
-    on_ok_past c.take_notes.result (λ public past. c.args.self.now.controller ≡ ready public past)
-    (λ public past. c.take_notes.new.journal ≡ c.args.journal.now ++ ups c.args.self.now.side (told_after public past (Given c.args.octet ∷ [])))
-    (λ public past is.
-    on_ok_more c.take_notes.result (c.take_notes.new.journal ≡ c.args.journal.now ++ ups c.args.self.now.side (tells (view_of public past) (Given c.args.octet)))
-    (c.take_notes.new.journal ≡ c.args.journal.now ++ ups c.args.self.now.side (told_after public past (Given c.args.octet ∷ [])))
-    (λ told. told ∙ ap (λ packets. c.args.journal.now ++ ups c.args.self.now.side packets) (sym (told_after-one public past (Given c.args.octet))))
-    (c.take_notes.ensures.told (tells (view_of public past) (Given c.args.octet)) (rw c.requires.empty at c.host_octet.ensures.notes public past is)))
+pub returns-clause-at : goal.returns-clause-at
+returns-clause-at c =
+    let side = c.args.side in
+    on_ok_two c.write_notes.result _ _ _ (λ log_is written_is given history at.
+    called c.notes_name_links_of_the_controller.ensures.handles given side (HostOctet c.args.octet) history c.args.self.now c.host_octet.new.self
+    c.write_notes.new.self c.args.log.now c.write_notes.new.log c.host_octet.new.out.items at
+    (c.host_octet.ensures (setup_at given (number_of side)) (past_of (number_of side) history) at.keeps.knows) log_is written_is)
+    c.write_notes.ensures.log c.write_notes.ensures.links

@@ -1,33 +1,30 @@
 -- Proof of `stations::Station::take_octets`.
-use Rattle.std.proofs.Common.{◌++◌, [], ◌∷◌, take, get_or, refl, sym, ap, ◌∙◌, append-nil, append_assoc}
-use Rattle.controller.specs.State.{ready}
-use Rattle.pair_world.specs.Pieces.{given_all}
-use Rattle.pair_world.proofs.Feeding.{given_more, told_more, told_nothing}
+use Rattle.std.proofs.Common.{◌++◌, [], ◌∷◌, take, get_or, List, ℕ, subst, sym, ap, ◌∙◌, arith}
+use Rattle.std.proofs.lemmas.List.{take_more}
+use Rattle.runs.specs.History.{Event}
+use Rattle.runs.specs.Run.{after_octets}
+use Rattle.pair_world.specs.Stations.{IsAt, number_of}
+use Rattle.pair_world.proofs.Feeding.{octets_one_more, take_whole}
 use Rattle.pair_world.proofs.stations.Station.take_octets.Goals as goal
-
-pub loop-octet-init : goal.loop-octet-init
-loop-octet-init c = record {
-  side = refl;
-  unfed = refl;
-  empty = c.requires.empty;
-  past = λ public past is. record { state = rw append-nil is; told = told_nothing c.args.self.now.side public past c.args.journal.now };
-}
 
 pub loop-octet-preserved : goal.loop-octet-preserved
 loop-octet-preserved c =
     let place = c.loop-octet.octet-index in
     let octets = c.args.octets.now in
+    let station = number_of c.args.side in
     let at = c.loop-octet.invariant in record {
-      side = c.take_octet.ensures.same.0 ∙ at.side;
-      unfed = c.take_octet.ensures.same.1 ∙ at.unfed;
       empty = c.in_ok-take_octet.ensures.empty;
-      past = λ public past is.
-          let so_far = at.past public past is in
-          let front = past ++ given_all (take place octets) in record {
-            state = c.in_ok-take_octet.ensures.state public front so_far.state
-                ∙ ap (ready public) (append_assoc past (given_all (take place octets)) (given_all (get_or octets place 0 ∷ []))
-                ∙ ap (λ xs. past ++ xs) (sym (given_more octets place c.loop-octet-test.true)));
-            told = told_more c.args.self.now.side public past octets place c.args.journal.now c.loop-octet.journal c.take_octet.new.journal
-                c.loop-octet-test.true so_far.told (rw at.side at c.in_ok-take_octet.ensures.told public front so_far.state);
-          };
+      links = c.in_ok-take_octet.ensures.links ∙ at.links;
+      at = λ given history before.
+          subst (λ (after : List Event). IsAt given station after c.take_octet.new.self c.take_octet.new.log)
+          (sym (ap (λ (octets : List ℕ). after_octets given station octets history) (take_more octets place 0 c.loop-octet-test.true)
+          ∙ octets_one_more given station (take place octets) (get_or octets place 0) history))
+          (c.in_ok-take_octet.ensures.at given (after_octets given station (take place octets) history) (at.at given history before));
     }
+
+pub returns-clause-at : goal.returns-clause-at
+returns-clause-at c = λ given history before.
+    let station = number_of c.args.side in
+    subst (λ (octets : List ℕ). IsAt given station (after_octets given station octets history) c.loop-octet.self c.loop-octet.log)
+    (take_whole c.loop-octet.octet-index c.args.octets.now (omega (arith, c.loop-octet-test.false)))
+    (c.loop-octet.invariant.at given history before)

@@ -1,18 +1,14 @@
 -- Invariants of `stations::Station::take_octets`.
-use Rattle.std.proofs.Common.{◌≡◌, ℕ, List, [], ◌++◌, take}
-use Rattle.controller.specs.Past.{Input}
-use Rattle.controller.specs.State.{ready}
-use Rattle.pair_world.specs.Pieces.{given_all, told_after, ups}
+use Rattle.std.proofs.Common.{◌≡◌, List, [], take}
+use Rattle.runs.specs.History.{Event}
+use Rattle.runs.specs.Run.{Given, after_octets}
+use Rattle.pair_world.specs.Stations.{IsAt, number_of}
 use Rattle.pair_world.proofs.stations.Station.take_octets.Given as goal
 
 abbrev pub invariant-loop-octet : goal.invariant-loop-octet
 invariant-loop-octet l = record {
-  side : l.self.side ≡ l.fn.self.side;
-  unfed : l.self.unfed ≡ l.fn.self.unfed;
   empty : l.out.items ≡ [];
-  past : (public : List ℕ) (past : List Input) → l.fn.self.controller ≡ ready public past
-      → record {
-        state : l.self.controller ≡ ready public (past ++ given_all (take l.octet-index l.octets));
-        told : l.journal ≡ l.fn.journal ++ ups l.fn.self.side (told_after public past (given_all (take l.octet-index l.octets)));
-      };
+  links : l.log.links ≡ l.fn.log.links;
+  at : (given : Given) (history : List Event) → IsAt given (number_of l.fn.side) history l.fn.self l.fn.log
+      → IsAt given (number_of l.fn.side) (after_octets given (number_of l.fn.side) (take l.octet-index l.octets) history) l.self l.log;
 }

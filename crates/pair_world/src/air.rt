@@ -1,0 +1,273 @@
+//! Packets on the air.
+ghost use Rattle.std.specs.Prelude.{◌≡◌, ℕ, ◌+◌, ◌^◌, ◌<◌, ◌≤◌, false, List, [], ◌∷◌, length, slice_get, IfOk, IfErr, OnOk, OnErr, Some};
+ghost use Rattle.std.specs.Option.{option_copied};
+ghost use Rattle.radio_replay.specs.Script.{Turn as Plan};
+ghost use Rattle.radio_replay.specs.Script.{fate_of};
+ghost use Rattle.radio_replay.specs.declared.fates.Fate.TheVariants.{Pass};
+ghost use Rattle.radio_replay.specs.Damage.{damaged_packet};
+ghost use Rattle.one_side.specs.Facts.{Setup};
+ghost use Rattle.one_side.specs.Step.{Step};
+ghost use Rattle.one_side.specs.Side.{facts_of};
+ghost use Rattle.one_side.specs.Radio.{use_of};
+ghost use Rattle.controller.specs.Knowing.{Knows, use_wanted};
+ghost use Rattle.runs.specs.History.{Event, is_good};
+ghost use Rattle.runs.specs.Journal.{mark_of};
+ghost use Rattle.runs.specs.Links.{begins_link};
+ghost use Rattle.runs.specs.Run.{Given, after_packet, is_lost};
+ghost use Rattle.pair_world.specs.Air.{InAir, HasFlown, HasLinked, IsReceived, IsSent, IsUnseenOr, heard_of, verdict_by};
+ghost use Rattle.pair_world.specs.Logs.{with_entries};
+ghost use Rattle.pair_world.specs.Outcomes.{Reaches, IsStopped};
+ghost use Rattle.pair_world.specs.Stations.{number_of};
+
+use crate::connect_inds::begins_link;
+use crate::logs::Log;
+use crate::stations::Station;
+use crate::stops::Stop;
+use arrayvec::ArrayVec;
+use ble_base::{Side, Verdict};
+use controller::Intent;
+use journal::{Entry, Mark};
+use radio_replay::{Fate, Schedule};
+use std::alloc::AllocError;
+
+/// A turn of the schedule that is under way.
+#[derive(Clone, Copy)]
+pub(crate) struct Turn<'s> {
+    pub schedule: &'s Schedule,
+    pub number: u32,
+    /// How many packets were on the air in it.
+    pub packets: u32,
+}
+
+/// A fate as the journal has it.
+fn mark(fate: &Fate, log: &Log) -> Result<Mark, AllocError>
+    ensures { IfOk result (λ mark. mark ≡ mark_of fate.now) }
+{
+    match fate {
+        Fate::Pass => Ok(Mark::Pass),
+        Fate::Lost => Ok(Mark::Lost),
+        Fate::Damage { at, pattern } => Ok(Mark::Damage {
+            at: *at,
+            pattern: log.copy(pattern.as_slice())?,
+        }),
+    }
+}
+
+/// Whether the packet is received.
+fn is_good(verdict: Verdict) -> bool
+    ensures { result ≡ is_good verdict }
+{
+    matches!(verdict, Verdict::Good)
+}
+
+/// The verdict of a station on octets that reach it on a channel: missed where it does not listen
+/// there.
+fn judge(listener: &Station<'_>, listens: &Intent, channel: u8, octets: &[u8]) -> Verdict
+    ensures { (setup : Setup) (past : List Step) → Knows setup listener.now.held past
+        → use_wanted listens.now ≡ use_of setup (facts_of setup past)
+        → result ≡ verdict_by Pass setup past channel octets.now }
+{
+    match listens {
+        Intent::Listen { channel: on } if *on == channel => listener.judge(octets),
+        _ => Verdict::Missed,
+    }
+}
+
+/// The verdict of a station on a damaged packet that reaches it. The error is out of memory, or that
+/// the damage goes unseen.
+fn receive_damaged(
+    turn: &Turn<'_>,
+    fate: &Fate,
+    channel: u8,
+    octets: &[u8],
+    listens: &Intent,
+    listener: &Station<'_>,
+    log: &Log,
+) -> Result<Verdict, Stop>
+    requires few { turn.now.packets + 1 < 2 ^ 32 }
+    requires fits { length octets.now ≤ 264 }
+    requires reaches { is_lost fate.now ≡ false }
+    ensures ok { IfOk result (λ verdict. (setup : Setup) (past : List Step)
+        → Knows setup listener.now.held past
+        → use_wanted listens.now ≡ use_of setup (facts_of setup past)
+        → IsReceived fate.now setup past channel octets.now verdict) }
+    ensures err { IfErr result (λ stop. (setup : Setup) (past : List Step)
+        → Knows setup listener.now.held past
+        → use_wanted listens.now ≡ use_of setup (facts_of setup past)
+        → IsUnseenOr fate.now setup past channel octets.now (turn.now.packets + 1) stop) }
+{
+    let mut heard = ArrayVec::<u8, 264>::new();
+    let _ = heard.try_extend_from_slice(octets);
+    fate.damage_packet(heard.as_mut_slice());
+    let verdict = judge(listener, listens, channel, heard.as_slice());
+    if is_good(verdict) && heard.as_slice() != octets {
+        return Err(Stop::Unseen {
+            packet: turn.packets + 1,
+            sent: log.copy(octets)?,
+            heard: log.copy(heard.as_slice())?,
+        });
+    }
+    Ok(verdict)
+}
+
+/// The verdict of a station on a packet with this fate. The error is out of memory, or that damage
+/// goes unseen.
+fn receive(
+    turn: &Turn<'_>,
+    fate: &Fate,
+    channel: u8,
+    octets: &[u8],
+    listens: &Intent,
+    listener: &Station<'_>,
+    log: &Log,
+) -> Result<Verdict, Stop>
+    requires few { turn.now.packets + 1 < 2 ^ 32 }
+    requires fits { length octets.now ≤ 264 }
+    ensures ok { IfOk result (λ verdict. (setup : Setup) (past : List Step)
+        → Knows setup listener.now.held past
+        → use_wanted listens.now ≡ use_of setup (facts_of setup past)
+        → IsReceived fate.now setup past channel octets.now verdict) }
+    ensures err { IfErr result (λ stop. (setup : Setup) (past : List Step)
+        → Knows setup listener.now.held past
+        → use_wanted listens.now ≡ use_of setup (facts_of setup past)
+        → IsUnseenOr fate.now setup past channel octets.now (turn.now.packets + 1) stop) }
+{
+    match fate {
+        Fate::Pass => Ok(judge(listener, listens, channel, octets)),
+        Fate::Lost => Ok(Verdict::Missed),
+        Fate::Damage { .. } => {
+            receive_damaged(turn, fate, channel, octets, listens, listener, log)
+        }
+    }
+}
+
+/// Numbers the link that a packet begins, if it begins one.
+fn number_link(
+    channel: u8,
+    octets: &[u8],
+    good: bool,
+    sender: &mut Station<'_>,
+    listener: &mut Station<'_>,
+    log: &mut Log,
+)
+    requires links { log.old.links + 1 < 2 ^ 64 }
+    ensures linked { channel < 40 → HasLinked
+        (begins_link channel octets.now) good sender.old listener.old log.old
+        sender.new listener.new log.new }
+    ensures count { log.new.links ≤ log.old.links + 1 }
+{
+    if !begins_link(channel, octets) {
+        return;
+    }
+    let link = log.begin_link();
+    sender.learn_link(link);
+    if good {
+        listener.learn_link(link);
+    }
+}
+
+/// Transmits a packet, writes what becomes of it, and says whether the other station received it.
+fn send(
+    turn: &mut Turn<'_>,
+    side: Side,
+    channel: u8,
+    octets: &[u8],
+    listens: &Intent,
+    sender: &mut Station<'_>,
+    listener: &mut Station<'_>,
+    log: &mut Log,
+) -> Result<bool, Stop>
+    requires few { turn.old.packets + 1 < 2 ^ 32 }
+    requires turn { turn.old.number < length turn.old.schedule.now.turns }
+    requires links { log.old.links + 1 < 2 ^ 64 }
+    requires fits { length octets.now ≤ 264 }
+    ensures ok { IfOk result (λ good. (plan : Plan) (setup : Setup) (past : List Step)
+        → slice_get turn.old.schedule.now.turns turn.old.number ≡ Some plan
+        → Knows setup listener.old.held past → use_wanted listens.now
+        ≡ use_of setup (facts_of setup past)
+        → channel < 40
+        → IsSent (fate_of plan turn.old.packets) side setup past channel octets.now good
+        sender.old listener.old log.old sender.new listener.new log.new) }
+    ensures err { IfErr result (λ stop. (plan : Plan) (setup : Setup) (past : List Step)
+        → slice_get turn.old.schedule.now.turns turn.old.number ≡ Some plan
+        → Knows setup listener.old.held past → use_wanted listens.now
+        ≡ use_of setup (facts_of setup past)
+        → IsUnseenOr (fate_of plan turn.old.packets) setup past channel octets.now
+        (turn.old.packets + 1) stop) }
+    ensures same { OnErr result (log.new.entries ≡ log.old.entries) }
+    ensures links { log.new.links ≤ log.old.links + 1 }
+    ensures count { OnOk result (turn.new.packets ≡ turn.old.packets + 1) }
+    ensures same_turn { (turn.new.schedule ≡ turn.old.schedule) × (turn.new.number
+        ≡ turn.old.number) }
+{
+    let fate = turn.schedule.fate(turn.number, turn.packets);
+    let verdict = receive(turn, &fate, channel, octets, listens, listener, log)?;
+    let entry = Entry::Air {
+        side,
+        channel,
+        octets: log.copy(octets)?,
+        fate: mark(&fate, log)?,
+        verdict,
+    };
+    log.write(entry)?;
+    turn.packets += 1;
+    let good = is_good(verdict);
+    number_link(channel, octets, good, sender, listener, log);
+    Ok(good)
+}
+
+/// Transmits what a side wants to, if it wants to, and says whether the other side received it.
+pub(crate) fn fly(
+    turn: &mut Turn<'_>,
+    side: Side,
+    wanted: &Intent,
+    listens: &Intent,
+    sender: &mut Station<'_>,
+    listener: &mut Station<'_>,
+    log: &mut Log,
+) -> Result<bool, Stop>
+    requires few { turn.old.packets + 1 < 2 ^ 32 }
+    requires turn { turn.old.number < length turn.old.schedule.now.turns }
+    requires links { log.old.links + 1 < 2 ^ 64 }
+    ensures ok { IfOk result (λ good. (given : Given) (plan : Plan) (history : List Event)
+        → slice_get turn.old.schedule.now.turns turn.old.number ≡ Some plan
+        → InAir given turn.old.number history side sender.old listener.old log.old wanted.now
+        listens.now turn.old.packets
+        → Reaches (after_packet given plan.fates (number_of side) history)
+        (HasFlown given turn.old.number history side sender.new listener.new log.new wanted.now
+        listens.now turn.new.packets good)) }
+    ensures err { IfErr result (λ stop. (given : Given) (plan : Plan) (history : List Event)
+        → slice_get turn.old.schedule.now.turns turn.old.number ≡ Some plan
+        → InAir given turn.old.number history side sender.old listener.old log.old wanted.now
+        listens.now turn.old.packets
+        → IsStopped (after_packet given plan.fates
+        (number_of side) history) turn.old.number log.new.entries stop) }
+    ensures links { log.new.links ≤ log.old.links + 1 }
+    ensures count { OnOk result (turn.new.packets ≤ turn.old.packets + 1) }
+    ensures same_turn { (turn.new.schedule ≡ turn.old.schedule) × (turn.new.number
+        ≡ turn.old.number) }
+{
+    match wanted {
+        Intent::Send { channel, octets } => send(
+            turn,
+            side,
+            *channel,
+            octets.as_slice(),
+            listens,
+            sender,
+            listener,
+            log,
+        ),
+        Intent::Listen { .. } | Intent::Idle => Ok(false),
+    }
+}
+
+/// The octets of a packet that a side wanted to transmit, where it was received.
+pub(crate) fn heard_of(good: bool, wanted: &Intent) -> Option<&[u8]>
+    ensures { option_copied result ≡ heard_of good wanted.now }
+{
+    match wanted {
+        Intent::Send { octets, .. } if good => Some(octets.as_slice()),
+        _ => None,
+    }
+}

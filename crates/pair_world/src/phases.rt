@@ -1,0 +1,157 @@
+//! The phases of a turn.
+ghost use Rattle.std.specs.Prelude.{◌≡◌, ℕ, ◌+◌, ◌^◌, ◌<◌, ◌≤◌, List, [], length, slice_get, Some, OnOk, IfOk, IfErr};
+ghost use Rattle.radio_replay.specs.Script.{Turn as Plan};
+ghost use Rattle.runs.specs.History.{Event};
+ghost use Rattle.runs.specs.Run.{Given, after_packets, after_phase, after_phases};
+ghost use Rattle.pair_world.specs.Air.{InPhase, heard_of};
+ghost use Rattle.pair_world.specs.Outcomes.{Reaches, IsStopped};
+ghost use Rattle.pair_world.specs.Turns.{HasHeard, IsUpTo};
+
+use crate::air::{Turn, fly, heard_of};
+use crate::logs::Log;
+use crate::stations::Station;
+use crate::stops::Stop;
+use ble_base::{Outbox, Side};
+use controller::Intent;
+
+/// Both stations of a run.
+#[derive(Drop)]
+pub(crate) struct Pair<'s> {
+    pub a: Station<'s>,
+    pub b: Station<'s>,
+}
+
+/// What both stations want in the phase that comes next.
+#[derive(Drop)]
+pub(crate) struct Wanted {
+    pub a: Intent,
+    pub b: Intent,
+}
+
+/// Whether each station received the packet of the other.
+#[derive(Clone, Copy)]
+struct Received {
+    a: bool,
+    b: bool,
+}
+
+/// What both want to transmit goes on the air.
+fn transmit(
+    turn: &mut Turn<'_>,
+    wanted: &Wanted,
+    pair: &mut Pair<'_>,
+    log: &mut Log,
+) -> Result<Received, Stop>
+    requires few { turn.old.packets + 2 < 2 ^ 32 }
+    requires turn { turn.old.number < length turn.old.schedule.now.turns }
+    requires links { log.old.links + 2 < 2 ^ 64 }
+    ensures ok { IfOk result (λ received. (given : Given) (plan : Plan) (history : List Event)
+        → slice_get turn.old.schedule.now.turns turn.old.number ≡ Some plan
+        → InPhase given turn.old.number pair.old.a pair.old.b log.old wanted.now.a wanted.now.b
+        turn.old.packets history
+        → Reaches (after_packets given plan.fates given.stations history)
+        (HasHeard given turn.old.number pair.new.a pair.new.b log.new turn.new.packets
+        (heard_of received.a wanted.now.b) (heard_of received.b wanted.now.a))) }
+    ensures err { IfErr result (λ stop. (given : Given) (plan : Plan) (history : List Event)
+        → slice_get turn.old.schedule.now.turns turn.old.number ≡ Some plan
+        → InPhase given turn.old.number pair.old.a pair.old.b log.old wanted.now.a wanted.now.b
+        turn.old.packets history
+        → IsStopped (after_packets given plan.fates given.stations history) turn.old.number
+        log.new.entries stop) }
+    ensures links { OnOk result (log.new.links ≤ log.old.links + 2) }
+    ensures count { OnOk result (turn.new.packets ≤ turn.old.packets + 2) }
+    ensures same_turn { (turn.new.schedule ≡ turn.old.schedule) × (turn.new.number
+        ≡ turn.old.number) }
+{
+    let b = fly(
+        turn,
+        Side::A,
+        &wanted.a,
+        &wanted.b,
+        &mut pair.a,
+        &mut pair.b,
+        log,
+    )?;
+    let a = fly(
+        turn,
+        Side::B,
+        &wanted.b,
+        &wanted.a,
+        &mut pair.b,
+        &mut pair.a,
+        log,
+    )?;
+    Ok(Received { a, b })
+}
+
+/// A phase: what both want to transmit goes on the air, and then both take what they heard.
+fn run_phase(
+    turn: &mut Turn<'_>,
+    wanted: &mut Wanted,
+    pair: &mut Pair<'_>,
+    out: &mut Outbox,
+    log: &mut Log,
+) -> Result<(), Stop>
+    requires few { turn.old.packets + 2 < 2 ^ 32 }
+    requires turn { turn.old.number < length turn.old.schedule.now.turns }
+    requires links { log.old.links + 2 < 2 ^ 64 }
+    requires empty { out.old.items ≡ [] }
+    ensures ok { OnOk result ((given : Given) (plan : Plan) (history : List Event)
+        → slice_get turn.old.schedule.now.turns turn.old.number ≡ Some plan
+        → InPhase given turn.old.number pair.old.a pair.old.b log.old wanted.old.a wanted.old.b
+        turn.old.packets history
+        → Reaches (after_phase given plan.fates history)
+        (InPhase given turn.old.number pair.new.a pair.new.b log.new wanted.new.a wanted.new.b
+        turn.new.packets)) }
+    ensures err { IfErr result (λ stop. (given : Given) (plan : Plan) (history : List Event)
+        → slice_get turn.old.schedule.now.turns turn.old.number ≡ Some plan
+        → InPhase given turn.old.number pair.old.a pair.old.b log.old wanted.old.a wanted.old.b
+        turn.old.packets history
+        → IsStopped (after_phase given plan.fates history) turn.old.number log.new.entries stop) }
+    ensures links { OnOk result (log.new.links ≤ log.old.links + 2) }
+    ensures count { OnOk result (turn.new.packets ≤ turn.old.packets + 2) }
+    ensures same_turn { (turn.new.schedule ≡ turn.old.schedule) × (turn.new.number
+        ≡ turn.old.number) }
+    ensures empty { OnOk result (out.new.items ≡ []) }
+{
+    let received = transmit(turn, wanted, pair, log)?;
+    one_side::notes_name_links_of_the_controller();
+    let a = pair.a.listen(heard_of(received.a, &wanted.b), out);
+    pair.a.write_notes(Side::A, out, log)?;
+    let b = pair.b.listen(heard_of(received.b, &wanted.a), out);
+    pair.b.write_notes(Side::B, out, log)?;
+    wanted.a = a;
+    wanted.b = b;
+    Ok(())
+}
+
+/// The three phases of a turn.
+pub(crate) fn run_phases(
+    turn: &mut Turn<'_>,
+    wanted: &mut Wanted,
+    pair: &mut Pair<'_>,
+    out: &mut Outbox,
+    log: &mut Log,
+) -> Result<(), Stop>
+    requires none { turn.old.packets ≡ 0 }
+    requires turn { turn.old.number < length turn.old.schedule.now.turns }
+    requires links { log.old.links + 6 < 2 ^ 64 }
+    requires empty { out.old.items ≡ [] }
+    ensures ok { OnOk result ((given : Given) (plan : Plan) (history : List Event)
+        → slice_get turn.old.schedule.now.turns turn.old.number ≡ Some plan
+        → InPhase given turn.old.number pair.old.a pair.old.b log.old wanted.old.a wanted.old.b 0
+        history
+        → Reaches (after_phases given plan.fates history)
+        (IsUpTo given (turn.old.number + 1) pair.new.a pair.new.b log.new)) }
+    ensures err { IfErr result (λ stop. (given : Given) (plan : Plan) (history : List Event)
+        → slice_get turn.old.schedule.now.turns turn.old.number ≡ Some plan
+        → InPhase given turn.old.number pair.old.a pair.old.b log.old wanted.old.a wanted.old.b 0
+        history
+        → IsStopped (after_phases given plan.fates history) turn.old.number log.new.entries stop) }
+    ensures links { OnOk result (log.new.links ≤ log.old.links + 6) }
+    ensures empty { OnOk result (out.new.items ≡ []) }
+{
+    run_phase(turn, wanted, pair, out, log)?;
+    run_phase(turn, wanted, pair, out, log)?;
+    run_phase(turn, wanted, pair, out, log)
+}
