@@ -1,4 +1,5 @@
 -- The definitions of this crate.
+pub mod Actions
 pub mod Activities
 pub mod Held
 pub mod Knowing

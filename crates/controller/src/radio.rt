@@ -7,6 +7,7 @@ ghost use Rattle.one_side.specs.Radio.{own_address, scanning, use_of};
 ghost use Rattle.one_side.specs.Side.{facts_begun, facts_ended, notes_of_events};
 ghost use Rattle.controller.specs.Phases.{next_kept};
 ghost use Rattle.controller.specs.Activities.{activity_done, HasChannel};
+ghost use Rattle.controller.specs.Actions.{IsOnAir, use_by};
 ghost use Rattle.controller.specs.Held.{hears, passes_phase, reports_heard};
 ghost use Rattle.controller.specs.Knowing.{use_wanted};
 
@@ -32,6 +33,17 @@ pub(crate) enum Activity {
     Scans { channel: u8 },
     /// It does nothing.
     Rests,
+}
+
+/// What a controller does in a phase.
+#[derive(Clone, Copy, Debug)]
+enum Action {
+    /// It transmits its advertisement on this channel, 37 to 39.
+    Transmit { channel: u8 },
+    /// It listens on this channel, 37 to 39.
+    Listen { channel: u8 },
+    /// It does nothing.
+    Rest,
 }
 
 impl<const L: usize, const T: usize, const R: usize> Controller<L, T, R> {
@@ -98,44 +110,49 @@ impl<const L: usize, const T: usize, const R: usize> Controller<L, T, R> {
         advertisement(channel, own, self.advertiser.body())
     }
 
-    /// What it wants in the phase that comes next.
+    /// What it does in the phase that comes next.
     #[tactic(auto, unfolding(one_side::specs::Radio::use_of))]
-    pub(crate) fn intent(&self) -> Intent
-        ensures { use_wanted result ≡ use_of self.now.setup self.now.facts }
+    fn action(&self) -> Action
+        ensures value { use_by self.now.setup self.now.facts result
+            ≡ use_of self.now.setup self.now.facts }
+        ensures channel { IsOnAir result }
     {
         match self.turn.phase() {
             Phase::First => match self.activity() {
-                Activity::Advertises { channel } => Intent::Send {
-                    channel,
-                    octets: self.packet(channel),
-                },
-                Activity::Scans { channel } => Intent::Listen { channel },
-                Activity::Rests => Intent::Idle,
+                Activity::Advertises { channel } => Action::Transmit { channel },
+                Activity::Scans { channel } => Action::Listen { channel },
+                Activity::Rests => Action::Rest,
             },
             Phase::Second => match self.activity() {
-                Activity::Advertises { channel } => Intent::Listen { channel },
-                Activity::Scans { .. } | Activity::Rests => Intent::Idle,
+                Activity::Advertises { channel } => Action::Listen { channel },
+                Activity::Scans { .. } | Activity::Rests => Action::Rest,
             },
-            Phase::Later => Intent::Idle,
+            Phase::Later => Action::Rest,
+        }
+    }
+
+    /// What it wants in the phase that comes next.
+    pub(crate) fn intent(&self) -> Intent
+        ensures { use_wanted result ≡ use_of self.now.setup self.now.facts }
+    {
+        match self.action() {
+            Action::Transmit { channel } => Intent::Send {
+                channel,
+                octets: self.packet(channel),
+            },
+            Action::Listen { channel } => Intent::Listen { channel },
+            Action::Rest => Intent::Idle,
         }
     }
 
     /// The channel on which it listens in the phase that comes next.
-    #[tactic(auto, unfolding(one_side::specs::Radio::use_of))]
     fn listens_on(&self) -> Option<u8>
         ensures value { result ≡ channel_listened (use_of self.now.setup self.now.facts) }
         ensures channel { IfSome result (λ channel. channel < 40) }
     {
-        match self.turn.phase() {
-            Phase::First => match self.activity() {
-                Activity::Scans { channel } => Some(channel),
-                Activity::Advertises { .. } | Activity::Rests => None,
-            },
-            Phase::Second => match self.activity() {
-                Activity::Advertises { channel } => Some(channel),
-                Activity::Scans { .. } | Activity::Rests => None,
-            },
-            Phase::Later => None,
+        match self.action() {
+            Action::Listen { channel } => Some(channel),
+            Action::Transmit { .. } | Action::Rest => None,
         }
     }
 
