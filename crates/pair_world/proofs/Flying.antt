@@ -11,18 +11,17 @@ use Rattle.radio_replay.specs.declared.fates.Fate.{Fate}
 use Rattle.radio_replay.specs.Damage.{damaged_packet}
 use Rattle.one_side.specs.Facts.{Setup}
 use Rattle.one_side.specs.Step.{Step}
-use Rattle.one_side.specs.Radio.{Use, Sends, use_of}
+use Rattle.one_side.specs.Radio.{Use, Sends, Listens, Idle, use_of}
 use Rattle.one_side.specs.Side.{facts_of}
-use Rattle.controller.specs.declared.intents.Intent.{Intent}
-use Rattle.controller.specs.declared.intents.Intent.TheVariants.{Send, Listen, Idle}
-use Rattle.controller.specs.Knowing.{Knows, use_wanted}
+use Rattle.controller.specs.Knowing.{Knows}
 use Rattle.runs.specs.History.{Event, Transmitted, Hearing, fates_used, fed_to, has_received, is_good, packet_received, packets_on_air, past_of, turns_begun}
 use Rattle.runs.specs.Journal.{air_entries, journal_of, mark_of, side_of}
 use Rattle.runs.specs.Links.{Links, begins_link, links_of, with_link}
 use Rattle.runs.specs.Run.{Given, GoesOn, Run, Stops, after_packet, fate_at, hearing_at, hearings_of, is_unseen, octets_left, packet_outcome, packet_with, setup_at, unseen_in, use_at}
 use Rattle.pair_world.specs.declared.stops.Stop.{Stop}
 use Rattle.pair_world.specs.declared.stops.Stop.TheVariants.{Unseen, Memory}
-use Rattle.pair_world.specs.Air.{HasFlown, HasLinked, InAir, IsSent, IsUnseen, IsUnseenOr, goes_unseen, heard_of, verdict_by, with_last}
+use Rattle.pair_world.specs.Air.{HasFlown, HasLinked, InAir, IsSent, IsUnseen, IsUnseenOr, goes_unseen, verdict_by, with_last}
+use Rattle.pair_world.specs.Wishes.{heard_of, packet_wanted}
 use Rattle.pair_world.specs.KnownLinks.{KnownLinks}
 use Rattle.pair_world.specs.Logs.{LogState, with_entries}
 use Rattle.pair_world.specs.Outcomes.{Reaches, HasStopped, IsStopped}
@@ -203,11 +202,9 @@ or_false : (b : Bool) → (b || false) ≡ b
 or_false true = refl
 or_false false = refl
 
-heard_sent : (good : Bool) (wanted : Intent) (channel : ℕ) (octets : List ℕ) → use_wanted wanted ≡ Sends channel octets
+heard_sent : (good : Bool) (wanted : Use) (channel : ℕ) (octets : List ℕ) → wanted ≡ Sends channel octets
     → (if good then Some octets else None) ≡ heard_of good wanted
-heard_sent true (Send on packet) channel octets is = let same : packet.items ≡ octets = cc in ap (λ (xs : List ℕ). Some xs) (sym same)
-heard_sent true (Listen on) channel octets is = absurd (cc)
-heard_sent true Idle channel octets is = absurd (cc)
+heard_sent true wanted channel octets is = ap packet_wanted (sym is)
 heard_sent false wanted channel octets is = refl
 
 -- the station receives it where its verdict is good
@@ -222,8 +219,8 @@ same_use given station before after past =
 -- ---- a packet is on the air
 
 sent_flies : (given : Given) (fates : List Fate) (slot : ℕ) (history : List Event) (side : Side) (sender listener new_sender new_listener : StationState)
-    (log new_log : LogState) (wanted listens : Intent) (channel : ℕ) (octets : List ℕ) (packets new_packets : ℕ) (good : Bool)
-    → InAir given slot history side sender listener log wanted listens packets → use_wanted wanted ≡ Sends channel octets
+    (log new_log : LogState) (wanted listens : Use) (channel : ℕ) (octets : List ℕ) (packets new_packets : ℕ) (good : Bool)
+    → InAir given slot history side sender listener log wanted listens packets → wanted ≡ Sends channel octets
     → IsSent (fate_at fates (fates_used history)) side (setup_at given (number_of (other_side side))) (past_of (number_of (other_side side)) history)
     channel octets good sender listener log new_sender new_listener new_log
     → new_packets ≡ packets + 1
@@ -269,8 +266,8 @@ sent_flies given fates slot history side sender listener new_sender new_listener
     }
 
 pub flies : (given : Given) (fates : List Fate) (slot : ℕ) (history : List Event) (side : Side) (sender listener new_sender new_listener : StationState)
-    (log new_log : LogState) (wanted listens : Intent) (channel : ℕ) (octets : List ℕ) (packets new_packets : ℕ) (good : Bool)
-    → InAir given slot history side sender listener log wanted listens packets → use_wanted wanted ≡ Sends channel octets
+    (log new_log : LogState) (wanted listens : Use) (channel : ℕ) (octets : List ℕ) (packets new_packets : ℕ) (good : Bool)
+    → InAir given slot history side sender listener log wanted listens packets → wanted ≡ Sends channel octets
     → IsSent (fate_at fates packets) side (setup_at given (number_of (other_side side))) (past_of (number_of (other_side side)) history)
     channel octets good sender listener log new_sender new_listener new_log
     → new_packets ≡ packets + 1
@@ -290,23 +287,30 @@ flies given fates slot history side sender listener new_sender new_listener log 
 
 -- ---- none is on the air
 
+none_with : (wanted : Use) (given : Given) (fates : List Fate) (station : ℕ) (history : List Event) → packet_wanted wanted ≡ None
+    → packet_with wanted given fates station history ≡ GoesOn history
+none_with (Sends channel octets) given fates station history none = absurd (cc)
+none_with (Listens channel) given fates station history none = refl
+none_with Idle given fates station history none = refl
+
 pub flies_not : (given : Given) (fates : List Fate) (slot : ℕ) (history : List Event) (side : Side) (sender listener : StationState)
-    (log : LogState) (wanted listens : Intent) (packets : ℕ)
+    (log : LogState) (wanted listens : Use) (packets : ℕ)
     → InAir given slot history side sender listener log wanted listens packets
-    → packet_with (use_wanted wanted) given fates (number_of side) history ≡ GoesOn history
+    → packet_wanted wanted ≡ None
     → Reaches (after_packet given fates (number_of side) history)
     (HasFlown given slot history side sender listener log wanted listens packets false)
-flies_not given fates slot history side sender listener log wanted listens packets air is = record {
+flies_not given fates slot history side sender listener log wanted listens packets air none = record {
   after = history;
-  goes_on = ap (λ (wanted : Use). packet_with wanted given fates (number_of side) history) (sym air.wants_sender) ∙ is;
+  goes_on = ap (λ (wanted : Use). packet_with wanted given fates (number_of side) history) (sym air.wants_sender)
+      ∙ none_with wanted given fates (number_of side) history none;
   holds = record { air = air; own = refl; other = λ none. none };
 }
 
 -- ---- the run stops
 
 pub flight_stops : (given : Given) (fates : List Fate) (slot : ℕ) (history : List Event) (side : Side) (sender listener : StationState)
-    (log : LogState) (wanted listens : Intent) (channel : ℕ) (octets : List ℕ) (packets : ℕ) (entries : List Entry) (stop : Stop)
-    → InAir given slot history side sender listener log wanted listens packets → use_wanted wanted ≡ Sends channel octets
+    (log : LogState) (wanted listens : Use) (channel : ℕ) (octets : List ℕ) (packets : ℕ) (entries : List Entry) (stop : Stop)
+    → InAir given slot history side sender listener log wanted listens packets → wanted ≡ Sends channel octets
     → IsUnseenOr (fate_at fates packets) (setup_at given (number_of (other_side side))) (past_of (number_of (other_side side)) history)
     channel octets (packets + 1) stop
     → entries ≡ log.entries → IsStopped (after_packet given fates (number_of side) history) slot entries stop

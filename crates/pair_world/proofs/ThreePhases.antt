@@ -2,7 +2,7 @@
 use Rattle.std.proofs.Common.{◌≡◌, ℕ, ◌+◌, List, [], refl, sym, ap, subst, ◌∙◌}
 use Rattle.journal.specs.declared.entries.Entry.{Entry}
 use Rattle.radio_replay.specs.declared.fates.Fate.{Fate}
-use Rattle.controller.specs.declared.intents.Intent.{Intent}
+use Rattle.one_side.specs.Radio.{Use}
 use Rattle.runs.specs.History.{Event}
 use Rattle.runs.specs.Run.{Given, GoesOn, Run, after_listenings, after_packets, after_phase, after_phases, and_then}
 use Rattle.pair_world.specs.declared.stops.Stop.{Stop}
@@ -80,7 +80,7 @@ third_phase_stops given fates history slot entries stop P Q first two is =
 
 -- ---- where a phase begins, by the numbers of the code
 
-pub up_to : (given : Given) (slot : ℕ) (a b : StationState) (log : LogState) (wanted_a wanted_b : Intent) (packets : ℕ) (history : List Event)
+pub up_to : (given : Given) (slot : ℕ) (a b : StationState) (log : LogState) (wanted_a wanted_b : Use) (packets : ℕ) (history : List Event)
     → InPhase given slot a b log wanted_a wanted_b packets history → IsUpTo given (slot + 1) a b log history
 up_to given slot a b log wanted_a wanted_b packets history phase = record {
   stations_are = phase.air.stations_are;
@@ -92,7 +92,7 @@ up_to given slot a b log wanted_a wanted_b packets history phase = record {
 
 -- the phase of the turn that the code counts is that of the slot
 pub at_slot : (given : Given) (fates : List Fate) (number slot : ℕ) (a b new_a new_b : StationState) (log new_log : LogState)
-    (wanted_a wanted_b new_wanted_a new_wanted_b : Intent) (packets new_packets : ℕ) (before : List Event) → number ≡ slot
+    (wanted_a wanted_b new_wanted_a new_wanted_b : Use) (packets new_packets : ℕ) (before : List Event) → number ≡ slot
     → (InPhase given number a b log wanted_a wanted_b packets before
     → Reaches (after_phase given fates before) (InPhase given number new_a new_b new_log new_wanted_a new_wanted_b new_packets))
     → InPhase given slot a b log wanted_a wanted_b packets before
@@ -101,14 +101,14 @@ at_slot given fates number slot a b new_a new_b log new_log wanted_a wanted_b ne
     subst (λ (n : ℕ). InPhase given n a b log wanted_a wanted_b packets before
     → Reaches (after_phase given fates before) (InPhase given n new_a new_b new_log new_wanted_a new_wanted_b new_packets)) same
 
-pub stops_at_slot : (given : Given) (fates : List Fate) (number slot : ℕ) (a b : StationState) (log : LogState) (wanted_a wanted_b : Intent) (packets : ℕ)
+pub stops_at_slot : (given : Given) (fates : List Fate) (number slot : ℕ) (a b : StationState) (log : LogState) (wanted_a wanted_b : Use) (packets : ℕ)
     (entries : List Entry) (stop : Stop) (before : List Event) → number ≡ slot
     → (InPhase given number a b log wanted_a wanted_b packets before → IsStopped (after_phase given fates before) number entries stop)
     → InPhase given slot a b log wanted_a wanted_b packets before → IsStopped (after_phase given fates before) slot entries stop
 stops_at_slot given fates number slot a b log wanted_a wanted_b packets entries stop before same =
     subst (λ (n : ℕ). InPhase given n a b log wanted_a wanted_b packets before → IsStopped (after_phase given fates before) n entries stop) same
 
-pub from_none : (given : Given) (slot : ℕ) (a b : StationState) (log : LogState) (wanted_a wanted_b : Intent) (packets : ℕ) (history : List Event) → packets ≡ 0
+pub from_none : (given : Given) (slot : ℕ) (a b : StationState) (log : LogState) (wanted_a wanted_b : Use) (packets : ℕ) (history : List Event) → packets ≡ 0
     → InPhase given slot a b log wanted_a wanted_b 0 history → InPhase given slot a b log wanted_a wanted_b packets history
 from_none given slot a b log wanted_a wanted_b packets history none =
     subst (λ (n : ℕ). InPhase given slot a b log wanted_a wanted_b n history) (sym none)

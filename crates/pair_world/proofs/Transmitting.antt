@@ -3,12 +3,13 @@ use Rattle.std.proofs.Common.{◌≡◌, ℕ, ◌+◌, Bool, List, [], ◌∷◌
 use Rattle.ble_base.specs.declared.roles.Side.TheVariants.{A, B}
 use Rattle.journal.specs.declared.entries.Entry.{Entry}
 use Rattle.radio_replay.specs.declared.fates.Fate.{Fate}
-use Rattle.controller.specs.declared.intents.Intent.{Intent}
+use Rattle.one_side.specs.Radio.{Use}
 use Rattle.runs.specs.History.{Event}
 use Rattle.runs.specs.Run.{Given, GoesOn, Run, after_packet, after_packets, and_then}
 use Rattle.pair_world.specs.declared.stops.Stop.{Stop}
 use Rattle.pair_world.specs.declared.stops.Stop.TheVariants.{Unseen, Memory}
-use Rattle.pair_world.specs.Air.{HasFlown, InAir, InPhase, heard_of}
+use Rattle.pair_world.specs.Air.{HasFlown, InAir, InPhase}
+use Rattle.pair_world.specs.Wishes.{heard_of}
 use Rattle.pair_world.specs.Logs.{LogState}
 use Rattle.pair_world.specs.Outcomes.{Reaches, IsStopped}
 use Rattle.pair_world.specs.Stations.{StationState}
@@ -35,7 +36,7 @@ pub stopped_after : (run : Run) (next : List Event → Run) (history : List Even
 stopped_after run next history slot entries stop goes is =
     subst (λ (run : Run). IsStopped (and_then run next) slot entries stop) (sym goes) is
 
-exchanged : (given : Given) (slot : ℕ) (history : List Event) (a b : StationState) (log : LogState) (wanted_a wanted_b : Intent) (packets : ℕ)
+exchanged : (given : Given) (slot : ℕ) (history : List Event) (a b : StationState) (log : LogState) (wanted_a wanted_b : Use) (packets : ℕ)
     → InAir given slot history A a b log wanted_a wanted_b packets → InAir given slot history B b a log wanted_b wanted_a packets
 exchanged given slot history a b log wanted_a wanted_b packets air = record {
   stations_are = air.stations_are;
@@ -51,7 +52,7 @@ exchanged given slot history a b log wanted_a wanted_b packets air = record {
 
 -- the packets of both were on the air, or none of them
 pub both_flown : (given : Given) (fates : List Fate) (slot number : ℕ) (history : List Event) (a b first_a first_b new_a new_b : StationState)
-    (log first_log new_log : LogState) (wanted_a wanted_b : Intent) (packets first_packets new_packets : ℕ) (good_b good_a : Bool)
+    (log first_log new_log : LogState) (wanted_a wanted_b : Use) (packets first_packets new_packets : ℕ) (good_b good_a : Bool)
     → InPhase given slot a b log wanted_a wanted_b packets history
     → Reaches (after_packet given fates 0 history) (HasFlown given slot history A first_a first_b first_log wanted_a wanted_b first_packets good_b)
     → number ≡ slot
@@ -85,7 +86,7 @@ both_flown given fates slot number history a b first_a first_b new_a new_b log f
     }
 
 -- the run stops at the packet of A
-pub first_stops : (given : Given) (fates : List Fate) (slot : ℕ) (history : List Event) (a b : StationState) (log : LogState) (wanted_a wanted_b : Intent)
+pub first_stops : (given : Given) (fates : List Fate) (slot : ℕ) (history : List Event) (a b : StationState) (log : LogState) (wanted_a wanted_b : Use)
     (packets : ℕ) (entries : List Entry) (stop : Stop)
     → InPhase given slot a b log wanted_a wanted_b packets history
     → (InAir given slot history A a b log wanted_a wanted_b packets → IsStopped (after_packet given fates 0 history) slot entries stop)
@@ -96,7 +97,7 @@ first_stops given fates slot history a b log wanted_a wanted_b packets entries s
 
 -- or at that of B
 pub second_stops : (given : Given) (fates : List Fate) (slot number : ℕ) (history : List Event) (a b first_a first_b : StationState) (log first_log : LogState)
-    (wanted_a wanted_b : Intent) (packets first_packets : ℕ) (good_b : Bool) (entries : List Entry) (stop : Stop)
+    (wanted_a wanted_b : Use) (packets first_packets : ℕ) (good_b : Bool) (entries : List Entry) (stop : Stop)
     → InPhase given slot a b log wanted_a wanted_b packets history
     → Reaches (after_packet given fates 0 history) (HasFlown given slot history A first_a first_b first_log wanted_a wanted_b first_packets good_b)
     → number ≡ slot

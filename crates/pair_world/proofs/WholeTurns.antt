@@ -7,11 +7,10 @@ use Rattle.journal.specs.declared.entries.Entry.{Entry}
 use Rattle.journal.specs.declared.entries.Entry.TheVariants.{Turn}
 use Rattle.radio_replay.specs.Script.{Turn as ScriptTurn}
 use Rattle.one_side.specs.Facts.{Setup}
-use Rattle.one_side.specs.Radio.{use_of}
+use Rattle.one_side.specs.Radio.{Use, use_of}
 use Rattle.one_side.specs.Side.{facts_of}
 use Rattle.one_side.specs.Step.{Step, TurnBegins, TurnEnds}
-use Rattle.controller.specs.declared.intents.Intent.{Intent}
-use Rattle.controller.specs.Knowing.{Knows, use_wanted}
+use Rattle.controller.specs.Knowing.{Knows}
 use Rattle.runs.specs.History.{Event, TurnBegan, fates_used, fed_to, packets_on_air, past_of, turns_begun}
 use Rattle.runs.specs.Journal.{journal_of}
 use Rattle.runs.specs.Links.{Links, links_of}
@@ -144,14 +143,14 @@ begins_are given slot number plan a_on b_on history stations number_is a_is b_is
     ∙ ap (λ (stations : List ℕ). after_begins given slot (plan_of plan) stations history) (sym stations)
 
 pub both_begun : NamesItsLinks → (given : Given) (slot number : ℕ) (plan : ScriptTurn) (a_on b_on : Bool) (history : List Event)
-    (a called_a new_a b called_b new_b : StationState) (log first_log new_log : LogState) (notes_a notes_b : List Note) (wanted_a wanted_b : Intent)
+    (a called_a new_a b called_b new_b : StationState) (log first_log new_log : LogState) (notes_a notes_b : List Note) (wanted_a wanted_b : Use)
     → HasFed given slot a b log history → number ≡ slot → a_on ≡ plan.a_on → b_on ≡ plan.b_on
     → Calls (TurnBegins number a_on) a called_a new_a log first_log notes_a (with_entries (entries_noted A called_a.links notes_a) log)
     → Calls (TurnBegins number b_on) b called_b new_b first_log new_log notes_b (with_entries (entries_noted B called_b.links notes_b) first_log)
     → ((setup : Setup) (past : List Step) → Knows setup a.held past
-    → use_wanted wanted_a ≡ use_of setup (facts_of setup (past ++ TurnBegins number a_on ∷ [])))
+    → wanted_a ≡ use_of setup (facts_of setup (past ++ TurnBegins number a_on ∷ [])))
     → ((setup : Setup) (past : List Step) → Knows setup b.held past
-    → use_wanted wanted_b ≡ use_of setup (facts_of setup (past ++ TurnBegins number b_on ∷ [])))
+    → wanted_b ≡ use_of setup (facts_of setup (past ++ TurnBegins number b_on ∷ [])))
     → InPhase given slot new_a new_b new_log wanted_a wanted_b 0 (after_begins given slot (plan_of plan) given.stations history)
 both_begun names given slot number plan a_on b_on history a called_a new_a b called_b new_b log first_log new_log notes_a notes_b wanted_a wanted_b fed number_is a_is b_is call_a call_b wants_a wants_b =
     subst (InPhase given slot new_a new_b new_log wanted_a wanted_b 0)
@@ -161,7 +160,7 @@ both_begun names given slot number plan a_on b_on history a called_a new_a b cal
     (both_called names given (TurnBegins number a_on) (TurnBegins number b_on) history a called_a new_a b called_b new_b log first_log new_log notes_a notes_b
     fed.is.keeps_a fed.is.keeps_b fed.is.writes call_a call_b) wants_a wants_b)
 
-pub opened : (given : Given) (slot : ℕ) (plan : ScriptTurn) (history : List Event) (a b : StationState) (log : LogState) (wanted_a wanted_b : Intent)
+pub opened : (given : Given) (slot : ℕ) (plan : ScriptTurn) (history : List Event) (a b : StationState) (log : LogState) (wanted_a wanted_b : Use)
     → InPhase given slot a b log wanted_a wanted_b 0
     (after_begins given slot (plan_of plan) given.stations (after_feeding given slot (plan_of plan) history))
     → InPhase given slot a b log wanted_a wanted_b 0 (after_opening given slot (plan_of plan) history)

@@ -10,11 +10,8 @@ use Rattle.radio_replay.specs.declared.fates.Fate.{Fate}
 use Rattle.radio_replay.specs.Damage.{damaged_packet}
 use Rattle.one_side.specs.Facts.{Setup}
 use Rattle.one_side.specs.Step.{Step}
-use Rattle.one_side.specs.Radio.{channel_listened, use_of}
+use Rattle.one_side.specs.Radio.{Use, channel_listened, use_of}
 use Rattle.one_side.specs.Side.{facts_of}
-use Rattle.controller.specs.declared.intents.Intent.{Intent}
-use Rattle.controller.specs.declared.intents.Intent.TheVariants.{Send, Listen, Idle}
-use Rattle.controller.specs.Knowing.{use_wanted}
 use Rattle.runs.specs.History.{Event, is_good, turns_begun, packets_on_air, fates_used, packet_received}
 use Rattle.runs.specs.Journal.{mark_of}
 use Rattle.runs.specs.Links.{begins_link}
@@ -23,6 +20,7 @@ use Rattle.pair_world.specs.declared.stops.Stop.{Stop}
 use Rattle.pair_world.specs.declared.stops.Stop.TheVariants.{Unseen, Memory}
 use Rattle.pair_world.specs.Logs.{LogState, with_entries}
 use Rattle.pair_world.specs.Stations.{StationState, Keeps, Writes, number_of}
+use Rattle.pair_world.specs.Wishes.{heard_of}
 
 -- ---- the verdict
 
@@ -80,36 +78,29 @@ pub record IsSent (fate : Fate) (side : Side) (setup : Setup) (past : List Step)
 
 -- ---- a packet of a side
 
--- the octets of a packet that was good
-abbrev pub heard_of : Bool → Intent → Option (List ℕ)
-heard_of true (Send channel packet) = Some packet.items
-heard_of true (Listen channel) = None
-heard_of true Idle = None
-heard_of false intent = None
-
 -- in a phase: both stations are up to this history and want this, and so many packets were on the air in this turn
 pub record InAir (given : Given) (slot : ℕ) (history : List Event) (side : Side) (sender listener : StationState)
-    (log : LogState) (wanted listens : Intent) (packets : ℕ) : Type 0 where
+    (log : LogState) (wanted listens : Use) (packets : ℕ) : Type 0 where
   pub stations_are : given.stations ≡ 0 ∷ 1 ∷ []
   pub keeps_sender : Keeps given (number_of side) history sender
   pub keeps_listener : Keeps given (number_of (other_side side)) history listener
   pub writes : Writes history log
-  pub wants_sender : use_wanted wanted ≡ use_at given (number_of side) history
-  pub wants_listener : use_wanted listens ≡ use_at given (number_of (other_side side)) history
+  pub wants_sender : wanted ≡ use_at given (number_of side) history
+  pub wants_listener : listens ≡ use_at given (number_of (other_side side)) history
   pub turns_are : turns_begun history ≡ slot + 1
   pub fates_are : fates_used history ≡ packets
   pub packets_are : packets_on_air history ≡ packets
 
 -- what a side wanted to transmit was on the air, if it wanted to
 pub record HasFlown (given : Given) (slot : ℕ) (before : List Event) (side : Side) (sender listener : StationState)
-    (log : LogState) (wanted listens : Intent) (packets : ℕ) (good : Bool) (after : List Event) : Type 0 where
+    (log : LogState) (wanted listens : Use) (packets : ℕ) (good : Bool) (after : List Event) : Type 0 where
   pub air : InAir given slot after side sender listener log wanted listens packets
   pub own : packet_received (number_of side) after ≡ packet_received (number_of side) before
   pub other : packet_received (number_of (other_side side)) before ≡ None
       → packet_received (number_of (other_side side)) after ≡ heard_of good wanted
 
 -- a phase begins
-pub record InPhase (given : Given) (slot : ℕ) (a b : StationState) (log : LogState) (wanted_a wanted_b : Intent)
+pub record InPhase (given : Given) (slot : ℕ) (a b : StationState) (log : LogState) (wanted_a wanted_b : Use)
     (packets : ℕ) (history : List Event) : Type 0 where
   pub air : InAir given slot history A a b log wanted_a wanted_b packets
   pub received_a : packet_received 0 history ≡ None

@@ -3,6 +3,8 @@ pub mod KnownLinks
 pub mod Logs
 pub mod Stations
 pub mod Outcomes
+pub mod Actions
+pub mod Wishes
 pub mod Air
 pub mod Turns
 pub mod Faults

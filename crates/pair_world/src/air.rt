@@ -1,6 +1,5 @@
 //! Packets on the air.
 ghost use Rattle.std.specs.Prelude.{◌≡◌, ℕ, ◌+◌, ◌^◌, ◌<◌, ◌≤◌, false, List, [], ◌∷◌, length, slice_get, IfOk, IfErr, OnOk, OnErr, Some};
-ghost use Rattle.std.specs.Option.{option_copied};
 ghost use Rattle.radio_replay.specs.Script.{Turn as Plan};
 ghost use Rattle.radio_replay.specs.Script.{fate_of};
 ghost use Rattle.radio_replay.specs.declared.fates.Fate.TheVariants.{Pass};
@@ -9,12 +8,12 @@ ghost use Rattle.one_side.specs.Facts.{Setup};
 ghost use Rattle.one_side.specs.Step.{Step};
 ghost use Rattle.one_side.specs.Side.{facts_of};
 ghost use Rattle.one_side.specs.Radio.{use_of};
-ghost use Rattle.controller.specs.Knowing.{Knows, use_wanted};
+ghost use Rattle.controller.specs.Knowing.{Knows};
 ghost use Rattle.runs.specs.History.{Event, is_good};
 ghost use Rattle.runs.specs.Journal.{mark_of};
 ghost use Rattle.runs.specs.Links.{begins_link};
 ghost use Rattle.runs.specs.Run.{Given, after_packet, is_lost};
-ghost use Rattle.pair_world.specs.Air.{InAir, HasFlown, HasLinked, IsReceived, IsSent, IsUnseenOr, heard_of, verdict_by};
+ghost use Rattle.pair_world.specs.Air.{InAir, HasFlown, HasLinked, IsReceived, IsSent, IsUnseenOr, verdict_by};
 ghost use Rattle.pair_world.specs.Logs.{with_entries};
 ghost use Rattle.pair_world.specs.Outcomes.{Reaches, IsStopped};
 ghost use Rattle.pair_world.specs.Stations.{number_of};
@@ -23,9 +22,9 @@ use crate::connect_inds::begins_link;
 use crate::logs::Log;
 use crate::stations::Station;
 use crate::stops::Stop;
+use crate::wishes::Wish;
 use arrayvec::ArrayVec;
 use ble_base::{Side, Verdict};
-use controller::Intent;
 use journal::{Entry, Mark};
 use radio_replay::{Fate, Schedule};
 use std::alloc::AllocError;
@@ -62,13 +61,13 @@ fn is_good(verdict: Verdict) -> bool
 
 /// The verdict of a station on octets that reach it on a channel: missed where it does not listen
 /// there.
-fn judge(listener: &Station<'_>, listens: &Intent, channel: u8, octets: &[u8]) -> Verdict
+fn judge(listener: &Station<'_>, listens: &Wish, channel: u8, octets: &[u8]) -> Verdict
     ensures { (setup : Setup) (past : List Step) → Knows setup listener.now.held past
-        → use_wanted listens.now ≡ use_of setup (facts_of setup past)
+        → listens.now ≡ use_of setup (facts_of setup past)
         → result ≡ verdict_by Pass setup past channel octets.now }
 {
-    match listens {
-        Intent::Listen { channel: on } if *on == channel => listener.judge(octets),
+    match listens.listens_on() {
+        Some(on) if on == channel => listener.judge(octets),
         _ => Verdict::Missed,
     }
 }
@@ -80,7 +79,7 @@ fn receive_damaged(
     fate: &Fate,
     channel: u8,
     octets: &[u8],
-    listens: &Intent,
+    listens: &Wish,
     listener: &Station<'_>,
     log: &Log,
 ) -> Result<Verdict, Stop>
@@ -89,11 +88,11 @@ fn receive_damaged(
     requires reaches { is_lost fate.now ≡ false }
     ensures ok { IfOk result (λ verdict. (setup : Setup) (past : List Step)
         → Knows setup listener.now.held past
-        → use_wanted listens.now ≡ use_of setup (facts_of setup past)
+        → listens.now ≡ use_of setup (facts_of setup past)
         → IsReceived fate.now setup past channel octets.now verdict) }
     ensures err { IfErr result (λ stop. (setup : Setup) (past : List Step)
         → Knows setup listener.now.held past
-        → use_wanted listens.now ≡ use_of setup (facts_of setup past)
+        → listens.now ≡ use_of setup (facts_of setup past)
         → IsUnseenOr fate.now setup past channel octets.now (turn.now.packets + 1) stop) }
 {
     let mut heard = ArrayVec::<u8, 264>::new();
@@ -117,7 +116,7 @@ fn receive(
     fate: &Fate,
     channel: u8,
     octets: &[u8],
-    listens: &Intent,
+    listens: &Wish,
     listener: &Station<'_>,
     log: &Log,
 ) -> Result<Verdict, Stop>
@@ -125,11 +124,11 @@ fn receive(
     requires fits { length octets.now ≤ 264 }
     ensures ok { IfOk result (λ verdict. (setup : Setup) (past : List Step)
         → Knows setup listener.now.held past
-        → use_wanted listens.now ≡ use_of setup (facts_of setup past)
+        → listens.now ≡ use_of setup (facts_of setup past)
         → IsReceived fate.now setup past channel octets.now verdict) }
     ensures err { IfErr result (λ stop. (setup : Setup) (past : List Step)
         → Knows setup listener.now.held past
-        → use_wanted listens.now ≡ use_of setup (facts_of setup past)
+        → listens.now ≡ use_of setup (facts_of setup past)
         → IsUnseenOr fate.now setup past channel octets.now (turn.now.packets + 1) stop) }
 {
     match fate {
@@ -167,12 +166,14 @@ fn number_link(
 }
 
 /// Transmits a packet, writes what becomes of it, and says whether the other station received it.
+/// Most phases have no packet, so this is kept out of their code.
+#[inline(never)]
 fn send(
     turn: &mut Turn<'_>,
     side: Side,
     channel: u8,
     octets: &[u8],
-    listens: &Intent,
+    listens: &Wish,
     sender: &mut Station<'_>,
     listener: &mut Station<'_>,
     log: &mut Log,
@@ -183,15 +184,13 @@ fn send(
     requires fits { length octets.now ≤ 264 }
     ensures ok { IfOk result (λ good. (plan : Plan) (setup : Setup) (past : List Step)
         → slice_get turn.old.schedule.now.turns turn.old.number ≡ Some plan
-        → Knows setup listener.old.held past → use_wanted listens.now
-        ≡ use_of setup (facts_of setup past)
+        → Knows setup listener.old.held past → listens.now ≡ use_of setup (facts_of setup past)
         → channel < 40
         → IsSent (fate_of plan turn.old.packets) side setup past channel octets.now good
         sender.old listener.old log.old sender.new listener.new log.new) }
     ensures err { IfErr result (λ stop. (plan : Plan) (setup : Setup) (past : List Step)
         → slice_get turn.old.schedule.now.turns turn.old.number ≡ Some plan
-        → Knows setup listener.old.held past → use_wanted listens.now
-        ≡ use_of setup (facts_of setup past)
+        → Knows setup listener.old.held past → listens.now ≡ use_of setup (facts_of setup past)
         → IsUnseenOr (fate_of plan turn.old.packets) setup past channel octets.now
         (turn.old.packets + 1) stop) }
     ensures same { OnErr result (log.new.entries ≡ log.old.entries) }
@@ -217,11 +216,12 @@ fn send(
 }
 
 /// Transmits what a side wants to, if it wants to, and says whether the other side received it.
+#[inline]
 pub(crate) fn fly(
     turn: &mut Turn<'_>,
     side: Side,
-    wanted: &Intent,
-    listens: &Intent,
+    wanted: &Wish,
+    listens: &Wish,
     sender: &mut Station<'_>,
     listener: &mut Station<'_>,
     log: &mut Log,
@@ -247,27 +247,10 @@ pub(crate) fn fly(
     ensures same_turn { (turn.new.schedule ≡ turn.old.schedule) × (turn.new.number
         ≡ turn.old.number) }
 {
-    match wanted {
-        Intent::Send { channel, octets } => send(
-            turn,
-            side,
-            *channel,
-            octets.as_slice(),
-            listens,
-            sender,
-            listener,
-            log,
+    match wanted.packet() {
+        Some((channel, octets)) => send(
+            turn, side, channel, octets, listens, sender, listener, log,
         ),
-        Intent::Listen { .. } | Intent::Idle => Ok(false),
-    }
-}
-
-/// The octets of a packet that a side wanted to transmit, where it was received.
-pub(crate) fn heard_of(good: bool, wanted: &Intent) -> Option<&[u8]>
-    ensures { option_copied result ≡ heard_of good wanted.now }
-{
-    match wanted {
-        Intent::Send { octets, .. } if good => Some(octets.as_slice()),
-        _ => None,
+        None => Ok(false),
     }
 }

@@ -18,6 +18,7 @@ mod stops;
 #[cfg(test)]
 mod tests;
 mod turns;
+mod wishes;
 
 pub use crate::run::{RunFault, run_pair};
 pub use ble_base::{Config, Side};

@@ -109,7 +109,9 @@ fn write_note(
     Ok(())
 }
 
-/// Writes the notes of a station, and empties the outbox.
+/// Writes the notes of a station, and empties the outbox. Most steps have no notes, so this is kept
+/// out of their code.
+#[inline(never)]
 pub(crate) fn write_notes(
     side: Side,
     out: &mut Outbox,
@@ -121,9 +123,6 @@ pub(crate) fn write_notes(
     ensures links { OnOk result (links.new ≡ known_after links.old out.old.items) }
     ensures empty { OnOk result (out.new.items ≡ []) }
 {
-    if out.is_empty() {
-        return Ok(());
-    }
     for note in out.as_slice() {
         write_note(side, note, links, log)?;
     }

@@ -3,16 +3,17 @@ ghost use Rattle.std.specs.Prelude.{◌≡◌, ℕ, ◌+◌, ◌^◌, ◌<◌, �
 ghost use Rattle.radio_replay.specs.Script.{Turn as Plan};
 ghost use Rattle.runs.specs.History.{Event};
 ghost use Rattle.runs.specs.Run.{Given, after_packets, after_phase, after_phases};
-ghost use Rattle.pair_world.specs.Air.{InPhase, heard_of};
+ghost use Rattle.pair_world.specs.Air.{InPhase};
+ghost use Rattle.pair_world.specs.Wishes.{heard_of};
 ghost use Rattle.pair_world.specs.Outcomes.{Reaches, IsStopped};
 ghost use Rattle.pair_world.specs.Turns.{HasHeard, IsUpTo};
 
-use crate::air::{Turn, fly, heard_of};
+use crate::air::{Turn, fly};
 use crate::logs::Log;
 use crate::stations::Station;
 use crate::stops::Stop;
+use crate::wishes::Wish;
 use ble_base::{Outbox, Side};
-use controller::Intent;
 
 /// Both stations of a run.
 #[derive(Drop)]
@@ -24,8 +25,18 @@ pub(crate) struct Pair<'s> {
 /// What both stations want in the phase that comes next.
 #[derive(Drop)]
 pub(crate) struct Wanted {
-    pub a: Intent,
-    pub b: Intent,
+    pub a: Wish,
+    pub b: Wish,
+}
+
+impl Wanted {
+    /// Both want nothing.
+    pub(crate) fn new() -> Self {
+        Wanted {
+            a: Wish::new(),
+            b: Wish::new(),
+        }
+    }
 }
 
 /// Whether each station received the packet of the other.
@@ -84,10 +95,12 @@ fn transmit(
     Ok(Received { a, b })
 }
 
-/// A phase: what both want to transmit goes on the air, and then both take what they heard.
+/// A phase: what both want to transmit goes on the air, then both take what they heard, and want
+/// something in the next one.
 fn run_phase(
     turn: &mut Turn<'_>,
-    wanted: &mut Wanted,
+    wanted: &Wanted,
+    next: &mut Wanted,
     pair: &mut Pair<'_>,
     out: &mut Outbox,
     log: &mut Log,
@@ -98,14 +111,14 @@ fn run_phase(
     requires empty { out.old.items ≡ [] }
     ensures ok { OnOk result ((given : Given) (plan : Plan) (history : List Event)
         → slice_get turn.old.schedule.now.turns turn.old.number ≡ Some plan
-        → InPhase given turn.old.number pair.old.a pair.old.b log.old wanted.old.a wanted.old.b
+        → InPhase given turn.old.number pair.old.a pair.old.b log.old wanted.now.a wanted.now.b
         turn.old.packets history
         → Reaches (after_phase given plan.fates history)
-        (InPhase given turn.old.number pair.new.a pair.new.b log.new wanted.new.a wanted.new.b
+        (InPhase given turn.old.number pair.new.a pair.new.b log.new next.new.a next.new.b
         turn.new.packets)) }
     ensures err { IfErr result (λ stop. (given : Given) (plan : Plan) (history : List Event)
         → slice_get turn.old.schedule.now.turns turn.old.number ≡ Some plan
-        → InPhase given turn.old.number pair.old.a pair.old.b log.old wanted.old.a wanted.old.b
+        → InPhase given turn.old.number pair.old.a pair.old.b log.old wanted.now.a wanted.now.b
         turn.old.packets history
         → IsStopped (after_phase given plan.fates history) turn.old.number log.new.entries stop) }
     ensures links { OnOk result (log.new.links ≤ log.old.links + 2) }
@@ -114,18 +127,16 @@ fn run_phase(
         ≡ turn.old.number) }
     ensures empty { OnOk result (out.new.items ≡ []) }
 {
-    let received = transmit(turn, wanted, pair, log)?;
     one_side::notes_name_links_of_the_controller();
-    let a = pair.a.listen(heard_of(received.a, &wanted.b), out);
+    let received = transmit(turn, wanted, pair, log)?;
+    pair.a.listen(wanted.b.heard(received.a), &mut next.a, out);
     pair.a.write_notes(Side::A, out, log)?;
-    let b = pair.b.listen(heard_of(received.b, &wanted.a), out);
+    pair.b.listen(wanted.a.heard(received.b), &mut next.b, out);
     pair.b.write_notes(Side::B, out, log)?;
-    wanted.a = a;
-    wanted.b = b;
     Ok(())
 }
 
-/// The three phases of a turn.
+/// The three phases of a turn, of which both want something in the first.
 pub(crate) fn run_phases(
     turn: &mut Turn<'_>,
     wanted: &mut Wanted,
@@ -151,7 +162,8 @@ pub(crate) fn run_phases(
     ensures links { OnOk result (log.new.links ≤ log.old.links + 6) }
     ensures empty { OnOk result (out.new.items ≡ []) }
 {
-    run_phase(turn, wanted, pair, out, log)?;
-    run_phase(turn, wanted, pair, out, log)?;
-    run_phase(turn, wanted, pair, out, log)
+    let mut next = Wanted::new();
+    run_phase(turn, wanted, &mut next, pair, out, log)?;
+    run_phase(turn, &next, wanted, pair, out, log)?;
+    run_phase(turn, wanted, &mut next, pair, out, log)
 }

@@ -15,7 +15,6 @@ use crate::stops::Stop;
 use crate::turns::run_turn;
 use arrayvec::ArrayVec;
 use ble_base::{Config, Outbox};
-use controller::Intent;
 use journal::{Journal, Octets};
 use radio_replay::Schedule;
 use std::alloc::{AllocError, Global};
@@ -114,10 +113,7 @@ fn run_turns(alloc: Global, schedule: &Schedule, mut pair: Pair<'_>) -> Result<J
     ensures err { IfErr result (λ fault. (given : Given) → HasPlans given schedule.now.turns
         → IsUpTo given 0 pair.entry.a pair.entry.b first_log [] → IsRunFault given fault) }
 {
-    let mut wanted = Wanted {
-        a: Intent::Idle,
-        b: Intent::Idle,
-    };
+    let mut wanted = Wanted::new();
     let mut out = Outbox::new();
     let mut log = Log::new(alloc);
     for turn in 0..schedule.turns() {

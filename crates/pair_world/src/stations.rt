@@ -1,12 +1,12 @@
 //! One station of a run: its controller, the links that it knows, and the stream of its host.
 ghost use Rattle.std.specs.Prelude.{◌≡◌, ℕ, ◌+◌, ◌<◌, ◌≤◌, ◌^◌, List, [], ◌∷◌, ◌++◌, length, take, drop, IfOk, OnOk};
 ghost use Rattle.std.specs.Option.{option_copied};
-ghost use Rattle.one_side.specs.Step.{Step, HostOctet, TurnBegins, TurnEnds};
+ghost use Rattle.one_side.specs.Step.{Step, HostOctet, TurnBegins, PacketHeard, NothingHeard, TurnEnds};
 ghost use Rattle.one_side.specs.Facts.{Setup, setup_of};
 ghost use Rattle.one_side.specs.Heard.{verdict_of};
 ghost use Rattle.one_side.specs.Radio.{use_of};
 ghost use Rattle.one_side.specs.Side.{facts_of};
-ghost use Rattle.controller.specs.Knowing.{Knows, use_wanted};
+ghost use Rattle.controller.specs.Knowing.{Knows};
 ghost use Rattle.runs.specs.History.{Event};
 ghost use Rattle.runs.specs.Run.{Given, after_call, after_octets, after_feed, step_of};
 ghost use Rattle.pair_world.specs.Logs.{entries_noted, known_after, with_entries};
@@ -15,8 +15,9 @@ ghost use Rattle.pair_world.specs.Stations.{number_of, Keeps, Writes, IsAt, Took
 use crate::links::{LINKS, LinkNumbers};
 use crate::logs::Log;
 use crate::notes::write_notes;
+use crate::wishes::Wish;
 use ble_base::{Config, Outbox, Side, SlotNo, Verdict};
-use controller::{Controller, Intent};
+use controller::Controller;
 use journal::Entry;
 use std::alloc::{AllocError, Global};
 use std::marker::Model;
@@ -65,6 +66,7 @@ impl<'s> Station<'s> {
     }
 
     /// Writes what the controller noted, and empties the outbox.
+    #[inline]
     pub(crate) fn write_notes(
         &mut self,
         side: Side,
@@ -77,6 +79,9 @@ impl<'s> Station<'s> {
             ≡ record self.old { links = known_after self.old.links out.old.items }) }
         ensures empty { OnOk result (out.new.items ≡ []) }
     {
+        if out.is_empty() {
+            return Ok(());
+        }
         write_notes(side, out, &mut self.links, log)
     }
 
@@ -179,31 +184,61 @@ impl<'s> Station<'s> {
         self.take_octets(side, octets, out, log)
     }
 
-    /// The controller begins a turn.
-    pub(crate) fn begin(&mut self, slot: SlotNo, radio_on: bool, out: &mut Outbox) -> Intent
+    /// The controller begins a turn, and wants something in its first phase.
+    pub(crate) fn begin(
+        &mut self,
+        slot: SlotNo,
+        radio_on: bool,
+        wanted: &mut Wish,
+        out: &mut Outbox,
+    )
         requires slot { slot.0 < 2 ^ 32 }
         requires empty { out.old.items ≡ [] }
         ensures took { (setup : Setup) (past : List Step) → Knows setup self.old.held past
             → Took setup past (TurnBegins slot.0 radio_on) self.old self.new out.new.items }
         ensures wants { (setup : Setup) (past : List Step) → Knows setup self.old.held past
-            → use_wanted result ≡ use_of setup (facts_of setup
-            (past ++ TurnBegins slot.0 radio_on ∷ [])) }
+            → wanted.new
+            ≡ use_of setup (facts_of setup (past ++ TurnBegins slot.0 radio_on ∷ [])) }
     {
-        self.controller.begin_turn(slot, radio_on, out)
+        wanted.set(self.controller.begin_turn(slot, radio_on, out));
     }
 
-    /// The controller takes what was heard in a phase, if anything was.
-    pub(crate) fn listen(&mut self, heard: Option<&[u8]>, out: &mut Outbox) -> Intent
+    /// The controller takes that nothing was heard in a phase, and wants something in the next one.
+    fn hear_nothing(&mut self, wanted: &mut Wish, out: &mut Outbox)
+        requires empty { out.old.items ≡ [] }
+        ensures took { (setup : Setup) (past : List Step) → Knows setup self.old.held past
+            → Took setup past NothingHeard self.old self.new out.new.items }
+        ensures wants { (setup : Setup) (past : List Step) → Knows setup self.old.held past
+            → wanted.new ≡ use_of setup (facts_of setup (past ++ NothingHeard ∷ [])) }
+    {
+        wanted.set(self.controller.unheard(out));
+    }
+
+    /// The controller takes a packet that was heard in a phase, and wants something in the next one.
+    fn hear_packet(&mut self, octets: &[u8], wanted: &mut Wish, out: &mut Outbox)
+        requires empty { out.old.items ≡ [] }
+        ensures took { (setup : Setup) (past : List Step) → Knows setup self.old.held past
+            → Took setup past (PacketHeard octets.now) self.old self.new out.new.items }
+        ensures wants { (setup : Setup) (past : List Step) → Knows setup self.old.held past
+            → wanted.new
+            ≡ use_of setup (facts_of setup (past ++ PacketHeard octets.now ∷ [])) }
+    {
+        wanted.set(self.controller.heard(octets, out));
+    }
+
+    /// The controller takes what was heard in a phase, if anything was, and wants something in the
+    /// next one.
+    pub(crate) fn listen(&mut self, heard: Option<&[u8]>, wanted: &mut Wish, out: &mut Outbox)
         requires empty { out.old.items ≡ [] }
         ensures took { (setup : Setup) (past : List Step) → Knows setup self.old.held past
             → Took setup past (step_of (option_copied heard.entry)) self.old self.new out.new.items }
         ensures wants { (setup : Setup) (past : List Step) → Knows setup self.old.held past
-            → use_wanted result ≡ use_of setup (facts_of setup (past ++ step_of
-            (option_copied heard.entry) ∷ [])) }
+            → wanted.new
+            ≡ use_of setup (facts_of setup (past ++ step_of (option_copied heard.entry) ∷ [])) }
     {
         match heard {
-            None => self.controller.unheard(out),
-            Some(octets) => self.controller.heard(octets, out),
+            None => self.hear_nothing(wanted, out),
+            Some(octets) => self.hear_packet(octets, wanted, out),
         }
     }
 

@@ -65,9 +65,11 @@ fn begin_both(
 {
     let slot = SlotNo(u64::from(number));
     one_side::notes_name_links_of_the_controller();
-    wanted.a = pair.a.begin(slot, schedule.a_on(number), out);
+    pair.a
+        .begin(slot, schedule.a_on(number), &mut wanted.a, out);
     pair.a.write_notes(Side::A, out, log)?;
-    wanted.b = pair.b.begin(slot, schedule.b_on(number), out);
+    pair.b
+        .begin(slot, schedule.b_on(number), &mut wanted.b, out);
     pair.b.write_notes(Side::B, out, log)
 }
 

@@ -1,5 +1,5 @@
 -- Proof of `phases::run_phase`.
-use Rattle.pair_world.specs.Air.{heard_of}
+use Rattle.pair_world.specs.Wishes.{heard_of}
 use Rattle.pair_world.proofs.BothCalled.{both_listened}
 use Rattle.pair_world.proofs.Outcomes.{handed_on}
 use Rattle.pair_world.proofs.ThreePhases.{phase_done, phase_stops}
@@ -11,20 +11,20 @@ returns-clause-ok c = λ given plan history there phase.
     let wanted = c.args.wanted.now in
     phase_done given plan.fates history _ _ (c.in_ok-received.ensures.ok given plan history there phase) (λ after heard.
     both_listened c.notes_name_links_of_the_controller.ensures.handles given c.args.turn.now.number after
-    c.transmit.new.pair.a c.listen-a.new.self c.write_notes.new.self c.transmit.new.pair.b c.listen-b.new.self c.write_notes-2.new.self
-    c.transmit.new.log c.write_notes.new.log c.write_notes-2.new.log c.listen-a.new.out.items c.listen-b.new.out.items c.listen-a.result c.listen-b.result
+    c.transmit.new.pair.a c.listen.new.self c.write_notes.new.self c.transmit.new.pair.b c.listen-2.new.self c.write_notes-2.new.self
+    c.transmit.new.log c.write_notes.new.log c.write_notes-2.new.log c.listen.new.out.items c.listen-2.new.out.items c.listen.new.wanted c.listen-2.new.wanted
     c.transmit.new.turn.packets (heard_of received.a wanted.b) (heard_of received.b wanted.a) heard
     (record {
-      took = rw c.heard_of.ensures at c.listen-a.ensures.took;
+      took = rw c.heard.ensures at c.listen.ensures.took;
       log_is = c.in_ok-write_notes.ensures.log;
       written_is = c.in_ok-write_notes.ensures.links;
     })
     (record {
-      took = rw c.heard_of-2.ensures at c.listen-b.ensures.took;
+      took = rw c.heard-2.ensures at c.listen-2.ensures.took;
       log_is = c.in_ok-write_notes-2.ensures.log;
       written_is = c.in_ok-write_notes-2.ensures.links;
     })
-    (rw c.heard_of.ensures at c.listen-a.ensures.wants) (rw c.heard_of-2.ensures at c.listen-b.ensures.wants))
+    (rw c.heard.ensures at c.listen.ensures.wants) (rw c.heard-2.ensures at c.listen-2.ensures.wants))
 
 pub returns-in_err-received-clause-err : goal.returns-in_err-received-clause-err
 returns-in_err-received-clause-err c =
