@@ -109,7 +109,7 @@ keeps_fed_other given station other octets history state ne keeps = record {
   links_are = subst (λ (links : Links). KnowsLinks other links state.links) (sym (links_fed station octets history)) keeps.links_are;
 }
 
--- the station that is fed so many octets
+-- the station that is fed this number of octets
 fed_at : (given : Given) (side : Side) (station count : ℕ) (history : List Event) (state : StationState) (log : LogState)
     → side_of station ≡ side → IsAt given station history state log
     → IsAt given station (fed_history station (take count state.unfed) history)

@@ -78,7 +78,8 @@ pub record IsSent (fate : Fate) (side : Side) (setup : Setup) (past : List Step)
 
 -- ---- a packet of a side
 
--- in a phase: both stations are up to this history and want this, and so many packets were on the air in this turn
+-- in a phase: both stations are up to this history and want this, and this number of packets were on the air in this
+-- turn
 pub record InAir (given : Given) (slot : ℕ) (history : List Event) (side : Side) (sender listener : StationState)
     (log : LogState) (wanted listens : Use) (packets : ℕ) : Type 0 where
   pub stations_are : given.stations ≡ 0 ∷ 1 ∷ []

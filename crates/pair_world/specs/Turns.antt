@@ -7,7 +7,7 @@ use Rattle.runs.specs.Run.{Given, Plan as TurnPlan, after_feeds}
 use Rattle.pair_world.specs.Logs.{LogState}
 use Rattle.pair_world.specs.Stations.{StationState, Keeps, Writes}
 
--- both stations and the log are up to this history, in which so many turns began
+-- both stations and the log are up to this history, in which this number of turns began
 pub record IsUpTo (given : Given) (turns : ℕ) (a b : StationState) (log : LogState)
     (history : List Event) : Type 0 where
   pub stations_are : given.stations ≡ 0 ∷ 1 ∷ []

@@ -45,9 +45,9 @@ pub data Place : Type 0 where
   AtFeeds : (done left : List ℕ) → Place
   -- the controllers begin the turn
   AtBegins : (done left : List ℕ) → Place
-  -- so many phases of the turn are over
+  -- this number of phases of the turn are over
   AfterPhases : (phases : ℕ) → Place
-  -- in the phase after so many, the stations transmit what they want to
+  -- in the phase after this number of phases, the stations transmit what they want to
   AtPackets : (phases : ℕ) (done left : List ℕ) → Place
   -- they take what they heard in it
   AtListening : (phases : ℕ) (done left : List ℕ) → Place

@@ -176,7 +176,7 @@ pub fn a_turn_leaves_nothing_over()
 {}
 
 /// The entries of the journal of a pair are in order: a turn begins, its sides are fed, A before B,
-/// each with the notes of its controller behind it, and then packets are on the air, with notes of
+/// each with the notes of its controller after it, and then packets are on the air, with notes of
 /// A before notes of B. No side is fed after a packet of the turn.
 pub fn entries_are_in_order()
     ensures order { (a b : List ℕ) (script : Script)
