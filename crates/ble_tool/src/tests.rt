@@ -36,11 +36,13 @@ const UNSEEN: &str = "unseen damage: turn 0 packet 1 sent d6be898e8fd45da13d4999
 /// The words of `pair` with the three files that are held.
 const PAIR: &str = "pair a.bin b.bin schedule";
 
-/// The commands that are not built yet.
-const NOT_BUILT: [u16; 36] = [
-    0x0406, 0x041D, 0x0C31, 0x0C33, 0x0C35, 0x1001, 0x1003, 0x2001, 0x2002, 0x2003, 0x2005, 0x2008,
-    0x2009, 0x200B, 0x200D, 0x200E, 0x200F, 0x2010, 0x2011, 0x2012, 0x2013, 0x2014, 0x2015, 0x2016,
-    0x2017, 0x2018, 0x2019, 0x201A, 0x201B, 0x2020, 0x2021, 0x2022, 0x202F, 0x2030, 0x2031, 0x2032,
+/// The commands with parameters that start something.
+const STARTS: [u16; 7] = [0x0406, 0x041D, 0x200D, 0x2013, 0x2016, 0x2019, 0x2032];
+
+/// The other commands with parameters.
+const COMPLETES: [u16; 23] = [
+    0x0C01, 0x0C31, 0x0C33, 0x0C35, 0x2001, 0x2005, 0x2006, 0x2008, 0x2009, 0x200A, 0x200B, 0x200C,
+    0x2011, 0x2012, 0x2014, 0x2015, 0x2017, 0x201A, 0x201B, 0x2020, 0x2021, 0x2022, 0x2030,
 ];
 
 /// What the program did.
@@ -304,14 +306,30 @@ fn the_first_line_at_fault_is_named(rt: HostRuntime) -> Result<(), Fail> {
 }
 
 #[test]
-fn answers_what_is_not_built(rt: HostRuntime) -> Result<(), Fail> {
+fn a_wrong_length_of_a_command_that_starts_something(rt: HostRuntime) -> Result<(), Fail> {
     let alloc = rt.alloc();
-    for opcode in NOT_BUILT {
+    for opcode in STARTS {
         let [low, high] = opcode.to_le_bytes();
         let mut files = files_of(alloc, &[1, low, high, 0], b"", "t ++ a4\n")?;
         let ending = run(alloc, PAIR, &mut files, false)?;
         let journal = format!(in alloc;
-            "turn 0 ++\nin a 01{low:02x}{high:02x}00\nup a 040f040101{low:02x}{high:02x}\n"
+            "turn 0 ++\nin a 01{low:02x}{high:02x}00\nup a 040f041201{low:02x}{high:02x}\n"
+        )?;
+        assert_eq!(rt; ending.status, 0);
+        assert_eq!(rt; ending.out.octets(), journal.as_bytes());
+    }
+    Ok(())
+}
+
+#[test]
+fn a_wrong_length_of_another_command(rt: HostRuntime) -> Result<(), Fail> {
+    let alloc = rt.alloc();
+    for opcode in COMPLETES {
+        let [low, high] = opcode.to_le_bytes();
+        let mut files = files_of(alloc, &[1, low, high, 0], b"", "t ++ a4\n")?;
+        let ending = run(alloc, PAIR, &mut files, false)?;
+        let journal = format!(in alloc;
+            "turn 0 ++\nin a 01{low:02x}{high:02x}00\nup a 040e0401{low:02x}{high:02x}12\n"
         )?;
         assert_eq!(rt; ending.status, 0);
         assert_eq!(rt; ending.out.octets(), journal.as_bytes());
