@@ -1,4 +1,5 @@
 -- The definitions of this crate.
 pub mod Header
 pub mod Pdu
+pub mod Ranges
 pub mod Reading

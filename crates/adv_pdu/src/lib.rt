@@ -4,6 +4,7 @@
 
 mod header;
 mod pdu;
+mod ranges;
 mod reading;
 mod writing;
 

@@ -183,3 +183,90 @@ fn no_pdus(rt: HostRuntime) {
     longest[1] = 38;
     assert_eq!(rt; AdvPdu::read(&longest), None);
 }
+
+#[test]
+fn fields_of_a_link(rt: HostRuntime) {
+    let least = ConnectFields {
+        access: 0x7176_4129,
+        crc_init: 1,
+        win_size: 1,
+        win_offset: 6,
+        interval: 6,
+        latency: 0,
+        timeout: 10,
+        map: 0b11,
+        hop: 5,
+        sca: 0,
+    };
+    let most = ConnectFields {
+        interval: 25,
+        win_offset: 25,
+        latency: 499,
+        timeout: 3200,
+        map: 0x1F_FFFF_FFFF,
+        hop: 16,
+        sca: 7,
+        ..least
+    };
+    for fields in [
+        least,
+        most,
+        ConnectFields {
+            interval: 3200,
+            timeout: 801,
+            ..least
+        },
+    ] {
+        assert!(rt; fields.is_in_range(), "of {fields:?}");
+    }
+    for fields in [
+        ConnectFields {
+            win_size: 2,
+            ..least
+        },
+        ConnectFields {
+            win_offset: 7,
+            ..least
+        },
+        ConnectFields {
+            interval: 5,
+            win_offset: 0,
+            ..least
+        },
+        ConnectFields {
+            interval: 3201,
+            timeout: 3200,
+            ..least
+        },
+        ConnectFields {
+            interval: 3200,
+            timeout: 800,
+            ..least
+        },
+        ConnectFields {
+            latency: 500,
+            timeout: 3200,
+            ..least
+        },
+        ConnectFields {
+            timeout: 9,
+            ..least
+        },
+        ConnectFields {
+            timeout: 3201,
+            ..least
+        },
+        ConnectFields {
+            map: 0b100,
+            ..least
+        },
+        ConnectFields {
+            map: 0x20_0000_0003,
+            ..least
+        },
+        ConnectFields { hop: 4, ..least },
+        ConnectFields { hop: 17, ..least },
+    ] {
+        assert!(rt; !fields.is_in_range(), "of {fields:?}");
+    }
+}

@@ -37,7 +37,7 @@ update_test : (win_size win_offset interval latency timeout : ℕ) → IsUpdate 
 update_test win_size win_offset interval latency timeout facts =
     rw (eq-eqb _ _ facts.win_size_one, le-leb _ _ facts.win_offset_within, le-leb _ _ facts.interval_from, le-leb _ _ facts.interval_to, le-leb _ _ facts.latency_to, le-leb _ _ facts.timeout_from, le-leb _ _ facts.timeout_to, lt-ltb _ _ facts.timeout_outlasts) refl
 
-update_is_tested : (win_size win_offset interval latency timeout : ℕ) → IsTrue (is_update win_size win_offset interval latency timeout) ↔ IsUpdate win_size win_offset interval latency timeout
+pub update_is_tested : (win_size win_offset interval latency timeout : ℕ) → IsTrue (is_update win_size win_offset interval latency timeout) ↔ IsUpdate win_size win_offset interval latency timeout
 update_is_tested win_size win_offset interval latency timeout =
     (update_facts win_size win_offset interval latency timeout, update_test win_size win_offset interval latency timeout)
 

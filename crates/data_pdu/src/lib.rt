@@ -15,5 +15,6 @@ mod writing;
 
 pub use crate::ctrl::{Ctrl, CtrlRead};
 pub use crate::header::{DataHeader, read_header, write_header};
+pub use crate::ranges::is_update;
 pub use crate::reading::read_ctrl;
 pub use crate::writing::write_ctrl;

@@ -1,6 +1,7 @@
 //! Tests of the ranges of the fields of control PDUs.
 ghost use Rattle.std.specs.Prelude.{◌≡◌, ◌+◌, ◌*◌, ◌<◌, ◌≤◌, ◌↔◌, IsTrue};
-ghost use Rattle.data_pdu.specs.Ranges.{is_update, is_map, is_length, is_phy_update, is_in_range, IsInRange};
+ghost use Rattle.data_pdu.specs.Ranges.{is_update, is_map, is_length, is_phy_update, is_in_range};
+ghost use Rattle.data_pdu.specs.Ranges.{IsInRange, IsUpdate};
 
 use crate::ctrl::Ctrl;
 use ble_base::ChannelMap;
@@ -45,8 +46,25 @@ impl Ctrl {
     }
 }
 
-/// Whether a connection may have these parameters and this transmit window after an update.
-fn is_update(win_size: u8, win_offset: u16, interval: u16, latency: u16, timeout: u16) -> bool
+/// Whether a connection may have these parameters and this transmit window, from its CONNECT_IND on
+/// or after an update. Interval, WinSize and WinOffset are in units of 1.25 ms, the timeout is in
+/// units of 10 ms (Core 5.2, volume 6 part B, sections 2.3.3.1 and 4.5.1 to 4.5.3).
+#[tactic(auto, using(crate::proofs::RangeTests::update_is_tested))]
+pub fn is_update(win_size: u8, win_offset: u16, interval: u16, latency: u16, timeout: u16) -> bool
+    ensures test { result ≡ is_update win_size win_offset interval latency timeout }
+    ensures range { IsTrue result ↔ IsUpdate win_size win_offset interval latency timeout }
+{
+    has_update_ranges(win_size, win_offset, interval, latency, timeout)
+}
+
+/// The test of `is_update`.
+fn has_update_ranges(
+    win_size: u8,
+    win_offset: u16,
+    interval: u16,
+    latency: u16,
+    timeout: u16,
+) -> bool
     ensures { result ≡ is_update win_size win_offset interval latency timeout }
 {
     win_size == 1
