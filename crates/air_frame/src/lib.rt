@@ -1,10 +1,12 @@
 //! Packets on the air, without their preamble (Core 5.2, volume 6 part B, sections 2.1 and 3).
 #![tactic(auto)]
 
+mod advertising;
 mod building;
 mod hearing;
 pub mod laws;
 
+pub use advertising::{ADVERTISING_ACCESS, ADVERTISING_CRC_INIT};
 use arrayvec::ArrayVec;
 pub use building::build;
 pub use hearing::unframe;

@@ -5,14 +5,14 @@ use super::*;
 use std::test::Fail;
 
 /// Access address and initial CRC of the advertising channels.
-const ADVERTISING: (u32, u32) = (0x8e89_bed6, 0x55_5555);
+const ADVERTISING: (u32, u32) = (ADVERTISING_ACCESS, ADVERTISING_CRC_INIT);
 
 /// Channel index, access address and initial CRC, and PDU of at most 12 octets.
 const PACKETS: [(u8, (u32, u32), &[u8]); 8] = [
     (37, ADVERTISING, &[2, 6, 10, 0, 0, 0xee, 0xff, 0xc0]),
     (38, ADVERTISING, &[0x44, 9, 1, 2, 3, 4, 5, 0xc6, 2, 1, 6]),
     (39, ADVERTISING, &[0x60, 7, 9, 0, 0, 0, 0, 0xff, 0]),
-    (39, (0x8e89_bed6, 0), &[0, 0]),
+    (39, (ADVERTISING_ACCESS, 0), &[0, 0]),
     (0, (0x7176_4129, 0x12_3456), &[1, 0]),
     (12, (0x5065_5d5a, 0xab_cdef), &[14, 4, 128, 1, 127, 254]),
     (12, (0, 0xff_ffff), &[0xff, 1, 0xa5]),

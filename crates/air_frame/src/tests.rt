@@ -3,8 +3,6 @@
 use super::*;
 use std::test::Fail;
 
-const ADVERTISING: u32 = 0x8e89bed6;
-
 const PDU: [u8; 2] = [0x01, 0x00];
 
 const PACKET: [u8; 9] = [0xd6, 0xbe, 0x89, 0x8e, 0x8c, 0xd2, 0xe3, 0xf0, 0x8a];
@@ -28,7 +26,7 @@ const DAMAGED: [&[u8]; 5] = [
 #[test]
 fn builds_as_worked_out(rt: HostRuntime) {
     assert_eq!(rt;
-        build(37, ADVERTISING, 0, &PDU).as_slice(),
+        build(37, ADVERTISING_ACCESS, 0, &PDU).as_slice(),
         PACKET.as_slice()
     );
 }
@@ -39,19 +37,19 @@ fn hears_as_worked_out(rt: HostRuntime) -> Result<(), Fail> {
     laws::packet_tells_its_pdu();
     laws::short_damage_is_never_whole();
     assert_eq!(rt;
-        unframe(37, ADVERTISING, 0, &PACKET),
+        unframe(37, ADVERTISING_ACCESS, 0, &PACKET),
         Heard::Whole(ArrayVec::try_from(PDU.as_slice())?)
     );
     for octets in OF_OTHERS {
         assert_eq!(rt;
-            unframe(37, ADVERTISING, 0, octets),
+            unframe(37, ADVERTISING_ACCESS, 0, octets),
             Heard::NotOurs,
             "{octets:?}"
         );
     }
     for octets in DAMAGED {
         assert_eq!(rt;
-            unframe(37, ADVERTISING, 0, octets),
+            unframe(37, ADVERTISING_ACCESS, 0, octets),
             Heard::Broken,
             "{octets:?}"
         );

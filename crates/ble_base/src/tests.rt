@@ -110,3 +110,16 @@ fn shared_types_fit_in_vectors(rt: HostRuntime) {
     assert_eq!(rt; SlotNo::default(), SlotNo(0));
     assert!(rt; Config::default().words.is_empty());
 }
+
+#[test]
+fn settings_are_copied(rt: HostRuntime) {
+    let mut words = ArrayVec::new();
+    words.push(7);
+    words.push(u64::MAX);
+    let config = Config {
+        public: [1, 2, 3, 4, 5, 6],
+        cursor: 0x7176_4129,
+        words,
+    };
+    assert_eq!(rt; config.copy(), config);
+}
