@@ -102,10 +102,11 @@ abbrev pub HasInterval : Indication → Type 0
 HasInterval (Update win_offset interval latency timeout instant) = 1 ≤ interval
 HasInterval (Map map instant) = Unit {0}
 
--- what is so of every track: its numbers stay below those of slots
+-- what is so of every track: its numbers stay below those of slots, once an event was entered
 pub record IsTrack (t : TrackFacts) : Type 0 where
   pub interval : 1 ≤ t.params.interval
   pub next_interval : ForSome t.waits (λ change. HasInterval change.indication)
-  pub slots : t.anchor < 2 ^ 32
+  pub first_slot : t.anchor < 2 ^ 33
+  pub slots : 1 ≤ t.entered → t.anchor < 2 ^ 32
   pub events : t.entered ≤ t.anchor + 1
   pub numbers : t.applied ≤ t.entered

@@ -77,7 +77,7 @@ impl ParamTrack {
     /// anchor of event 0.
     pub fn new(first: Params, anchor: SlotNo) -> Self
         requires interval { 1 ≤ first.interval }
-        requires slot { anchor.0 < 2 ^ 32 }
+        requires slot { anchor.0 < 2 ^ 33 }
         ensures { result ≡ first_facts first anchor.0 }
     {
         ParamTrack {
