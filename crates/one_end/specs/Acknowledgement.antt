@@ -1,0 +1,67 @@
+-- The PDUs that an end has sent and accepted, and which of its own are acknowledged (Core 5.2, volume 6 part B, section
+-- 4.5.9).
+use Rattle.std.specs.Prelude.{ℕ, ◌+◌, ◌==◌, Bool, List, [], ◌∷◌, ◌++◌, length, if◌then◌else◌}
+use Rattle.data_pdu.specs.declared.header.DataHeader.{DataHeader}
+use Rattle.ack_bit.specs.AckBits.{AckBits, is_odd, is_new, acknowledges}
+use Rattle.ack_bit.specs.AckLink.{End}
+
+-- a data channel PDU: its LLID and its payload (section 2.4)
+pub record Pdu : Type 0 where
+  pub llid : ℕ
+  pub body : List ℕ
+
+-- the empty PDU (section 2.4.1)
+abbrev pub empty_pdu : Pdu
+empty_pdu = record { llid = 1; body = [] }
+
+pub record Acknowledgement : Type 0 where
+  -- the PDUs that it sent, each once; the first is the empty PDU that counts as sent when the link begins (our choice)
+  pub sent : List Pdu
+  -- the last of them
+  pub last : Pdu
+  -- how many of them are acknowledged
+  pub acked : ℕ
+  -- the PDUs of the other end that it accepted
+  pub accepted : List Pdu
+
+abbrev pub first_acknowledgement : Acknowledgement
+first_acknowledgement = record { sent = empty_pdu ∷ []; last = empty_pdu; acked = 0; accepted = [] }
+
+-- SN is the number of acknowledged PDUs, and NESN that of accepted PDUs, both modulo 2
+abbrev pub bits_of : Acknowledgement → AckBits
+bits_of ack = record { sn = is_odd ack.acked; nesn = is_odd (length ack.accepted) }
+
+-- an end as the laws of acknowledgement have it
+abbrev pub end_of : Acknowledgement → End Pdu
+end_of ack =
+    record { bits = bits_of ack; sent = ack.sent; last = ack.last; acked = ack.acked; accepted = ack.accepted }
+
+-- the PDU that it sent last is acknowledged
+abbrev pub is_acked : Acknowledgement → Bool
+is_acked ack = ack.acked == length ack.sent
+
+-- a packet carries the last PDU again until that is acknowledged, and then the next one
+abbrev pub next_sent : Bool → Pdu → Acknowledgement → Acknowledgement
+next_sent is_acked next ack =
+    record {
+      sent = (if is_acked then ack.sent ++ next ∷ [] else ack.sent);
+      last = (if is_acked then next else ack.last);
+      acked = ack.acked;
+      accepted = ack.accepted;
+    }
+
+abbrev pub after_sending : Pdu → Acknowledgement → Acknowledgement
+after_sending next ack = next_sent (is_acked ack) next ack
+
+-- a packet that is received acknowledges the PDU that was sent last, or does not; its PDU is accepted where it is new
+abbrev pub received_by : Bool → Bool → Pdu → Acknowledgement → Acknowledgement
+received_by acked fresh pdu ack =
+    record {
+      sent = ack.sent;
+      last = ack.last;
+      acked = (if acked then ack.acked + 1 else ack.acked);
+      accepted = (if fresh then ack.accepted ++ pdu ∷ [] else ack.accepted);
+    }
+
+abbrev pub after_receiving : DataHeader → Pdu → Acknowledgement → Acknowledgement
+after_receiving header pdu ack = received_by (acknowledges (bits_of ack) header) (is_new (bits_of ack) header) pdu ack

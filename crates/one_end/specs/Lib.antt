@@ -1,0 +1,11 @@
+-- The definitions of this crate.
+pub mod Setup
+pub mod Step
+pub mod Acknowledgement
+pub mod Facts
+pub mod Packets
+pub mod Times
+pub mod End
+pub mod Events
+pub mod Pair
+pub mod Rows

@@ -1,0 +1,77 @@
+-- Both ends of one link, and the packets between them (Core 5.2, volume 6 part B, section 4.5).
+use Rattle.std.specs.Prelude.{◌≡◌, ℕ, ◌==◌, ◌&&◌, Bool, List, fold, if◌then◌else◌}
+use Rattle.ack_bit.specs.InStep.{AreInStep}
+use Rattle.instants.specs.Follows.{AreTogether}
+use Rattle.one_end.specs.Setup.{Setup}
+use Rattle.one_end.specs.Step.{EventEntered, PacketSent, PacketReceived}
+use Rattle.one_end.specs.Acknowledgement.{Acknowledgement, end_of}
+use Rattle.one_end.specs.Facts.{Facts, first_facts}
+use Rattle.one_end.specs.Packets.{packet_sent}
+use Rattle.one_end.specs.End.{facts_after}
+
+-- the two ends are of one link: one CONNECT_IND, in one slot, and one algorithm for the channels
+pub record AreOneLink (one other : Setup) : Type 0 where
+  pub fields : one.link.fields ≡ other.link.fields
+  pub two : one.link.two ≡ other.link.two
+  pub opened : one.opened ≡ other.opened
+
+-- both ends
+pub record Pair : Type 0 where
+  pub central : Facts
+  pub peripheral : Facts
+
+-- what happens on the link: an end enters its next event, or sends; its packet is lost, or reaches the channel of the
+-- other end
+pub data Move : Type 0 where
+  CentralEnters : (slot : ℕ) → Move
+  PeripheralEnters : (slot : ℕ) → Move
+  CentralSends : (slot : ℕ) (arrives : Bool) → Move
+  PeripheralSends : (slot : ℕ) (arrives : Bool) → Move
+
+abbrev pub first_pair : Setup → Setup → Pair
+first_pair central peripheral =
+    record { central = first_facts central; peripheral = first_facts peripheral }
+
+-- an end after it sent
+abbrev pub sender_after : Setup → ℕ → Facts → Facts
+sender_after setup slot facts = facts_after setup facts (PacketSent slot)
+
+-- the other end after a packet of this sender; it hears a packet that is not lost on its own channel alone
+abbrev pub listener_after : Setup → Facts → Setup → ℕ → Bool → Facts → Facts
+listener_after from sender to slot arrives facts =
+    if arrives && (sender.event.channel == facts.event.channel)
+    then facts_after to facts (PacketReceived slot (packet_sent from sender))
+    else facts
+
+abbrev pub pair_after : Setup → Setup → Pair → Move → Pair
+pair_after central peripheral pair (CentralEnters slot) =
+    record pair { central = facts_after central pair.central (EventEntered slot) }
+pair_after central peripheral pair (PeripheralEnters slot) =
+    record pair { peripheral = facts_after peripheral pair.peripheral (EventEntered slot) }
+pair_after central peripheral pair (CentralSends slot arrives) =
+    record {
+      central = sender_after central slot pair.central;
+      peripheral =
+          listener_after central (sender_after central slot pair.central) peripheral slot arrives pair.peripheral;
+    }
+pair_after central peripheral pair (PeripheralSends slot arrives) =
+    record {
+      central =
+          listener_after peripheral (sender_after peripheral slot pair.peripheral) central slot arrives pair.central;
+      peripheral = sender_after peripheral slot pair.peripheral;
+    }
+
+-- the link after these moves
+unfoldable pub pair_of : Setup → Setup → List Move → Pair
+pair_of central peripheral moves =
+    fold (pair_after central peripheral) (first_pair central peripheral) moves
+
+-- both ends are in one event: with one anchor, one set of parameters and one channel
+pub record AreInOneEvent (one other : Facts) : Type 0 where
+  pub parameters : AreTogether one.parameters other.parameters
+  pub channel : one.event.channel ≡ other.event.channel
+
+-- the numbers of the two ends agree: SN and NESN are counts of acknowledged and of accepted PDUs, what one end takes for
+-- acknowledged the other accepted, and each accepts what the other sent, in order
+abbrev pub AreInAgreement : Acknowledgement → Acknowledgement → Type 0
+AreInAgreement one other = AreInStep (end_of one) (end_of other)
