@@ -1,0 +1,8 @@
+-- Invariants of `access::first_valid`.
+use Rattle.std.proofs.Common.{◌≡◌}
+use Rattle.scan_init.specs.Access.{next_access_of}
+use Rattle.scan_init.proofs.access.first_valid.Given as goal
+
+-- to search from here is to search from the start
+abbrev pub invariant-loop-travel : goal.invariant-loop-travel
+invariant-loop-travel l = next_access_of l.cursor l.travel ≡ next_access_of l.fn.cursor l.fn.travelled
