@@ -1,0 +1,5 @@
+-- The lemmas of this crate.
+pub mod Empty
+pub mod Handles
+pub mod Ends
+pub mod OnTime

@@ -1,0 +1,23 @@
+//! The open links of a controller, each under its handle: which of them end, which enter an event,
+//! which want the radio, and what happens to each of them.
+#![tactic(auto)]
+
+mod ended;
+mod ending;
+mod entering;
+mod laws;
+mod links;
+mod places;
+mod using;
+
+pub use crate::ended::LinkEnded;
+pub use crate::ending::MOST_LINKS;
+pub use crate::laws::{
+    a_change_leaves_other_links, a_link_enters_each_event, each_link_has_its_own_handle,
+    links_end_where_due, new_handle_is_free_and_least,
+};
+pub use crate::links::OpenLinks;
+pub use link_end::{LinkEnd, LinkSetup, LinkStep};
+
+#[cfg(test)]
+mod tests;
