@@ -1,0 +1,27 @@
+-- Which procedures exclude each other, and what becomes of two that collide (Core 5.2, volume 6 part B, section 5.3).
+use Rattle.std.specs.Prelude.{Bool, true, false, ◌&&◌, Option, Some, None, if◌then◌else◌}
+use Rattle.ble_base.specs.ErrorCodes.{ll_procedure_collision, different_transaction_collision}
+use Rattle.ble_base.specs.declared.error_codes.ErrCode.{ErrCode}
+use Rattle.ble_base.specs.declared.procedure_kinds.Kind.{Kind}
+use Rattle.ble_base.specs.declared.procedure_kinds.Kind.TheVariants.{Update, Request, Map, Phy}
+use Rattle.procedures.specs.Kinds.{is_same_kind}
+
+-- the procedures that exclude each other and themselves (section 5.3)
+abbrev pub is_exclusive : Kind → Bool
+is_exclusive Update = true
+is_exclusive Request = true
+is_exclusive Map = true
+is_exclusive Phy = true
+is_exclusive other = false
+
+abbrev pub are_incompatible : Kind → Kind → Bool
+are_incompatible p q = is_exclusive p && is_exclusive q
+
+-- the error of two that collide (section 5.3; volume 1 part F, sections 2.31 and 2.38)
+abbrev pub collision_code : Kind → Kind → ErrCode
+collision_code p q = (if is_same_kind p q then record { 0 = ll_procedure_collision } else record { 0 = different_transaction_collision })
+
+-- the error of a procedure of the peer that collides with that of this end, if it does
+abbrev pub collision : Option Kind → Kind → Option ErrCode
+collision None q = None
+collision (Some p) q = (if are_incompatible p q then Some (collision_code p q) else None)

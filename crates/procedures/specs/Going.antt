@@ -1,0 +1,160 @@
+-- How procedures go on as an event is entered, as the host answers or ends the link, and as time passes (Core 5.2,
+-- volume 6 part B, sections 5.1 and 5.2).
+use Rattle.std.specs.Prelude.{ℕ, ◌+◌, nat_le, ◌&&◌, Bool, true, false, Option, Some, None, Result, Ok, Err, if◌then◌else◌}
+use Rattle.ble_base.specs.ErrorCodes.{ll_response_timeout}
+use Rattle.ble_base.specs.declared.error_codes.ErrCode.{ErrCode}
+use Rattle.ble_base.specs.declared.counters.SlotNo.{SlotNo}
+use Rattle.ble_base.specs.declared.procedure_kinds.Kind.{Kind}
+use Rattle.ble_base.specs.declared.procedure_kinds.Kind.TheVariants.{Update, Request, Map}
+use Rattle.data_pdu.specs.declared.ctrl.Ctrl.{Ctrl}
+use Rattle.data_pdu.specs.declared.ctrl.Ctrl.TheVariants.{TerminateInd}
+use Rattle.procedures.specs.declared.asks.Ask.{Ask}
+use Rattle.procedures.specs.declared.asks.Ask.TheVariants.{Update as ask_update}
+use Rattle.procedures.specs.declared.drafts.Draft.TheVariants.{Grant, Cipher}
+use Rattle.procedures.specs.declared.opcodes.TheConstants.{CONNECTION_PARAM_REQ}
+use Rattle.procedures.specs.declared.stages.Ahead.TheVariants.{Nothing}
+use Rattle.procedures.specs.declared.stages.OwnCentral.{OwnCentral}
+use Rattle.procedures.specs.declared.stages.OwnCentral.TheVariants.{Idle, UpdateSent, MapSent}
+use Rattle.procedures.specs.declared.stages.PeerAtCentral.{PeerAtCentral}
+use Rattle.procedures.specs.declared.stages.PeerAtCentral.TheVariants.{Absent, GrantUnsent, GrantSent}
+use Rattle.procedures.specs.declared.stages.OwnPeripheral.{OwnPeripheral}
+use Rattle.procedures.specs.declared.stages.OwnPeripheral.TheVariants.{Idle as idle, RequestGranted}
+use Rattle.procedures.specs.declared.stages.PeerAtPeripheral.{PeerAtPeripheral}
+use Rattle.procedures.specs.declared.stages.PeerAtPeripheral.TheVariants.{Absent as absent, UpdateTaken, MapTaken}
+use Rattle.procedures.specs.declared.stages.Progress.{Progress}
+use Rattle.procedures.specs.declared.stages.Progress.TheVariants.{Central as central, Peripheral as peripheral}
+use Rattle.procedures.specs.declared.table.Closing.{Closing}
+use Rattle.procedures.specs.declared.table.Closing.TheVariants.{Disconnecting}
+use Rattle.procedures.specs.Kinds.{own_kind}
+use Rattle.procedures.specs.Table.{TableFacts, closed}
+use Rattle.procedures.specs.Queue.{with_draft, with_rejection, with_disconnect}
+use Rattle.procedures.specs.Encryption.{progress_given}
+
+-- ---- an event is entered, from which an indication holds
+
+-- at the central that completes its own update or map, or the request of the peripheral
+abbrev pub own_held_at_central : OwnCentral → OwnCentral
+own_held_at_central UpdateSent = Idle
+own_held_at_central MapSent = Idle
+own_held_at_central other = other
+
+abbrev pub done_at_central : OwnCentral → Option Kind
+done_at_central UpdateSent = Some Update
+done_at_central MapSent = Some Map
+done_at_central other = None
+
+abbrev pub peer_held_at_central : PeerAtCentral → PeerAtCentral
+peer_held_at_central GrantSent = Absent
+peer_held_at_central other = other
+
+-- at the peripheral its own request, or the update or map of the central
+abbrev pub own_held_at_peripheral : OwnPeripheral → OwnPeripheral
+own_held_at_peripheral RequestGranted = idle
+own_held_at_peripheral other = other
+
+abbrev pub done_at_peripheral : OwnPeripheral → Option Kind
+done_at_peripheral RequestGranted = Some Request
+done_at_peripheral other = None
+
+abbrev pub peer_held_at_peripheral : PeerAtPeripheral → PeerAtPeripheral
+peer_held_at_peripheral UpdateTaken = absent
+peer_held_at_peripheral MapTaken = absent
+peer_held_at_peripheral other = other
+
+abbrev pub progress_held : Progress → Progress
+progress_held (central c) =
+    central (record c { own = own_held_at_central c.own; peer = peer_held_at_central c.peer })
+progress_held (peripheral p) =
+    peripheral (record p {
+      own = own_held_at_peripheral p.own;
+      peer = peer_held_at_peripheral p.peer;
+      ahead = Nothing;
+    })
+
+abbrev pub done_held : Progress → Option Kind
+done_held (central c) = done_at_central c.own
+done_held (peripheral p) = done_at_peripheral p.own
+
+abbrev pub entered_step : TableFacts → Bool → TableFacts × Option Kind
+entered_step f applied =
+    (if applied then (record f { progress = progress_held f.progress }, done_held f.progress) else (f, None))
+
+-- ---- the host of a central answers a request of the peripheral (section 5.1.7)
+
+abbrev pub peer_becomes : PeerAtCentral → Progress → Progress
+peer_becomes peer (central c) = central (record c { peer = peer })
+peer_becomes peer (peripheral p) = peripheral p
+
+-- it grants the request with these parameters, or refuses it
+abbrev pub request_granted : TableFacts → ℕ → ℕ → ℕ → TableFacts
+request_granted f interval latency timeout =
+    record f {
+      progress = peer_becomes GrantUnsent f.progress;
+      queue =
+          with_draft f.closing (Grant (record { interval = interval; latency = latency; timeout = timeout })) f.queue;
+    }
+
+abbrev pub request_refused : TableFacts → ErrCode → TableFacts
+request_refused f code =
+    record f {
+      progress = peer_becomes Absent f.progress;
+      queue = with_rejection f.closing (record { opcode = CONNECTION_PARAM_REQ; code = code }) f.queue;
+    }
+
+abbrev pub granted_by : TableFacts → Ask → TableFacts
+granted_by f (ask_update interval latency timeout) = request_granted f interval latency timeout
+granted_by f other = f
+
+abbrev pub host_answer_step : TableFacts → Result Ask ErrCode → TableFacts
+host_answer_step f (Ok ask) = granted_by f ask
+host_answer_step f (Err code) = request_refused f code
+
+-- an answer that grants a request is an update
+abbrev pub is_update : Ask → Bool
+is_update (ask_update interval latency timeout) = true
+is_update other = false
+
+abbrev pub is_answer : Result Ask ErrCode → Bool
+is_answer (Ok ask) = is_update ask
+is_answer (Err code) = true
+
+-- ---- the end of the link, and the PDUs of the encryption (sections 5.1.3 and 5.1.6)
+
+-- the Disconnect of the host is accepted
+abbrev pub terminate_step : TableFacts → ErrCode → TableFacts
+terminate_step f reason =
+    record f { queue = with_disconnect f.closing reason f.queue; closing = Disconnecting }
+
+abbrev pub closing_given : Ctrl → Closing → Closing
+closing_given (TerminateInd code) closing = closed closing
+closing_given other closing = closing
+
+-- the layer above queues a PDU of the encryption, the refusal of its start, or LL_TERMINATE_IND for want of a key
+abbrev pub owe_step : TableFacts → Ctrl → TableFacts
+owe_step f ctrl =
+    record f {
+      progress = progress_given f.progress ctrl;
+      queue = with_draft f.closing (Cipher ctrl) f.queue;
+      closing = closing_given ctrl f.closing;
+    }
+
+-- ---- the time in which the peer has to answer (section 5.2)
+
+-- an update and a map have no such time, since no PDU of the peer is awaited
+abbrev pub is_timed : Option Kind → Bool
+is_timed None = false
+is_timed (Some Update) = false
+is_timed (Some Map) = false
+is_timed (Some other) = true
+
+-- 40 s (section 5.2), in slots
+abbrev pub response_slots : ℕ
+response_slots = 32000
+
+abbrev pub is_over : Option SlotNo → ℕ → Bool
+is_over None slot = false
+is_over (Some since) slot = nat_le (since.0 + response_slots) slot
+
+abbrev pub tick_of : TableFacts → ℕ → Option ErrCode
+tick_of f slot =
+    (if is_timed (own_kind f.progress) && is_over f.since slot then Some (record { 0 = ll_response_timeout }) else None)

@@ -1,0 +1,107 @@
+-- The kinds of control procedures, and the kind of each stage (Core 5.2, volume 6 part B, section 5.1).
+use Rattle.std.specs.Prelude.{Bool, true, false, Option, Some, None}
+use Rattle.ble_base.specs.declared.roles.Role.{Role}
+use Rattle.ble_base.specs.declared.roles.Role.TheVariants.{Central, Peripheral}
+use Rattle.ble_base.specs.declared.procedure_kinds.Kind.{Kind}
+use Rattle.ble_base.specs.declared.procedure_kinds.Kind.TheVariants.{Update, Request, Map, Phy, Features, Version, Length, Encrypt}
+use Rattle.procedures.specs.declared.asks.Ask.{Ask}
+use Rattle.procedures.specs.declared.asks.Ask.TheVariants.{Update as ask_update, Request as ask_request, Map as ask_map, Phy as ask_phy, Features as ask_features, Version as ask_version, Length as ask_length, Encrypt as ask_encrypt}
+use Rattle.procedures.specs.declared.stages.Exchange.{Exchange}
+use Rattle.procedures.specs.declared.stages.Exchange.TheVariants.{FeaturesUnsent, FeaturesSent, VersionUnsent, VersionSent, LengthUnsent, LengthSent}
+use Rattle.procedures.specs.declared.stages.OwnCentral.{OwnCentral}
+use Rattle.procedures.specs.declared.stages.OwnCentral.TheVariants.{Idle, Exchange as exchange, UpdateUnsent, UpdateSent, MapUnsent, MapSent, PhyUnsent, PhySent, PhyAnswered, PhyIndicated, EncryptUnsent, EncryptSent}
+use Rattle.procedures.specs.declared.stages.OwnPeripheral.{OwnPeripheral}
+use Rattle.procedures.specs.declared.stages.OwnPeripheral.TheVariants.{Idle as idle, Exchange as exchange_p, RequestUnsent, RequestSent, RequestAcknowledged, RequestGranted, PhyUnsent as phy_unsent, PhySent as phy_sent}
+use Rattle.procedures.specs.declared.stages.Progress.{Progress}
+use Rattle.procedures.specs.declared.stages.Progress.TheVariants.{Central as central, Peripheral as peripheral}
+
+abbrev pub kind_of_ask : Ask → Kind
+kind_of_ask (ask_update interval latency timeout) = Update
+kind_of_ask (ask_request min max latency timeout) = Request
+kind_of_ask (ask_map map) = Map
+kind_of_ask ask_phy = Phy
+kind_of_ask ask_features = Features
+kind_of_ask ask_version = Version
+kind_of_ask (ask_length tx) = Length
+kind_of_ask (ask_encrypt rand ediv ltk skd_m iv_m) = Encrypt
+
+-- whether two kinds are the same
+abbrev pub is_same_kind : Kind → Kind → Bool
+is_same_kind Update Update = true
+is_same_kind Request Request = true
+is_same_kind Map Map = true
+is_same_kind Phy Phy = true
+is_same_kind Features Features = true
+is_same_kind Version Version = true
+is_same_kind Length Length = true
+is_same_kind Encrypt Encrypt = true
+is_same_kind a b = false
+
+-- which role begins a kind (sections 5.1.1 to 5.1.10); the central sends its own indication and makes no request
+-- (our choice)
+abbrev pub begins : Role → Kind → Bool
+begins Central Request = false
+begins Peripheral Update = false
+begins Peripheral Map = false
+begins Peripheral Encrypt = false
+begins role kind = true
+
+abbrev pub role_of : Progress → Role
+role_of (central c) = Central
+role_of (peripheral p) = Peripheral
+
+-- ---- the procedure that an end began
+
+abbrev pub kind_of_exchange : Exchange → Kind
+kind_of_exchange FeaturesUnsent = Features
+kind_of_exchange FeaturesSent = Features
+kind_of_exchange VersionUnsent = Version
+kind_of_exchange VersionSent = Version
+kind_of_exchange LengthUnsent = Length
+kind_of_exchange LengthSent = Length
+
+abbrev pub kind_at_central : OwnCentral → Option Kind
+kind_at_central Idle = None
+kind_at_central (exchange stage) = Some (kind_of_exchange stage)
+kind_at_central UpdateUnsent = Some Update
+kind_at_central UpdateSent = Some Update
+kind_at_central MapUnsent = Some Map
+kind_at_central MapSent = Some Map
+kind_at_central PhyUnsent = Some Phy
+kind_at_central PhySent = Some Phy
+kind_at_central PhyAnswered = Some Phy
+kind_at_central PhyIndicated = Some Phy
+kind_at_central EncryptUnsent = Some Encrypt
+kind_at_central EncryptSent = Some Encrypt
+
+abbrev pub kind_at_peripheral : OwnPeripheral → Option Kind
+kind_at_peripheral idle = None
+kind_at_peripheral (exchange_p stage) = Some (kind_of_exchange stage)
+kind_at_peripheral RequestUnsent = Some Request
+kind_at_peripheral RequestSent = Some Request
+kind_at_peripheral RequestAcknowledged = Some Request
+kind_at_peripheral RequestGranted = Some Request
+kind_at_peripheral phy_unsent = Some Phy
+kind_at_peripheral phy_sent = Some Phy
+
+abbrev pub own_kind : Progress → Option Kind
+own_kind (central c) = kind_at_central c.own
+own_kind (peripheral p) = kind_at_peripheral p.own
+
+-- an end whose own procedure is over
+abbrev pub without_own : Progress → Progress
+without_own (central c) = central (record c { own = Idle })
+without_own (peripheral p) = peripheral (record p { own = idle })
+
+-- the exchange that an end began
+abbrev pub exchange_at_central : OwnCentral → Option Exchange
+exchange_at_central (exchange stage) = Some stage
+exchange_at_central other = None
+
+abbrev pub exchange_at_peripheral : OwnPeripheral → Option Exchange
+exchange_at_peripheral (exchange_p stage) = Some stage
+exchange_at_peripheral other = None
+
+abbrev pub own_exchange : Progress → Option Exchange
+own_exchange (central c) = exchange_at_central c.own
+own_exchange (peripheral p) = exchange_at_peripheral p.own

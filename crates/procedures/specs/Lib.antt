@@ -1,0 +1,26 @@
+-- The definitions of this crate.
+pub mod Kinds
+pub mod Values
+pub mod Collisions
+pub mod Wants
+pub mod Limits
+pub mod Length
+pub mod Drafts
+pub mod Table
+pub mod Queue
+pub mod Outcomes
+pub mod Termination
+pub mod Update
+pub mod Map
+pub mod Request
+pub mod Phy
+pub mod Features
+pub mod Version
+pub mod Encryption
+pub mod Refusals
+pub mod Taking
+pub mod Sending
+pub mod Beginning
+pub mod Going
+pub mod Calls
+pub mod Laws

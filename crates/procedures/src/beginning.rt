@@ -1,0 +1,273 @@
+//! What a host asks, and which of it begins.
+ghost use Rattle.std.specs.Prelude.{◌≡◌, ◌<◌, ◌&&◌, ◌||◌};
+ghost use Rattle.procedures.specs.Table.{is_open};
+ghost use Rattle.procedures.specs.Queue.{waiting_in};
+ghost use Rattle.procedures.specs.Wants.{IsAsk};
+ghost use Rattle.procedures.specs.Beginning.{is_kind, may_ask_of, lengths_asked, ask_step};
+ghost use Rattle.procedures.specs.Beginning.{is_encrypt, peer_lets, is_ready, may_begin};
+ghost use Rattle.procedures.specs.Beginning.{place_to_begin, version_stage, stage_at_central};
+ghost use Rattle.procedures.specs.Beginning.{stage_at_peripheral, progress_begun, feature_draft};
+ghost use Rattle.procedures.specs.Beginning.{version_draft, first_draft, with_first_draft};
+ghost use Rattle.procedures.specs.Beginning.{is_version, facts_begun, begin_step};
+
+use crate::asks::Ask;
+use crate::collisions::is_exclusive;
+use crate::drafts::Draft;
+use crate::kinds::{begins, is_same_kind};
+use crate::lengths::Lengths;
+use crate::stages::{Central, Exchange, OwnCentral, OwnPeripheral, Peripheral, Progress};
+use crate::table::ProcTable;
+use crate::taking::since_after;
+use crate::values::{NewParams, PayloadMax};
+use ble_base::{Kind, Role, SlotNo};
+
+/// Whether the own procedure is of this kind.
+fn is_kind(own: Option<Kind>, kind: Kind) -> bool
+    ensures { result ≡ is_kind own kind }
+{
+    match own {
+        Some(own) => is_same_kind(own, kind),
+        None => false,
+    }
+}
+
+/// The longest payloads after the host asked this.
+fn lengths_asked(ask: &Ask, lengths: Lengths) -> Lengths
+    requires { IsAsk ask.now }
+    ensures { result ≡ lengths_asked ask.now lengths }
+{
+    match *ask {
+        Ask::Length { tx } => lengths.with_own_tx(PayloadMax::new(tx)),
+        _ => lengths,
+    }
+}
+
+/// Whether the peer's procedures let a kind begin.
+fn peer_lets(progress: Progress, kind: Kind) -> bool
+    ensures { result ≡ peer_lets progress kind }
+{
+    let has_peer = progress.has_peer();
+    !(is_exclusive(kind) && has_peer)
+        && !(is_encrypt(kind) && (has_peer || progress.is_encrypting()))
+}
+
+/// Whether the kind is an encryption.
+fn is_encrypt(kind: Kind) -> bool
+    ensures { result ≡ is_encrypt kind }
+{
+    matches!(kind, Kind::Encrypt)
+}
+
+/// The stage of an exchange of versions as it begins: it waits for the peer at once if the own
+/// LL_VERSION_IND was queued before.
+fn version_stage(used: bool) -> Exchange
+    ensures { result ≡ version_stage used }
+{
+    if used {
+        Exchange::VersionSent
+    } else {
+        Exchange::VersionUnsent
+    }
+}
+
+/// The stage of a central's own procedure as it begins.
+fn stage_at_central(ask: &Ask, used: bool, own: OwnCentral) -> OwnCentral
+    ensures { result ≡ stage_at_central ask.now used own }
+{
+    match ask {
+        Ask::Update { .. } => OwnCentral::UpdateUnsent,
+        Ask::Request { .. } => own,
+        Ask::Map(_) => OwnCentral::MapUnsent,
+        Ask::Phy => OwnCentral::PhyUnsent,
+        Ask::Features => OwnCentral::Exchange(Exchange::FeaturesUnsent),
+        Ask::Version => OwnCentral::Exchange(version_stage(used)),
+        Ask::Length { .. } => OwnCentral::Exchange(Exchange::LengthUnsent),
+        Ask::Encrypt { .. } => OwnCentral::EncryptUnsent,
+    }
+}
+
+/// The stage of a peripheral's own procedure as it begins.
+fn stage_at_peripheral(ask: &Ask, used: bool, own: OwnPeripheral) -> OwnPeripheral
+    ensures { result ≡ stage_at_peripheral ask.now used own }
+{
+    match ask {
+        Ask::Update { .. } | Ask::Map(_) | Ask::Encrypt { .. } => own,
+        Ask::Request { .. } => OwnPeripheral::RequestUnsent,
+        Ask::Phy => OwnPeripheral::PhyUnsent,
+        Ask::Features => OwnPeripheral::Exchange(Exchange::FeaturesUnsent),
+        Ask::Version => OwnPeripheral::Exchange(version_stage(used)),
+        Ask::Length { .. } => OwnPeripheral::Exchange(Exchange::LengthUnsent),
+    }
+}
+
+/// The procedures after one of this end began.
+fn progress_begun(ask: &Ask, used: bool, progress: Progress) -> Progress
+    ensures { result ≡ progress_begun ask.now used progress }
+{
+    match progress {
+        Progress::Central(c) => Progress::Central(Central {
+            own: stage_at_central(ask, used, c.own),
+            ..c
+        }),
+        Progress::Peripheral(p) => Progress::Peripheral(Peripheral {
+            own: stage_at_peripheral(ask, used, p.own),
+            ..p
+        }),
+    }
+}
+
+/// The PDU that begins an exchange of features.
+fn feature_draft(role: Role) -> Draft
+    ensures { result ≡ feature_draft role }
+{
+    match role {
+        Role::Central => Draft::FeatureReq,
+        Role::Peripheral => Draft::PeripheralFeatureReq,
+    }
+}
+
+/// The PDU that begins an exchange of versions, unless it was queued before.
+fn version_draft(used: bool) -> Option<Draft>
+    ensures { result ≡ version_draft used }
+{
+    if used { None } else { Some(Draft::VersionInd) }
+}
+
+/// Whether an exchange of versions is asked for.
+fn is_version(ask: &Ask) -> bool
+    ensures { result ≡ is_version ask.now }
+{
+    matches!(ask, Ask::Version)
+}
+
+/// Whether it is one after the own LL_VERSION_IND was queued.
+fn is_second(ask: &Ask, used: bool) -> bool
+    ensures { result ≡ (is_version ask.now && used) }
+{
+    is_version(ask) && used
+}
+
+/// Whether the own LL_VERSION_IND was queued, after a procedure began.
+fn used_after(ask: &Ask, used: bool) -> bool
+    ensures { result ≡ (used || is_version ask.now) }
+{
+    used || is_version(ask)
+}
+
+impl ProcTable {
+    /// Whether the host may ask for a procedure of this kind: it is neither wanted nor running
+    /// here.
+    pub fn may_ask(&self, kind: Kind) -> bool
+        ensures { result ≡ may_ask_of self.now kind }
+    {
+        !(self.wanted.has(kind) || is_kind(self.progress.own_kind(), kind))
+    }
+
+    /// The host asks for a procedure, with values in their ranges. A map takes the place of one that
+    /// is wanted. A limit on what is transmitted holds at once.
+    pub fn ask(&mut self, ask: Ask)
+        requires { IsAsk ask }
+        ensures { self.new ≡ ask_step self.old ask }
+    {
+        self.lengths = lengths_asked(&ask, self.lengths);
+        self.wanted.add(ask);
+    }
+
+    /// Whether something of the host may begin, whatever the peer does.
+    fn is_ready(&self, quiet: bool) -> bool
+        ensures { result ≡ is_ready self.now quiet }
+    {
+        self.progress.own_kind().is_none() && quiet && self.closing.is_open()
+    }
+
+    /// Whether a kind that is wanted may begin.
+    fn may_begin(&self, quiet: bool, kind: Kind) -> bool
+        ensures { result ≡ may_begin self.now quiet kind }
+    {
+        self.is_ready(quiet) && begins(self.progress.role(), kind) && peer_lets(self.progress, kind)
+    }
+
+    /// The place of the first wanted kind that may begin.
+    fn place_to_begin(&self, quiet: bool) -> Option<usize>
+        ensures { result ≡ place_to_begin self.now quiet }
+    {
+        self.wanted
+            .as_slice()
+            .iter()
+            .position(|ask| self.may_begin(quiet, ask.kind()))
+    }
+
+    /// The first PDU of a procedure, if it is not left to the layer above.
+    fn first_draft(&self, ask: &Ask) -> Option<Draft>
+        requires { IsAsk ask.now }
+        ensures { result ≡ first_draft self.now ask.now }
+    {
+        match *ask {
+            Ask::Update {
+                interval,
+                latency,
+                timeout,
+            } => Some(Draft::Update(NewParams::new(interval, latency, timeout))),
+            Ask::Request {
+                min,
+                max,
+                latency,
+                timeout,
+            } => Some(Draft::Request {
+                min,
+                max,
+                latency,
+                timeout,
+            }),
+            Ask::Map(map) => Some(Draft::Map(map)),
+            Ask::Phy => Some(Draft::PhyReq),
+            Ask::Features => Some(feature_draft(self.progress.role())),
+            Ask::Version => version_draft(self.version_used),
+            Ask::Length { .. } => Some(Draft::LengthReq {
+                rx: self.lengths.own_rx,
+                tx: self.lengths.own_tx,
+            }),
+            Ask::Encrypt { .. } => None,
+        }
+    }
+
+    /// Queues the first PDU of a procedure.
+    fn queue_first(&mut self, draft: Option<Draft>)
+        requires { waiting_in self.old.queue < 24 }
+        ensures { self.new ≡ record self.old {
+          queue = with_first_draft self.old.closing draft self.old.queue;
+        } }
+    {
+        if let Some(draft) = draft {
+            self.queue_draft(draft);
+        }
+    }
+
+    /// Begins a procedure, which is no longer among what is wanted.
+    fn start(&mut self, slot: SlotNo, ask: &Ask)
+        requires room { waiting_in self.old.queue < 24 }
+        requires in_range { IsAsk ask.now }
+        ensures { self.new ≡ facts_begun self.old slot.0 ask.now self.old.wanted }
+    {
+        let draft = self.first_draft(ask);
+        self.queue_first(draft);
+        self.progress = progress_begun(ask, self.version_used, self.progress);
+        self.since = since_after(is_second(ask, self.version_used), slot, None);
+        self.version_used = used_after(ask, self.version_used);
+    }
+
+    /// Begins the first procedure that the host wants and that may begin, as an event is entered,
+    /// `quiet` being phase Clear or Secure. None if none may.
+    ///
+    /// The first PDU of an encryption is left to the layer above, which hands it to `owe`.
+    pub fn begin(&mut self, slot: SlotNo, quiet: bool) -> Option<Kind>
+        requires { waiting_in self.old.queue < 24 }
+        ensures { (self.new, result) ≡ begin_step self.old slot.0 quiet }
+    {
+        let place = self.place_to_begin(quiet)?;
+        let ask = self.wanted.get(place);
+        self.wanted.remove(place);
+        self.start(slot, &ask);
+        Some(ask.kind())
+    }
+}

@@ -1,0 +1,144 @@
+//! The kinds of control procedures, and the kind of each stage.
+ghost use Rattle.std.specs.Prelude.{◌≡◌};
+ghost use Rattle.procedures.specs.Kinds.{is_same_kind, begins, role_of, kind_of_exchange};
+ghost use Rattle.procedures.specs.Kinds.{kind_at_central, kind_at_peripheral, own_kind};
+ghost use Rattle.procedures.specs.Kinds.{exchange_at_central, exchange_at_peripheral};
+ghost use Rattle.procedures.specs.Kinds.{own_exchange, without_own};
+
+use crate::stages::{Central, Exchange, OwnCentral, OwnPeripheral, Peripheral, Progress};
+use ble_base::{Kind, Role};
+
+/// Whether two kinds are the same.
+pub(crate) fn is_same_kind(a: Kind, b: Kind) -> bool
+    ensures { result ≡ is_same_kind a b }
+{
+    a == b
+}
+
+/// Whether an end of this role begins a procedure of this kind (Core 5.2, volume 6 part B, sections
+/// 5.1.1 to 5.1.10).
+pub(crate) fn begins(role: Role, kind: Kind) -> bool
+    ensures { result ≡ begins role kind }
+{
+    match role {
+        Role::Central => !matches!(kind, Kind::Request),
+        Role::Peripheral => !matches!(kind, Kind::Update | Kind::Map | Kind::Encrypt),
+    }
+}
+
+impl Exchange {
+    /// The kind of the exchange.
+    fn kind(self) -> Kind
+        ensures { result ≡ kind_of_exchange self }
+    {
+        match self {
+            Exchange::FeaturesUnsent | Exchange::FeaturesSent => Kind::Features,
+            Exchange::VersionUnsent | Exchange::VersionSent => Kind::Version,
+            Exchange::LengthUnsent | Exchange::LengthSent => Kind::Length,
+        }
+    }
+}
+
+impl OwnCentral {
+    /// The kind of the procedure that the central began, if it began one.
+    pub(crate) fn kind(self) -> Option<Kind>
+        ensures { result ≡ kind_at_central self }
+    {
+        match self {
+            OwnCentral::Idle => None,
+            OwnCentral::Exchange(stage) => Some(stage.kind()),
+            OwnCentral::UpdateUnsent | OwnCentral::UpdateSent => Some(Kind::Update),
+            OwnCentral::MapUnsent | OwnCentral::MapSent => Some(Kind::Map),
+            OwnCentral::PhyUnsent
+            | OwnCentral::PhySent
+            | OwnCentral::PhyAnswered
+            | OwnCentral::PhyIndicated => Some(Kind::Phy),
+            OwnCentral::EncryptUnsent | OwnCentral::EncryptSent => Some(Kind::Encrypt),
+        }
+    }
+
+    /// The exchange that the central began, if it began one.
+    fn exchange(self) -> Option<Exchange>
+        ensures { result ≡ exchange_at_central self }
+    {
+        match self {
+            OwnCentral::Exchange(stage) => Some(stage),
+            _ => None,
+        }
+    }
+}
+
+impl OwnPeripheral {
+    /// The kind of the procedure that the peripheral began, if it began one.
+    pub(crate) fn kind(self) -> Option<Kind>
+        ensures { result ≡ kind_at_peripheral self }
+    {
+        match self {
+            OwnPeripheral::Idle => None,
+            OwnPeripheral::Exchange(stage) => Some(stage.kind()),
+            OwnPeripheral::RequestUnsent
+            | OwnPeripheral::RequestSent
+            | OwnPeripheral::RequestAcknowledged
+            | OwnPeripheral::RequestGranted => Some(Kind::Request),
+            OwnPeripheral::PhyUnsent | OwnPeripheral::PhySent => Some(Kind::Phy),
+        }
+    }
+
+    /// The exchange that the peripheral began, if it began one.
+    fn exchange(self) -> Option<Exchange>
+        ensures { result ≡ exchange_at_peripheral self }
+    {
+        match self {
+            OwnPeripheral::Exchange(stage) => Some(stage),
+            _ => None,
+        }
+    }
+}
+
+impl Progress {
+    /// The role of the end.
+    pub(crate) fn role(self) -> Role
+        ensures { result ≡ role_of self }
+    {
+        match self {
+            Progress::Central(_) => Role::Central,
+            Progress::Peripheral(_) => Role::Peripheral,
+        }
+    }
+
+    /// The kind of the procedure that this end began, if it began one.
+    pub(crate) fn own_kind(self) -> Option<Kind>
+        ensures { result ≡ own_kind self }
+    {
+        match self {
+            Progress::Central(c) => c.own.kind(),
+            Progress::Peripheral(p) => p.own.kind(),
+        }
+    }
+
+    /// The exchange that this end began, if it began one.
+    pub(crate) fn own_exchange(self) -> Option<Exchange>
+        ensures { result ≡ own_exchange self }
+    {
+        match self {
+            Progress::Central(c) => c.own.exchange(),
+            Progress::Peripheral(p) => p.own.exchange(),
+        }
+    }
+
+    /// The same after the procedure that this end began is over.
+    pub(crate) fn without_own(self) -> Self
+        ensures { result ≡ without_own self }
+    {
+        match self {
+            Progress::Central(c) => Progress::Central(Central {
+                own: OwnCentral::Idle,
+                ..c
+            }),
+            Progress::Peripheral(p) => Progress::Peripheral(Peripheral {
+                own: OwnPeripheral::Idle,
+                ..p
+            }),
+        }
+    }
+}

@@ -1,0 +1,102 @@
+//! What a host wants of a link: each kind at most once, in order.
+ghost use Rattle.std.specs.Prelude.{◌≡◌, ◌<◌, [], length, Some, slice_get, slice_set, remove};
+ghost use Rattle.procedures.specs.Version.{place_of, is_wanted};
+ghost use Rattle.procedures.specs.Wants.{IsAsk};
+ghost use Rattle.procedures.specs.Beginning.{wanted_with};
+
+use crate::asks::Ask;
+use crate::kinds::is_same_kind;
+use arrayvec::ArrayVec;
+use ble_base::Kind;
+use std::marker::Model;
+
+/// What the host wants and was not begun, in order. Each kind is there at most once.
+#[derive(Debug, PartialEq, Eq, Drop)]
+pub struct Wants {
+    asks: ArrayVec<Ask, 8>,
+}
+
+impl Model for Wants {
+    ghost use Rattle.std.specs.Prelude.{List};
+    ghost use Rattle.procedures.specs.declared.asks.Ask.{Ask};
+    ghost use Rattle.procedures.specs.Wants.{IsWants};
+
+    ghost Value = { List Ask };
+
+    ghost view = { λ w. w.asks.items };
+
+    ghost invariant = { λ w. IsWants w.asks.items };
+
+    ghost inverse = { λ asks. record { asks = record { items = asks } } };
+}
+
+impl Wants {
+    /// Nothing is wanted.
+    pub(crate) fn new() -> Self
+        ensures { result ≡ [] }
+    {
+        Wants {
+            asks: ArrayVec::new(),
+        }
+    }
+
+    /// What is wanted, in order.
+    pub(crate) fn as_slice(&self) -> &[Ask]
+        ensures { result.now ≡ self.now }
+    {
+        self.asks.as_slice()
+    }
+
+    /// The place of a kind, if it is wanted.
+    pub(crate) fn place_of(&self, kind: Kind) -> Option<usize>
+        ensures { result ≡ place_of kind self.now }
+    {
+        self.asks
+            .as_slice()
+            .iter()
+            .position(|ask| is_same_kind(ask.kind(), kind))
+    }
+
+    /// Whether a kind is wanted.
+    pub(crate) fn has(&self, kind: Kind) -> bool
+        ensures { result ≡ is_wanted kind self.now }
+    {
+        self.place_of(kind).is_some()
+    }
+
+    /// Adds an ask in the place of one of its kind, or after all others.
+    pub(crate) fn add(&mut self, ask: Ask)
+        requires { IsAsk ask }
+        ensures { self.new ≡ wanted_with ask self.old }
+    {
+        match self.place_of(ask.kind()) {
+            Some(place) => replace(&mut self.asks, place, ask),
+            None => self.asks.push(ask),
+        }
+    }
+
+    /// The ask in a place.
+    pub(crate) fn get(&self, place: usize) -> Ask
+        requires { place < length self.now }
+        ensures value { slice_get self.now place ≡ Some result }
+        ensures in_range { IsAsk result }
+    {
+        self.asks.as_slice()[place]
+    }
+
+    /// Removes the ask in a place.
+    pub(crate) fn remove(&mut self, place: usize)
+        requires { place < length self.old }
+        ensures { self.new ≡ remove self.old place }
+    {
+        self.asks.remove(place);
+    }
+}
+
+/// Writes an ask into a place.
+fn replace(asks: &mut ArrayVec<Ask, 8>, place: usize, ask: Ask)
+    requires { place < length asks.old.items }
+    ensures { asks.new.items ≡ slice_set asks.old.items place ask }
+{
+    asks.as_mut_slice()[place] = ask;
+}
