@@ -1,0 +1,30 @@
+//! Joint runs of the control procedures of a central and a peripheral (Core 5.2, volume 6 part B,
+//! sections 5.1 and 5.3), and the law of their collisions.
+#![tactic(auto)]
+
+mod central;
+mod codes;
+mod events;
+mod joint;
+pub mod laws;
+mod pdus;
+mod peripheral;
+mod phases;
+mod phases_central;
+mod phases_codes;
+pub mod phases_laws;
+mod phases_peripheral;
+pub mod rows;
+mod stages;
+
+pub use crate::central::Central;
+pub use crate::codes::EVENTS;
+pub use crate::events::{Event, Place};
+pub use crate::joint::{End, Link, Way};
+pub use crate::pdus::{Exclusive, Pdu, Reason};
+pub use crate::peripheral::Peripheral;
+pub use crate::phases::{PhasesEvent, PhasesLink, PhasesWay};
+pub use crate::phases_central::PhasesCentral;
+pub use crate::phases_codes::PHASES_EVENTS;
+pub use crate::phases_peripheral::{PhasesClosing, PhasesPeripheral, UnsentRequest};
+pub use crate::stages::{CentralOwn, CentralPeer, PeripheralOwn, PeripheralPeer};
