@@ -1,0 +1,6 @@
+-- The lemmas of this crate.
+pub mod CentralGoing
+pub mod CentralTaking
+pub mod PeripheralGoing
+pub mod PeripheralTaking
+pub mod SubLists
