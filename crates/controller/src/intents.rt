@@ -18,3 +18,14 @@ pub enum Intent {
     /// It does neither.
     Idle,
 }
+
+/// What a controller does in a phase of a turn, without the octets that it sends.
+#[derive(Clone, Copy, Debug)]
+pub enum Action {
+    /// It transmits a packet on this channel, 0 to 39.
+    Transmit { channel: u8 },
+    /// It listens on this channel.
+    Listen { channel: u8 },
+    /// It does neither.
+    Rest,
+}

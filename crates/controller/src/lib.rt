@@ -31,4 +31,4 @@ mod tests;
 mod turns;
 
 pub use crate::controllers::Controller;
-pub use crate::intents::Intent;
+pub use crate::intents::{Action, Intent};

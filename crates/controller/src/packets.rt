@@ -4,24 +4,16 @@ ghost use Rattle.std.specs.Option.{option_map};
 ghost use Rattle.adv_pdu.specs.Pdu.{written};
 ghost use Rattle.air_frame.specs.Packet.{on_air};
 ghost use Rattle.one_side.specs.Heard.{heard_on_channel, pdu_by, verdict_by};
-ghost use Rattle.one_side.specs.Radio.{advertising_access, advertising_init};
 ghost use Rattle.adv_pdu.specs.declared.pdu.AdvPdu.TheVariants.{Nonconn};
 
 use crate::advertisers::MOST_DATA;
 use adv_pdu::AdvPdu;
-use air_frame::{Heard, build, unframe};
+use air_frame::{ADVERTISING_ACCESS, ADVERTISING_CRC_INIT, Heard, build, unframe};
 use arrayvec::ArrayVec;
 use ble_base::{AIR_PACKET_OCTETS, Address, Verdict};
 
-/// The access address of all packets on the advertising channels (Core 5.2, volume 6 part B,
-/// section 2.1.2).
-const ACCESS: u32 = 0x8E89_BED6;
-
-/// Where their CRC begins (section 3.1.1).
-const CRC_INIT: u32 = 0x55_5555;
-
-/// The packet of an advertiser that is neither connectable nor scannable, on a channel (section
-/// 2.3.1.3).
+/// The packet of an advertiser that is neither connectable nor scannable, on a channel (Core 5.2,
+/// volume 6 part B, section 2.3.1.3).
 pub(crate) fn advertisement(
     channel: u8,
     from: Address,
@@ -29,10 +21,15 @@ pub(crate) fn advertisement(
 ) -> ArrayVec<u8, AIR_PACKET_OCTETS>
     requires { channel < 40 }
     ensures { result.items
-        ≡ on_air channel advertising_access advertising_init (written (Nonconn from body)) }
+        ≡ on_air channel ADVERTISING_ACCESS ADVERTISING_CRC_INIT (written (Nonconn from body)) }
 {
     let pdu = AdvPdu::Nonconn { from, body };
-    build(channel, ACCESS, CRC_INIT, pdu.write().as_slice())
+    build(
+        channel,
+        ADVERTISING_ACCESS,
+        ADVERTISING_CRC_INIT,
+        pdu.write().as_slice(),
+    )
 }
 
 /// What a listener on this channel makes of the octets of a packet.
@@ -40,7 +37,7 @@ pub(crate) fn judge(channel: u8, octets: &[u8]) -> Verdict
     requires { channel < 40 }
     ensures { result ≡ verdict_by (heard_on_channel channel octets.now) }
 {
-    match unframe(channel, ACCESS, CRC_INIT, octets) {
+    match unframe(channel, ADVERTISING_ACCESS, ADVERTISING_CRC_INIT, octets) {
         Heard::NotOurs => Verdict::Missed,
         Heard::Broken => Verdict::Broken,
         Heard::Whole(_) => Verdict::Good,
@@ -52,7 +49,7 @@ pub(crate) fn pdu(channel: u8, octets: &[u8]) -> Option<ArrayVec<u8, 257>>
     requires { channel < 40 }
     ensures { option_map (λ pdu. pdu.items) result ≡ pdu_by (heard_on_channel channel octets.now) }
 {
-    match unframe(channel, ACCESS, CRC_INIT, octets) {
+    match unframe(channel, ADVERTISING_ACCESS, ADVERTISING_CRC_INIT, octets) {
         Heard::Whole(pdu) => Some(pdu),
         Heard::NotOurs | Heard::Broken => None,
     }

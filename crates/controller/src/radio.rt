@@ -13,7 +13,7 @@ ghost use Rattle.controller.specs.Knowing.{use_wanted};
 
 use crate::advertisers::FIRST_ADVERTISING_CHANNEL;
 use crate::controllers::Controller;
-use crate::intents::Intent;
+use crate::intents::{Action, Intent};
 use crate::masks::tell;
 use crate::packets::{advertisement, judge, pdu};
 use crate::reports::{Advertisement, read_advertisement};
@@ -33,17 +33,6 @@ pub(crate) enum Activity {
     Scans { channel: u8 },
     /// It does nothing.
     Rests,
-}
-
-/// What a controller does in a phase.
-#[derive(Clone, Copy, Debug)]
-enum Action {
-    /// It transmits its advertisement on this channel, 37 to 39.
-    Transmit { channel: u8 },
-    /// It listens on this channel, 37 to 39.
-    Listen { channel: u8 },
-    /// It does nothing.
-    Rest,
 }
 
 impl<const L: usize, const T: usize, const R: usize> Controller<L, T, R> {

@@ -1,31 +1,28 @@
 -- The own address of an advertiser has six octets, and its data 31 at most.
-use Rattle.std.proofs.Common.{◌≡◌, ℕ, zero, suc, ◌≤◌, ◌==◌, Bool, true, false, Option, Some, None, List, [], ◌∷◌, cond, length, take, drop, refl, sym, subst, arith}
-use Rattle.std.specs.Prelude.{nat_lt, ◌&&◌, fold, ⊤}
+use Rattle.std.proofs.Common.{◌≡◌, ℕ, zero, suc, ◌≤◌, ◌==◌, Bool, true, false, Option, Some, None, List, [], ◌∷◌, cond, length, take, refl, sym, subst, arith, rules}
+use Rattle.std.specs.Prelude.{nat_lt, ◌&&◌, ⊤}
 use Rattle.std.specs.List.{AllByRecursion}
 use Rattle.std.proofs.lemmas.Bool.Decides.{nat_tests}
 use Rattle.std.proofs.lemmas.List.{length-take, length-take-le}
-use Rattle.wire_fields.specs.Field.{number_of}
 use Rattle.wire_fields.specs.Layout.{Layout, is_whole, value_of}
 use Rattle.wire_fields.specs.Table.{value_in}
-use Rattle.h4_frames.specs.declared.packet.HostPacket.TheVariants.{Command as HostCommand, Acl}
-use Rattle.h4_frames.specs.declared.packet.Fed.{Fed}
-use Rattle.h4_frames.specs.declared.packet.Fed.TheVariants.{More, Packet, LostSync}
 use Rattle.hci_cmd.specs.declared.command.HandleCount.{HandleCount}
 use Rattle.hci_cmd.specs.declared.command.Command.{Command}
 use Rattle.hci_cmd.specs.declared.command.Command.TheVariants.{HostCompleted, Reset, LeSetRandomAddress, LeSetAdvData, LeSetAdvEnable}
 use Rattle.hci_cmd.specs.declared.command.CmdRead.{CmdRead}
-use Rattle.hci_cmd.specs.declared.command.CmdRead.TheVariants.{Known, UnknownOpcode, BadLength}
+use Rattle.hci_cmd.specs.declared.command.CmdRead.TheVariants.{Known, BadLength}
 use Rattle.hci_cmd.specs.Command.{command_of, counts_layout, layout_of, layouts, read_with}
 use Rattle.host_view.specs.View.{View}
 use Rattle.host_view.specs.Changes.{view_after}
 use Rattle.host_view.specs.Unbuilt.{status_of}
-use Rattle.one_side.specs.Step.{Step, HostOctet, TurnBegins, PacketHeard, NothingHeard, TurnEnds}
-use Rattle.one_side.specs.Facts.{Setup, Facts, Advertiser, first_facts}
-use Rattle.one_side.specs.Commands.{advertiser_after, facts_accepted, facts_commanded, turned_on}
+use Rattle.one_side.specs.Step.{Step}
+use Rattle.one_side.specs.Facts.{Setup, Facts, Advertiser}
+use Rattle.one_side.specs.Commands.{advertiser_after, turned_on}
 use Rattle.one_side.specs.Radio.{random_or_public}
 use Rattle.one_side.specs.Addresses.{advertiser_address}
-use Rattle.one_side.specs.Side.{facts_after, facts_fed, facts_of, result_of}
-use Rattle.one_side.proofs.Lengths.{is_zero, row_passes, table_accepts}
+use Rattle.one_side.specs.Side.{facts_of}
+use Rattle.one_side.proofs.Always.{IsKept, always}
+use Rattle.one_side.proofs.Lengths.{row_passes, table_accepts}
 
 -- ---- a random address that is read has six octets
 
@@ -56,133 +53,7 @@ counts_six (suc handles) taken octets = counts_six handles _ _
 
 rows_six : AllByRecursion (λ (row : ℕ × Layout Command). SixRow row.1) layouts
 unfolding layouts
-rows_six = (
-  (λ octets whole. tt),
-  (
-    (λ octets whole. tt),
-    (
-      (λ octets whole. tt),
-      (
-        (λ octets whole. tt),
-        (
-          (λ octets whole. tt),
-          (
-            (λ octets whole. tt),
-            (
-              (λ octets whole. counts_six (number_of (take 1 octets)) [] (drop 1 octets)),
-              (
-                (λ octets whole. tt),
-                (
-                  (λ octets whole. tt),
-                  (
-                    (λ octets whole. tt),
-                    (
-                      (λ octets whole. tt),
-                      (
-                        (λ octets whole. tt),
-                        (
-                          (λ octets whole. tt),
-                          (
-                            (λ octets whole. six_octets octets whole),
-                            (
-                              (λ octets whole. tt),
-                              (
-                                (λ octets whole. tt),
-                                (
-                                  (λ octets whole. tt),
-                                  (
-                                    (λ octets whole. tt),
-                                    (
-                                      (λ octets whole. tt),
-                                      (
-                                        (λ octets whole. tt),
-                                        (
-                                          (λ octets whole. tt),
-                                          (
-                                            (λ octets whole. tt),
-                                            (
-                                              (λ octets whole. tt),
-                                              (
-                                                (λ octets whole. tt),
-                                                (
-                                                  (λ octets whole. tt),
-                                                  (
-                                                    (λ octets whole. tt),
-                                                    (
-                                                      (λ octets whole. tt),
-                                                      (
-                                                        (λ octets whole. tt),
-                                                        (
-                                                          (λ octets whole. tt),
-                                                          (
-                                                            (λ octets whole. tt),
-                                                            (
-                                                              (λ octets whole. tt),
-                                                              (
-                                                                (λ octets whole. tt),
-                                                                (
-                                                                  (λ octets whole. tt),
-                                                                  (
-                                                                    (λ octets whole. tt),
-                                                                    (
-                                                                      (λ octets whole. tt),
-                                                                      (
-                                                                        (λ octets whole. tt),
-                                                                        (
-                                                                          (λ octets whole. tt),
-                                                                          (
-                                                                            (λ octets whole. tt),
-                                                                            (
-                                                                              (λ octets whole. tt),
-                                                                              (
-                                                                                (λ octets whole. tt),
-                                                                                (
-                                                                                  (λ octets whole. tt),
-                                                                                  (
-                                                                                    (λ octets whole. tt),
-                                                                                    tt,
-                                                                                  ),
-                                                                                ),
-                                                                              ),
-                                                                            ),
-                                                                          ),
-                                                                        ),
-                                                                      ),
-                                                                    ),
-                                                                  ),
-                                                                ),
-                                                              ),
-                                                            ),
-                                                          ),
-                                                        ),
-                                                      ),
-                                                    ),
-                                                  ),
-                                                ),
-                                              ),
-                                            ),
-                                          ),
-                                        ),
-                                      ),
-                                    ),
-                                  ),
-                                ),
-                              ),
-                            ),
-                          ),
-                        ),
-                      ),
-                    ),
-                  ),
-                ),
-              ),
-            ),
-          ),
-        ),
-      ),
-    ),
-  ),
-)
+rows_six = search (rules, six_octets, counts_six)
 
 six_by : (is_row : Bool) (layout : Layout Command) (found : Option (Layout Command)) → SixRow layout → SixLayout found
     → SixLayout (cond is_row (Some layout) found)
@@ -211,9 +82,6 @@ six_read opcode octets = six_with (value_in layouts opcode) octets (six_in layou
 abbrev SixHeld : Option (List ℕ) → Type 0
 SixHeld None = ⊤
 SixHeld (Some address) = length address ≡ 6
-
-abbrev FitsPdu : Facts → Type 0
-FitsPdu facts = SixHeld facts.view.random × (length facts.advertiser.data_octets ≤ 31)
 
 random_same : (on : Bool) (one other : View) → other.random ≡ one.random → (cond on other one).random ≡ one.random
 random_same true one other same = same
@@ -250,38 +118,15 @@ data_room facts other accepted room = room
 
 -- ---- at any time
 
-fits_by : (accepted : Bool) (one other : Facts) → (accepted ≡ true → FitsPdu other) → FitsPdu one → FitsPdu (cond accepted other one)
-fits_by true one other later fits = later refl
-fits_by false one other later fits = fits
+abbrev FitsPdu : View → Advertiser → Type 0
+FitsPdu view advertiser = SixHeld view.random × (length advertiser.data_octets ≤ 31)
 
-fits_read : (facts : Facts) (read : CmdRead) → SixRead read → FitsPdu facts → FitsPdu (facts_commanded facts read)
-fits_read facts (Known command) six fits =
-    let status = status_of facts.view command in
-    fits_by (status == 0) facts (facts_accepted facts command)
-    (λ accepted. (six_view facts.view command six fits.0, data_room facts command (is_zero status accepted) fits.1)) fits
-fits_read facts UnknownOpcode six fits = fits
-fits_read facts BadLength six fits = fits
-
-fits_fed : (facts : Facts) (fed : Fed) → FitsPdu facts → FitsPdu (facts_fed facts fed)
-fits_fed facts (Packet (HostCommand opcode body)) fits = fits_read facts (command_of opcode body.items) (six_read opcode body.items) fits
-fits_fed facts (Packet (Acl handle start count body)) fits = fits
-fits_fed facts LostSync fits = fits
-fits_fed facts More fits = fits
-
-fits_step : (setup : Setup) (facts : Facts) (step : Step) → FitsPdu facts → FitsPdu (facts_after setup facts step)
-fits_step setup facts (HostOctet octet) fits = fits_fed facts (result_of facts.octets octet) fits
-fits_step setup facts (TurnBegins slot on) fits = (fits.0, data_on (on && facts.view.advertising.on) facts.advertiser _ refl fits.1)
-fits_step setup facts (PacketHeard octets) fits = fits
-fits_step setup facts NothingHeard fits = fits
-fits_step setup facts TurnEnds fits = fits
-
-fits_from : (setup : Setup) (facts : Facts) (past : List Step) → FitsPdu facts → FitsPdu (fold (facts_after setup) facts past)
-fits_from setup facts [] fits = fits
-fits_from setup facts (step ∷ past) fits = fits_from setup (facts_after setup facts step) past (fits_step setup facts step fits)
-
-fits_of : (setup : Setup) (past : List Step) → FitsPdu (facts_of setup past)
-unfolding facts_of
-fits_of setup past = fits_from setup (first_facts setup) past (tt, omega arith)
+fits_kept : IsKept FitsPdu
+fits_kept = record {
+  accepted = λ facts opcode octets command is accepted fits.
+      (six_view facts.view command (subst SixRead is (six_read opcode octets)) fits.0, data_room facts command accepted fits.1);
+  served = λ view on slot advertiser fits. (fits.0, data_on (on && view.advertising.on) advertiser _ refl fits.1);
+}
 
 -- ---- the own address
 
@@ -298,5 +143,5 @@ pub lengths : (setup : Setup) (past : List Step) → length setup.public ≡ 6
     × (length (facts_of setup past).advertiser.data_octets ≤ 31)
 lengths setup past six =
     let facts = facts_of setup past in
-    let fits = fits_of setup past in
+    let fits = always FitsPdu fits_kept setup past (tt, omega arith) in
     (six_own setup _ six (six_chosen (facts.view.advertising.own == 1) facts.view.random fits.0), fits.1)

@@ -1,6 +1,6 @@
 -- A host is answered as if no turn came between its octets.
-use Rattle.std.proofs.Common.{◌≡◌, ℕ, ◌+◌, ◌==◌, Bool, true, false, Option, Some, None, List, [], ◌∷◌, ◌++◌, map, cond, refl, ap, sym, ◌∙◌, subst}
-use Rattle.std.specs.Prelude.{◌&&◌, ◌||◌, not}
+use Rattle.std.proofs.Common.{◌≡◌, ℕ, ◌+◌, ◌==◌, Bool, true, false, Option, List, [], ◌∷◌, ◌++◌, map, cond, refl, ap, sym, ◌∙◌, subst}
+use Rattle.std.specs.Prelude.{◌||◌, not}
 use Rattle.std.proofs.lemmas.List.Elements.{filter-append}
 use Rattle.wire_fields.specs.Field.{little_endian}
 use Rattle.ble_base.specs.Bits.{has_bit}
@@ -24,11 +24,12 @@ use Rattle.one_side.specs.Step.{Step, HostOctet, TurnBegins, PacketHeard, Nothin
 use Rattle.one_side.specs.Facts.{Setup, Facts, Scanner, first_facts}
 use Rattle.one_side.specs.Answers.{accepted_answer, answer_to, answer_with, complete_answer, has_status_answer, refused_fields, returned, status_answer}
 use Rattle.one_side.specs.Commands.{drawn_after, facts_accepted, facts_commanded}
-use Rattle.one_side.specs.Heard.{Advertisement, advertisement_heard, is_withheld, report_event, reports_of}
+use Rattle.one_side.specs.Heard.{Advertisement, advertisement_heard, report_event, reports_of}
 use Rattle.one_side.specs.Side.{events_fed, facts_after, facts_fed, notes_after, notes_from, notes_of, notes_of_events, result_of}
 use Rattle.one_side.specs.Host.{HeardNothing, host_octets}
 use Rattle.one_side.specs.Notes.{is_le_note, without_le_events}
 use Rattle.one_side.proofs.Feds.{more_octets}
+use Rattle.one_side.proofs.Reports.{reports_unseen}
 
 -- ---- controllers that answer alike
 
@@ -170,19 +171,12 @@ alone setup past none = alone_from setup (first_facts setup) (first_facts setup)
 abbrev ups : List Event → List Note
 ups events = map (λ event. Up (record { items = written event })) events
 
-report_dropped : (advertisement : Advertisement) (passed : Bool) → without_le_events (ups (cond passed (report_event advertisement ∷ []) [])) ≡ []
+report_dropped : (advertisement : Advertisement) → without_le_events (Up (record { items = written (report_event advertisement) }) ∷ []) ≡ []
 unfolding little_endian
-report_dropped advertisement true = refl
-report_dropped advertisement false = refl
-
-withheld_dropped : (withheld : Bool) (view : View) (advertisement : Advertisement)
-    → without_le_events (notes_of_events view (cond withheld [] (report_event advertisement ∷ []))) ≡ []
-withheld_dropped true view advertisement = refl
-withheld_dropped false view advertisement = report_dropped advertisement (has_bit view.mask 61 && has_bit view.le_mask 1)
+report_dropped advertisement = refl
 
 reports_dropped : (view : View) (scanner : Scanner) (heard : Option Advertisement) → without_le_events (notes_of_events view (reports_of scanner heard)) ≡ []
-reports_dropped view scanner None = refl
-reports_dropped view scanner (Some advertisement) = withheld_dropped (is_withheld scanner advertisement) view advertisement
+reports_dropped = reports_unseen without_le_events refl report_dropped
 
 without-append : (xs ys : List Note) → without_le_events (xs ++ ys) ≡ without_le_events xs ++ without_le_events ys
 without-append xs ys = filter-append (λ (note : Note). not (is_le_note note)) xs ys

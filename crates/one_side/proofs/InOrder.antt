@@ -1,5 +1,5 @@
 -- The commands of a host are answered in order.
-use Rattle.std.proofs.Common.{◌≡◌, ℕ, ◌+◌, ◌*◌, ◌/◌, ◌%◌, ◌==◌, ◌||◌, Bool, true, false, Option, Some, None, List, [], ◌∷◌, ◌++◌, map, cond, inl, inr, refl, ap, sym, ◌∙◌, subst, arith}
+use Rattle.std.proofs.Common.{◌≡◌, ℕ, ◌+◌, ◌*◌, ◌/◌, ◌%◌, ◌==◌, ◌||◌, Bool, true, false, Option, List, [], ◌∷◌, ◌++◌, map, cond, inl, inr, refl, ap, sym, ◌∙◌, subst, arith}
 use Rattle.std.specs.Prelude.{◌&&◌, not}
 use Rattle.std.proofs.lemmas.Bool.Decides.{eqb_tells}
 use Rattle.std.proofs.lemmas.List.Concat.{flat_map-append}
@@ -22,10 +22,11 @@ use Rattle.host_view.specs.Unbuilt.{status_of}
 use Rattle.one_side.specs.Step.{Step, HostOctet, TurnBegins, PacketHeard, NothingHeard, TurnEnds}
 use Rattle.one_side.specs.Facts.{Setup, Facts, Scanner, first_facts}
 use Rattle.one_side.specs.Answers.{accepted_answer, answer_to, complete_answer, has_status_answer, is_host_completed, refused_fields, returned, status_answer}
-use Rattle.one_side.specs.Heard.{Advertisement, advertisement_heard, is_withheld, report_event, reports_of}
+use Rattle.one_side.specs.Heard.{Advertisement, advertisement_heard, report_event, reports_of}
 use Rattle.one_side.specs.Side.{events_fed, facts_after, notes_after, notes_from, notes_of, notes_of_events, result_of}
 use Rattle.one_side.specs.Host.{commands_after, commands_from, commands_in, commands_of, is_answered, opcodes_of, with_answer}
 use Rattle.one_side.specs.Notes.{answers_among, answers_noted, as_two_octets, one_further}
+use Rattle.one_side.proofs.Reports.{reports_unseen}
 
 two_octets_hold : (opcode : ℕ) → opcode % 256 + 256 * (opcode / 256 % 256) ≡ opcode % 65536
 two_octets_hold opcode = omega arith
@@ -143,20 +144,12 @@ fed_says setup facts view More = refl
 
 -- ---- a report is no answer
 
-report_says : (passed : Bool) (advertisement : Advertisement)
-    → answers_among (map (λ event. Up (record { items = written event })) (cond passed (report_event advertisement ∷ []) [])) ≡ []
+report_says : (advertisement : Advertisement) → answers_among (Up (record { items = written (report_event advertisement) }) ∷ []) ≡ []
 unfolding little_endian
-report_says true advertisement = refl
-report_says false advertisement = refl
-
-withheld_says : (withheld : Bool) (view : View) (advertisement : Advertisement)
-    → answers_among (notes_of_events view (cond withheld [] (report_event advertisement ∷ []))) ≡ []
-withheld_says true view advertisement = refl
-withheld_says false view advertisement = report_says (has_bit view.mask 61 && has_bit view.le_mask 1) advertisement
+report_says advertisement = refl
 
 pub reports_say : (view : View) (scanner : Scanner) (heard : Option Advertisement) → answers_among (notes_of_events view (reports_of scanner heard)) ≡ []
-reports_say view scanner None = refl
-reports_say view scanner (Some advertisement) = withheld_says (is_withheld scanner advertisement) view advertisement
+reports_say = reports_unseen answers_among refl report_says
 
 -- ---- all steps
 

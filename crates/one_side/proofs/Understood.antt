@@ -11,10 +11,11 @@ use Rattle.adv_pdu.specs.Reading.{read_of}
 use Rattle.adv_pdu.proofs.Values.{written_is_read}
 use Rattle.air_frame.specs.declared.Heard.{Heard}
 use Rattle.air_frame.specs.declared.Heard.TheVariants.{Whole}
+use Rattle.air_frame.specs.declared.advertising.TheConstants.{ADVERTISING_ACCESS, ADVERTISING_CRC_INIT}
 use Rattle.air_frame.specs.Hearing.{heard_in}
 use Rattle.air_frame.specs.Packet.{on_air, IsPdu}
 use Rattle.one_side.specs.Facts.{Setup, Facts}
-use Rattle.one_side.specs.Radio.{Activity, Advertises, Scans, Rests, Sends, activity_of, advertisement_of, advertisement_on, advertising_access, advertising_init, channel_listened, own_address, use_in, use_of}
+use Rattle.one_side.specs.Radio.{Activity, Advertises, Scans, Rests, Sends, activity_of, advertisement_of, advertisement_on, channel_listened, own_address, use_in, use_of}
 use Rattle.one_side.specs.Addresses.{advertiser_address}
 use Rattle.one_side.specs.Heard.{advertisement_for, advertisement_heard, advertisement_in, advertisement_of_octets, pdu_by, verdict_by, verdict_of, verdict_on}
 
@@ -52,11 +53,11 @@ advertisement_form count from body six short =
 
 heard_whole : (whole : IsHeardWhole) (count : IsCount) (setup : Setup) (sender : Facts) (channel : ℕ)
     → length (advertiser_address setup sender).octets ≡ 6 → length sender.advertiser.data_octets ≤ 31
-    → heard_in channel advertising_access advertising_init (advertisement_on setup sender channel)
+    → heard_in channel ADVERTISING_ACCESS ADVERTISING_CRC_INIT (advertisement_on setup sender channel)
     ≡ Whole (record { items = written (advertisement_of setup sender) })
 unfolding advertisement_on
 heard_whole whole count setup sender channel six short =
-    whole channel advertising_access advertising_init (written (advertisement_of setup sender))
+    whole channel ADVERTISING_ACCESS ADVERTISING_CRC_INIT (written (advertisement_of setup sender))
     (advertisement_form count (advertiser_address setup sender) sender.advertiser.data_octets six short)
 
 pub understood_good : (whole : IsHeardWhole) (count : IsCount) (setup other : Setup) (sender listener : Facts) (channel : ℕ)

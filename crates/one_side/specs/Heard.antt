@@ -13,16 +13,17 @@ use Rattle.adv_pdu.specs.declared.pdu.AdvPdu.TheVariants.{Ind, Direct, Nonconn, 
 use Rattle.adv_pdu.specs.Reading.{read_of}
 use Rattle.air_frame.specs.declared.Heard.{Heard}
 use Rattle.air_frame.specs.declared.Heard.TheVariants.{NotOurs, Broken as Faulty, Whole}
+use Rattle.air_frame.specs.declared.advertising.TheConstants.{ADVERTISING_ACCESS, ADVERTISING_CRC_INIT}
 use Rattle.air_frame.specs.Hearing.{heard_in}
 use Rattle.hci_evt.specs.declared.event.Event.{Event}
 use Rattle.hci_evt.specs.declared.event.Event.TheVariants.{AdvertisingReport}
 use Rattle.one_side.specs.Facts.{Setup, Facts, Report, Scanner}
-use Rattle.one_side.specs.Radio.{Activity, Advertises, Scans, Rests, activity_of, advertising_access, advertising_init, channel_listened, own_address, use_of}
+use Rattle.one_side.specs.Radio.{Activity, Advertises, Scans, Rests, activity_of, channel_listened, own_address, use_of}
 
 -- ---- the verdict (our choice)
 
 abbrev pub heard_on_channel : ℕ → List ℕ → Heard
-heard_on_channel channel octets = heard_in channel advertising_access advertising_init octets
+heard_on_channel channel octets = heard_in channel ADVERTISING_ACCESS ADVERTISING_CRC_INIT octets
 
 abbrev pub verdict_by : Heard → Verdict
 verdict_by NotOurs = Missed

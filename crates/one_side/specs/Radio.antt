@@ -6,6 +6,7 @@ use Rattle.ble_base.specs.Bits.{has_bit}
 use Rattle.adv_pdu.specs.declared.pdu.AdvPdu.{AdvPdu}
 use Rattle.adv_pdu.specs.declared.pdu.AdvPdu.TheVariants.{Nonconn}
 use Rattle.adv_pdu.specs.Pdu.{written}
+use Rattle.air_frame.specs.declared.advertising.TheConstants.{ADVERTISING_ACCESS, ADVERTISING_CRC_INIT}
 use Rattle.air_frame.specs.Packet.{on_air}
 use Rattle.one_side.specs.Facts.{Setup, Facts, Advertiser, Scanner}
 
@@ -84,13 +85,6 @@ advertiser_served on advertises slot advertiser =
 
 -- ---- the packets of the advertising channels
 
--- the access address of all packets on these channels, and where their CRC begins (sections 2.1.2 and 3.1.1)
-abbrev pub advertising_access : ℕ
-advertising_access = 0x8E89BED6
-
-abbrev pub advertising_init : ℕ
-advertising_init = 0x555555
-
 -- the own address: the random one for type 1, else the public one (volume 4 part E, section 7.8.5)
 abbrev pub random_or_public : List ℕ → Option (List ℕ) → Address
 random_or_public public None = record { random = false; octets = public }
@@ -107,7 +101,7 @@ advertisement_of setup facts =
 
 unfoldable pub advertisement_on : Setup → Facts → ℕ → List ℕ
 advertisement_on setup facts channel =
-    on_air channel advertising_access advertising_init (written (advertisement_of setup facts))
+    on_air channel ADVERTISING_ACCESS ADVERTISING_CRC_INIT (written (advertisement_of setup facts))
 
 -- ---- what a controller wants of the radio in a phase
 

@@ -34,7 +34,8 @@ ghost use Rattle.one_side.specs.Addresses.{advertiser_address};
 ghost use Rattle.one_side.specs.Heard.{advertisement_heard, verdict_of};
 ghost use Rattle.one_side.specs.Intervals.{advertiser_left_on, place_within};
 ghost use Rattle.one_side.specs.Host.{HeardNothing, commands_accepted, commands_of, host_octets};
-ghost use Rattle.one_side.specs.Host.{is_answered, le_rand_count, opcodes_in, opcodes_of, with_answer};
+ghost use Rattle.one_side.specs.Host.{is_answered, le_rand_count, opcodes_in, opcodes_of};
+ghost use Rattle.one_side.specs.Host.{with_answer};
 ghost use Rattle.one_side.specs.Notes.{HasHandleBelow, answers_among, answers_of, as_two_octets};
 ghost use Rattle.one_side.specs.Notes.{one_further, without_le_events};
 

@@ -5,7 +5,8 @@ ghost use Rattle.one_side.specs.Heard.{verdict_of};
 ghost use Rattle.one_side.specs.Host.{commands_of};
 ghost use Rattle.one_side.specs.Notes.{answers_among};
 ghost use Rattle.one_side.specs.Radio.{Listens, Sends, use_of};
-ghost use Rattle.one_side.specs.Rows.{advertisement_ending, advertiser_in_turn, fed, scanner_heard_it};
+ghost use Rattle.one_side.specs.Rows.{advertisement_ending, advertiser_in_turn, fed};
+ghost use Rattle.one_side.specs.Rows.{scanner_heard_it};
 ghost use Rattle.one_side.specs.Rows.{scanner_in_turn, setup_a, setup_b, up};
 ghost use Rattle.one_side.specs.Side.{facts_of, notes_of};
 

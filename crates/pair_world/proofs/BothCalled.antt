@@ -5,20 +5,20 @@ use Rattle.ble_base.specs.declared.notes.Note.{Note}
 use Rattle.one_side.specs.Facts.{Setup}
 use Rattle.one_side.specs.Radio.{Use, use_of}
 use Rattle.one_side.specs.Side.{facts_of}
-use Rattle.one_side.specs.Step.{Step, TurnEnds}
+use Rattle.one_side.specs.Step.{Step}
 use Rattle.controller.specs.Knowing.{Knows}
 use Rattle.runs.specs.History.{Event, fates_used, packet_received, packets_on_air, past_of, turns_begun}
-use Rattle.runs.specs.Run.{Given, Plan, after_begins, after_call, after_ends, after_listening, after_listenings, setup_at, step_of}
+use Rattle.runs.specs.Run.{Given, after_call, after_listening, after_listenings, setup_at, step_of}
 use Rattle.pair_world.specs.Air.{InPhase}
 use Rattle.pair_world.specs.Logs.{LogState, entries_noted, known_after, with_entries}
-use Rattle.pair_world.specs.Stations.{StationState, IsAt, Keeps, Took, Writes}
-use Rattle.pair_world.specs.Turns.{HasFed, HasHeard, IsUpTo}
+use Rattle.pair_world.specs.Stations.{StationState, Keeps, HasStepped, Writes}
+use Rattle.pair_world.specs.Turns.{HasHeard}
 use Rattle.pair_world.proofs.Calls.{fates_call, packets_call, past_other, past_own, received_other, received_own, turns_call}
 use Rattle.pair_world.proofs.Keeping.{NamesItsLinks, called, keeps_other}
 
 -- a station takes a step, whatever its past, and what it notes is written
 pub record Calls (step : Step) (before after written : StationState) (log new_log : LogState) (notes : List Note) (entries : LogState) : Type 0 where
-  pub took : (setup : Setup) (past : List Step) → Knows setup before.held past → Took setup past step before after notes
+  pub took : (setup : Setup) (past : List Step) → Knows setup before.held past → HasStepped setup past step before after notes
   pub log_is : new_log ≡ entries
   pub written_is : written ≡ record after { links = known_after after.links notes }
 

@@ -1,18 +1,16 @@
 -- The packet of a CONNECT_IND has 43 octets.
-use Rattle.std.proofs.Common.{◌≡◌, ◌≢◌, ℕ, ◌+◌, ◌-◌, ◌%◌, ◌==◌, ◌&&◌, Bool, true, false, List, length, Option, Some, None, if◌then◌else◌, refl, sym, ap, ◌∙◌, arith}
+use Rattle.std.proofs.Common.{◌≡◌, ℕ, ◌+◌, ◌%◌, ◌==◌, ◌&&◌, Bool, true, false, List, length, Some, None, if◌then◌else◌, refl, sym, ap, ◌∙◌, arith}
 use Rattle.std.specs.Prelude.{nat_le, slice_index}
 use Rattle.std.specs.Option.{option_and_then}
-use Rattle.std.specs.Str.{bytes_eq}
 use Rattle.std.proofs.lemmas.Bool.{and_parts, eqb-true, true≢false}
 use Rattle.std.proofs.lemmas.Slice.Eq.{bytes_eq-Decides}
 use Rattle.adv_pdu.specs.declared.pdu.AdvPdu.{AdvPdu}
 use Rattle.adv_pdu.specs.Reading.{is_adv_pdu, is_payload_length, pdu_of_type, read_of}
-use Rattle.air_frame.specs.declared.Heard.{Heard}
 use Rattle.air_frame.specs.declared.Heard.TheVariants.{NotOurs, Broken, Whole}
 use Rattle.air_frame.specs.Hearing.{heard_in}
-use Rattle.air_frame.specs.Packet.{is_packet, is_pdu, on_air, pdu_in}
+use Rattle.air_frame.specs.Packet.{is_packet, on_air, pdu_in}
 use Rattle.one_side.specs.Heard.{pdu_by}
-use Rattle.one_side.specs.Radio.{advertising_access, advertising_init}
+use Rattle.air_frame.specs.declared.advertising.TheConstants.{ADVERTISING_ACCESS, ADVERTISING_CRC_INIT}
 use Rattle.runs.specs.Links.{begins_link, is_connect_ind}
 
 -- a packet has seven octets more than its PDU
@@ -68,9 +66,9 @@ length_43 : HasSevenMore → (channel : ℕ) (octets : List ℕ) → begins_link
 unfolding begins_link heard_in
 length_43 seven channel octets is =
     let pdu = pdu_in channel octets in
-    let whole = whole_pdu _ (is_packet channel advertising_access advertising_init octets) pdu is in
-    let same = (bytes_eq-Decides octets (on_air channel advertising_access advertising_init pdu)).0 (and_parts _ _ whole.0).1 in
-    ap length same ∙ seven channel advertising_access advertising_init pdu ∙ ap (λ n. n + 7) (length_36 pdu whole.1)
+    let whole = whole_pdu _ (is_packet channel ADVERTISING_ACCESS ADVERTISING_CRC_INIT octets) pdu is in
+    let same = (bytes_eq-Decides octets (on_air channel ADVERTISING_ACCESS ADVERTISING_CRC_INIT pdu)).0 (and_parts _ _ whole.0).1 in
+    ap length same ∙ seven channel ADVERTISING_ACCESS ADVERTISING_CRC_INIT pdu ∙ ap (λ n. n + 7) (length_36 pdu whole.1)
 
 by_cases : (begins : Bool) → (begins ≡ true → ⊥) → false ≡ begins
 by_cases true never = absurd (never refl)

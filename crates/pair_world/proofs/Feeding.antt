@@ -1,20 +1,19 @@
 -- A station is fed octets of its host.
-use Rattle.std.proofs.Common.{◌≡◌, ℕ, zero, suc, ◌+◌, ◌<◌, ◌≤◌, ◌==◌, Bool, true, false, List, [], ◌∷◌, ◌++◌, length, take, drop, if◌then◌else◌, refl, sym, ap, subst, ◌∙◌, append-nil, length-append, drop-drop, take-append-drop, arith}
+use Rattle.std.proofs.Common.{◌≡◌, ℕ, zero, suc, ◌<◌, ◌≤◌, ◌==◌, Bool, false, List, [], ◌∷◌, ◌++◌, length, take, drop, if◌then◌else◌, refl, sym, ap, subst, ◌∙◌, append-nil, length-append, drop-drop, take-append-drop, arith}
 use Rattle.std.proofs.lemmas.Bool.{true≢false}
 use Rattle.ble_base.specs.declared.roles.Side.{Side}
-use Rattle.journal.specs.declared.entries.Entry.{Entry}
 use Rattle.journal.specs.declared.entries.Entry.TheVariants.{Fed}
 use Rattle.one_side.specs.Step.{Step, HostOctet}
 use Rattle.controller.specs.Knowing.{Knows}
 use Rattle.runs.specs.History.{Event, HostFed, past_of, fed_to, fates_used, packets_on_air, turns_begun}
-use Rattle.runs.specs.Journal.{journal_of, side_of}
+use Rattle.runs.specs.Journal.{side_of}
 use Rattle.runs.specs.Links.{Links, links_of}
 use Rattle.runs.specs.Run.{Given, after_call, after_feed, after_octets, octets_left, setup_at}
 use Rattle.pair_world.specs.Logs.{LogState, with_entries}
-use Rattle.pair_world.specs.Stations.{StationState, Keeps, KnowsLinks, Writes, IsAt, number_of}
+use Rattle.pair_world.specs.Stations.{StationState, Keeps, KnowsLinks, StationIsUpTo, number_of}
 use Rattle.pair_world.proofs.Calls.{same_number}
 use Rattle.pair_world.proofs.Histories.{past_more, fed_more, fates_more, journal_more, links_more, packets_more, turns_more}
-use Rattle.pair_world.proofs.Keeping.{keeps_other, side_is}
+use Rattle.pair_world.proofs.Keeping.{side_is}
 
 take-nil : (count : ℕ) → take {A = ℕ} count [] ≡ []
 take-nil zero = refl
@@ -111,8 +110,8 @@ keeps_fed_other given station other octets history state ne keeps = record {
 
 -- the station that is fed this number of octets
 fed_at : (given : Given) (side : Side) (station count : ℕ) (history : List Event) (state : StationState) (log : LogState)
-    → side_of station ≡ side → IsAt given station history state log
-    → IsAt given station (fed_history station (take count state.unfed) history)
+    → side_of station ≡ side → StationIsUpTo given station history state log
+    → StationIsUpTo given station (fed_history station (take count state.unfed) history)
     (record state { unfed = drop count state.unfed }) (with_entries (Fed side (take count state.unfed) ∷ []) log)
 fed_at given side station count history state log of at =
     let octets = take count state.unfed in record {
@@ -132,26 +131,26 @@ fed_at given side station count history state log of at =
 
 -- a station is fed some octets
 pub feeds : (given : Given) (side : Side) (count : ℕ) (history : List Event) (state written done : StationState) (log told new_log : LogState) (octets : List ℕ)
-    → IsAt given (number_of side) history state log → octets ≡ take count state.unfed → 0 < length octets
+    → StationIsUpTo given (number_of side) history state log → octets ≡ take count state.unfed → 0 < length octets
     → written ≡ record state { unfed = drop count state.unfed } → told ≡ with_entries (Fed side octets ∷ []) log
-    → ((given : Given) (history : List Event) → IsAt given (number_of side) history written told
-    → IsAt given (number_of side) (after_octets given (number_of side) octets history) done new_log)
-    → IsAt given (number_of side) (after_feed given (number_of side) (take count state.unfed) history) done new_log
+    → ((given : Given) (history : List Event) → StationIsUpTo given (number_of side) history written told
+    → StationIsUpTo given (number_of side) (after_octets given (number_of side) octets history) done new_log)
+    → StationIsUpTo given (number_of side) (after_feed given (number_of side) (take count state.unfed) history) done new_log
 feeds given side count history state written done log told new_log octets at octets_are some written_is told_is go =
     let station = number_of side in
-    subst (λ (xs : List ℕ). IsAt given station (after_feed given station xs history) done new_log) octets_are
-    (subst (λ (after : List Event). IsAt given station after done new_log) (sym (feed_is given station octets history some))
+    subst (λ (xs : List ℕ). StationIsUpTo given station (after_feed given station xs history) done new_log) octets_are
+    (subst (λ (after : List Event). StationIsUpTo given station after done new_log) (sym (feed_is given station octets history some))
     (go given (fed_history station octets history)
     (rw written_is (rw told_is (rw octets_are (fed_at given side station count history state log (side_is side) at))))))
 
 -- a station is fed nothing
 pub feeds_nothing : (given : Given) (station count : ℕ) (history : List Event) (state done : StationState) (log : LogState) (octets : List ℕ)
-    → IsAt given station history state log → octets ≡ take count state.unfed → octets ≡ [] → done ≡ record state { unfed = drop count state.unfed }
-    → IsAt given station (after_feed given station (take count state.unfed) history) done log
+    → StationIsUpTo given station history state log → octets ≡ take count state.unfed → octets ≡ [] → done ≡ record state { unfed = drop count state.unfed }
+    → StationIsUpTo given station (after_feed given station (take count state.unfed) history) done log
 feeds_nothing given station count history state done log octets at octets_are none done_is =
     let none_taken = sym octets_are ∙ none in
-    subst (λ (xs : List ℕ). IsAt given station (after_feed given station xs history) done log) (sym none_taken)
-    (subst (λ (now : StationState). IsAt given station history now log)
+    subst (λ (xs : List ℕ). StationIsUpTo given station (after_feed given station xs history) done log) (sym none_taken)
+    (subst (λ (now : StationState). StationIsUpTo given station history now log)
     (sym (done_is ∙ ap (λ (unfed : List ℕ). record state { unfed = unfed }) (drop_none count state.unfed none_taken))) at)
 
 -- ---- what feeding leaves as it is

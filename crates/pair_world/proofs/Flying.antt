@@ -1,5 +1,5 @@
 -- A packet of one station on its way to the other, and what the history is after it.
-use Rattle.std.proofs.Common.{◌≡◌, ℕ, ◌+◌, ◌-◌, ◌<◌, ◌==◌, ◌&&◌, ◌||◌, Bool, true, false, List, [], ◌∷◌, ◌++◌, length, drop, Option, Some, None, if◌then◌else◌, refl, sym, ap, subst, ◌∙◌, append-nil, arith}
+use Rattle.std.proofs.Common.{◌≡◌, ℕ, ◌+◌, ◌-◌, ◌==◌, ◌&&◌, ◌||◌, Bool, true, false, List, [], ◌∷◌, ◌++◌, length, drop, Option, Some, None, if◌then◌else◌, refl, sym, ap, subst, ◌∙◌, append-nil, arith}
 use Rattle.std.proofs.lemmas.Bool.{true≢false}
 use Rattle.ble_base.specs.declared.roles.Side.{Side}
 use Rattle.ble_base.specs.declared.roles.Side.TheVariants.{A, B}
@@ -9,22 +9,21 @@ use Rattle.journal.specs.declared.entries.Entry.{Entry}
 use Rattle.journal.specs.declared.entries.Entry.TheVariants.{Air}
 use Rattle.radio_replay.specs.declared.fates.Fate.{Fate}
 use Rattle.radio_replay.specs.Damage.{damaged_packet}
-use Rattle.one_side.specs.Facts.{Setup}
 use Rattle.one_side.specs.Step.{Step}
 use Rattle.one_side.specs.Radio.{Use, Sends, Listens, Idle, use_of}
 use Rattle.one_side.specs.Side.{facts_of}
 use Rattle.controller.specs.Knowing.{Knows}
 use Rattle.runs.specs.History.{Event, Transmitted, Hearing, fates_used, fed_to, has_received, is_good, packet_received, packets_on_air, past_of, turns_begun}
-use Rattle.runs.specs.Journal.{air_entries, journal_of, mark_of, side_of}
+use Rattle.runs.specs.Journal.{journal_of, mark_of, side_of}
 use Rattle.runs.specs.Links.{Links, begins_link, links_of, with_link}
-use Rattle.runs.specs.Run.{Given, GoesOn, Run, Stops, after_packet, fate_at, hearing_at, hearings_of, is_unseen, octets_left, packet_outcome, packet_with, setup_at, unseen_in, use_at}
+use Rattle.runs.specs.Run.{Given, GoesOn, after_packet, fate_at, hearing_at, hearings_of, is_unseen, packet_outcome, packet_with, setup_at, unseen_in, use_at}
 use Rattle.pair_world.specs.declared.stops.Stop.{Stop}
 use Rattle.pair_world.specs.declared.stops.Stop.TheVariants.{Unseen, Memory}
-use Rattle.pair_world.specs.Air.{HasFlown, HasLinked, InAir, IsSent, IsUnseen, IsUnseenOr, goes_unseen, verdict_by, with_last}
+use Rattle.pair_world.specs.Air.{HasFlown, InAir, IsSent, IsUnseenOr, goes_unseen, verdict_by, with_last}
 use Rattle.pair_world.specs.Wishes.{heard_of, packet_wanted}
 use Rattle.pair_world.specs.KnownLinks.{KnownLinks}
 use Rattle.pair_world.specs.Logs.{LogState, with_entries}
-use Rattle.pair_world.specs.Outcomes.{Reaches, HasStopped, IsStopped}
+use Rattle.pair_world.specs.Outcomes.{Reaches, IsStopped}
 use Rattle.pair_world.specs.Stations.{StationState, Keeps, KnowsLinks, Writes, number_of}
 use Rattle.pair_world.proofs.Calls.{same_number}
 use Rattle.pair_world.proofs.Histories.{past_more, fed_more, fates_more, journal_more, links_more, packets_more, received_more, turns_more}
@@ -110,71 +109,64 @@ module _ (station channel : ℕ) (octets : List ℕ) (hearing : Hearing) (histor
 
 -- ---- the numbers of links after a packet
 
+-- a station that took no step and was fed nothing keeps all but its links, of which it knows these now
+keeps_on : (given : Given) (station : ℕ) (before after : List Event) (state : StationState) (known : KnownLinks)
+    → past_of station after ≡ past_of station before → fed_to station after ≡ fed_to station before → Keeps given station before state
+    → KnowsLinks station (links_of after) known → Keeps given station after (record state { links = known })
+keeps_on given station before after state known past fed keeps knows_links = record {
+  handles = keeps.handles;
+  knows = subst (λ steps. Knows (setup_at given station) state.held steps) (sym past) keeps.knows;
+  unfed_are = keeps.unfed_are ∙ sym (ap (λ (octets : List ℕ). drop (length octets) (given.station_of station).stream) fed);
+  links_are = knows_links;
+}
+
+-- the link that began last, and that it knows as the last one
+knows_last : (station sender last : ℕ) (hearings : List Hearing) (links : Links) (known : KnownLinks)
+    → last ≡ (with_link sender hearings links).last_of station → KnowsLinks station links known
+    → KnowsLinks station (with_link sender hearings links) (record known { last = last })
+knows_last station sender last hearings links known is knows = record { last_is = is; size = knows.size; by_handle_are = knows.by_handle_are }
+
 -- the sender knows the link that it begins
 keeps_sender : (begins : Bool) (given : Given) (station : ℕ) (before after : List Event) (state : StationState) (count : ℕ) (hearings : List Hearing)
     → past_of station after ≡ past_of station before → fed_to station after ≡ fed_to station before
     → links_of after ≡ (if begins then with_link station hearings (links_of before) else links_of before)
     → count ≡ (links_of before).begun → Keeps given station before state
     → Keeps given station after (if begins then with_last (count + 1) state else state)
-keeps_sender true given station before after state count hearings past fed links counted keeps = record {
-  handles = keeps.handles;
-  knows = subst (λ steps. Knows (setup_at given station) state.held steps) (sym past) keeps.knows;
-  unfed_are = keeps.unfed_are ∙ sym (ap (λ (octets : List ℕ). drop (length octets) (given.station_of station).stream) fed);
-  links_are = subst (λ (links : Links). KnowsLinks station links (record state.links { last = count + 1 })) (sym links) (record {
-    last_is = ap (λ (n : ℕ). n + 1) counted
-        ∙ sym (ap (λ (same : Bool). if same || has_received station hearings then (links_of before).begun + 1 else (links_of before).last_of station)
-        (same_number station));
-    size = keeps.links_are.size;
-    opened_are = keeps.links_are.opened_are;
-  });
-}
-keeps_sender false given station before after state count hearings past fed links counted keeps = record {
-  handles = keeps.handles;
-  knows = subst (λ steps. Knows (setup_at given station) state.held steps) (sym past) keeps.knows;
-  unfed_are = keeps.unfed_are ∙ sym (ap (λ (octets : List ℕ). drop (length octets) (given.station_of station).stream) fed);
-  links_are = subst (λ (links : Links). KnowsLinks station links state.links) (sym links) keeps.links_are;
-}
+keeps_sender true given station before after state count hearings past fed links counted keeps =
+    let last : count + 1 ≡ (with_link station hearings (links_of before)).last_of station =
+    ap (λ (n : ℕ). n + 1) counted
+    ∙ sym (ap (λ (same : Bool). if same || has_received station hearings then (links_of before).begun + 1 else (links_of before).last_of station)
+    (same_number station)) in
+    keeps_on given station before after state (record state.links { last = count + 1 }) past fed keeps
+    (subst (λ (links : Links). KnowsLinks station links (record state.links { last = count + 1 })) (sym links)
+    (knows_last station station (count + 1) hearings (links_of before) state.links last keeps.links_are))
+keeps_sender false given station before after state count hearings past fed links counted keeps =
+    keeps_on given station before after state state.links past fed keeps
+    (subst (λ (links : Links). KnowsLinks station links state.links) (sym links) keeps.links_are)
 
 -- a station that does not send it knows it where it received it
-last_known : (good received : Bool) (count last : ℕ) (begun before : ℕ) → received ≡ good → count ≡ begun → last ≡ before
-    → (if good then count + 1 else last) ≡ (if received then begun + 1 else before)
-last_known true received count last begun before is counted same = ap (λ (n : ℕ). n + 1) counted ∙ sym (ap (λ (b : Bool). if b then begun + 1 else before) is)
-last_known false received count last begun before is counted same = same ∙ sym (ap (λ (b : Bool). if b then begun + 1 else before) is)
-
 keeps_listener : (begins good : Bool) (given : Given) (station sender : ℕ) (before after : List Event) (state : StationState) (count : ℕ) (hearings : List Hearing)
     → past_of station after ≡ past_of station before → fed_to station after ≡ fed_to station before
     → links_of after ≡ (if begins then with_link sender hearings (links_of before) else links_of before)
     → (station == sender) ≡ false → has_received station hearings ≡ good
     → count ≡ (links_of before).begun → Keeps given station before state
     → Keeps given station after (if begins && good then with_last (count + 1) state else state)
-keeps_listener true true given station sender before after state count hearings past fed links ne received counted keeps = record {
-  handles = keeps.handles;
-  knows = subst (λ steps. Knows (setup_at given station) state.held steps) (sym past) keeps.knows;
-  unfed_are = keeps.unfed_are ∙ sym (ap (λ (octets : List ℕ). drop (length octets) (given.station_of station).stream) fed);
-  links_are = subst (λ (links : Links). KnowsLinks station links (record state.links { last = count + 1 })) (sym links) (record {
-    last_is = ap (λ (n : ℕ). n + 1) counted
-        ∙ sym (λ i. if ne i || received i then (links_of before).begun + 1 else (links_of before).last_of station);
-    size = keeps.links_are.size;
-    opened_are = keeps.links_are.opened_are;
-  });
-}
-keeps_listener true false given station sender before after state count hearings past fed links ne received counted keeps = record {
-  handles = keeps.handles;
-  knows = subst (λ steps. Knows (setup_at given station) state.held steps) (sym past) keeps.knows;
-  unfed_are = keeps.unfed_are ∙ sym (ap (λ (octets : List ℕ). drop (length octets) (given.station_of station).stream) fed);
-  links_are = subst (λ (links : Links). KnowsLinks station links state.links) (sym links) (record {
-    last_is = keeps.links_are.last_is
-        ∙ sym (λ i. if ne i || received i then (links_of before).begun + 1 else (links_of before).last_of station);
-    size = keeps.links_are.size;
-    opened_are = keeps.links_are.opened_are;
-  });
-}
-keeps_listener false good given station sender before after state count hearings past fed links ne received counted keeps = record {
-  handles = keeps.handles;
-  knows = subst (λ steps. Knows (setup_at given station) state.held steps) (sym past) keeps.knows;
-  unfed_are = keeps.unfed_are ∙ sym (ap (λ (octets : List ℕ). drop (length octets) (given.station_of station).stream) fed);
-  links_are = subst (λ (links : Links). KnowsLinks station links state.links) (sym links) keeps.links_are;
-}
+keeps_listener true true given station sender before after state count hearings past fed links ne received counted keeps =
+    let last : count + 1 ≡ (with_link sender hearings (links_of before)).last_of station =
+    ap (λ (n : ℕ). n + 1) counted
+    ∙ sym (λ i. if ne i || received i then (links_of before).begun + 1 else (links_of before).last_of station) in
+    keeps_on given station before after state (record state.links { last = count + 1 }) past fed keeps
+    (subst (λ (links : Links). KnowsLinks station links (record state.links { last = count + 1 })) (sym links)
+    (knows_last station sender (count + 1) hearings (links_of before) state.links last keeps.links_are))
+keeps_listener true false given station sender before after state count hearings past fed links ne received counted keeps =
+    let last : state.links.last ≡ (with_link sender hearings (links_of before)).last_of station =
+    keeps.links_are.last_is ∙ sym (λ i. if ne i || received i then (links_of before).begun + 1 else (links_of before).last_of station) in
+    keeps_on given station before after state state.links past fed keeps
+    (subst (λ (links : Links). KnowsLinks station links state.links) (sym links)
+    (knows_last station sender state.links.last hearings (links_of before) state.links last keeps.links_are))
+keeps_listener false good given station sender before after state count hearings past fed links ne received counted keeps =
+    keeps_on given station before after state state.links past fed keeps
+    (subst (λ (links : Links). KnowsLinks station links state.links) (sym links) keeps.links_are)
 
 -- and the log counts it
 begun_after : (begins : Bool) (station count : ℕ) (hearings : List Hearing) (before after : List Event)

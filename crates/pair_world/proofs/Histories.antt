@@ -1,10 +1,9 @@
 -- What is read off a history that grew.
-use Rattle.std.proofs.Common.{◌≡◌, ℕ, ◌+◌, List, [], ◌∷◌, ◌++◌, Option, None, refl, sym, ap, ◌∙◌, append-nil, append_assoc}
+use Rattle.std.proofs.Common.{◌≡◌, ℕ, ◌+◌, List, [], ◌∷◌, ◌++◌, None, refl, sym, ap, ◌∙◌, append_assoc}
 use Rattle.std.specs.Prelude.{fold}
 use Rattle.std.proofs.lemmas.List.Sums.{fold-append}
 use Rattle.std.proofs.lemmas.List.Concat.{flat_map-append}
 use Rattle.journal.specs.declared.entries.Entry.{Entry}
-use Rattle.one_side.specs.Step.{Step}
 use Rattle.runs.specs.History.{Event, steps_in, past_of, octets_in, fed_to, turns_in, turns_begun, packets_after, packets_on_air, fates_after, fates_used, received_after, packet_received}
 use Rattle.runs.specs.Links.{Links, first_links, links_after, links_of}
 use Rattle.runs.specs.Journal.{entries_of, journal_from, journal_of}

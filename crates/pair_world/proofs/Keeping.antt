@@ -1,23 +1,22 @@
 -- What the code of a station and of a log keep, after a call.
-use Rattle.std.proofs.Common.{◌≡◌, ℕ, ◌==◌, false, List, [], ◌∷◌, ◌++◌, refl, sym, ap, subst, ◌∙◌}
+use Rattle.std.proofs.Common.{◌≡◌, ℕ, ◌==◌, false, List, ◌++◌, refl, sym, ap, subst, ◌∙◌}
 use Rattle.std.specs.Prelude.{fold}
 use Rattle.std.specs.List.{All}
 use Rattle.ble_base.specs.declared.roles.Side.{Side}
 use Rattle.ble_base.specs.declared.roles.Side.TheVariants.{A, B}
 use Rattle.ble_base.specs.declared.notes.Note.{Note}
-use Rattle.journal.specs.declared.entries.Entry.{Entry}
 use Rattle.one_side.specs.Step.{Step}
 use Rattle.one_side.specs.Facts.{Setup, Facts}
 use Rattle.one_side.specs.Notes.{HasHandleBelow}
 use Rattle.one_side.specs.Side.{notes_after}
-use Rattle.controller.specs.Knowing.{Knows, Goes}
+use Rattle.controller.specs.Knowing.{Knows}
 use Rattle.runs.specs.History.{Event, past_of}
 use Rattle.runs.specs.Journal.{journal_from, journal_of, side_of}
 use Rattle.runs.specs.Links.{Links, links_after, links_of}
-use Rattle.runs.specs.Run.{Given, after_call, facts_at, octets_left, setup_at}
+use Rattle.runs.specs.Run.{Given, after_call, facts_at, setup_at}
 use Rattle.pair_world.specs.KnownLinks.{KnownLinks}
 use Rattle.pair_world.specs.Logs.{LogState, entries_noted, known_after, with_entries}
-use Rattle.pair_world.specs.Stations.{StationState, Keeps, KnowsLinks, Writes, IsAt, Took, number_of}
+use Rattle.pair_world.specs.Stations.{StationState, Keeps, KnowsLinks, StationIsUpTo, HasStepped, number_of}
 use Rattle.pair_world.proofs.Calls.{notes_in_call, noted_events, journal_call, left_call, links_call, past_other, past_own}
 use Rattle.pair_world.proofs.Numbers.{begun_notes, entries_are, knows_notes, same_notes}
 
@@ -38,8 +37,8 @@ side_is B = refl
 -- the station that was called
 called_at : (given : Given) (side : Side) (station : ℕ) (step : Step) (history : List Event) (before after : StationState) (log : LogState) (notes : List Note)
     → side_of station ≡ side → notes ≡ notes_in_call given station step history → All (HasHandleBelow 3) notes
-    → IsAt given station history before log → Took (setup_at given station) (past_of station history) step before after notes
-    → IsAt given station (after_call given station step history)
+    → StationIsUpTo given station history before log → HasStepped (setup_at given station) (past_of station history) step before after notes
+    → StationIsUpTo given station (after_call given station step history)
     (record after { links = known_after after.links notes }) (with_entries (entries_noted side after.links notes) log)
 called_at given side station step history before after log notes of are below at took =
     let known = subst (λ (links : KnownLinks). KnowsLinks station (links_of history) links) (sym took.same_links) at.keeps.links_are in
@@ -63,11 +62,11 @@ called_at given side station step history before after log notes of are below at
 
 -- a station takes a step, and what it notes is written
 pub called : NamesItsLinks → (given : Given) (side : Side) (step : Step) (history : List Event) (before after written : StationState) (log new_log : LogState) (notes : List Note)
-    → IsAt given (number_of side) history before log
-    → Took (setup_at given (number_of side)) (past_of (number_of side) history) step before after notes
+    → StationIsUpTo given (number_of side) history before log
+    → HasStepped (setup_at given (number_of side)) (past_of (number_of side) history) step before after notes
     → new_log ≡ with_entries (entries_noted side after.links notes) log
     → written ≡ record after { links = known_after after.links notes }
-    → IsAt given (number_of side) (after_call given (number_of side) step history) written new_log
+    → StationIsUpTo given (number_of side) (after_call given (number_of side) step history) written new_log
 called names given side step history before after written log new_log notes at took log_is written_is =
     rw log_is (rw written_is
     (called_at given side (number_of side) step history before after log notes (side_is side) took.goes.notes

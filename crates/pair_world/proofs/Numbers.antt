@@ -1,5 +1,5 @@
 -- The numbers of links that a station knows, and those of a history.
-use Rattle.std.proofs.Common.{◌≡◌, ◌≢◌, ℕ, suc, ◌+◌, ◌<◌, ◌==◌, ◌&&◌, Bool, true, false, List, [], ◌∷◌, ◌++◌, length, refl, sym, ap, subst, ◌∙◌, inl, inr, if◌then◌else◌, arith}
+use Rattle.std.proofs.Common.{◌≡◌, ℕ, suc, ◌<◌, ◌==◌, ◌&&◌, Bool, false, List, [], ◌∷◌, refl, sym, ap, subst, ◌∙◌, inl, inr, if◌then◌else◌, arith}
 use Rattle.std.proofs.Common.{get_or, set, length-set, get_or-set_same, get_or-set_other}
 use Rattle.std.specs.Prelude.{fold}
 use Rattle.std.specs.List.{All}
@@ -23,32 +23,32 @@ pub entry_is : (side : Side) (station : ℕ) (links : Links) (known : KnownLinks
     → entry_noted side known note ≡ entry_of side (links.link_of station) (links.last_of station) note
 entry_is side station links known (Up packet) k below = refl
 entry_is side station links known (Opened handle role own peer) k below = ap (λ link. OpenedEntry side link handle role) k.last_is
-entry_is side station links known (Shut handle reason) k below = ap (λ link. ShutEntry side link reason) (k.opened_are handle below)
+entry_is side station links known (Shut handle reason) k below = ap (λ link. ShutEntry side link reason) (k.by_handle_are handle below)
 entry_is side station links known (Sent handle number llid body) k below =
-    ap (λ link. SentEntry side link number llid body.items) (k.opened_are handle below)
+    ap (λ link. SentEntry side link number llid body.items) (k.by_handle_are handle below)
 entry_is side station links known (Took handle number llid body) k below =
-    ap (λ link. TookEntry side link number llid body.items) (k.opened_are handle below)
+    ap (λ link. TookEntry side link number llid body.items) (k.by_handle_are handle below)
 entry_is side station links known (Enter handle event channel) k below =
-    ap (λ link. EnterEntry side link event.0 channel) (k.opened_are handle below)
+    ap (λ link. EnterEntry side link event.0 channel) (k.by_handle_are handle below)
 entry_is side station links known (Applied handle number event) k below =
-    ap (λ link. AppliedEntry side link number event.0) (k.opened_are handle below)
-entry_is side station links known (Began handle kind) k below = ap (λ link. BeganEntry side link kind) (k.opened_are handle below)
+    ap (λ link. AppliedEntry side link number event.0) (k.by_handle_are handle below)
+entry_is side station links known (Began handle kind) k below = ap (λ link. BeganEntry side link kind) (k.by_handle_are handle below)
 entry_is side station links known (Refused handle kind code) k below =
-    ap (λ link. RefusedEntry side link kind code) (k.opened_are handle below)
-entry_is side station links known (Done handle kind) k below = ap (λ link. DoneEntry side link kind) (k.opened_are handle below)
+    ap (λ link. RefusedEntry side link kind code) (k.by_handle_are handle below)
+entry_is side station links known (Done handle kind) k below = ap (λ link. DoneEntry side link kind) (k.by_handle_are handle below)
 
 opened_at : (station handle n : ℕ) (links : Links) (known : KnownLinks) → KnowsLinks station links known → handle < 3 → n < 3
     → number_in (known_with handle known) n ≡ (with_handle station handle links).link_of station n
 opened_at station handle n links known k below n_below = elim (eqb_tells n handle) [
   | inl same ↦
-      ap (λ place. get_or (set known.opened handle known.last) place 0) same.1
-      ∙ get_or-set_same known.opened handle known.last 0 (subst (λ count. handle < count) (sym k.size) below)
+      ap (λ place. get_or (set known.by_handle handle known.last) place 0) same.1
+      ∙ get_or-set_same known.by_handle handle known.last 0 (subst (λ count. handle < count) (sym k.size) below)
       ∙ k.last_is
       ∙ ap (λ (test : Bool). if test then links.last_of station else links.link_of station n)
       (sym (λ i. same_number station i && same.0 i))
   | inr other ↦
-      get_or-set_other known.opened handle n known.last 0 other.1
-      ∙ k.opened_are n n_below
+      get_or-set_other known.by_handle handle n known.last 0 other.1
+      ∙ k.by_handle_are n n_below
       ∙ ap (λ (test : Bool). if test then links.last_of station else links.link_of station n)
       (sym (λ i. same_number station i && other.0 i))
 ]
@@ -57,8 +57,8 @@ knows_opened : (station handle : ℕ) (links : Links) (known : KnownLinks) → K
     → KnowsLinks station (with_handle station handle links) (known_with handle known)
 knows_opened station handle links known k below = record {
   last_is = k.last_is;
-  size = length-set known.opened handle known.last ∙ k.size;
-  opened_are = λ n n_below. opened_at station handle n links known k below n_below;
+  size = length-set known.by_handle handle known.last ∙ k.size;
+  by_handle_are = λ n n_below. opened_at station handle n links known k below n_below;
 }
 
 pub knows_note : (station : ℕ) (links : Links) (known : KnownLinks) (note : Note) → KnowsLinks station links known → HasHandleBelow 3 note
@@ -80,8 +80,8 @@ same_note : (station other : ℕ) (links : Links) (known : KnownLinks) (note : N
 same_note station other links known (Opened handle role own peer) ne k = record {
   last_is = k.last_is;
   size = k.size;
-  opened_are = λ n below.
-      k.opened_are n below
+  by_handle_are = λ n below.
+      k.by_handle_are n below
       ∙ ap (λ (same : Bool). if same && (n == handle) then links.last_of station else links.link_of other n) (sym ne);
 }
 same_note station other links known (Up packet) ne k = k

@@ -1,5 +1,5 @@
 -- A phase, and the three of a turn.
-use Rattle.std.proofs.Common.{◌≡◌, ℕ, ◌+◌, List, [], refl, sym, ap, subst, ◌∙◌}
+use Rattle.std.proofs.Common.{◌≡◌, ℕ, ◌+◌, List, sym, ap, subst, ◌∙◌}
 use Rattle.journal.specs.declared.entries.Entry.{Entry}
 use Rattle.radio_replay.specs.declared.fates.Fate.{Fate}
 use Rattle.one_side.specs.Radio.{Use}
@@ -10,7 +10,7 @@ use Rattle.pair_world.specs.Air.{InPhase}
 use Rattle.pair_world.specs.Logs.{LogState}
 use Rattle.pair_world.specs.Outcomes.{Reaches, IsStopped}
 use Rattle.pair_world.specs.Stations.{StationState}
-use Rattle.pair_world.specs.Turns.{IsUpTo}
+use Rattle.pair_world.specs.Turns.{PairIsUpTo}
 use Rattle.pair_world.proofs.Transmitting.{stopped_after, stopped_on}
 
 pub phase_done : (given : Given) (fates : List Fate) (history : List Event) (P Q : List Event → Type 0)
@@ -81,7 +81,7 @@ third_phase_stops given fates history slot entries stop P Q first two is =
 -- ---- where a phase begins, by the numbers of the code
 
 pub up_to : (given : Given) (slot : ℕ) (a b : StationState) (log : LogState) (wanted_a wanted_b : Use) (packets : ℕ) (history : List Event)
-    → InPhase given slot a b log wanted_a wanted_b packets history → IsUpTo given (slot + 1) a b log history
+    → InPhase given slot a b log wanted_a wanted_b packets history → PairIsUpTo given (slot + 1) a b log history
 up_to given slot a b log wanted_a wanted_b packets history phase = record {
   stations_are = phase.air.stations_are;
   keeps_a = phase.air.keeps_sender;

@@ -1,16 +1,13 @@
 -- A run, turn by turn, from its first station on.
-use Rattle.std.proofs.Common.{◌≡◌, ℕ, zero, suc, ◌+◌, ◌<◌, ◌≤◌, List, [], ◌∷◌, map, length, drop, get_or, Option, Some, refl, sym, ap, subst, ◌∙◌, arith}
+use Rattle.std.proofs.Common.{◌≡◌, ℕ, zero, suc, ◌+◌, ◌<◌, ◌≤◌, List, [], ◌∷◌, map, length, drop, Some, refl, sym, ap, subst, ◌∙◌, arith}
 use Rattle.std.specs.Prelude.{slice_get}
 use Rattle.journal.specs.declared.entries.Entry.{Entry}
 use Rattle.radio_replay.specs.Script.{Script, Turn as ScriptTurn}
-use Rattle.ble_base.specs.declared.Config.{Config}
-use Rattle.one_side.specs.Facts.{Setup, setup_of}
-use Rattle.controller.specs.Knowing.{Knows}
 use Rattle.runs.specs.History.{Event, turns_begun}
 use Rattle.runs.specs.Journal.{journal_of}
 use Rattle.runs.specs.Links.{links_of}
-use Rattle.runs.specs.Pair.{EndsUnseen, IsRun, given_of, plan_of}
-use Rattle.runs.specs.Run.{Given, GoesOn, Plan, Run, after_turn, and_then, run_from, run_of, setup_at}
+use Rattle.runs.specs.Pair.{IsRun, given_of, plan_of}
+use Rattle.runs.specs.Run.{Given, Plan, Run, after_turn, and_then, run_from, run_of, setup_at}
 use Rattle.pair_world.specs.declared.stops.Stop.{Stop}
 use Rattle.pair_world.specs.declared.stops.Stop.TheVariants.{Unseen, Memory}
 use Rattle.pair_world.specs.Faults.{IsRunFault, fault_of}
@@ -18,7 +15,7 @@ use Rattle.pair_world.specs.KnownLinks.{first_known, number_in}
 use Rattle.pair_world.specs.Logs.{LogState, first_log}
 use Rattle.pair_world.specs.Outcomes.{Reaches, IsStopped}
 use Rattle.pair_world.specs.Stations.{StationState, IsFirst, Keeps, KnowsLinks, Writes}
-use Rattle.pair_world.specs.Turns.{HasPlans, IsUpTo}
+use Rattle.pair_world.specs.Turns.{HasPlans, PairIsUpTo}
 
 -- ---- the first station
 
@@ -30,7 +27,7 @@ nothing_opened (suc (suc (suc handle))) = refl
 
 knows_none : (station : ℕ) → KnowsLinks station (links_of []) first_known
 unfolding links_of
-knows_none station = record { last_is = refl; size = refl; opened_are = λ handle below. nothing_opened handle }
+knows_none station = record { last_is = refl; size = refl; by_handle_are = λ handle below. nothing_opened handle }
 
 first_keeps : (given : Given) (station : ℕ) (state : StationState) → (setup_at given station).links ≡ 3
     → IsFirst (setup_at given station) (given.station_of station).stream state → Keeps given station [] state
@@ -51,7 +48,7 @@ no_turns = refl
 
 pub both_first : (a b : List ℕ) (script : Script) (first second : StationState)
     → IsFirst (setup_at (given_of a b script) 0) a first → IsFirst (setup_at (given_of a b script) 1) b second
-    → IsUpTo (given_of a b script) 0 first second first_log []
+    → PairIsUpTo (given_of a b script) 0 first second first_log []
 both_first a b script first second is_first is_second = record {
   stations_are = refl;
   keeps_a = first_keeps (given_of a b script) 0 first refl is_first;
@@ -65,12 +62,12 @@ both_first a b script first second is_first is_second = record {
 -- the run came to this turn, and the rest of it is that of the turns from here on
 pub record AtTurn (given : Given) (turn : ℕ) (a b : StationState) (log : LogState) : Type 0 where
   pub history : List Event
-  pub up : IsUpTo given turn a b log history
+  pub up : PairIsUpTo given turn a b log history
   pub rest : run_from given turn (drop turn given.plans) history ≡ run_of given
 
-pub at_first : (given : Given) (a b : StationState) (log : LogState) → log ≡ first_log → IsUpTo given 0 a b first_log [] → AtTurn given 0 a b log
+pub at_first : (given : Given) (a b : StationState) (log : LogState) → log ≡ first_log → PairIsUpTo given 0 a b first_log [] → AtTurn given 0 a b log
 unfolding run_of
-at_first given a b log is up = record { history = []; up = subst (λ (now : LogState). IsUpTo given 0 a b now []) (sym is) up; rest = refl }
+at_first given a b log is up = record { history = []; up = subst (λ (now : LogState). PairIsUpTo given 0 a b now []) (sym is) up; rest = refl }
 
 pub place_in : (turns : List ScriptTurn) (n : ℕ) → n < length turns → (plan : ScriptTurn) × (slice_get turns n ≡ Some plan)
 place_in [] n below = absurd (omega arith)
@@ -100,7 +97,7 @@ rest_at given turns n plan history plans is rest =
 
 pub next_turn : (given : Given) (turns : List ScriptTurn) (n : ℕ) (plan : ScriptTurn) (a b new_a new_b : StationState) (log new_log : LogState) → HasPlans given turns
     → slice_get turns n ≡ Some plan → (at : AtTurn given n a b log)
-    → Reaches (after_turn given n (plan_of plan) at.history) (IsUpTo given (n + 1) new_a new_b new_log)
+    → Reaches (after_turn given n (plan_of plan) at.history) (PairIsUpTo given (n + 1) new_a new_b new_log)
     → AtTurn given (n + 1) new_a new_b new_log
 next_turn given turns n plan a b new_a new_b log new_log plans is at turn = record {
   history = turn.after;
@@ -143,10 +140,3 @@ is_fault given turns n plan a b log entries (Unseen packet sent heard) plans is 
   sent_is = stopped.sent_is;
   heard_is = stopped.heard_is;
 }
-
--- ---- settings
-
-pub same_setup : (one other : Config) → one.public ≡ other.public → one.cursor ≡ other.cursor → one.words.items ≡ other.words.items
-    → setup_of one 3 8 8 ≡ setup_of other 3 8 8
-same_setup one other public cursor words =
-    (λ i. record { public = public i; cursor = cursor i; words = words i; links = 3; host_buffers = 8; air_buffers = 8 })

@@ -1,5 +1,5 @@
 -- A turn opens, goes through its phases, and ends.
-use Rattle.std.proofs.Common.{◌≡◌, ℕ, ◌+◌, ◌==◌, Bool, true, false, List, [], ◌∷◌, ◌++◌, map, length, take, drop, Option, Some, None, refl, sym, ap, subst, ◌∙◌, append-nil, arith}
+use Rattle.std.proofs.Common.{◌≡◌, ℕ, ◌+◌, ◌==◌, Bool, false, List, [], ◌∷◌, ◌++◌, map, length, take, drop, Option, Some, None, refl, sym, ap, subst, ◌∙◌, append-nil}
 use Rattle.std.specs.Prelude.{IfSome}
 use Rattle.ble_base.specs.declared.roles.Side.TheVariants.{A, B}
 use Rattle.ble_base.specs.declared.notes.Note.{Note}
@@ -12,19 +12,18 @@ use Rattle.one_side.specs.Side.{facts_of}
 use Rattle.one_side.specs.Step.{Step, TurnBegins, TurnEnds}
 use Rattle.controller.specs.Knowing.{Knows}
 use Rattle.runs.specs.History.{Event, TurnBegan, fates_used, fed_to, packets_on_air, past_of, turns_begun}
-use Rattle.runs.specs.Journal.{journal_of}
-use Rattle.runs.specs.Links.{Links, links_of}
+use Rattle.runs.specs.Links.{Links}
 use Rattle.runs.specs.Pair.{plan_of}
-use Rattle.runs.specs.Run.{Given, GoesOn, Run, after_begins, after_call, after_ends, after_feed, after_feeds, after_opening, after_phases, after_turn, and_then, octets_left, setup_at}
+use Rattle.runs.specs.Run.{Given, GoesOn, Run, after_begins, after_ends, after_feed, after_feeds, after_opening, after_phases, after_turn, and_then, octets_left, setup_at}
 use Rattle.pair_world.specs.declared.stops.Stop.{Stop}
 use Rattle.pair_world.specs.Air.{InPhase}
 use Rattle.pair_world.specs.Logs.{LogState, entries_noted, with_entries}
 use Rattle.pair_world.specs.Outcomes.{Reaches, IsStopped}
-use Rattle.pair_world.specs.Stations.{StationState, IsAt, Keeps, KnowsLinks, Writes}
-use Rattle.pair_world.specs.Turns.{HasFed, IsUpTo, after_feeding}
-use Rattle.pair_world.proofs.BothCalled.{Calls, BothCalled, both_called, called_both, in_phase}
+use Rattle.pair_world.specs.Stations.{StationState, StationIsUpTo, Keeps, KnowsLinks, Writes}
+use Rattle.pair_world.specs.Turns.{HasFed, PairIsUpTo, after_feeding}
+use Rattle.pair_world.proofs.BothCalled.{Calls, both_called, called_both, in_phase}
 use Rattle.pair_world.proofs.Calls.{fates_call, packets_call, turns_call}
-use Rattle.pair_world.proofs.Feeding.{fates_fed, feed_keeps, fed_history, keeps_fed_other, packets_fed, turns_fed}
+use Rattle.pair_world.proofs.Feeding.{fates_fed, feed_keeps, keeps_fed_other, packets_fed, turns_fed}
 use Rattle.pair_world.proofs.Histories.{fates_more, fed_more, journal_more, links_more, packets_more, past_more, turns_more}
 use Rattle.pair_world.proofs.Keeping.{NamesItsLinks, keeps_other}
 use Rattle.pair_world.proofs.Transmitting.{stopped_on}
@@ -92,22 +91,22 @@ feeding_is given slot plan history are =
 
 -- a station is fed what its turn feeds it
 feed_at : (given : Given) (station count feed : ℕ) (history : List Event) (state done : StationState) (log new_log : LogState)
-    → count ≡ feed → IsAt given station history state log
-    → ((given : Given) (history : List Event) → IsAt given station history state log
-    → IsAt given station (after_feed given station (take count state.unfed) history) done new_log)
-    → IsAt given station (after_feed given station (take feed (octets_left given station history)) history) done new_log
+    → count ≡ feed → StationIsUpTo given station history state log
+    → ((given : Given) (history : List Event) → StationIsUpTo given station history state log
+    → StationIsUpTo given station (after_feed given station (take count state.unfed) history) done new_log)
+    → StationIsUpTo given station (after_feed given station (take feed (octets_left given station history)) history) done new_log
 feed_at given station count feed history state done log new_log same at go =
-    subst (λ (octets : List ℕ). IsAt given station (after_feed given station octets history) done new_log)
+    subst (λ (octets : List ℕ). StationIsUpTo given station (after_feed given station octets history) done new_log)
     ((λ i. take (same i) state.unfed) ∙ ap (take feed) at.keeps.unfed_are) (go given history at)
 
 pub fed_both : (given : Given) (slot number : ℕ) (plan : ScriptTurn) (history : List Event) (a b new_a new_b : StationState) (log first_log middle_log new_log : LogState)
-    (a_on b_on : Bool) (feed_a feed_b : ℕ) → IsUpTo given slot a b log history
+    (a_on b_on : Bool) (feed_a feed_b : ℕ) → PairIsUpTo given slot a b log history
     → first_log ≡ with_entries (Turn number a_on (Some b_on) ∷ []) log → number ≡ slot → a_on ≡ plan.a_on → b_on ≡ plan.b_on
     → feed_a ≡ plan.feed_a → feed_b ≡ plan.feed_b
-    → ((given : Given) (history : List Event) → IsAt given 0 history a first_log
-    → IsAt given 0 (after_feed given 0 (take feed_a a.unfed) history) new_a middle_log)
-    → ((given : Given) (history : List Event) → IsAt given 1 history b middle_log
-    → IsAt given 1 (after_feed given 1 (take feed_b b.unfed) history) new_b new_log)
+    → ((given : Given) (history : List Event) → StationIsUpTo given 0 history a first_log
+    → StationIsUpTo given 0 (after_feed given 0 (take feed_a a.unfed) history) new_a middle_log)
+    → ((given : Given) (history : List Event) → StationIsUpTo given 1 history b middle_log
+    → StationIsUpTo given 1 (after_feed given 1 (take feed_b b.unfed) history) new_b new_log)
     → HasFed given slot new_a new_b new_log (after_feeding given slot (plan_of plan) history)
 fed_both given slot number plan history a b new_a new_b log first_log middle_log new_log a_on b_on feed_a feed_b up log_is number_is a_is b_is feed_a_is feed_b_is go_a go_b =
     let start = begun slot plan history in
@@ -170,14 +169,14 @@ opened given slot plan history a b log wanted_a wanted_b holds = holds
 -- ---- both end
 
 pub both_ended : NamesItsLinks → (given : Given) (turns : ℕ) (history : List Event) (a called_a new_a b called_b new_b : StationState)
-    (log first_log new_log : LogState) (notes_a notes_b : List Note) → IsUpTo given turns a b log history
+    (log first_log new_log : LogState) (notes_a notes_b : List Note) → PairIsUpTo given turns a b log history
     → Calls TurnEnds a called_a new_a log first_log notes_a (with_entries (entries_noted A called_a.links notes_a) log)
     → Calls TurnEnds b called_b new_b first_log new_log notes_b (with_entries (entries_noted B called_b.links notes_b) first_log)
-    → IsUpTo given turns new_a new_b new_log (after_ends given given.stations history)
+    → PairIsUpTo given turns new_a new_b new_log (after_ends given given.stations history)
 both_ended names given turns history a called_a new_a b called_b new_b log first_log new_log notes_a notes_b up call_a call_b =
     let both = both_called names given TurnEnds TurnEnds history a called_a new_a b called_b new_b log first_log new_log notes_a notes_b
     up.keeps_a up.keeps_b up.writes call_a call_b in
-    subst (IsUpTo given turns new_a new_b new_log) (ap (λ (stations : List ℕ). after_ends given stations history) (sym up.stations_are)) (record {
+    subst (PairIsUpTo given turns new_a new_b new_log) (ap (λ (stations : List ℕ). after_ends given stations history) (sym up.stations_are)) (record {
       stations_are = up.stations_are;
       keeps_a = both.keeps_a;
       keeps_b = both.keeps_b;

@@ -3,7 +3,6 @@ pub mod KnownLinks
 pub mod Logs
 pub mod Stations
 pub mod Outcomes
-pub mod Actions
 pub mod Wishes
 pub mod Air
 pub mod Turns

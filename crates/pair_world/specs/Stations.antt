@@ -1,5 +1,5 @@
 -- What the code of a station and of a log keep of a history (our choice).
-use Rattle.std.specs.Prelude.{◌≡◌, ℕ, ◌+◌, ◌<◌, List, [], length}
+use Rattle.std.specs.Prelude.{◌≡◌, ℕ, ◌<◌, List, [], length}
 use Rattle.ble_base.specs.declared.roles.Side.{Side}
 use Rattle.ble_base.specs.declared.roles.Side.TheVariants.{A, B}
 use Rattle.ble_base.specs.declared.notes.Note.{Note}
@@ -27,8 +27,8 @@ pub record StationState : Type 0 where
 -- a station knows the numbers of its links, by the first three handles
 pub record KnowsLinks (station : ℕ) (links : Links) (known : KnownLinks) : Type 0 where
   pub last_is : known.last ≡ links.last_of station
-  pub size : length known.opened ≡ 3
-  pub opened_are : (handle : ℕ) → handle < 3 → number_in known handle ≡ links.link_of station handle
+  pub size : length known.by_handle ≡ 3
+  pub by_handle_are : (handle : ℕ) → handle < 3 → number_in known handle ≡ links.link_of station handle
 
 -- the code of a station is up to this history
 pub record Keeps (given : Given) (station : ℕ) (history : List Event) (state : StationState) : Type 0 where
@@ -42,13 +42,13 @@ pub record Writes (history : List Event) (log : LogState) : Type 0 where
   pub entries_are : log.entries ≡ journal_of history
   pub links_are : log.links ≡ (links_of history).begun
 
-pub record IsAt (given : Given) (station : ℕ) (history : List Event) (state : StationState)
+pub record StationIsUpTo (given : Given) (station : ℕ) (history : List Event) (state : StationState)
     (log : LogState) : Type 0 where
   pub keeps : Keeps given station history state
   pub writes : Writes history log
 
 -- a station took a step; what it noted is not written yet
-pub record Took (setup : Setup) (past : List Step) (step : Step) (before after : StationState)
+pub record HasStepped (setup : Setup) (past : List Step) (step : Step) (before after : StationState)
     (noted : List Note) : Type 0 where
   pub goes : Goes setup after.held past step noted
   pub same_links : after.links ≡ before.links

@@ -8,7 +8,7 @@ use Rattle.pair_world.specs.Logs.{LogState}
 use Rattle.pair_world.specs.Stations.{StationState, Keeps, Writes}
 
 -- both stations and the log are up to this history, in which this number of turns began
-pub record IsUpTo (given : Given) (turns : ℕ) (a b : StationState) (log : LogState)
+pub record PairIsUpTo (given : Given) (turns : ℕ) (a b : StationState) (log : LogState)
     (history : List Event) : Type 0 where
   pub stations_are : given.stations ≡ 0 ∷ 1 ∷ []
   pub keeps_a : Keeps given 0 history a
@@ -18,14 +18,14 @@ pub record IsUpTo (given : Given) (turns : ℕ) (a b : StationState) (log : LogS
 
 -- both are fed, and have still to begin the turn in this slot
 pub record HasFed (given : Given) (slot : ℕ) (a b : StationState) (log : LogState) (history : List Event) : Type 0 where
-  pub is : IsUpTo given (slot + 1) a b log history
+  pub is : PairIsUpTo given (slot + 1) a b log history
   pub fates_are : fates_used history ≡ 0
   pub packets_are : packets_on_air history ≡ 0
 
 -- the packets of a phase were on the air, and the stations have still to take what they heard
 pub record HasHeard (given : Given) (slot : ℕ) (a b : StationState) (log : LogState) (packets : ℕ) (at_a at_b : Option
     (List ℕ)) (history : List Event) : Type 0 where
-  pub is : IsUpTo given (slot + 1) a b log history
+  pub is : PairIsUpTo given (slot + 1) a b log history
   pub fates_are : fates_used history ≡ packets
   pub packets_are : packets_on_air history ≡ packets
   pub heard_a : packet_received 0 history ≡ at_a

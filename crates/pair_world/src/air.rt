@@ -1,5 +1,6 @@
 //! Packets on the air.
-ghost use Rattle.std.specs.Prelude.{◌≡◌, ℕ, ◌+◌, ◌^◌, ◌<◌, ◌≤◌, false, List, [], ◌∷◌, length, slice_get, IfOk, IfErr, OnOk, OnErr, Some};
+ghost use Rattle.std.specs.Prelude.{◌≡◌, ℕ, ◌+◌, ◌^◌, ◌<◌, ◌≤◌, false, List, [], ◌∷◌, length};
+ghost use Rattle.std.specs.Prelude.{slice_get, IfOk, IfErr, OnOk, OnErr, Some};
 ghost use Rattle.radio_replay.specs.Script.{Turn as Plan};
 ghost use Rattle.radio_replay.specs.Script.{fate_of};
 ghost use Rattle.radio_replay.specs.declared.fates.Fate.TheVariants.{Pass};
@@ -13,7 +14,8 @@ ghost use Rattle.runs.specs.History.{Event, is_good};
 ghost use Rattle.runs.specs.Journal.{mark_of};
 ghost use Rattle.runs.specs.Links.{begins_link};
 ghost use Rattle.runs.specs.Run.{Given, after_packet, is_lost};
-ghost use Rattle.pair_world.specs.Air.{InAir, HasFlown, HasLinked, IsReceived, IsSent, IsUnseenOr, verdict_by};
+ghost use Rattle.pair_world.specs.Air.{InAir, HasFlown, HasLinked, IsReceived, IsSent, IsUnseenOr};
+ghost use Rattle.pair_world.specs.Air.{verdict_by};
 ghost use Rattle.pair_world.specs.Logs.{with_entries};
 ghost use Rattle.pair_world.specs.Outcomes.{Reaches, IsStopped};
 ghost use Rattle.pair_world.specs.Stations.{number_of};
@@ -24,7 +26,7 @@ use crate::stations::Station;
 use crate::stops::Stop;
 use crate::wishes::Wish;
 use arrayvec::ArrayVec;
-use ble_base::{Side, Verdict};
+use ble_base::{AIR_PACKET_OCTETS, Side, Verdict};
 use journal::{Entry, Mark};
 use radio_replay::{Fate, Schedule};
 use std::alloc::AllocError;
@@ -72,43 +74,6 @@ fn judge(listener: &Station<'_>, listens: &Wish, channel: u8, octets: &[u8]) -> 
     }
 }
 
-/// The verdict of a station on a damaged packet that reaches it. The error is out of memory, or that
-/// the damage goes unseen.
-fn receive_damaged(
-    turn: &Turn<'_>,
-    fate: &Fate,
-    channel: u8,
-    octets: &[u8],
-    listens: &Wish,
-    listener: &Station<'_>,
-    log: &Log,
-) -> Result<Verdict, Stop>
-    requires few { turn.now.packets + 1 < 2 ^ 32 }
-    requires fits { length octets.now ≤ 264 }
-    requires reaches { is_lost fate.now ≡ false }
-    ensures ok { IfOk result (λ verdict. (setup : Setup) (past : List Step)
-        → Knows setup listener.now.held past
-        → listens.now ≡ use_of setup (facts_of setup past)
-        → IsReceived fate.now setup past channel octets.now verdict) }
-    ensures err { IfErr result (λ stop. (setup : Setup) (past : List Step)
-        → Knows setup listener.now.held past
-        → listens.now ≡ use_of setup (facts_of setup past)
-        → IsUnseenOr fate.now setup past channel octets.now (turn.now.packets + 1) stop) }
-{
-    let mut heard = ArrayVec::<u8, 264>::new();
-    let _ = heard.try_extend_from_slice(octets);
-    fate.damage_packet(heard.as_mut_slice());
-    let verdict = judge(listener, listens, channel, heard.as_slice());
-    if is_good(verdict) && heard.as_slice() != octets {
-        return Err(Stop::Unseen {
-            packet: turn.packets + 1,
-            sent: log.copy(octets)?,
-            heard: log.copy(heard.as_slice())?,
-        });
-    }
-    Ok(verdict)
-}
-
 /// The verdict of a station on a packet with this fate. The error is out of memory, or that damage
 /// goes unseen.
 fn receive(
@@ -131,13 +96,21 @@ fn receive(
         → listens.now ≡ use_of setup (facts_of setup past)
         → IsUnseenOr fate.now setup past channel octets.now (turn.now.packets + 1) stop) }
 {
-    match fate {
-        Fate::Pass => Ok(judge(listener, listens, channel, octets)),
-        Fate::Lost => Ok(Verdict::Missed),
-        Fate::Damage { .. } => {
-            receive_damaged(turn, fate, channel, octets, listens, listener, log)
-        }
+    if let Fate::Lost = fate {
+        return Ok(Verdict::Missed);
     }
+    let mut heard = ArrayVec::<u8, AIR_PACKET_OCTETS>::new();
+    let _ = heard.try_extend_from_slice(octets);
+    fate.damage_packet(heard.as_mut_slice());
+    let verdict = judge(listener, listens, channel, heard.as_slice());
+    if is_good(verdict) && heard.as_slice() != octets {
+        return Err(Stop::Unseen {
+            packet: turn.packets + 1,
+            sent: log.copy(octets)?,
+            heard: log.copy(heard.as_slice())?,
+        });
+    }
+    Ok(verdict)
 }
 
 /// Numbers the link that a packet begins, if it begins one.

@@ -3,17 +3,10 @@ ghost use Rattle.std.specs.Prelude.{◌≡◌, ◌<◌};
 ghost use Rattle.runs.specs.Links.{begins_link, is_connect_ind};
 
 use adv_pdu::AdvPdu;
-use air_frame::{Heard, unframe};
-
-/// The access address of all packets on the advertising channels (Core 5.2, volume 6 part B, section
-/// 2.1.2).
-const ACCESS: u32 = 0x8E89_BED6;
-
-/// Where their CRC begins (section 3.1.1).
-const CRC_INIT: u32 = 0x55_5555;
+use air_frame::{ADVERTISING_ACCESS, ADVERTISING_CRC_INIT, Heard, unframe};
 
 /// How many octets a CONNECT_IND has on the air: the access address, the PDU of 36 octets and the
-/// CRC (section 2.3.3.1).
+/// CRC (Core 5.2, volume 6 part B, section 2.3.3.1).
 const CONNECT_IND_OCTETS: usize = 43;
 
 /// Whether the PDU is a CONNECT_IND.
@@ -39,14 +32,14 @@ fn has_connect_ind(channel: u8, octets: &[u8]) -> bool
     requires { channel < 40 }
     ensures { result ≡ begins_link channel octets.now }
 {
-    match unframe(channel, ACCESS, CRC_INIT, octets) {
+    match unframe(channel, ADVERTISING_ACCESS, ADVERTISING_CRC_INIT, octets) {
         Heard::Whole(pdu) => is_connect_ind(&AdvPdu::read(pdu.as_slice())),
         Heard::NotOurs | Heard::Broken => false,
     }
 }
 
-/// Whether a packet on a channel of the air, 0 to 39, begins a link. Only packets with the length of
-/// a CONNECT_IND are looked into.
+/// Whether a packet on a channel of the air, 0 to 39, begins a link. Only packets with the length
+/// of a CONNECT_IND are looked into.
 pub(crate) fn begins_link(channel: u8, octets: &[u8]) -> bool
     ensures { channel < 40 → result ≡ begins_link channel octets.now }
 {

@@ -14,7 +14,7 @@ pub(crate) struct LinkNumbers {
     /// The link that it began last, or whose CONNECT_IND it received last.
     last: u64,
     /// The link that it opened last under each connection handle.
-    opened: [u64; LINKS],
+    by_handle: [u64; LINKS],
 }
 
 impl Model for LinkNumbers {
@@ -22,7 +22,7 @@ impl Model for LinkNumbers {
 
     ghost Value = { KnownLinks };
 
-    ghost view = { λ numbers. record { last = numbers.last; opened = numbers.opened } };
+    ghost view = { λ numbers. record { last = numbers.last; by_handle = numbers.by_handle } };
 }
 
 impl LinkNumbers {
@@ -32,7 +32,7 @@ impl LinkNumbers {
     {
         LinkNumbers {
             last: 0,
-            opened: [0; LINKS],
+            by_handle: [0; LINKS],
         }
     }
 
@@ -44,10 +44,13 @@ impl LinkNumbers {
     }
 
     /// The link that the station opened last under a handle; 0 if there is none.
-    pub(crate) fn opened(&self, handle: u16) -> u64
+    pub(crate) fn by_handle(&self, handle: u16) -> u64
         ensures { result ≡ number_in self.now handle }
     {
-        self.opened.get(usize::from(handle)).copied().unwrap_or(0)
+        self.by_handle
+            .get(usize::from(handle))
+            .copied()
+            .unwrap_or(0)
     }
 
     /// The station began this link, or received its CONNECT_IND.
@@ -63,7 +66,7 @@ impl LinkNumbers {
     {
         let place = usize::from(handle);
         if place < LINKS {
-            self.opened[place] = self.last;
+            self.by_handle[place] = self.last;
         }
     }
 

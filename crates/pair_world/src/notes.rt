@@ -26,7 +26,7 @@ fn entry(side: Side, note: &Note, links: &LinkNumbers, log: &Log) -> Result<Entr
         },
         Note::Shut { handle, reason } => Entry::Shut {
             side,
-            link: links.opened(*handle),
+            link: links.by_handle(*handle),
             reason: *reason,
         },
         Note::Sent {
@@ -36,7 +36,7 @@ fn entry(side: Side, note: &Note, links: &LinkNumbers, log: &Log) -> Result<Entr
             body,
         } => Entry::Sent {
             side,
-            link: links.opened(*handle),
+            link: links.by_handle(*handle),
             number: *number,
             llid: *llid,
             body: log.copy(body.as_slice())?,
@@ -48,7 +48,7 @@ fn entry(side: Side, note: &Note, links: &LinkNumbers, log: &Log) -> Result<Entr
             body,
         } => Entry::Took {
             side,
-            link: links.opened(*handle),
+            link: links.by_handle(*handle),
             number: *number,
             llid: *llid,
             body: log.copy(body.as_slice())?,
@@ -59,7 +59,7 @@ fn entry(side: Side, note: &Note, links: &LinkNumbers, log: &Log) -> Result<Entr
             channel,
         } => Entry::Enter {
             side,
-            link: links.opened(*handle),
+            link: links.by_handle(*handle),
             event: event.0,
             channel: *channel,
         },
@@ -69,24 +69,24 @@ fn entry(side: Side, note: &Note, links: &LinkNumbers, log: &Log) -> Result<Entr
             event,
         } => Entry::Applied {
             side,
-            link: links.opened(*handle),
+            link: links.by_handle(*handle),
             number: *number,
             event: event.0,
         },
         Note::Began { handle, kind } => Entry::Began {
             side,
-            link: links.opened(*handle),
+            link: links.by_handle(*handle),
             kind: *kind,
         },
         Note::Refused { handle, kind, code } => Entry::Refused {
             side,
-            link: links.opened(*handle),
+            link: links.by_handle(*handle),
             kind: *kind,
             code: *code,
         },
         Note::Done { handle, kind } => Entry::Done {
             side,
-            link: links.opened(*handle),
+            link: links.by_handle(*handle),
             kind: *kind,
         },
     })

@@ -1,12 +1,13 @@
 //! The phases of a turn.
-ghost use Rattle.std.specs.Prelude.{◌≡◌, ℕ, ◌+◌, ◌^◌, ◌<◌, ◌≤◌, List, [], length, slice_get, Some, OnOk, IfOk, IfErr};
+ghost use Rattle.std.specs.Prelude.{◌≡◌, ℕ, ◌+◌, ◌^◌, ◌<◌, ◌≤◌, List, [], length, slice_get, Some};
+ghost use Rattle.std.specs.Prelude.{OnOk, IfOk, IfErr};
 ghost use Rattle.radio_replay.specs.Script.{Turn as Plan};
 ghost use Rattle.runs.specs.History.{Event};
 ghost use Rattle.runs.specs.Run.{Given, after_packets, after_phase, after_phases};
 ghost use Rattle.pair_world.specs.Air.{InPhase};
 ghost use Rattle.pair_world.specs.Wishes.{heard_of};
 ghost use Rattle.pair_world.specs.Outcomes.{Reaches, IsStopped};
-ghost use Rattle.pair_world.specs.Turns.{HasHeard, IsUpTo};
+ghost use Rattle.pair_world.specs.Turns.{HasHeard, PairIsUpTo};
 
 use crate::air::{Turn, fly};
 use crate::logs::Log;
@@ -24,15 +25,15 @@ pub(crate) struct Pair<'s> {
 
 /// What both stations want in the phase that comes next.
 #[derive(Drop)]
-pub(crate) struct Wanted {
+pub(crate) struct Wishes {
     pub a: Wish,
     pub b: Wish,
 }
 
-impl Wanted {
+impl Wishes {
     /// Both want nothing.
     pub(crate) fn new() -> Self {
-        Wanted {
+        Wishes {
             a: Wish::new(),
             b: Wish::new(),
         }
@@ -41,7 +42,7 @@ impl Wanted {
 
 /// Whether each station received the packet of the other.
 #[derive(Clone, Copy)]
-struct Received {
+struct Reception {
     a: bool,
     b: bool,
 }
@@ -49,10 +50,10 @@ struct Received {
 /// What both want to transmit goes on the air.
 fn transmit(
     turn: &mut Turn<'_>,
-    wanted: &Wanted,
+    wanted: &Wishes,
     pair: &mut Pair<'_>,
     log: &mut Log,
-) -> Result<Received, Stop>
+) -> Result<Reception, Stop>
     requires few { turn.old.packets + 2 < 2 ^ 32 }
     requires turn { turn.old.number < length turn.old.schedule.now.turns }
     requires links { log.old.links + 2 < 2 ^ 64 }
@@ -92,15 +93,15 @@ fn transmit(
         &mut pair.a,
         log,
     )?;
-    Ok(Received { a, b })
+    Ok(Reception { a, b })
 }
 
 /// A phase: what both want to transmit goes on the air, then both take what they heard, and want
 /// something in the next one.
 fn run_phase(
     turn: &mut Turn<'_>,
-    wanted: &Wanted,
-    next: &mut Wanted,
+    wanted: &Wishes,
+    next: &mut Wishes,
     pair: &mut Pair<'_>,
     out: &mut Outbox,
     log: &mut Log,
@@ -139,7 +140,7 @@ fn run_phase(
 /// The three phases of a turn, of which both want something in the first.
 pub(crate) fn run_phases(
     turn: &mut Turn<'_>,
-    wanted: &mut Wanted,
+    wanted: &mut Wishes,
     pair: &mut Pair<'_>,
     out: &mut Outbox,
     log: &mut Log,
@@ -153,7 +154,7 @@ pub(crate) fn run_phases(
         → InPhase given turn.old.number pair.old.a pair.old.b log.old wanted.old.a wanted.old.b 0
         history
         → Reaches (after_phases given plan.fates history)
-        (IsUpTo given (turn.old.number + 1) pair.new.a pair.new.b log.new)) }
+        (PairIsUpTo given (turn.old.number + 1) pair.new.a pair.new.b log.new)) }
     ensures err { IfErr result (λ stop. (given : Given) (plan : Plan) (history : List Event)
         → slice_get turn.old.schedule.now.turns turn.old.number ≡ Some plan
         → InPhase given turn.old.number pair.old.a pair.old.b log.old wanted.old.a wanted.old.b 0
@@ -162,7 +163,7 @@ pub(crate) fn run_phases(
     ensures links { OnOk result (log.new.links ≤ log.old.links + 6) }
     ensures empty { OnOk result (out.new.items ≡ []) }
 {
-    let mut next = Wanted::new();
+    let mut next = Wishes::new();
     run_phase(turn, wanted, &mut next, pair, out, log)?;
     run_phase(turn, &next, wanted, pair, out, log)?;
     run_phase(turn, wanted, &mut next, pair, out, log)

@@ -6,15 +6,14 @@ ghost use Rattle.runs.specs.Run.{Given};
 ghost use Rattle.pair_world.specs.Faults.{IsRunFault, fault_of};
 ghost use Rattle.pair_world.specs.Logs.{first_log};
 ghost use Rattle.pair_world.specs.Stations.{IsFirst};
-ghost use Rattle.pair_world.specs.Turns.{HasPlans, IsUpTo};
+ghost use Rattle.pair_world.specs.Turns.{HasPlans, PairIsUpTo};
 
 use crate::logs::Log;
-use crate::phases::{Pair, Wanted};
+use crate::phases::{Pair, Wishes};
 use crate::stations::Station;
 use crate::stops::Stop;
 use crate::turns::run_turn;
-use arrayvec::ArrayVec;
-use ble_base::{Config, Outbox};
+use ble_base::Outbox;
 use journal::{Journal, Octets};
 use radio_replay::Schedule;
 use std::alloc::{AllocError, Global};
@@ -73,21 +72,6 @@ impl RunFault {
     }
 }
 
-/// A copy of settings.
-fn copy_of(config: &Config) -> Config
-    ensures public { result.public ≡ config.now.public }
-    ensures cursor { result.cursor ≡ config.now.cursor }
-    ensures words { result.words.items ≡ config.now.words.items }
-{
-    let mut words = ArrayVec::new();
-    let _ = words.try_extend_from_slice(config.words.as_slice());
-    Config {
-        public: config.public,
-        cursor: config.cursor,
-        words,
-    }
-}
-
 /// Both stations before the first turn. The error is out of memory.
 fn start_both<'s>(
     alloc: Global,
@@ -97,23 +81,23 @@ fn start_both<'s>(
 ) -> Result<Pair<'s>, AllocError>
     requires words_a { 1 ≤ length schedule.now.a.words.items }
     requires words_b { 1 ≤ length schedule.now.b.words.items }
-    ensures { IfOk result (λ pair. IsUpTo
+    ensures { IfOk result (λ pair. PairIsUpTo
         (given_of a.now b.now schedule.now) 0 pair.a pair.b first_log []) }
 {
     Ok(Pair {
-        a: Station::start(alloc, copy_of(&schedule.a), a)?,
-        b: Station::start(alloc, copy_of(&schedule.b), b)?,
+        a: Station::start(alloc, schedule.a.copy(), a)?,
+        b: Station::start(alloc, schedule.b.copy(), b)?,
     })
 }
 
 /// Runs all turns.
 fn run_turns(alloc: Global, schedule: &Schedule, mut pair: Pair<'_>) -> Result<Journal, RunFault>
     ensures ok { IfOk result (λ journal. (given : Given) → HasPlans given schedule.now.turns
-        → IsUpTo given 0 pair.entry.a pair.entry.b first_log [] → IsRun given journal) }
+        → PairIsUpTo given 0 pair.entry.a pair.entry.b first_log [] → IsRun given journal) }
     ensures err { IfErr result (λ fault. (given : Given) → HasPlans given schedule.now.turns
-        → IsUpTo given 0 pair.entry.a pair.entry.b first_log [] → IsRunFault given fault) }
+        → PairIsUpTo given 0 pair.entry.a pair.entry.b first_log [] → IsRunFault given fault) }
 {
-    let mut wanted = Wanted::new();
+    let mut wanted = Wishes::new();
     let mut out = Outbox::new();
     let mut log = Log::new(alloc);
     for turn in 0..schedule.turns() {
@@ -124,10 +108,11 @@ fn run_turns(alloc: Global, schedule: &Schedule, mut pair: Pair<'_>) -> Result<J
     Ok(log.into_journal())
 }
 
-/// Runs two controllers over the streams of their hosts and a schedule, and gives the journal of the
-/// run (our choice). Each can hold three links, and eight packets of data each way. `a` and `b` are
-/// the H4 octets of the two hosts, in the order in which they are fed; those that the schedule leaves
-/// unfed are not part of the run. `schedule` has at least one random word for each controller.
+/// Runs two controllers over the streams of their hosts and a schedule, and gives the journal of
+/// the run (our choice). Each can hold three links, and eight packets of data each way. `a` and `b`
+/// are the H4 octets of the two hosts, in the order in which they are fed; those that the schedule
+/// leaves unfed are not part of the run. `schedule` has at least one random word for each
+/// controller.
 ///
 /// Errors: `Unseen` exactly where a fate changes a packet and its receiver would judge the changed
 /// one good; `Memory` where there is no memory.

@@ -1,7 +1,9 @@
 //! One station of a run: its controller, the links that it knows, and the stream of its host.
-ghost use Rattle.std.specs.Prelude.{◌≡◌, ℕ, ◌+◌, ◌<◌, ◌≤◌, ◌^◌, List, [], ◌∷◌, ◌++◌, length, take, drop, IfOk, OnOk};
+ghost use Rattle.std.specs.Prelude.{◌≡◌, ℕ, ◌+◌, ◌<◌, ◌≤◌, ◌^◌, List, [], ◌∷◌, ◌++◌, length, take};
+ghost use Rattle.std.specs.Prelude.{drop, IfOk, OnOk};
 ghost use Rattle.std.specs.Option.{option_copied};
-ghost use Rattle.one_side.specs.Step.{Step, HostOctet, TurnBegins, PacketHeard, NothingHeard, TurnEnds};
+ghost use Rattle.one_side.specs.Step.{Step, HostOctet, TurnBegins, PacketHeard, NothingHeard};
+ghost use Rattle.one_side.specs.Step.{TurnEnds};
 ghost use Rattle.one_side.specs.Facts.{Setup, setup_of};
 ghost use Rattle.one_side.specs.Heard.{verdict_of};
 ghost use Rattle.one_side.specs.Radio.{use_of};
@@ -10,7 +12,8 @@ ghost use Rattle.controller.specs.Knowing.{Knows};
 ghost use Rattle.runs.specs.History.{Event};
 ghost use Rattle.runs.specs.Run.{Given, after_call, after_octets, after_feed, step_of};
 ghost use Rattle.pair_world.specs.Logs.{entries_noted, known_after, with_entries};
-ghost use Rattle.pair_world.specs.Stations.{number_of, Keeps, Writes, IsAt, Took, IsFirst};
+ghost use Rattle.pair_world.specs.Stations.{number_of, Keeps, Writes, StationIsUpTo, HasStepped};
+ghost use Rattle.pair_world.specs.Stations.{IsFirst};
 
 use crate::links::{LINKS, LinkNumbers};
 use crate::logs::Log;
@@ -22,8 +25,8 @@ use journal::Entry;
 use std::alloc::{AllocError, Global};
 use std::marker::Model;
 
-/// How many packets of its host, and how many pieces of data from the air, a controller of a run can
-/// hold.
+/// How many packets of its host, and how many pieces of data from the air, a controller of a run
+/// can hold.
 const BUFFERS: usize = 8;
 
 /// A station of a run.
@@ -44,8 +47,8 @@ impl<'s> Model for Station<'s> {
 }
 
 impl<'s> Station<'s> {
-    /// A station whose controller starts with these settings, with the whole stream of its host. The
-    /// error is out of memory.
+    /// A station whose controller starts with these settings, with the whole stream of its host.
+    /// The error is out of memory.
     pub(crate) fn start(alloc: Global, config: Config, stream: &'s [u8]) -> Result<Self, AllocError>
         requires { 1 ≤ length config.words.items }
         ensures { IfOk result (IsFirst (setup_of config 3 8 8) stream.now) }
@@ -96,7 +99,7 @@ impl<'s> Station<'s> {
     fn host_octet(&mut self, octet: u8, out: &mut Outbox)
         requires empty { out.old.items ≡ [] }
         ensures { (setup : Setup) (past : List Step) → Knows setup self.old.held past
-            → Took setup past (HostOctet octet) self.old self.new out.new.items }
+            → HasStepped setup past (HostOctet octet) self.old self.new out.new.items }
     {
         self.controller.host_octet(octet, out);
     }
@@ -111,10 +114,9 @@ impl<'s> Station<'s> {
     ) -> Result<(), AllocError>
         requires empty { out.old.items ≡ [] }
         ensures at { OnOk result ((given : Given) (history : List Event)
-            → IsAt given (number_of side) history self.old log.old
-            → IsAt given (number_of side) (after_call given (number_of side)
-            (HostOctet octet) history)
-            self.new log.new) }
+            → StationIsUpTo given (number_of side) history self.old log.old
+            → StationIsUpTo given (number_of side)
+            (after_call given (number_of side) (HostOctet octet) history) self.new log.new) }
         ensures links { OnOk result (log.new.links ≡ log.old.links) }
         ensures empty { OnOk result (out.new.items ≡ []) }
     {
@@ -133,9 +135,9 @@ impl<'s> Station<'s> {
     ) -> Result<(), AllocError>
         requires empty { out.old.items ≡ [] }
         ensures at { OnOk result ((given : Given) (history : List Event)
-            → IsAt given (number_of side) history self.old log.old
-            → IsAt given (number_of side) (after_octets given (number_of side) octets.now history)
-            self.new log.new) }
+            → StationIsUpTo given (number_of side) history self.old log.old
+            → StationIsUpTo given (number_of side)
+            (after_octets given (number_of side) octets.now history) self.new log.new) }
         ensures links { OnOk result (log.new.links ≡ log.old.links) }
         ensures empty { OnOk result (out.new.items ≡ []) }
     {
@@ -166,9 +168,9 @@ impl<'s> Station<'s> {
     ) -> Result<(), AllocError>
         requires empty { out.old.items ≡ [] }
         ensures at { OnOk result ((given : Given) (history : List Event)
-            → IsAt given (number_of side) history self.old log.old
-            → IsAt given (number_of side) (after_feed given (number_of side)
-            (take count self.old.unfed) history)
+            → StationIsUpTo given (number_of side) history self.old log.old
+            → StationIsUpTo given (number_of side)
+            (after_feed given (number_of side) (take count self.old.unfed) history)
             self.new log.new) }
         ensures links { OnOk result (log.new.links ≡ log.old.links) }
         ensures empty { OnOk result (out.new.items ≡ []) }
@@ -195,7 +197,7 @@ impl<'s> Station<'s> {
         requires slot { slot.0 < 2 ^ 32 }
         requires empty { out.old.items ≡ [] }
         ensures took { (setup : Setup) (past : List Step) → Knows setup self.old.held past
-            → Took setup past (TurnBegins slot.0 radio_on) self.old self.new out.new.items }
+            → HasStepped setup past (TurnBegins slot.0 radio_on) self.old self.new out.new.items }
         ensures wants { (setup : Setup) (past : List Step) → Knows setup self.old.held past
             → wanted.new
             ≡ use_of setup (facts_of setup (past ++ TurnBegins slot.0 radio_on ∷ [])) }
@@ -207,18 +209,19 @@ impl<'s> Station<'s> {
     fn hear_nothing(&mut self, wanted: &mut Wish, out: &mut Outbox)
         requires empty { out.old.items ≡ [] }
         ensures took { (setup : Setup) (past : List Step) → Knows setup self.old.held past
-            → Took setup past NothingHeard self.old self.new out.new.items }
+            → HasStepped setup past NothingHeard self.old self.new out.new.items }
         ensures wants { (setup : Setup) (past : List Step) → Knows setup self.old.held past
             → wanted.new ≡ use_of setup (facts_of setup (past ++ NothingHeard ∷ [])) }
     {
         wanted.set(self.controller.unheard(out));
     }
 
-    /// The controller takes a packet that was heard in a phase, and wants something in the next one.
+    /// The controller takes a packet that was heard in a phase, and wants something in the next
+    /// one.
     fn hear_packet(&mut self, octets: &[u8], wanted: &mut Wish, out: &mut Outbox)
         requires empty { out.old.items ≡ [] }
         ensures took { (setup : Setup) (past : List Step) → Knows setup self.old.held past
-            → Took setup past (PacketHeard octets.now) self.old self.new out.new.items }
+            → HasStepped setup past (PacketHeard octets.now) self.old self.new out.new.items }
         ensures wants { (setup : Setup) (past : List Step) → Knows setup self.old.held past
             → wanted.new
             ≡ use_of setup (facts_of setup (past ++ PacketHeard octets.now ∷ [])) }
@@ -231,7 +234,8 @@ impl<'s> Station<'s> {
     pub(crate) fn listen(&mut self, heard: Option<&[u8]>, wanted: &mut Wish, out: &mut Outbox)
         requires empty { out.old.items ≡ [] }
         ensures took { (setup : Setup) (past : List Step) → Knows setup self.old.held past
-            → Took setup past (step_of (option_copied heard.entry)) self.old self.new out.new.items }
+            → HasStepped setup past (step_of (option_copied heard.entry)) self.old self.new
+            out.new.items }
         ensures wants { (setup : Setup) (past : List Step) → Knows setup self.old.held past
             → wanted.new
             ≡ use_of setup (facts_of setup (past ++ step_of (option_copied heard.entry) ∷ [])) }
@@ -246,7 +250,7 @@ impl<'s> Station<'s> {
     pub(crate) fn end(&mut self, out: &mut Outbox)
         requires empty { out.old.items ≡ [] }
         ensures { (setup : Setup) (past : List Step) → Knows setup self.old.held past
-            → Took setup past TurnEnds self.old self.new out.new.items }
+            → HasStepped setup past TurnEnds self.old self.new out.new.items }
     {
         self.controller.end_turn(out);
     }

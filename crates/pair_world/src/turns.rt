@@ -1,16 +1,17 @@
 //! One turn of a run.
-ghost use Rattle.std.specs.Prelude.{◌≡◌, ℕ, ◌+◌, ◌^◌, ◌<◌, ◌≤◌, List, [], length, slice_get, Some, OnOk, IfErr};
+ghost use Rattle.std.specs.Prelude.{◌≡◌, ℕ, ◌+◌, ◌^◌, ◌<◌, ◌≤◌, List, [], length, slice_get, Some};
+ghost use Rattle.std.specs.Prelude.{OnOk, IfErr};
 ghost use Rattle.radio_replay.specs.Script.{Turn as Plan};
 ghost use Rattle.runs.specs.History.{Event};
 ghost use Rattle.runs.specs.Pair.{plan_of};
 ghost use Rattle.runs.specs.Run.{Given, after_begins, after_ends, after_opening, after_turn};
 ghost use Rattle.pair_world.specs.Air.{InPhase};
 ghost use Rattle.pair_world.specs.Outcomes.{Reaches, IsStopped};
-ghost use Rattle.pair_world.specs.Turns.{HasFed, IsUpTo, after_feeding};
+ghost use Rattle.pair_world.specs.Turns.{HasFed, PairIsUpTo, after_feeding};
 
 use crate::air::Turn;
 use crate::logs::Log;
-use crate::phases::{Pair, Wanted, run_phases};
+use crate::phases::{Pair, Wishes, run_phases};
 use crate::stops::Stop;
 use ble_base::{Outbox, Side, SlotNo};
 use journal::Entry;
@@ -29,7 +30,7 @@ fn feed_both(
     requires empty { out.old.items ≡ [] }
     ensures ok { OnOk result ((given : Given) (plan : Plan) (history : List Event)
         → slice_get schedule.now.turns number ≡ Some plan
-        → IsUpTo given number pair.old.a pair.old.b log.old history
+        → PairIsUpTo given number pair.old.a pair.old.b log.old history
         → HasFed given number pair.new.a pair.new.b log.new (after_feeding given number
         (plan_of plan) history)) }
     ensures links { OnOk result (log.new.links ≡ log.old.links) }
@@ -48,7 +49,7 @@ fn feed_both(
 fn begin_both(
     schedule: &Schedule,
     number: u32,
-    wanted: &mut Wanted,
+    wanted: &mut Wishes,
     pair: &mut Pair<'_>,
     out: &mut Outbox,
     log: &mut Log,
@@ -77,7 +78,7 @@ fn begin_both(
 fn open_turn(
     schedule: &Schedule,
     number: u32,
-    wanted: &mut Wanted,
+    wanted: &mut Wishes,
     pair: &mut Pair<'_>,
     out: &mut Outbox,
     log: &mut Log,
@@ -86,7 +87,7 @@ fn open_turn(
     requires empty { out.old.items ≡ [] }
     ensures ok { OnOk result ((given : Given) (plan : Plan) (history : List Event)
         → slice_get schedule.now.turns number ≡ Some plan
-        → IsUpTo given number pair.old.a pair.old.b log.old history
+        → PairIsUpTo given number pair.old.a pair.old.b log.old history
         → InPhase given number pair.new.a pair.new.b log.new wanted.new.a wanted.new.b 0
         (after_opening given number (plan_of plan) history)) }
     ensures links { OnOk result (log.new.links ≡ log.old.links) }
@@ -100,8 +101,8 @@ fn open_turn(
 fn end_both(pair: &mut Pair<'_>, out: &mut Outbox, log: &mut Log) -> Result<(), AllocError>
     requires empty { out.old.items ≡ [] }
     ensures ok { OnOk result ((given : Given) (turns : ℕ) (history : List Event)
-        → IsUpTo given turns pair.old.a pair.old.b log.old history
-        → IsUpTo given turns pair.new.a pair.new.b log.new
+        → PairIsUpTo given turns pair.old.a pair.old.b log.old history
+        → PairIsUpTo given turns pair.new.a pair.new.b log.new
         (after_ends given given.stations history)) }
     ensures links { OnOk result (log.new.links ≡ log.old.links) }
     ensures empty { OnOk result (out.new.items ≡ []) }
@@ -117,7 +118,7 @@ fn end_both(pair: &mut Pair<'_>, out: &mut Outbox, log: &mut Log) -> Result<(), 
 pub(crate) fn run_turn(
     schedule: &Schedule,
     number: u32,
-    wanted: &mut Wanted,
+    wanted: &mut Wishes,
     pair: &mut Pair<'_>,
     out: &mut Outbox,
     log: &mut Log,
@@ -127,12 +128,12 @@ pub(crate) fn run_turn(
     requires empty { out.old.items ≡ [] }
     ensures ok { OnOk result ((given : Given) (plan : Plan) (history : List Event)
         → slice_get schedule.now.turns number ≡ Some plan
-        → IsUpTo given number pair.old.a pair.old.b log.old history
+        → PairIsUpTo given number pair.old.a pair.old.b log.old history
         → Reaches (after_turn given number (plan_of plan) history)
-        (IsUpTo given (number + 1) pair.new.a pair.new.b log.new)) }
+        (PairIsUpTo given (number + 1) pair.new.a pair.new.b log.new)) }
     ensures err { IfErr result (λ stop. (given : Given) (plan : Plan) (history : List Event)
         → slice_get schedule.now.turns number ≡ Some plan
-        → IsUpTo given number pair.old.a pair.old.b log.old history
+        → PairIsUpTo given number pair.old.a pair.old.b log.old history
         → IsStopped (after_turn given number (plan_of plan) history) number log.new.entries stop) }
     ensures links { OnOk result (log.new.links ≤ log.old.links + 6) }
     ensures empty { OnOk result (out.new.items ≡ []) }

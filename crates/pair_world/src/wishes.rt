@@ -7,19 +7,11 @@ ghost use Rattle.pair_world.specs.Wishes.{heard_of, packet_wanted};
 
 use arrayvec::ArrayVec;
 use ble_base::AIR_PACKET_OCTETS;
-use controller::Intent;
+use controller::{Action, Intent};
 use std::marker::Model;
 
-/// What a station wants to do, without the octets of a packet.
-#[derive(Clone, Copy)]
-enum Action {
-    Transmit { channel: u8 },
-    Listen { channel: u8 },
-    Rest,
-}
-
-/// What a station wants of its radio in a phase. The octets have their own place, so that nothing is
-/// copied for a station that has none to transmit.
+/// What a station wants of its radio in a phase. The octets have their own place, so that nothing
+/// is copied for a station that has none to transmit.
 #[derive(Drop)]
 pub(crate) struct Wish {
     action: Action,
@@ -29,11 +21,11 @@ pub(crate) struct Wish {
 
 impl Model for Wish {
     ghost use Rattle.one_side.specs.Radio.{Use};
-    ghost use Rattle.pair_world.specs.Actions.{use_of_action};
+    ghost use Rattle.controller.specs.Actions.{use_with};
 
     ghost Value = { Use };
 
-    ghost view = { λ wish. use_of_action wish.action wish.octets.items };
+    ghost view = { λ wish. use_with wish.action (λ _. wish.octets.items) };
 }
 
 impl Wish {

@@ -35,10 +35,7 @@ one_if false x = []
 -- the calls on the controller of a station: its past
 abbrev pub steps_in : ℕ → Event → List Step
 steps_in station (Called other step) = one_if (station == other) step
-steps_in station (TurnBegan slot radios) = []
-steps_in station (HostFed other octets) = []
-steps_in station (Noted other note) = []
-steps_in station (Transmitted sender channel octets hearings) = []
+steps_in station event = []
 
 abbrev pub past_of : ℕ → List Event → List Step
 past_of station history = flat_map (steps_in station) history
@@ -46,10 +43,7 @@ past_of station history = flat_map (steps_in station) history
 -- what the controller of a station noted
 abbrev pub notes_in : ℕ → Event → List Note
 notes_in station (Noted other note) = one_if (station == other) note
-notes_in station (TurnBegan slot radios) = []
-notes_in station (HostFed other octets) = []
-notes_in station (Called other step) = []
-notes_in station (Transmitted sender channel octets hearings) = []
+notes_in station event = []
 
 abbrev pub noted_by : ℕ → List Event → List Note
 noted_by station history = flat_map (notes_in station) history
@@ -57,10 +51,7 @@ noted_by station history = flat_map (notes_in station) history
 -- the octets that a station was fed
 abbrev pub octets_in : ℕ → Event → List ℕ
 octets_in station (HostFed other octets) = if station == other then octets else []
-octets_in station (TurnBegan slot radios) = []
-octets_in station (Called other step) = []
-octets_in station (Noted other note) = []
-octets_in station (Transmitted sender channel octets hearings) = []
+octets_in station event = []
 
 abbrev pub fed_to : ℕ → List Event → List ℕ
 fed_to station history = flat_map (octets_in station) history
@@ -68,10 +59,7 @@ fed_to station history = flat_map (octets_in station) history
 -- how many turns began
 abbrev pub turns_in : Event → ℕ
 turns_in (TurnBegan slot radios) = 1
-turns_in (HostFed station octets) = 0
-turns_in (Called station step) = 0
-turns_in (Noted station note) = 0
-turns_in (Transmitted station channel octets hearings) = 0
+turns_in event = 0
 
 unfoldable pub turns_begun : List Event → ℕ
 turns_begun history = fold (λ count event. count + turns_in event) 0 history
@@ -80,9 +68,7 @@ turns_begun history = fold (λ count event. count + turns_in event) 0 history
 abbrev pub packets_after : ℕ → Event → ℕ
 packets_after count (TurnBegan slot radios) = 0
 packets_after count (Transmitted station channel octets hearings) = count + 1
-packets_after count (HostFed station octets) = count
-packets_after count (Called station step) = count
-packets_after count (Noted station note) = count
+packets_after count event = count
 
 unfoldable pub packets_on_air : List Event → ℕ
 packets_on_air history = fold packets_after 0 history
@@ -91,9 +77,7 @@ packets_on_air history = fold packets_after 0 history
 abbrev pub fates_after : ℕ → Event → ℕ
 fates_after count (TurnBegan slot radios) = 0
 fates_after count (Transmitted station channel octets hearings) = count + length hearings
-fates_after count (HostFed station octets) = count
-fates_after count (Called station step) = count
-fates_after count (Noted station note) = count
+fates_after count event = count
 
 unfoldable pub fates_used : List Event → ℕ
 fates_used history = fold fates_after 0 history
@@ -113,9 +97,7 @@ abbrev pub received_after : ℕ → Option (List ℕ) → Event → Option (List
 received_after station before (Called other step) = if station == other then None else before
 received_after station before (Transmitted sender channel octets hearings) =
     if has_received station hearings then Some octets else before
-received_after station before (TurnBegan slot radios) = before
-received_after station before (HostFed other octets) = before
-received_after station before (Noted other note) = before
+received_after station before event = before
 
 unfoldable pub packet_received : ℕ → List Event → Option (List ℕ)
 packet_received station history = fold (received_after station) None history

@@ -15,26 +15,6 @@ use Rattle.one_side.specs.Radio.{activity_of, advertisement_on, use_of}
 use Rattle.one_side.specs.Side.{facts_of, notes_of, result_of}
 use Rattle.one_side.proofs.rows.worked_advertisement.Goals as goal
 
-pub returns-clause-sends : goal.returns-clause-sends
+pub returns : goal.returns
 unfolding facts_of notes_of result_of frames little_endian command_of layout_of layouts view_after status_of activity_of use_of advertisement_on verdict_of advertisement_heard heard_in read_of kept_bits crc crc_octets crc_of_bits remainder mask_of next_mask whitening_bit whitening_of
-returns-clause-sends c = refl
-
-pub returns-clause-listens : goal.returns-clause-listens
-unfolding facts_of notes_of result_of frames little_endian command_of layout_of layouts view_after status_of activity_of use_of advertisement_on verdict_of advertisement_heard heard_in read_of kept_bits crc crc_octets crc_of_bits remainder mask_of next_mask whitening_bit whitening_of
-returns-clause-listens c = refl
-
-pub returns-clause-good : goal.returns-clause-good
-unfolding facts_of notes_of result_of frames little_endian command_of layout_of layouts view_after status_of activity_of use_of advertisement_on verdict_of advertisement_heard heard_in read_of kept_bits crc crc_octets crc_of_bits remainder mask_of next_mask whitening_bit whitening_of
-returns-clause-good c = refl
-
-pub returns-clause-broken : goal.returns-clause-broken
-unfolding facts_of notes_of result_of frames little_endian command_of layout_of layouts view_after status_of activity_of use_of advertisement_on verdict_of advertisement_heard heard_in read_of kept_bits crc crc_octets crc_of_bits remainder mask_of next_mask whitening_bit whitening_of
-returns-clause-broken c = refl
-
-pub returns-clause-missed : goal.returns-clause-missed
-unfolding facts_of notes_of result_of frames little_endian command_of layout_of layouts view_after status_of activity_of use_of advertisement_on verdict_of advertisement_heard heard_in read_of kept_bits crc crc_octets crc_of_bits remainder mask_of next_mask whitening_bit whitening_of
-returns-clause-missed c = refl
-
-pub returns-clause-reports : goal.returns-clause-reports
-unfolding facts_of notes_of result_of frames little_endian command_of layout_of layouts view_after status_of activity_of use_of advertisement_on verdict_of advertisement_heard heard_in read_of kept_bits crc crc_octets crc_of_bits remainder mask_of next_mask whitening_bit whitening_of
-returns-clause-reports c = refl
+returns c = record { sends = refl; listens = refl; good = refl; broken = refl; missed = refl; reports = refl }

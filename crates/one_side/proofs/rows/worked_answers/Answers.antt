@@ -9,10 +9,6 @@ use Rattle.one_side.specs.Side.{notes_of, result_of}
 use Rattle.one_side.specs.Host.{commands_of}
 use Rattle.one_side.proofs.rows.worked_answers.Goals as goal
 
-pub returns-clause-commands : goal.returns-clause-commands
-unfolding commands_of result_of frames command_of layout_of layouts view_after status_of
-returns-clause-commands c = refl
-
-pub returns-clause-answers : goal.returns-clause-answers
-unfolding notes_of result_of frames little_endian command_of layout_of layouts view_after status_of
-returns-clause-answers c = refl
+pub returns : goal.returns
+unfolding commands_of result_of frames command_of layout_of layouts view_after status_of notes_of little_endian
+returns c = record { commands = refl; answers = refl }

@@ -1,5 +1,5 @@
 -- Proof of `air::fly`.
-use Rattle.std.proofs.Common.{◌≡◌, sym, ◌∙◌}
+use Rattle.std.proofs.Common.{sym, ◌∙◌}
 use Rattle.ble_base.specs.Side.{other_side}
 use Rattle.one_side.specs.Side.{facts_of}
 use Rattle.runs.specs.History.{past_of}

@@ -1,5 +1,5 @@
 -- Proof of `notes::write_notes`.
-use Rattle.std.proofs.Common.{◌≡◌, ◌∷◌, [], ◌<◌, List, get_or, length, subst, sym, ap, ◌∙◌}
+use Rattle.std.proofs.Common.{◌∷◌, [], ◌<◌, List, get_or, length, subst, ap, ◌∙◌}
 use Rattle.ble_base.specs.declared.notes.Note.{Note}
 use Rattle.pair_world.specs.Logs.{entry_noted, with_entries}
 use Rattle.pair_world.specs.KnownLinks.{with_note}

@@ -1,5 +1,5 @@
 -- Proof of `phases::run_phases`.
-use Rattle.std.proofs.Common.{◌≡◌, sym, ap, ◌∙◌}
+use Rattle.std.proofs.Common.{ap, ◌∙◌}
 use Rattle.std.specs.Prelude.{slice_get}
 use Rattle.pair_world.proofs.Outcomes.{handed_on, if_err_more, on_ok_more}
 use Rattle.pair_world.proofs.ThreePhases.{at_slot, first_phase_stops, from_none, phases_done, second_phase_stops, stops_at_slot, third_phase_stops, up_to}

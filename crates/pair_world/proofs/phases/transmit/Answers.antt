@@ -1,5 +1,5 @@
 -- Proof of `phases::transmit`.
-use Rattle.std.proofs.Common.{◌≡◌, sym, ap, ◌∙◌}
+use Rattle.std.proofs.Common.{ap, ◌∙◌}
 use Rattle.std.specs.Prelude.{slice_get}
 use Rattle.pair_world.proofs.Outcomes.{handed_on}
 use Rattle.pair_world.proofs.Transmitting.{both_flown, first_stops, second_stops}

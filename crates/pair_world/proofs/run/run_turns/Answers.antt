@@ -1,5 +1,5 @@
 -- Proof of `run::run_turns`.
-use Rattle.std.proofs.Common.{◌≡◌, ◌<◌, ◌≤◌, length, ap, arith}
+use Rattle.std.proofs.Common.{◌<◌, ◌≤◌, length, ap, arith}
 use Rattle.pair_world.specs.Logs.{LogState}
 use Rattle.pair_world.proofs.WholeRuns.{at_first, is_fault, is_run, next_turn, place_in}
 use Rattle.pair_world.proofs.run.run_turns.Goals as goal

@@ -1,16 +1,17 @@
 -- Proof of `run::start_both`.
-use Rattle.std.proofs.Common.{◌≡◌, subst, sym, ap, ◌∙◌}
+use Rattle.std.proofs.Common.{subst, ap, ◌∙◌}
+use Rattle.ble_base.specs.declared.Config.{Config}
 use Rattle.radio_replay.specs.Script.{Script}
 use Rattle.one_side.specs.Facts.{Setup, setup_of}
 use Rattle.pair_world.specs.Stations.{IsFirst}
-use Rattle.pair_world.proofs.WholeRuns.{both_first, same_setup}
+use Rattle.pair_world.proofs.WholeRuns.{both_first}
 use Rattle.pair_world.proofs.run.start_both.Goals as goal
 
 pub returns : goal.returns
 returns c =
-    let setup_a = same_setup c.copy_of.result c.schedule.inside.a c.copy_of.ensures.public c.copy_of.ensures.cursor c.copy_of.ensures.words
+    let setup_a = ap (λ (config : Config). setup_of config 3 8 8) c.copy.ensures
     ∙ ap (λ (script : Script). setup_of script.a 3 8 8) c.schedule.view_is in
-    let setup_b = same_setup c.copy_of-2.result c.schedule.inside.b c.copy_of-2.ensures.public c.copy_of-2.ensures.cursor c.copy_of-2.ensures.words
+    let setup_b = ap (λ (config : Config). setup_of config 3 8 8) c.copy-2.ensures
     ∙ ap (λ (script : Script). setup_of script.b 3 8 8) c.schedule.view_is in
     both_first c.args.a.now c.args.b.now c.args.schedule.now c.in_ok-start.field-0 c.in_ok-start-2.field-0
     (subst (λ (setup : Setup). IsFirst setup c.args.a.now c.in_ok-start.field-0) setup_a c.in_ok-start.ensures)

@@ -19,14 +19,6 @@ use Rattle.runs.specs.Run.{after_opening, after_phase, after_phases, after_turn,
 use Rattle.runs.specs.Journal.{journal_of}
 use Rattle.runs.proofs.rows.worked_runs.Goals as goal
 
-pub returns-clause-reset : goal.returns-clause-reset
-unfolding facts_of result_of frames little_endian command_of layout_of layouts view_after status_of activity_of use_of fates_used packet_received packets_on_air turns_begun after_opening after_phase after_phases after_turn run_of journal_of
-returns-clause-reset c = refl
-
-pub returns-clause-advertisement : goal.returns-clause-advertisement
+pub returns : goal.returns
 unfolding facts_of result_of frames little_endian command_of layout_of layouts view_after status_of activity_of use_of fates_used packet_received packets_on_air turns_begun after_opening after_phase after_phases after_turn run_of journal_of advertisement_on verdict_of advertisement_heard heard_in read_of kept_bits crc crc_octets crc_of_bits remainder mask_of next_mask whitening_bit whitening_of begins_link
-returns-clause-advertisement c = refl
-
-pub returns-clause-lost : goal.returns-clause-lost
-unfolding facts_of result_of frames little_endian command_of layout_of layouts view_after status_of activity_of use_of fates_used packet_received packets_on_air turns_begun after_opening after_phase after_phases after_turn run_of journal_of advertisement_on verdict_of advertisement_heard heard_in read_of kept_bits crc crc_octets crc_of_bits remainder mask_of next_mask whitening_bit whitening_of begins_link
-returns-clause-lost c = refl
+returns c = record { reset = refl; advertisement = refl; lost = refl }

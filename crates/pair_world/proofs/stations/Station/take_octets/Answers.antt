@@ -1,9 +1,9 @@
 -- Proof of `stations::Station::take_octets`.
-use Rattle.std.proofs.Common.{◌++◌, [], ◌∷◌, take, get_or, List, ℕ, subst, sym, ap, ◌∙◌, arith}
+use Rattle.std.proofs.Common.{take, get_or, List, ℕ, subst, sym, ap, ◌∙◌, arith}
 use Rattle.std.proofs.lemmas.List.{take_more}
 use Rattle.runs.specs.History.{Event}
 use Rattle.runs.specs.Run.{after_octets}
-use Rattle.pair_world.specs.Stations.{IsAt, number_of}
+use Rattle.pair_world.specs.Stations.{StationIsUpTo, number_of}
 use Rattle.pair_world.proofs.Feeding.{octets_one_more, take_whole}
 use Rattle.pair_world.proofs.stations.Station.take_octets.Goals as goal
 
@@ -16,7 +16,7 @@ loop-octet-preserved c =
       empty = c.in_ok-take_octet.ensures.empty;
       links = c.in_ok-take_octet.ensures.links ∙ at.links;
       at = λ given history before.
-          subst (λ (after : List Event). IsAt given station after c.take_octet.new.self c.take_octet.new.log)
+          subst (λ (after : List Event). StationIsUpTo given station after c.take_octet.new.self c.take_octet.new.log)
           (sym (ap (λ (octets : List ℕ). after_octets given station octets history) (take_more octets place 0 c.loop-octet-test.true)
           ∙ octets_one_more given station (take place octets) (get_or octets place 0) history))
           (c.in_ok-take_octet.ensures.at given (after_octets given station (take place octets) history) (at.at given history before));
@@ -25,6 +25,6 @@ loop-octet-preserved c =
 pub returns-clause-at : goal.returns-clause-at
 returns-clause-at c = λ given history before.
     let station = number_of c.args.side in
-    subst (λ (octets : List ℕ). IsAt given station (after_octets given station octets history) c.loop-octet.self c.loop-octet.log)
+    subst (λ (octets : List ℕ). StationIsUpTo given station (after_octets given station octets history) c.loop-octet.self c.loop-octet.log)
     (take_whole c.loop-octet.octet-index c.args.octets.now (omega (arith, c.loop-octet-test.false)))
     (c.loop-octet.invariant.at given history before)

@@ -2,13 +2,13 @@
 use Rattle.std.proofs.Common.{◌≡◌, List, [], take}
 use Rattle.runs.specs.History.{Event}
 use Rattle.runs.specs.Run.{Given, after_octets}
-use Rattle.pair_world.specs.Stations.{IsAt, number_of}
+use Rattle.pair_world.specs.Stations.{StationIsUpTo, number_of}
 use Rattle.pair_world.proofs.stations.Station.take_octets.Given as goal
 
 abbrev pub invariant-loop-octet : goal.invariant-loop-octet
 invariant-loop-octet l = record {
   empty : l.out.items ≡ [];
   links : l.log.links ≡ l.fn.log.links;
-  at : (given : Given) (history : List Event) → IsAt given (number_of l.fn.side) history l.fn.self l.fn.log
-      → IsAt given (number_of l.fn.side) (after_octets given (number_of l.fn.side) (take l.octet-index l.octets) history) l.self l.log;
+  at : (given : Given) (history : List Event) → StationIsUpTo given (number_of l.fn.side) history l.fn.self l.fn.log
+      → StationIsUpTo given (number_of l.fn.side) (after_octets given (number_of l.fn.side) (take l.octet-index l.octets) history) l.self l.log;
 }
