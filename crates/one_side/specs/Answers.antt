@@ -1,6 +1,6 @@
 -- The answer to a command: Command Status or Command Complete, and what it returns (Core 5.2, volume 4 part E, sections
 -- 7.7.14 and 7.7.15).
-use Rattle.std.specs.Prelude.{◌≡◌, ℕ, ◌%◌, ◌==◌, ◌||◌, Bool, true, false, List, [], ◌∷◌, ◌++◌, length, replicate, slice_index, if◌then◌else◌}
+use Rattle.std.specs.Prelude.{◌≡◌, ℕ, ◌%◌, ◌==◌, ◌||◌, Bool, true, false, List, [], ◌∷◌, ◌++◌, length, replicate, slice_index, Option, Some, None, if◌then◌else◌}
 use Rattle.wire_fields.specs.Field.{little_endian}
 use Rattle.hci_cmd.specs.declared.command.Command.{Command}
 use Rattle.hci_cmd.specs.declared.command.Command.TheVariants.{HostCompleted, ReadLocalVersion, ReadLocalFeatures, ReadBdAddr, LeReadBufferSize, LeReadFeatures, LeReadListSize, LeReadChannelMap, LeRand, LeKeyReply, LeKeyNegative, LeParamReply, LeParamNegative, LeSetDataLength, LeReadMaxLength, LeReadPhy}
@@ -9,6 +9,7 @@ use Rattle.hci_cmd.specs.declared.command.CmdRead.TheVariants.{Known, UnknownOpc
 use Rattle.hci_evt.specs.declared.event.Event.{Event}
 use Rattle.hci_evt.specs.declared.event.Event.TheVariants.{CommandComplete, CommandStatus}
 use Rattle.host_view.specs.Unbuilt.{status_of}
+use Rattle.open_links.specs.OpenLinks.{Links, OpenLink, facts_in, link_at}
 use Rattle.one_side.specs.Facts.{Setup, Facts}
 
 -- the commands that start something: Disconnect, Read Remote Version, LE Create Connection, LE Connection Update, LE
@@ -34,6 +35,11 @@ next_word setup drawn = slice_index setup.words (drawn % length setup.words)
 abbrev pub features : List ℕ
 features = 0x2F ∷ 0x40 ∷ replicate 6 0
 
+-- the channel map that a link uses (section 7.8.20)
+abbrev pub map_of : Option OpenLink → ℕ
+map_of None = 0
+map_of (Some link) = (facts_in link).parameters.params.map
+
 -- what an accepted command returns after its status (sections 7.3, 7.4 and 7.8); a command on a link returns the handle
 abbrev pub returned : Setup → Facts → Command → List ℕ
 returned setup facts ReadLocalVersion = 0x0B ∷ 0x01 ∷ 0x00 ∷ 0x0B ∷ 0xFF ∷ 0xFF ∷ 0x01 ∷ 0x00 ∷ []
@@ -45,6 +51,8 @@ returned setup facts LeReadListSize = 8 ∷ []
 returned setup facts LeRand = little_endian 8 (next_word setup facts.drawn)
 returned setup facts LeReadMaxLength =
     little_endian 2 251 ++ little_endian 2 2120 ++ little_endian 2 251 ++ little_endian 2 2120
+returned setup facts (LeReadChannelMap handle) =
+    little_endian 2 handle ++ little_endian 5 (map_of (link_at handle facts.links))
 returned setup facts (LeReadPhy handle) = little_endian 2 handle ++ 1 ∷ 1 ∷ []
 returned setup facts (LeKeyReply handle key) = little_endian 2 handle
 returned setup facts (LeKeyNegative handle) = little_endian 2 handle

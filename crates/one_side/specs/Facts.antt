@@ -1,8 +1,20 @@
--- What a controller holds: plain facts of its host, of the turn, of advertising and of scanning (our choice).
-use Rattle.std.specs.Prelude.{ℕ, Bool, true, false, List, [], Option, None}
+-- What a controller holds: plain facts of its host, of the turn and the radio, of advertising, scanning and initiating,
+-- and of its links (our choice).
+use Rattle.std.specs.Prelude.{ℕ, Bool, true, false, List, [], Option, None, replicate}
 use Rattle.ble_base.specs.declared.Config.{Config}
-use Rattle.ble_base.specs.declared.addresses.Address.{Address}
 use Rattle.host_view.specs.View.{View, first_view}
+use Rattle.advertise.specs.declared.params.AdvParams.{AdvParams}
+use Rattle.advertise.specs.Advertising.{AdvertiserFacts}
+use Rattle.advertise.specs.Defaults.{first_params}
+use Rattle.scan_init.specs.Initiating.{InitiatorFacts}
+use Rattle.scan_init.specs.Reports.{ScannerFacts}
+use Rattle.slot_plan.specs.declared.Activity.{Activity}
+use Rattle.slot_plan.specs.declared.Activity.TheVariants.{Scan}
+use Rattle.slot_plan.specs.declared.plan.Hold.{Hold}
+use Rattle.open_links.specs.OpenLinks.{Links}
+use Rattle.one_side.specs.declared.doing.Doing.{Doing}
+use Rattle.one_side.specs.declared.doing.Doing.TheVariants.{Rests}
+use Rattle.one_side.specs.declared.doing.Turn.{Turn}
 
 -- what a controller is set up with
 pub record Setup : Type 0 where
@@ -28,76 +40,75 @@ setup_of config links host_buffers air_buffers = record {
   air_buffers = air_buffers;
 }
 
--- the turn
-pub record Turn : Type 0 where
-  -- how many turns began: the slot of the next one
-  pub begun : ℕ
-  -- the slot of the turn that began last, and whether the radio is on in it
-  pub slot : ℕ
-  pub on : Bool
-  -- the phase that comes next: 0, 1 or 2
-  pub phase : ℕ
+-- what a controller wants of the radio in a phase
+pub data Use : Type 0 where
+  Sends : (channel : ℕ) (octets : List ℕ) → Use
+  Listens : (channel : ℕ) → Use
+  Idle : Use
 
--- advertising: what the host set (Core 5.2, volume 4 part E, sections 7.8.5 to 7.8.8), and when it was served
-pub record Advertiser : Type 0 where
-  -- the least interval in units of 0.625 ms
-  pub interval : ℕ
-  -- bits 0, 1 and 2 for the channels 37, 38 and 39
-  pub channels : ℕ
+-- the slots for which the radio is held, and what holds it, if anything does
+pub record Radio : Type 0 where
+  pub hold : Option Hold
+  pub holder : Activity
+
+-- advertising: what the host set (Core 5.2, volume 4 part E, sections 7.8.5 to 7.8.8), and the advertiser while it is on
+pub record Advertising : Type 0 where
+  -- the own address among these is found as advertising is turned on
+  pub params : AdvParams
   -- the advertising data and the scan response data
   pub data_octets : List ℕ
   pub response_octets : List ℕ
-  -- the slot in which its last event began, if one has since it was turned on
-  pub event_slot : Option ℕ
+  pub on : Option AdvertiserFacts
 
--- what a report is known by among duplicates: its type and its address
-pub record Report : Type 0 where
-  pub event_type : ℕ
-  pub from : Address
-
--- scanning: what the host set (sections 7.8.10 and 7.8.11), and what was reported
-pub record Scanner : Type 0 where
+-- scanning: what the host set (sections 7.8.10 and 7.8.11), and the scanner while it is on
+pub record Scanning : Type 0 where
   pub active : Bool
   -- the interval and the window in units of 0.625 ms
   pub interval : ℕ
   pub window : ℕ
-  -- the slot in which it was turned on
-  pub since : ℕ
-  pub filters_duplicates : Bool
-  -- what was reported since then
-  pub reported : List Report
+  pub on : Option ScannerFacts
 
 pub record Facts : Type 0 where
   -- the octets of the host
   pub octets : List ℕ
   -- what the statuses of commands and the masks of events depend on
   pub view : View
-  -- how many random words were drawn
+  -- how many random words were drawn, and how many access addresses were taken for new links
   pub drawn : ℕ
+  pub connections : ℕ
   pub turn : Turn
-  pub advertiser : Advertiser
-  pub scanner : Scanner
+  -- what it wants of the radio in the phase that comes next
+  pub wanted : Use
+  pub radio : Radio
+  pub advertising : Advertising
+  pub scanning : Scanning
+  pub initiator : Option InitiatorFacts
+  pub links : Links
 
 -- as a controller starts, and after a Reset (sections 7.8.5 and 7.8.10)
-abbrev pub first_advertiser : Advertiser
-first_advertiser = record { interval = 0x0800; channels = 7; data_octets = []; response_octets = []; event_slot = None }
+abbrev pub free_radio : Radio
+free_radio = record { hold = None; holder = Scan }
 
-abbrev pub first_scanner : Scanner
-first_scanner = record {
-  active = false;
-  interval = 0x0010;
-  window = 0x0010;
-  since = 0;
-  filters_duplicates = false;
-  reported = [];
-}
+abbrev pub first_advertising : Advertising
+first_advertising = record { params = first_params; data_octets = []; response_octets = []; on = None }
+
+abbrev pub first_scanning : Scanning
+first_scanning = record { active = false; interval = 0x0010; window = 0x0010; on = None }
+
+abbrev pub first_turn : Turn
+first_turn = record { begun = 0; slot = 0; doing = Rests }
 
 abbrev pub first_facts : Setup → Facts
 first_facts setup = record {
   octets = [];
   view = first_view setup.links true;
   drawn = 0;
-  turn = record { begun = 0; slot = 0; on = false; phase = 0 };
-  advertiser = first_advertiser;
-  scanner = first_scanner;
+  connections = 0;
+  turn = first_turn;
+  wanted = Idle;
+  radio = free_radio;
+  advertising = first_advertising;
+  scanning = first_scanning;
+  initiator = None;
+  links = replicate setup.links None;
 }

@@ -1,121 +1,252 @@
--- What a controller makes of a packet on the air: its verdict, and the report of a scanner (Core 5.2, volume 6 part B,
--- section 4.4.3, and volume 4 part E, section 7.7.65.2).
-use Rattle.std.specs.Prelude.{ℕ, zero, suc, ◌-◌, ◌==◌, ◌&&◌, Bool, List, [], ◌∷◌, ◌++◌, length, drop, Option, Some, None, if◌then◌else◌}
-use Rattle.std.specs.Bool.{beq}
-use Rattle.std.specs.List.{list_any}
+-- What a controller makes of a phase: of a packet that it heard, or of none (Core 5.2, volume 6 part B, sections 4.4.2
+-- to 4.4.4 and 4.5, and volume 4 part E, section 7.7.65.2).
+use Rattle.std.specs.Prelude.{ℕ, ◌+◌, ◌&&◌, not, Bool, true, false, List, [], ◌∷◌, Option, Some, None, is_some, if◌then◌else◌}
 use Rattle.std.specs.Option.{option_and_then}
-use Rattle.std.specs.Str.{bytes_eq}
 use Rattle.ble_base.specs.declared.addresses.Address.{Address}
-use Rattle.ble_base.specs.declared.verdicts.Verdict.{Verdict}
-use Rattle.ble_base.specs.declared.verdicts.Verdict.TheVariants.{Missed, Broken, Good}
+use Rattle.ble_base.specs.declared.notes.Note.{Note}
+use Rattle.ble_base.specs.declared.roles.Role.{Role}
+use Rattle.ble_base.specs.declared.roles.Role.TheVariants.{Central, Peripheral}
 use Rattle.adv_pdu.specs.declared.pdu.AdvPdu.{AdvPdu}
-use Rattle.adv_pdu.specs.declared.pdu.AdvPdu.TheVariants.{Ind, Direct, Nonconn, ScanInd}
-use Rattle.adv_pdu.specs.Reading.{read_of}
-use Rattle.air_frame.specs.declared.Heard.{Heard}
-use Rattle.air_frame.specs.declared.Heard.TheVariants.{NotOurs, Broken as Faulty, Whole}
-use Rattle.air_frame.specs.declared.advertising.TheConstants.{ADVERTISING_ACCESS, ADVERTISING_CRC_INIT}
-use Rattle.air_frame.specs.Hearing.{heard_in}
+use Rattle.adv_pdu.specs.declared.pdu.ConnectFields.{ConnectFields}
+use Rattle.adv_pdu.specs.Pdu.{body_of, ch_sel_of, sender_of}
+use Rattle.adv_pdu.specs.Ranges.{is_in_range}
+use Rattle.advertise.specs.declared.answers.AdvAnswer.{AdvAnswer}
+use Rattle.advertise.specs.declared.answers.AdvAnswer.TheVariants.{Ignore, Respond, Connect as Takes}
+use Rattle.advertise.specs.Advertising.{AdvertiserFacts}
+use Rattle.advertise.specs.Answers.{advertiser_answer}
 use Rattle.hci_evt.specs.declared.event.Event.{Event}
 use Rattle.hci_evt.specs.declared.event.Event.TheVariants.{AdvertisingReport}
-use Rattle.one_side.specs.Facts.{Setup, Facts, Report, Scanner}
-use Rattle.one_side.specs.Radio.{Activity, Advertises, Scans, Rests, activity_of, channel_listened, own_address, use_of}
+use Rattle.one_end.specs.declared.setup.LinkSetup.{LinkSetup}
+use Rattle.one_end.specs.Step.{PacketReceived}
+use Rattle.one_end.specs.End.{replies_of}
+use Rattle.scan_init.specs.declared.reports.ReportKind.{ReportKind}
+use Rattle.scan_init.specs.declared.scanner.ScanAnswer.{ScanAnswer}
+use Rattle.scan_init.specs.declared.scanner.ScanAnswer.TheVariants.{Ignore as Ignores, Report, Ask, ReportAndAsk}
+use Rattle.scan_init.specs.Access.{nth_access}
+use Rattle.scan_init.specs.Initiating.{InitiatorFacts, connect_fields, is_accepted}
+use Rattle.scan_init.specs.Reports.{ScannerFacts, does_ask, event_type, kind_of, last_16, reports_after, scan_answer}
+use Rattle.open_links.specs.OpenLinks.{Links, OpenLink, facts_in, free_from, has_link_between, link_after, link_at, with_change}
+use Rattle.one_side.specs.declared.doing.Doing.{Doing}
+use Rattle.one_side.specs.declared.doing.Doing.TheVariants.{Advertises, AwaitsRequest, Responds, Scans, Requests, AwaitsResponse, Initiates, Connects, CentralSends, CentralListens, PeripheralListens, PeripheralSends, Rests}
+use Rattle.one_side.specs.Answers.{next_word}
+use Rattle.one_side.specs.Events.{notes_of_events}
+use Rattle.one_side.specs.Facts.{Setup, Facts}
+use Rattle.one_side.specs.Links.{address_kind, facts_opened, notes_opened}
+use Rattle.one_side.specs.Packets.{facts_doing, pdu_heard}
 
--- ---- the verdict (our choice)
+-- what comes of a phase: what is held then, what is noted, and what is done in the next phase
+pub record Outcome : Type 0 where
+  pub facts : Facts
+  pub notes : List Note
+  pub next : Doing
 
-abbrev pub heard_on_channel : ℕ → List ℕ → Heard
-heard_on_channel channel octets = heard_in channel ADVERTISING_ACCESS ADVERTISING_CRC_INIT octets
+-- nothing changes
+abbrev pub goes_on : Facts → Doing → Outcome
+goes_on facts doing = record { facts = facts; notes = []; next = doing }
 
-abbrev pub verdict_by : Heard → Verdict
-verdict_by NotOurs = Missed
-verdict_by Faulty = Broken
-verdict_by (Whole pdu) = Good
+-- a link is opened
+abbrev pub opens : LinkSetup → Facts → Outcome
+opens link facts =
+    record { facts = facts_opened link facts; notes = notes_opened facts.view link; next = Rests }
 
-abbrev pub verdict_on : Option ℕ → List ℕ → Verdict
-verdict_on None octets = Missed
-verdict_on (Some channel) octets = verdict_by (heard_on_channel channel octets)
+-- ---- a phase in which nothing is heard
 
--- what a controller makes of octets that reach it in the phase that comes next: missed where it does not listen, or
--- where they do not begin with the access address; broken where they are the packet of no PDU
-unfoldable pub verdict_of : Setup → Facts → List ℕ → Verdict
-verdict_of setup facts octets = verdict_on (channel_listened (use_of setup facts)) octets
+-- what follows what was done: who sends may listen after it, and an initiator that sends a CONNECT_IND opens its link
+abbrev pub unheard : Doing → Facts → Outcome
+unheard (Advertises channel) facts = goes_on facts (AwaitsRequest channel)
+unheard (Requests channel advertiser) facts = goes_on facts (AwaitsResponse channel)
+unheard (Connects channel link) facts = opens link facts
+unheard (CentralSends handle) facts = goes_on facts (CentralListens handle)
+unheard other facts = goes_on facts Rests
 
--- ---- what is reported
+-- ---- an advertiser that hears a request (section 4.4.2)
 
--- an advertisement as a report has it
-pub record Advertisement : Type 0 where
-  pub event_type : ℕ
-  pub from : Address
-  pub data_octets : List ℕ
+-- the most octets of a payload that the ends of this controller receive (section 4.5.10; our choice)
+abbrev pub most_received : ℕ
+most_received = 251
 
-abbrev pub is_same_address : Address → Address → Bool
-is_same_address one other = beq one.random other.random && bytes_eq one.octets other.octets
+-- a link that it takes, under a free handle
+abbrev pub link_taken : Address → AdvPdu → ConnectFields → ℕ → LinkSetup
+link_taken own pdu fields handle = record {
+  role = Peripheral;
+  handle = handle;
+  own = own;
+  peer = sender_of pdu;
+  fields = fields;
+  two = ch_sel_of pdu;
+  max_rx = most_received;
+}
 
--- the advertisement that a PDU is to a device with this own address: a directed one is for the device that it names
--- alone; with passive scanning there is nothing else to report
-abbrev pub advertisement_in : Address → AdvPdu → Option Advertisement
-advertisement_in own (Ind from ch_sel body) = Some (record { event_type = 0; from = from; data_octets = body.items })
-advertisement_in own (Direct from to ch_sel) =
-    if is_same_address own to then Some (record { event_type = 1; from = from; data_octets = [] }) else None
-advertisement_in own (ScanInd from body) = Some (record { event_type = 2; from = from; data_octets = body.items })
-advertisement_in own (Nonconn from body) = Some (record { event_type = 3; from = from; data_octets = body.items })
-advertisement_in own other = None
+-- a second link between two devices is not opened (section 4.5)
+abbrev pub is_new_between : Address → Address → Links → Bool
+is_new_between own peer links = not (has_link_between own peer links)
 
-abbrev pub pdu_by : Heard → Option (List ℕ)
-pdu_by NotOurs = None
-pdu_by Faulty = None
-pdu_by (Whole pdu) = Some pdu.items
+abbrev pub taken_under : Option ℕ → Address → AdvPdu → ConnectFields → Facts → Outcome
+taken_under None own pdu fields facts = goes_on facts Rests
+taken_under (Some handle) own pdu fields facts = opens (link_taken own pdu fields handle) facts
 
-abbrev pub advertisement_of_octets : Address → Option (List ℕ) → Option Advertisement
-advertisement_of_octets own None = None
-advertisement_of_octets own (Some octets) = option_and_then (advertisement_in own) (read_of octets)
+abbrev pub taken_if : Bool → Address → AdvPdu → ConnectFields → Facts → Outcome
+taken_if false own pdu fields facts = goes_on facts Rests
+taken_if true own pdu fields facts = taken_under (free_from 0 facts.links) own pdu fields facts
 
--- the advertisement that a packet is to a controller that does this in the phase: a scanner takes them in the first one
-abbrev pub advertisement_for : ℕ → Address → Activity → List ℕ → Option Advertisement
-advertisement_for zero own (Scans channel) octets =
-    advertisement_of_octets own (pdu_by (heard_on_channel channel octets))
-advertisement_for zero own (Advertises channel) octets = None
-advertisement_for zero own Rests octets = None
-advertisement_for (suc phase) own activity octets = None
+abbrev pub advertiser_answers : AdvAnswer → ℕ → Address → AdvPdu → Facts → Outcome
+advertiser_answers Ignore channel own pdu facts = goes_on facts Rests
+advertiser_answers Respond channel own pdu facts = goes_on facts (Responds channel)
+advertiser_answers (Takes fields) channel own pdu facts =
+    taken_if (is_new_between own (sender_of pdu) facts.links) own pdu fields facts
 
-unfoldable pub advertisement_heard : Setup → Facts → List ℕ → Option Advertisement
-advertisement_heard setup facts octets =
-    advertisement_for facts.turn.phase (own_address setup facts.view.random facts.view.scanning.own)
-    (activity_of facts) octets
+abbrev pub advertiser_heard : Option AdvertiserFacts → ℕ → AdvPdu → Facts → Outcome
+advertiser_heard None channel pdu facts = goes_on facts Rests
+advertiser_heard (Some on) channel pdu facts =
+    advertiser_answers (advertiser_answer on.params facts.view.accepted pdu) channel on.params.own pdu facts
 
--- ---- duplicates
+-- ---- a scanner that hears an advertisement or a response (section 4.4.3)
 
-abbrev pub report_of : Advertisement → Report
-report_of advertisement = record { event_type = advertisement.event_type; from = advertisement.from }
-
-abbrev pub is_alike : Report → Report → Bool
-is_alike one other = (one.event_type == other.event_type) && is_same_address one.from other.from
-
--- the last 16 of these
-abbrev pub last_16 : List Report → List Report
-last_16 reports = drop (length reports - 16) reports
-
--- where duplicates are filtered, one is withheld whose type and address are among the last 16 reported since scanning
--- began
-abbrev pub is_withheld : Scanner → Advertisement → Bool
-is_withheld scanner advertisement =
-    scanner.filters_duplicates && list_any (is_alike (report_of advertisement)) (last_16 scanner.reported)
-
-abbrev pub scanner_heard : Scanner → Option Advertisement → Scanner
-scanner_heard scanner None = scanner
-scanner_heard scanner (Some advertisement) =
-    if is_withheld scanner advertisement then scanner
-    else record scanner { reported = scanner.reported ++ report_of advertisement ∷ [] }
-
-abbrev pub address_kind : Address → ℕ
-address_kind address = if address.random then 1 else 0
+abbrev pub octets_reported : Option (List ℕ) → List ℕ
+octets_reported None = []
+octets_reported (Some body) = body
 
 -- the signal strength is not known: 7F
-abbrev pub report_event : Advertisement → Event
-report_event advertisement =
-    AdvertisingReport advertisement.event_type (address_kind advertisement.from) advertisement.from.octets
-    (record { items = advertisement.data_octets }) 0x7F
+abbrev pub report_event : AdvPdu → ReportKind → Event
+report_event pdu kind =
+    AdvertisingReport (event_type kind) (address_kind (sender_of pdu)) (sender_of pdu).octets
+    (record { items = octets_reported (body_of pdu) }) 0x7F
 
-abbrev pub reports_of : Scanner → Option Advertisement → List Event
-reports_of scanner None = []
-reports_of scanner (Some advertisement) =
-    if is_withheld scanner advertisement then [] else report_event advertisement ∷ []
+abbrev pub report_events : AdvPdu → Option ReportKind → List Event
+report_events pdu None = []
+report_events pdu (Some kind) = report_event pdu kind ∷ []
+
+abbrev pub does_report : ScanAnswer → Bool
+does_report Ignores = false
+does_report Report = true
+does_report Ask = false
+does_report ReportAndAsk = true
+
+abbrev pub events_reported : ScanAnswer → AdvPdu → List Event
+events_reported answer pdu = if does_report answer then report_events pdu (kind_of pdu) else []
+
+abbrev pub with_scanner : ScannerFacts → Facts → Facts
+with_scanner on facts = record facts { scanning = record facts.scanning { on = Some on } }
+
+abbrev pub scanner_after : ScannerFacts → List Address → AdvPdu → ScannerFacts
+scanner_after on list pdu = record on { recent = last_16 (reports_after on.params list on.recent pdu) }
+
+-- an active scanner asks once, in the phase after the advertisement
+abbrev pub asks_if : Bool → ℕ → AdvPdu → Doing
+asks_if true channel pdu = Requests channel (sender_of pdu)
+asks_if false channel pdu = Rests
+
+abbrev pub scanner_heard : Option ScannerFacts → (may_ask : Bool) → ℕ → AdvPdu → Facts → Outcome
+scanner_heard None may_ask channel pdu facts = goes_on facts Rests
+scanner_heard (Some on) may_ask channel pdu facts = record {
+  facts = with_scanner (scanner_after on facts.view.accepted pdu) facts;
+  notes = notes_of_events facts.view (events_reported (scan_answer on.params facts.view.accepted on.recent pdu) pdu);
+  next = asks_if (may_ask && does_ask (scan_answer on.params facts.view.accepted on.recent pdu)) channel pdu;
+}
+
+-- ---- an initiator that hears an advertisement (section 4.4.4)
+
+-- the access address of the next new link, if there is one
+abbrev pub access_found : Option (ℕ × ℕ) → Option ℕ
+access_found None = None
+access_found (Some found) = Some found.0
+
+abbrev pub next_access_of : Setup → Facts → Option ℕ
+next_access_of setup facts = access_found (nth_access setup.cursor facts.connections)
+
+-- the fields of its CONNECT_IND, with the next random word
+abbrev pub fields_sent : Setup → InitiatorFacts → ℕ → Facts → ConnectFields
+fields_sent setup on access facts = connect_fields on.params.link access (next_word setup facts.drawn) facts.view.map
+
+abbrev pub link_made : Address → AdvPdu → ConnectFields → ℕ → LinkSetup
+link_made own pdu fields handle = record {
+  role = Central;
+  handle = handle;
+  own = own;
+  peer = sender_of pdu;
+  fields = fields;
+  two = ch_sel_of pdu;
+  max_rx = most_received;
+}
+
+-- it draws a random word and takes an access address, and whether there is another is known to the view
+abbrev pub facts_connecting : Setup → Facts → Facts
+facts_connecting setup facts = record facts {
+  view = record facts.view { has_address = is_some (nth_access setup.cursor (facts.connections + 1)) };
+  drawn = facts.drawn + 1;
+  connections = facts.connections + 1;
+}
+
+abbrev pub connects_with : Bool → Setup → ℕ → LinkSetup → Facts → Outcome
+connects_with false setup channel link facts = goes_on facts Rests
+connects_with true setup channel link facts = goes_on (facts_connecting setup facts) (Connects channel link)
+
+abbrev pub connects_under : Option ℕ → Setup → ℕ → InitiatorFacts → AdvPdu → ℕ → Facts → Outcome
+connects_under None setup channel on pdu access facts = goes_on facts Rests
+connects_under (Some handle) setup channel on pdu access facts =
+    connects_with (is_in_range (fields_sent setup on access facts)) setup channel
+    (link_made on.params.own pdu (fields_sent setup on access facts) handle) facts
+
+abbrev pub connects_at : Option ℕ → Setup → ℕ → InitiatorFacts → AdvPdu → Facts → Outcome
+connects_at None setup channel on pdu facts = goes_on facts Rests
+connects_at (Some access) setup channel on pdu facts =
+    connects_under (free_from 0 facts.links) setup channel on pdu access facts
+
+abbrev pub connects_if : Bool → Setup → ℕ → InitiatorFacts → AdvPdu → Facts → Outcome
+connects_if false setup channel on pdu facts = goes_on facts Rests
+connects_if true setup channel on pdu facts = connects_at (next_access_of setup facts) setup channel on pdu facts
+
+-- it answers where it is to connect to the sender and has no link to it yet
+abbrev pub answers_by_connecting : InitiatorFacts → AdvPdu → Facts → Bool
+answers_by_connecting on pdu facts =
+    is_accepted on.params facts.view.accepted pdu && is_new_between on.params.own (sender_of pdu) facts.links
+
+abbrev pub initiator_heard : Option InitiatorFacts → Setup → ℕ → AdvPdu → Facts → Outcome
+initiator_heard None setup channel pdu facts = goes_on facts Rests
+initiator_heard (Some on) setup channel pdu facts =
+    connects_if (answers_by_connecting on pdu facts) setup channel on pdu facts
+
+-- ---- a link that receives (section 4.5)
+
+abbrev pub replies_in : Option OpenLink → List ℕ → Bool
+replies_in None octets = false
+replies_in (Some link) octets = replies_of link.setup (facts_in link) octets
+
+abbrev pub reply_if : Bool → ℕ → Doing
+reply_if true handle = PeripheralSends handle
+reply_if false handle = Rests
+
+abbrev pub link_received : ℕ → List ℕ → Facts → Facts
+link_received handle octets facts =
+    record facts { links = with_change handle (link_after (PacketReceived facts.turn.slot octets)) facts.links }
+
+abbrev pub link_heard : ℕ → List ℕ → Facts → Outcome
+link_heard handle octets facts =
+    goes_on (link_received handle octets facts)
+    (reply_if (replies_in (link_at handle facts.links) octets) handle)
+
+-- ---- a phase in which a packet is heard
+
+-- what is heard on an advertising channel is a PDU of it, or nothing
+abbrev pub if_pdu : Option AdvPdu → Facts → (AdvPdu → Outcome) → Outcome
+if_pdu None facts outcome = goes_on facts Rests
+if_pdu (Some pdu) facts outcome = outcome pdu
+
+abbrev pub heard : Setup → Doing → List ℕ → Facts → Outcome
+heard setup (AwaitsRequest channel) octets facts =
+    if_pdu (pdu_heard channel octets) facts (λ pdu. advertiser_heard facts.advertising.on channel pdu facts)
+heard setup (Scans channel) octets facts =
+    if_pdu (pdu_heard channel octets) facts (λ pdu. scanner_heard facts.scanning.on true channel pdu facts)
+heard setup (AwaitsResponse channel) octets facts =
+    if_pdu (pdu_heard channel octets) facts (λ pdu. scanner_heard facts.scanning.on false channel pdu facts)
+heard setup (Initiates channel) octets facts =
+    if_pdu (pdu_heard channel octets) facts (λ pdu. initiator_heard facts.initiator setup channel pdu facts)
+heard setup (CentralListens handle) octets facts = link_heard handle octets facts
+heard setup (PeripheralListens handle) octets facts = link_heard handle octets facts
+-- where it does not listen nothing is heard
+heard setup doing octets facts = unheard doing facts
+
+-- ---- what is held after a phase
+
+abbrev pub facts_passed : Outcome → Facts
+facts_passed outcome = facts_doing outcome.next outcome.facts

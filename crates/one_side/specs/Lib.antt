@@ -3,11 +3,12 @@ pub mod Step
 pub mod Facts
 pub mod Answers
 pub mod Commands
+pub mod Events
+pub mod Links
+pub mod Packets
 pub mod Radio
 pub mod Heard
 pub mod Side
 pub mod Host
-pub mod Intervals
 pub mod Notes
-pub mod Addresses
 pub mod Rows

@@ -1,129 +1,170 @@
--- What a controller does in a slot, and in each phase of its turn (Core 5.2, volume 6 part B, sections 4.4.2 and 4.4.3;
--- that an event of an advertiser takes one slot for each channel, and that a turn has three phases, is our choice).
-use Rattle.std.specs.Prelude.{ℕ, zero, suc, ◌+◌, ◌-◌, ◌/◌, ◌%◌, ◌==◌, ◌&&◌, nat_lt, nat_le, Bool, true, false, List, Option, Some, None, if◌then◌else◌}
-use Rattle.ble_base.specs.declared.addresses.Address.{Address}
-use Rattle.ble_base.specs.Bits.{has_bit}
-use Rattle.adv_pdu.specs.declared.pdu.AdvPdu.{AdvPdu}
-use Rattle.adv_pdu.specs.declared.pdu.AdvPdu.TheVariants.{Nonconn}
-use Rattle.adv_pdu.specs.Pdu.{written}
-use Rattle.air_frame.specs.declared.advertising.TheConstants.{ADVERTISING_ACCESS, ADVERTISING_CRC_INIT}
-use Rattle.air_frame.specs.Packet.{on_air}
-use Rattle.one_side.specs.Facts.{Setup, Facts, Advertiser, Scanner}
+-- What wants the radio in a slot, what has it, and what is done in the first phase (Core 5.2, volume 6 part B, sections
+-- 4.4.2 to 4.5.1; who has the radio, and for how many slots, is our choice).
+use Rattle.std.specs.Prelude.{ℕ, ◌+◌, ◌-◌, nat_le, nat_lt, Bool, true, false, List, [], ◌∷◌, ◌++◌, Option, Some, None, is_some, if◌then◌else◌}
+use Rattle.ble_base.specs.declared.roles.Role.{Role}
+use Rattle.ble_base.specs.declared.roles.Role.TheVariants.{Central, Peripheral}
+use Rattle.ble_base.specs.declared.notes.Note.{Note}
+use Rattle.advertise.specs.Advertising.{AdvertiserFacts, due_after, event_channel}
+use Rattle.one_end.specs.Times.{span_of}
+use Rattle.scan_init.specs.Initiating.{InitiatorFacts}
+use Rattle.scan_init.specs.Reports.{ScannerFacts}
+use Rattle.scan_init.specs.Windows.{scan_channel}
+use Rattle.slot_plan.specs.declared.Activity.{Activity}
+use Rattle.slot_plan.specs.declared.Activity.TheVariants.{Link, Advertise, Scan, Initiate}
+use Rattle.slot_plan.specs.declared.Want.{Want}
+use Rattle.slot_plan.specs.declared.plan.Hold.{Hold}
+use Rattle.slot_plan.specs.Holding.{PlanFacts, is_held_in}
+use Rattle.slot_plan.specs.Winner.{winner_of}
+use Rattle.open_links.specs.OpenLinks.{Links, OpenLink, facts_in, link_at, link_served, with_change}
+use Rattle.open_links.specs.Turns.{links_entered, notes_entering, wants_from}
+use Rattle.one_side.specs.declared.doing.Doing.{Doing}
+use Rattle.one_side.specs.declared.doing.Doing.TheVariants.{Advertises, Scans, Initiates, CentralSends, PeripheralListens, Rests}
+use Rattle.one_side.specs.Facts.{Facts, Radio, Advertising}
+use Rattle.one_side.specs.Links.{facts_ending, notes_ending}
+use Rattle.one_side.specs.Packets.{facts_doing}
 
--- ---- slots
+-- ---- what wants the radio in a slot
 
--- units of 0.625 ms in slots of 1.25 ms, rounded up (our choice)
-abbrev pub slots_of : ℕ → ℕ
-slots_of units = (units + 1) / 2
+-- an advertiser wants each slot from the one on in which its next event is due
+abbrev pub advertiser_wants : ℕ → Option AdvertiserFacts → Bool
+advertiser_wants slot None = false
+advertiser_wants slot (Some on) = nat_le on.due slot
 
--- which of the three slots of its event this one is: an event takes three, and the next one is due an interval after
--- the beginning of the one before
-abbrev pub place_since : ℕ → ℕ → ℕ → Option ℕ
-place_since interval slot begun =
-    if nat_lt (slot - begun) 3 then Some (slot - begun) else if nat_le interval (slot - begun) then Some 0 else None
+-- a scanner and an initiator want the slots of their windows
+abbrev pub scanner_channel : ℕ → Option ScannerFacts → Option ℕ
+scanner_channel slot None = None
+scanner_channel slot (Some on) = scan_channel on.params.interval on.params.window on.since slot
 
-abbrev pub place_by : ℕ → ℕ → Option ℕ → Option ℕ
-place_by interval slot None = Some 0
-place_by interval slot (Some begun) = place_since interval slot begun
+abbrev pub initiator_channel : ℕ → Option InitiatorFacts → Option ℕ
+initiator_channel slot None = None
+initiator_channel slot (Some on) = scan_channel on.params.interval on.params.window on.since slot
 
--- the place in its event at which an advertiser that is on has a slot
-abbrev pub advertising_place : ℕ → Advertiser → Option ℕ
-advertising_place slot advertiser = place_by (slots_of advertiser.interval) slot advertiser.event_slot
+abbrev pub want_if : Bool → Activity → List Want
+want_if false activity = []
+want_if true activity = record { activity = activity; last_served = record { 0 = 0 } } ∷ []
 
--- the channel on which a scanner that is on listens in a slot: one of three for each interval, in turn, in the window
--- at its beginning
-abbrev pub scanning_channel : ℕ → Scanner → Option ℕ
-scanning_channel slot scanner =
-    if nat_lt ((slot - scanner.since) % slots_of scanner.interval) (slots_of scanner.window)
-    then Some (37 + (slot - scanner.since) / slots_of scanner.interval % 3) else None
+-- the links that enter an event and do not skip it, and then the others
+abbrev pub wants_in : ℕ → Facts → List Want
+wants_in slot facts =
+    wants_from slot 0 facts.links
+    ++ want_if (advertiser_wants slot facts.advertising.on) Advertise
+    ++ want_if (is_some (scanner_channel slot facts.scanning.on)) Scan
+    ++ want_if (is_some (initiator_channel slot facts.initiator)) Initiate
 
--- ---- who has the radio
+abbrev pub plan_in : ℕ → Facts → PlanFacts
+plan_in slot facts = record { wants = wants_in slot facts; hold = facts.radio.hold }
 
--- what a controller does in a slot
-pub data Activity : Type 0 where
-  Advertises : (channel : ℕ) → Activity
-  Scans : (channel : ℕ) → Activity
-  Rests : Activity
+-- ---- what is done in the first phase
 
-abbrev pub scans_on : Option ℕ → Activity
+-- a central sends first, and a peripheral listens (section 4.5.1)
+abbrev pub exchange_begins : Role → ℕ → Doing
+exchange_begins Central handle = CentralSends handle
+exchange_begins Peripheral handle = PeripheralListens handle
+
+abbrev pub exchange_if : Bool → Role → ℕ → Doing
+exchange_if true role handle = exchange_begins role handle
+exchange_if false role handle = Rests
+
+-- the first exchange of an event is in the slot of its anchor
+abbrev pub first_exchange : ℕ → Option OpenLink → Doing
+first_exchange handle None = Rests
+first_exchange handle (Some link) = exchange_begins link.setup.link.role handle
+
+-- there is a second one where the event continues
+abbrev pub second_exchange : ℕ → Option OpenLink → Doing
+second_exchange handle None = Rests
+second_exchange handle (Some link) = exchange_if (facts_in link).event.continues link.setup.link.role handle
+
+abbrev pub advertises_on : Option ℕ → Doing
+advertises_on None = Rests
+advertises_on (Some channel) = Advertises channel
+
+-- an event of an advertiser has three slots, one for each channel
+abbrev pub advertises_at : ℕ → Option AdvertiserFacts → Doing
+advertises_at place None = Rests
+advertises_at place (Some on) = if nat_lt place 3 then advertises_on (event_channel on.params.channels place) else Rests
+
+abbrev pub scans_on : Option ℕ → Doing
 scans_on None = Rests
 scans_on (Some channel) = Scans channel
 
-abbrev pub scanning : Bool → ℕ → Scanner → Activity
-scanning on slot scanner = if on then scans_on (scanning_channel slot scanner) else Rests
+abbrev pub initiates_on : Option ℕ → Doing
+initiates_on None = Rests
+initiates_on (Some channel) = Initiates channel
 
--- an advertiser has the slots of its event, also that of a channel that it does not use; a scanner has the others
-abbrev pub advertising_or : Activity → ℕ → Option ℕ → Activity
-advertising_or otherwise channels None = otherwise
-advertising_or otherwise channels (Some place) = if has_bit channels place then Advertises (37 + place) else Rests
+-- what wins a slot
+abbrev pub doing_won : ℕ → Activity → Facts → Doing
+doing_won slot (Link handle) facts = first_exchange handle (link_at handle facts.links)
+doing_won slot Advertise facts = advertises_at 0 facts.advertising.on
+doing_won slot Scan facts = scans_on (scanner_channel slot facts.scanning.on)
+doing_won slot Initiate facts = initiates_on (initiator_channel slot facts.initiator)
 
-abbrev pub activity_in : Bool → Bool → ℕ → Advertiser → Scanner → Activity
-activity_in advertises scans slot advertiser scanner =
-    if advertises
-    then advertising_or (scanning scans slot scanner) advertiser.channels (advertising_place slot advertiser)
-    else scanning scans slot scanner
+-- what holds a slot since an earlier one
+abbrev pub slots_since : ℕ → Option Hold → ℕ
+slots_since slot None = 0
+slots_since slot (Some hold) = slot - hold.from.0
 
--- with the radio off it does nothing
-unfoldable pub activity_of : Facts → Activity
-activity_of facts =
-    if facts.turn.on
-    then activity_in facts.view.advertising.on facts.view.scanning.on facts.turn.slot facts.advertiser facts.scanner
-    else Rests
+abbrev pub doing_held : ℕ → Activity → Facts → Doing
+doing_held slot (Link handle) facts = second_exchange handle (link_at handle facts.links)
+doing_held slot Advertise facts = advertises_at (slots_since slot facts.radio.hold) facts.advertising.on
+doing_held slot Scan facts = Rests
+doing_held slot Initiate facts = Rests
 
--- an event begins in this slot where an advertiser has it as the first of its event
-abbrev pub event_slot_by : ℕ → Option ℕ → Option ℕ → Option ℕ
-event_slot_by slot None before = before
-event_slot_by slot (Some zero) before = Some slot
-event_slot_by slot (Some (suc place)) before = before
+-- ---- what is served
 
--- the advertiser as a turn begins in this slot
-abbrev pub advertiser_served : Bool → Bool → ℕ → Advertiser → Advertiser
-advertiser_served on advertises slot advertiser =
-    if on && advertises
-    then record advertiser { event_slot = event_slot_by slot (advertising_place slot advertiser) advertiser.event_slot }
-    else advertiser
+abbrev pub radio_held : Activity → ℕ → ℕ → Radio
+radio_held activity slot slots =
+    record { hold = Some (record { from = record { 0 = slot }; slots = slots }); holder = activity }
 
--- ---- the packets of the advertising channels
+abbrev pub advertiser_served : ℕ → AdvertiserFacts → AdvertiserFacts
+advertiser_served slot on = record on { due = due_after on.params.interval slot }
 
--- the own address: the random one for type 1, else the public one (volume 4 part E, section 7.8.5)
-abbrev pub random_or_public : List ℕ → Option (List ℕ) → Address
-random_or_public public None = record { random = false; octets = public }
-random_or_public public (Some random) = record { random = true; octets = random }
+abbrev pub served_if_on : ℕ → Option AdvertiserFacts → Option AdvertiserFacts
+served_if_on slot None = None
+served_if_on slot (Some on) = Some (advertiser_served slot on)
 
-abbrev pub own_address : Setup → Option (List ℕ) → ℕ → Address
-own_address setup random own = random_or_public setup.public (if own == 1 then random else None)
+-- the event of a link, and that of an advertiser, hold the radio; a scanner and an initiator have one slot
+abbrev pub facts_won : ℕ → Activity → Facts → Facts
+facts_won slot (Link handle) facts = record facts {
+  links = with_change handle (link_served slot) facts.links;
+  radio = radio_held (Link handle) slot span_of;
+}
+facts_won slot Advertise facts = record facts {
+  advertising = record facts.advertising { on = served_if_on slot facts.advertising.on };
+  radio = radio_held Advertise slot 3;
+}
+facts_won slot Scan facts = facts
+facts_won slot Initiate facts = facts
 
--- what an advertiser that is neither connectable nor scannable sends (section 2.3.1.3)
-abbrev pub advertisement_of : Setup → Facts → AdvPdu
-advertisement_of setup facts =
-    Nonconn (own_address setup facts.view.random facts.view.advertising.own)
-    (record { items = facts.advertiser.data_octets })
+-- ---- a turn begins
 
-unfoldable pub advertisement_on : Setup → Facts → ℕ → List ℕ
-advertisement_on setup facts channel =
-    on_air channel ADVERTISING_ACCESS ADVERTISING_CRC_INIT (written (advertisement_of setup facts))
+-- what wins the slot begins, if anything does
+abbrev pub facts_with_winner : ℕ → Option Activity → Facts → Facts
+facts_with_winner slot None facts = facts_doing Rests facts
+facts_with_winner slot (Some activity) facts = facts_doing (doing_won slot activity facts) (facts_won slot activity facts)
 
--- ---- what a controller wants of the radio in a phase
+-- what holds the radio goes on
+abbrev pub facts_with_radio : Bool → ℕ → Option Activity → Facts → Facts
+facts_with_radio true slot winner facts = facts_doing (doing_held slot facts.radio.holder facts) facts
+facts_with_radio false slot winner facts = facts_with_winner slot winner facts
 
-pub data Use : Type 0 where
-  Sends : (channel : ℕ) (octets : List ℕ) → Use
-  Listens : (channel : ℕ) → Use
-  Idle : Use
+-- with the radio off nothing is done
+abbrev pub facts_served : Bool → ℕ → Option Activity → Facts → Facts
+facts_served false slot winner facts = facts_doing Rests facts
+facts_served true slot winner facts = facts_with_radio (is_held_in facts.radio.hold slot) slot winner facts
 
--- an advertiser sends and then listens on its channel; a scanner listens first
-abbrev pub use_in : ℕ → Setup → Facts → Activity → Use
-use_in zero setup facts (Advertises channel) = Sends channel (advertisement_on setup facts channel)
-use_in zero setup facts (Scans channel) = Listens channel
-use_in zero setup facts Rests = Idle
-use_in (suc zero) setup facts (Advertises channel) = Listens channel
-use_in (suc zero) setup facts (Scans channel) = Idle
-use_in (suc zero) setup facts Rests = Idle
-use_in (suc (suc phase)) setup facts activity = Idle
+abbrev pub turn_begins : ℕ → Facts → Facts
+turn_begins slot facts = record facts { turn = record facts.turn { begun = slot + 1; slot = slot } }
 
-unfoldable pub use_of : Setup → Facts → Use
-use_of setup facts = use_in facts.turn.phase setup facts (activity_of facts)
+-- the links enter their events, whether they get the radio or not
+abbrev pub facts_entered : Bool → ℕ → Facts → Facts
+facts_entered on slot facts =
+    facts_served on slot (winner_of (plan_in slot facts) slot)
+    (record facts { links = links_entered slot facts.links })
 
-abbrev pub channel_listened : Use → Option ℕ
-channel_listened (Sends channel octets) = None
-channel_listened (Listens channel) = Some channel
-channel_listened Idle = None
+-- first the links end that are due
+abbrev pub facts_begun : ℕ → Bool → Facts → Facts
+facts_begun slot on facts = facts_entered on slot (turn_begins slot (facts_ending slot facts))
+
+abbrev pub notes_begun : ℕ → Facts → List Note
+notes_begun slot facts = notes_ending slot facts ++ notes_entering slot (facts_ending slot facts).links

@@ -2,9 +2,11 @@
 //! the calls on it. They are facts of the standard's words, and none of them names code.
 #![tactic(auto)]
 
+mod doing;
 mod laws;
 mod rows;
 
+pub use crate::doing::{Doing, Turn};
 pub use crate::laws::{
     a_host_is_answered_whatever_the_turns, an_advertisement_is_understood,
     an_advertiser_keeps_its_interval, commands_are_answered_in_order,
