@@ -1,20 +1,19 @@
 -- How an accepted command changes the view (Core 5.2, volume 4 part E, section 7).
-use Rattle.std.specs.Prelude.{ℕ, ◌+◌, ◌-◌, min, ◌==◌, not, Bool, true, false, List, [], ◌∷◌, ◌++◌, filter, fold, slice_set, Option, Some, None, if◌then◌else◌}
-use Rattle.std.specs.List.{list_any}
+use Rattle.std.specs.Prelude.{ℕ, ◌+◌, ◌-◌, min, ◌==◌, Bool, true, false, List, [], fold, slice_set, Option, Some, None, if◌then◌else◌}
 use Rattle.std.specs.Option.{option_map}
-use Rattle.ble_base.specs.declared.addresses.Address.{Address}
 use Rattle.ble_base.specs.declared.procedure_kinds.Kind.{Kind}
 use Rattle.ble_base.specs.declared.procedure_kinds.Kind.TheVariants.{Update, Request, Map, Phy, Features, Version, Length, Encrypt}
 use Rattle.hci_cmd.specs.declared.command.HandleCount.{HandleCount}
 use Rattle.hci_cmd.specs.declared.command.Command.{Command}
-use Rattle.hci_cmd.specs.declared.command.Command.TheVariants.{Disconnect, ReadRemoteVersion, SetEventMask, Reset, SetHostFlow, HostBufferSize, HostCompleted, LeSetEventMask, LeSetRandomAddress, LeSetAdvParams, LeSetAdvEnable, LeSetScanParams, LeSetScanEnable, LeCreateConnection, LeCreateCancel, LeClearList, LeAddToList, LeRemoveFromList, LeConnectionUpdate, LeReadRemoteFeatures, LeEnableEncryption, LeKeyReply, LeKeyNegative, LeParamReply, LeParamNegative, LeSetDataLength, LeSetPhy}
+use Rattle.hci_cmd.specs.declared.command.Command.TheVariants.{Disconnect, ReadRemoteVersion, SetEventMask, Reset, SetHostFlow, HostBufferSize, HostCompleted, LeSetEventMask, LeSetRandomAddress, LeSetAdvParams, LeSetAdvEnable, LeSetScanParams, LeSetScanEnable, LeCreateConnection, LeCreateCancel, LeClearList, LeAddToList, LeRemoveFromList, LeConnectionUpdate, LeSetChannels, LeReadRemoteFeatures, LeEnableEncryption, LeKeyReply, LeKeyNegative, LeParamReply, LeParamNegative, LeSetDataLength, LeSetPhy}
+use Rattle.scan_init.specs.Addresses.{with_address, without_address}
 use Rattle.host_view.specs.declared.links.Asked.{Asked}
 use Rattle.host_view.specs.declared.links.Link.{Link}
 use Rattle.host_view.specs.declared.changes.LinkChange.{LinkChange}
 use Rattle.host_view.specs.declared.changes.LinkChange.TheVariants.{Disconnecting, Asks, AsksUpdate, Answered, Key, Parameters, HandedUp, Taken}
 use Rattle.host_view.specs.View.{View, first_view}
 use Rattle.host_view.specs.Links.{link_in, update_kind}
-use Rattle.host_view.specs.Status.{is_address}
+use Rattle.host_view.specs.Status.{named_address}
 
 -- what the host asked for, with this procedure asked for or not
 abbrev pub with_asked : Kind → Bool → Asked → Asked
@@ -51,16 +50,6 @@ changed_by (Key waits) link = record link { waits_for_key = waits }
 changed_by (Parameters waits) link = record link { waits_for_parameters = waits }
 changed_by HandedUp link = record link { outstanding = min (link.outstanding + 1) 65535 }
 changed_by (Taken count) link = record link { outstanding = link.outstanding - count }
-
--- the accept list with an address, and without it
-abbrev pub list_with : ℕ → List ℕ → List Address → List Address
-list_with kind octets list =
-    if list_any (is_address kind octets) list
-    then list
-    else list ++ record { random = (kind == 1); octets = octets } ∷ []
-
-abbrev pub list_without : ℕ → List ℕ → List Address → List Address
-list_without kind octets list = filter (λ address. not (is_address kind octets address)) list
 
 -- the links once the host has taken packets of one of them, and of all of these
 abbrev pub after_count : List (Option Link) → HandleCount → List (Option Link)
@@ -110,6 +99,9 @@ view_after view (LeCreateConnection interval window policy peer_kind peer own mi
     record view { initiating = Some policy }
 view_after view LeCreateCancel = record view { initiating = None }
 view_after view LeClearList = record view { accepted = [] }
-view_after view (LeAddToList kind address) = record view { accepted = list_with kind address view.accepted }
-view_after view (LeRemoveFromList kind address) = record view { accepted = list_without kind address view.accepted }
+view_after view (LeAddToList kind address) =
+    record view { accepted = with_address view.accepted (named_address kind address) }
+view_after view (LeRemoveFromList kind address) =
+    record view { accepted = without_address view.accepted (named_address kind address) }
+view_after view (LeSetChannels map) = record view { map = map }
 view_after view other = link_changed_by other view

@@ -6,3 +6,4 @@ pub mod Status
 pub mod Unbuilt
 pub mod Changes
 pub mod Noted
+pub mod InRange

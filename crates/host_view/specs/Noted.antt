@@ -1,5 +1,5 @@
 -- How what a controller notes of itself changes the view (our choice: the view follows the notes).
-use Rattle.std.specs.Prelude.{ℕ, ◌+◌, ◌*◌, ◌%◌, ◌==◌, ◌&&◌, ◌<◌, ◌≡◌, Bool, true, false, List, slice_index, slice_set, Some, None, ⊤, if◌then◌else◌}
+use Rattle.std.specs.Prelude.{ℕ, ◌+◌, ◌*◌, ◌%◌, ◌==◌, ◌&&◌, Bool, true, false, List, slice_index, slice_set, Some, None, if◌then◌else◌}
 use Rattle.ble_base.specs.declared.addresses.Address.{Address}
 use Rattle.ble_base.specs.declared.roles.Role.{Role}
 use Rattle.ble_base.specs.declared.roles.Role.TheVariants.{Central, Peripheral}
@@ -9,7 +9,6 @@ use Rattle.host_view.specs.declared.links.Asked.{Asked}
 use Rattle.host_view.specs.declared.links.Link.{Link}
 use Rattle.host_view.specs.declared.changes.LinkChange.TheVariants.{Answered, Key, Parameters, HandedUp}
 use Rattle.host_view.specs.View.{View}
-use Rattle.host_view.specs.Links.{link_in}
 use Rattle.host_view.specs.Changes.{on_link, changed_by}
 
 abbrev pub nothing_asked : Asked
@@ -42,16 +41,12 @@ abbrev pub stopped_by : Role → View → View
 stopped_by Central view = record view { initiating = None }
 stopped_by Peripheral view = record view { advertising = record view.advertising { on = false } }
 
+-- a link is opened under this handle, in place of what was there; under a handle past the last place it is not kept
 abbrev pub with_link : ℕ → Link → View → View
 with_link handle link view = record (stopped_by link.role view) { links = slice_set view.links handle (Some link) }
 
 abbrev pub without_link : ℕ → View → View
 without_link handle view = record view { links = slice_set view.links handle None }
-
--- a link is opened under a handle that the controller can hold and that no open link has
-abbrev pub HasPlace : View → Note → Type 0
-HasPlace view (Opened handle role own peer) = (handle < view.limit) × (link_in view.links handle ≡ None)
-HasPlace view other = ⊤
 
 -- ---- packets to the host (Core 5.2, volume 4 part A, section 2, and part E, sections 5.4 and 7.7.65)
 

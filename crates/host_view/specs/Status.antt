@@ -3,7 +3,6 @@
 -- open).
 use Rattle.std.specs.Prelude.{ℕ, ◌^◌, ◌==◌, ◌||◌, ◌&&◌, not, nat_lt, nat_le, Bool, true, false, List, [], ◌∷◌, length, Option, is_some, is_none, if◌then◌else◌}
 use Rattle.std.specs.List.{list_any, list_all, filter}
-use Rattle.std.specs.Bool.{beq}
 use Rattle.std.specs.Str.{bytes_eq}
 use Rattle.std.specs.Option.{option_map_or}
 use Rattle.std.specs.Prelude.{sum_by}
@@ -14,6 +13,7 @@ use Rattle.hci_cmd.specs.declared.command.HandleCount.{HandleCount}
 use Rattle.hci_cmd.specs.declared.command.Command.{Command}
 use Rattle.hci_cmd.specs.declared.command.Command.TheVariants.{Disconnect, ReadRemoteVersion, SetHostFlow, HostBufferSize, HostCompleted, LeSetRandomAddress, LeSetAdvParams, LeSetAdvData, LeSetScanResponse, LeSetAdvEnable, LeSetScanParams, LeSetScanEnable, LeCreateConnection, LeCreateCancel, LeClearList, LeAddToList, LeRemoveFromList, LeConnectionUpdate, LeSetChannels, LeReadChannelMap, LeReadRemoteFeatures, LeEnableEncryption, LeKeyReply, LeKeyNegative, LeParamReply, LeParamNegative, LeSetDataLength, LeReadPhy, LeSetDefaultPhy, LeSetPhy}
 use Rattle.ble_base.specs.ChannelMap.{used_channels}
+use Rattle.scan_init.specs.Addresses.{is_full_for, is_same_address}
 use Rattle.host_view.specs.declared.links.Link.{Link}
 use Rattle.host_view.specs.View.{View}
 use Rattle.host_view.specs.Links.{link_in, is_asked, is_central_role, link_has, update_kind}
@@ -121,9 +121,13 @@ has_own view own link =
     then (link.own.random && option_map_or (λ random. bytes_eq link.own.octets random) view.random false)
     else not link.own.random
 
+-- the address that a command names, by its type, 1 for a random one, and its octets
+abbrev pub named_address : ℕ → List ℕ → Address
+named_address kind octets = record { random = (kind == 1); octets = octets }
+
 -- the link is with the peer of this address type and these octets
 abbrev pub has_peer : ℕ → List ℕ → Link → Bool
-has_peer kind octets link = beq link.peer.random (kind == 1) && bytes_eq link.peer.octets octets
+has_peer kind octets link = is_same_address link.peer (named_address kind octets)
 
 abbrev pub has_addresses : View → ℕ → ℕ → List ℕ → Link → Bool
 has_addresses view own peer_kind peer link = has_own view own link && has_peer peer_kind peer link
@@ -154,18 +158,11 @@ create_connection_rows view interval window policy peer_kind peer own min max la
 
 -- ---- the accept list (sections 7.8.14 to 7.8.17)
 
-abbrev pub is_address : ℕ → List ℕ → Address → Bool
-is_address kind octets address = beq address.random (kind == 1) && bytes_eq address.octets octets
-
--- the list is full of other addresses
-abbrev pub is_list_full : View → ℕ → List ℕ → Bool
-is_list_full view kind octets = nat_le 8 (length view.accepted) && not (list_any (is_address kind octets) view.accepted)
-
 abbrev pub add_to_list_rows : View → ℕ → List ℕ → List (Bool × ℕ)
 add_to_list_rows view kind octets =
     list_row view
     ∷ (nat_lt 1 kind, invalid_hci_parameters)
-    ∷ (is_list_full view kind octets, memory_capacity_exceeded) ∷ []
+    ∷ (is_full_for view.accepted (named_address kind octets), memory_capacity_exceeded) ∷ []
 
 abbrev pub remove_from_list_rows : View → ℕ → List (Bool × ℕ)
 remove_from_list_rows view kind = list_row view ∷ (nat_lt 1 kind, invalid_hci_parameters) ∷ []

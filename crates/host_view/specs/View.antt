@@ -21,6 +21,8 @@ pub record View : Type 0 where
   pub initiating : Option ℕ
   -- the accept list (section 7.8.16)
   pub accepted : List Address
+  -- the data channels that the host lets be used, channel k by bit k (section 7.8.19)
+  pub map : ℕ
   pub flow : HostFlow
   -- the open link of each handle, from 0 on
   pub links : List (Option Link)
@@ -37,11 +39,15 @@ first_scanning = record { on = false; own = 0; policy = 0 }
 abbrev pub first_flow : HostFlow
 first_flow = record { on = false; acl_length = 251; acl_count = 65535 }
 
+-- all 37 data channels
+abbrev pub all_channels : ℕ
+all_channels = 0x1FFFFFFFFF
+
 -- no link is open
 abbrev pub no_links : List (Option Link)
 no_links = None ∷ None ∷ None ∷ None ∷ None ∷ None ∷ []
 
--- a controller as it starts, and after a Reset, by how many links it can hold (sections 7.3.1, 7.3.2 and 7.8.1)
+-- a controller as it starts, and after a Reset, by how many links it can hold (sections 7.3.1, 7.3.2, 7.8.1 and 7.8.19)
 abbrev pub first_view : ℕ → Bool → View
 first_view limit has_address = record {
   limit = limit;
@@ -52,6 +58,7 @@ first_view limit has_address = record {
   scanning = first_scanning;
   initiating = None;
   accepted = [];
+  map = all_channels;
   flow = first_flow;
   links = no_links;
   has_address = has_address;

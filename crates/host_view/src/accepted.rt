@@ -1,16 +1,17 @@
 //! What an accepted command changes.
 ghost use Rattle.std.specs.Prelude.{◌≡◌};
-ghost use Rattle.hci_cmd.specs.declared.command.Command.TheVariants.{LeAddToList};
+ghost use Rattle.hci_cmd.specs.declared.command.Command.TheVariants.{LeAddToList, LeSetChannels};
 ghost use Rattle.host_view.specs.View.{first_view};
 ghost use Rattle.host_view.specs.Unbuilt.{status_of};
-ghost use Rattle.host_view.specs.Changes.{after_completed, after_counts, link_changed_by, list_with, list_without, view_after};
+ghost use Rattle.host_view.specs.Changes.{after_completed, after_counts, link_changed_by, view_after};
+ghost use Rattle.scan_init.specs.Addresses.{with_address};
+ghost use Rattle.host_view.specs.Status.{named_address};
 
 use crate::changes::{LinkChange, change_links};
-use crate::connecting::is_address;
+use crate::connecting::named_address;
 use crate::links::Link;
 use crate::view::HostView;
-use arrayvec::ArrayVec;
-use ble_base::{Address, Kind};
+use ble_base::{ChannelMap, Kind};
 use hci_cmd::{Command, HandleCount};
 
 /// Takes from the links the packets that the host has taken.
@@ -20,19 +21,6 @@ fn take_packets(links: &mut [Option<Link>; 6], counts: &[HandleCount])
     for pair in counts {
         change_links(links, pair.handle, LinkChange::Taken(pair.count));
     }
-}
-
-/// The addresses of a list but for this one.
-fn list_without(kind: u8, octets: &[u8; 6], list: &ArrayVec<Address, 8>) -> ArrayVec<Address, 8>
-    ensures { result.items ≡ list_without kind octets.now list.now.items }
-{
-    let mut kept = ArrayVec::new();
-    for address in list.as_slice() {
-        if !is_address(address, kind, octets) {
-            kept.push(*address);
-        }
-    }
-    kept
 }
 
 impl HostView {
@@ -47,14 +35,23 @@ impl HostView {
     /// Takes an address into the accept list, where it is not there yet.
     fn accept(&mut self, kind: u8, octets: &[u8; 6])
         requires { status_of self.old (LeAddToList kind octets.now) ≡ 0 }
-        ensures { self.new
-            ≡ record self.old { accepted = list_with kind octets.now self.old.accepted } }
+        ensures { self.new ≡ record self.old {
+          accepted
+              = with_address self.old.accepted (named_address kind octets.now);
+        } }
     {
-        if !self.accepts(kind, octets) {
-            self.accepted.push(Address {
-                random: kind == 1,
-                octets: *octets,
-            });
+        let Ok(()) = self.accepted.add(named_address(kind, octets)) else {
+            unreachable!()
+        };
+    }
+
+    /// Takes a map of channels.
+    fn set_channels(&mut self, map: u64)
+        requires { status_of self.old (LeSetChannels map) ≡ 0 }
+        ensures { self.new ≡ record self.old { map = map } }
+    {
+        if let Some(map) = ChannelMap::new(map) {
+            self.map = map;
         }
     }
 
@@ -143,8 +140,9 @@ impl HostView {
             Command::LeClearList => self.accepted.clear(),
             Command::LeAddToList { kind, address } => self.accept(*kind, address),
             Command::LeRemoveFromList { kind, address } => {
-                self.accepted = list_without(*kind, address, &self.accepted);
+                self.accepted.remove(named_address(*kind, address));
             }
+            Command::LeSetChannels { map } => self.set_channels(*map),
             _ => self.link_command(command),
         }
     }

@@ -1,15 +1,15 @@
 //! The statuses of LE Create Connection and of the commands of the accept list.
 ghost use Rattle.std.specs.Prelude.{◌≡◌};
-ghost use Rattle.std.specs.List.{list_any};
 ghost use Rattle.host_view.specs.Links.{link_has};
 ghost use Rattle.host_view.specs.Refusals.{first_refusal};
-ghost use Rattle.host_view.specs.Status.{create_connection_rows, has_addresses, is_connected, has_own, is_address, is_list_full, add_to_list_rows, remove_from_list_rows};
+ghost use Rattle.host_view.specs.Status.{create_connection_rows, has_addresses, is_connected, has_own, named_address, add_to_list_rows, remove_from_list_rows};
 
 use crate::link_commands::Proposal;
 use crate::links::Link;
 use crate::refusals::{are_scan_times, first_refusal, is_generated};
-use crate::view::{ACCEPT_LIST_SIZE, HostView};
+use crate::view::HostView;
 use ble_base::{Address, ErrCode};
+use scan_init::is_same_address;
 
 /// What LE Create Connection asks for, in the units of the command.
 #[derive(Clone, Copy)]
@@ -24,11 +24,14 @@ pub(crate) struct ConnectionRequest {
     pub proposal: Proposal,
 }
 
-/// Whether an address has this type, 1 for a random one, and these octets.
-pub(crate) fn is_address(address: &Address, kind: u8, octets: &[u8; 6]) -> bool
-    ensures { result ≡ is_address kind octets.now address.now }
+/// The address that a command names, by its type, 1 for a random one, and its octets.
+pub(crate) fn named_address(kind: u8, octets: &[u8; 6]) -> Address
+    ensures { result ≡ named_address kind octets.now }
 {
-    address.random == (kind == 1) && address.octets == *octets
+    Address {
+        random: kind == 1,
+        octets: *octets,
+    }
 }
 
 impl HostView {
@@ -50,7 +53,10 @@ impl HostView {
         ensures { result ≡ link_has link.now (has_addresses self.now own peer_kind peer.now) }
     {
         match link {
-            Some(link) => self.has_own(own, link) && is_address(&link.peer, peer_kind, peer),
+            Some(link) => {
+                self.has_own(own, link)
+                    && is_same_address(&link.peer, &named_address(peer_kind, peer))
+            }
             None => false,
         }
     }
@@ -95,19 +101,10 @@ impl HostView {
         )
     }
 
-    /// Whether the accept list has this address.
-    pub(crate) fn accepts(&self, kind: u8, octets: &[u8; 6]) -> bool
-        ensures { result ≡ list_any (is_address kind octets.now) self.now.accepted }
-    {
-        self.accepted
-            .iter()
-            .any(|address| is_address(address, kind, octets))
-    }
-
     pub(crate) fn add_to_list_status(&self, kind: u8, octets: &[u8; 6]) -> ErrCode
         ensures { result.0 ≡ first_refusal (add_to_list_rows self.now kind octets.now) }
     {
-        let full = self.accepted.len() >= ACCEPT_LIST_SIZE && !self.accepts(kind, octets);
+        let full = self.accepted.is_full_for(named_address(kind, octets));
         first_refusal(&[
             (self.uses_list(), ErrCode::COMMAND_DISALLOWED),
             (kind > 1, ErrCode::INVALID_HCI_PARAMETERS),

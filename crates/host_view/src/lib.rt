@@ -8,6 +8,7 @@ mod advertising;
 mod changes;
 mod connecting;
 mod flow;
+pub mod laws;
 mod link_commands;
 mod links;
 mod noted;
@@ -21,4 +22,5 @@ mod view;
 
 pub use crate::links::{Asked, Link};
 pub use crate::statuses::status;
-pub use crate::view::{ACCEPT_LIST_SIZE, Advertising, HostFlow, HostView, MOST_LINKS, Scanning};
+pub use crate::view::{Advertising, HostFlow, HostView, MOST_LINKS, Scanning};
+pub use scan_init::ACCEPT_LIST_SIZE;

@@ -1,6 +1,6 @@
 //! How what a controller notes of itself changes the view.
-ghost use Rattle.std.specs.Prelude.{◌≡◌, ◌<◌, slice_index};
-ghost use Rattle.host_view.specs.Noted.{after_packet, HasPlace, is_le_event, opened_link, two_octets, view_noted, with_link, without_link};
+ghost use Rattle.std.specs.Prelude.{◌≡◌, ◌<◌, slice_index, slice_set};
+ghost use Rattle.host_view.specs.Noted.{after_packet, is_le_event, opened_link, two_octets, view_noted, with_link, without_link};
 
 use crate::changes::LinkChange;
 use crate::links::{Asked, Link};
@@ -79,33 +79,37 @@ impl HostView {
         }
     }
 
+    /// Puts a link, or none, under this handle; past the last place it changes nothing.
+    fn set_link(&mut self, handle: u16, link: Option<Link>)
+        ensures { self.new ≡ record self.old { links = slice_set self.old.links handle link } }
+    {
+        let place = usize::from(handle);
+        if place < self.links.len() {
+            self.links[place] = link;
+        }
+    }
+
     /// Takes a link that was opened.
     fn open(&mut self, handle: u16, link: Link)
-        requires { handle < self.old.limit }
         ensures { self.new ≡ with_link handle link self.old }
     {
         match link.role {
             Role::Central => self.initiating = None,
             Role::Peripheral => self.advertising.on = false,
         }
-        self.links[usize::from(handle)] = Some(link);
+        self.set_link(handle, Some(link));
     }
 
     /// Takes that the link with this handle ended.
     fn shut(&mut self, handle: u16)
         ensures { self.new ≡ without_link handle self.old }
     {
-        let place = usize::from(handle);
-        if place < self.links.len() {
-            self.links[place] = None;
-        }
+        self.set_link(handle, None);
     }
 
-    /// Takes a note of the controller. A link is opened only under a handle that the controller can
-    /// hold and that no open link has.
+    /// Takes a note of the controller.
     #[tactic(auto, unfolding(crate::specs::Noted::view_noted))]
     pub fn note(&mut self, note: &Note)
-        requires { HasPlace self.old note.now }
         ensures { self.new ≡ view_noted self.old note.now }
     {
         match note {

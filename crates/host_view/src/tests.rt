@@ -107,3 +107,53 @@ fn a_key_is_asked_for_and_given(rt: HostRuntime) {
     });
     view.address_left(false);
 }
+
+#[test]
+fn channels_of_a_central(rt: HostRuntime) {
+    let all = 0x1F_FFFF_FFFF;
+    let mut view = HostView::new(3);
+    assert_eq!(rt; view.map().bits(), all);
+    for (map, code) in [(0x03, 0x00), (0x01, 0x12), (all + 1, 0x12)] {
+        expect_status(&rt, &view, Command::LeSetChannels { map }, code);
+    }
+    let command = Command::LeSetChannels { map: 0x03 };
+    if status(&view, &command).0 == 0 {
+        view.command(&command);
+    }
+    assert_eq!(rt; view.map().bits(), 0x03);
+    let central = view_with_link(Role::Central);
+    for (map, code) in [(all, 0x00), (0x03, 0x0C), (0x01, 0x12)] {
+        expect_status(&rt, &central, Command::LeSetChannels { map }, code);
+    }
+}
+
+#[test]
+fn accept_list(rt: HostRuntime) {
+    let mut view = HostView::new(3);
+    let add = Command::LeAddToList {
+        kind: 1,
+        address: [1; 6],
+    };
+    if status(&view, &add).0 == 0 {
+        view.command(&add);
+    }
+    let random = Address {
+        random: true,
+        octets: [1; 6],
+    };
+    assert!(rt; view.accept_list().has(random) && !view.accept_list().has(PEER));
+}
+
+#[test]
+fn link_under_a_handle_past_the_last(rt: HostRuntime) {
+    let mut view = HostView::new(3);
+    view.note(&Note::Opened {
+        handle: 6,
+        role: Role::Central,
+        own: Address::default(),
+        peer: PEER,
+    });
+    expect_status(&rt, &view, Command::LeReadPhy { handle: 6 }, 0x02);
+    laws::accepted_parameters_are_in_range();
+    laws::accepted_connection_can_be_made();
+}

@@ -2,16 +2,12 @@
 //! out.
 ghost use Rattle.std.specs.Prelude.{◌≡◌};
 ghost use Rattle.std.specs.List.{list_any};
-ghost use Rattle.host_view.specs.Unbuilt.{is_central_link, turns_on_unbuilt, unbuilt_status_of};
+ghost use Rattle.host_view.specs.Unbuilt.{changes_channels, is_central_link, unbuilt_status_of};
 
 use crate::links::{Link, is_central};
 use crate::view::HostView;
 use ble_base::ErrCode;
 use hci_cmd::Command;
-
-/// Advertising_Type of advertising that is neither connectable nor scannable (Core 5.2, volume 4
-/// part E, section 7.8.5).
-const NONCONNECTABLE: u8 = 3;
 
 fn is_central_link(link: Option<Link>) -> bool
     ensures { result ≡ is_central_link link }
@@ -23,17 +19,18 @@ fn is_central_link(link: Option<Link>) -> bool
 }
 
 impl HostView {
-    fn turns_on_unbuilt(&self, value: u8) -> bool
-        ensures { result ≡ turns_on_unbuilt self.now value }
-    {
-        value == 1 && !self.advertising.on && self.advertising.kind != NONCONNECTABLE
-    }
-
     /// Whether this device is the central of a link.
     fn is_central(&self) -> bool
         ensures { result ≡ list_any is_central_link self.now.links }
     {
         self.links.iter().any(|link| is_central_link(*link))
+    }
+
+    /// Whether this map of channels is not the one that the links of a central use.
+    fn changes_channels(&self, map: u64) -> bool
+        ensures { result ≡ changes_channels self.now map }
+    {
+        self.is_central() && map != self.map.bits()
     }
 }
 
@@ -42,13 +39,6 @@ pub(crate) fn unbuilt_status(view: &HostView, command: &Command) -> ErrCode
     ensures { result.0 ≡ unbuilt_status_of view.now command.now }
 {
     match command {
-        Command::LeSetAdvEnable { value } if view.turns_on_unbuilt(*value) => {
-            ErrCode::UNSUPPORTED_FEATURE_OR_VALUE
-        }
-        Command::LeSetScanParams { kind, policy, .. } if *kind == 1 || *policy == 1 => {
-            ErrCode::UNSUPPORTED_FEATURE_OR_VALUE
-        }
-        Command::LeCreateConnection { .. } => ErrCode::UNSUPPORTED_FEATURE_OR_VALUE,
         Command::Disconnect { .. }
         | Command::ReadRemoteVersion { .. }
         | Command::LeReadRemoteFeatures { .. }
@@ -56,7 +46,9 @@ pub(crate) fn unbuilt_status(view: &HostView, command: &Command) -> ErrCode
         | Command::LeConnectionUpdate { .. }
         | Command::LeSetPhy { .. }
         | Command::LeEnableEncryption { .. } => ErrCode::COMMAND_DISALLOWED,
-        Command::LeSetChannels { .. } if view.is_central() => ErrCode::COMMAND_DISALLOWED,
+        Command::LeSetChannels { map } if view.changes_channels(*map) => {
+            ErrCode::COMMAND_DISALLOWED
+        }
         Command::LeEncrypt { .. }
         | Command::SetHostFlow { .. }
         | Command::HostBufferSize { .. }

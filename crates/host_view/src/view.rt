@@ -3,15 +3,12 @@ ghost use Rattle.std.specs.Prelude.{◌≡◌, ◌≤◌, true};
 ghost use Rattle.host_view.specs.View.{first_view};
 
 use crate::links::Link;
-use arrayvec::ArrayVec;
-use ble_base::Address;
+use ble_base::ChannelMap;
+use scan_init::AcceptList;
 use std::marker::Model;
 
 /// The most links of a controller.
 pub const MOST_LINKS: usize = 6;
-
-/// How many addresses the accept list holds (Core 5.2, volume 4 part E, section 7.8.14).
-pub const ACCEPT_LIST_SIZE: usize = 8;
 
 /// Advertising: whether it is on, and what LE Set Advertising Parameters set last, by the codes of
 /// the standard (Core 5.2, volume 4 part E, section 7.8.5).
@@ -58,7 +55,8 @@ pub struct HostView {
     pub(crate) advertising: Advertising,
     pub(crate) scanning: Scanning,
     pub(crate) initiating: Option<u8>,
-    pub(crate) accepted: ArrayVec<Address, 8>,
+    pub(crate) accepted: AcceptList,
+    pub(crate) map: ChannelMap,
     pub(crate) flow: HostFlow,
     pub(crate) links: [Option<Link>; 6],
     pub(crate) has_address: bool,
@@ -80,7 +78,8 @@ impl Model for HostView {
       advertising = v.advertising;
       scanning = v.scanning;
       initiating = v.initiating;
-      accepted = v.accepted.items;
+      accepted = v.accepted;
+      map = v.map;
       flow = v.flow;
       links = v.links;
       has_address = v.has_address;
@@ -110,7 +109,8 @@ impl HostView {
                 policy: 0,
             },
             initiating: None,
-            accepted: ArrayVec::new(),
+            accepted: AcceptList::new(),
+            map: ChannelMap::default(),
             flow: HostFlow {
                 on: false,
                 acl_length: 251,
@@ -163,6 +163,20 @@ impl HostView {
         ensures { result ≡ self.now.scanning }
     {
         self.scanning
+    }
+
+    /// The accept list (Core 5.2, volume 4 part E, section 7.8.16).
+    pub fn accept_list(&self) -> &AcceptList
+        ensures { result.now ≡ self.now.accepted }
+    {
+        &self.accepted
+    }
+
+    /// The data channels that the host lets be used (Core 5.2, volume 4 part E, section 7.8.19).
+    pub fn map(&self) -> ChannelMap
+        ensures { result ≡ self.now.map }
+    {
+        self.map
     }
 
     /// Whether there is an access address for another link.

@@ -8,8 +8,9 @@ use arrayvec::ArrayVec;
 use ble_base::Address;
 use std::marker::Model;
 
-/// How many addresses the accept list can hold (our choice).
-const ACCEPT_LIST_SIZE: usize = 8;
+/// How many addresses the accept list can hold (Core 5.2, volume 4 part E, section 7.8.14; the
+/// number is our choice).
+pub const ACCEPT_LIST_SIZE: usize = 8;
 
 /// Eight other addresses are in the accept list.
 #[derive(Clone, Copy, Debug, PartialEq, Eq)]
@@ -96,6 +97,13 @@ impl AcceptList {
         ensures { self.new ≡ [] }
     {
         self.addresses.clear();
+    }
+
+    /// Whether eight others are in the list, so that this address cannot be added.
+    pub fn is_full_for(&self, address: Address) -> bool
+        ensures { result ≡ is_full_for self.now address }
+    {
+        self.addresses.is_full() && !self.has(address)
     }
 
     /// Whether the list has this address.

@@ -15,7 +15,7 @@ mod scanner;
 mod tests;
 mod windows;
 
-pub use crate::accept_list::{AcceptList, ListFull};
+pub use crate::accept_list::{ACCEPT_LIST_SIZE, AcceptList, ListFull};
 pub use crate::access::next_access;
 pub use crate::addresses::is_same_address;
 pub use crate::initiator::{InitParams, Initiator};

@@ -125,7 +125,6 @@ impl Scanner {
 
     /// The channel on which it listens in this slot, 37 to 39; None outside its window.
     pub fn wants(&self, slot: SlotNo) -> Option<u8>
-        requires { self.now.since ≤ slot.0 }
         ensures value { result ≡ scan_channel self.now.params.interval self.now.params.window
             self.now.since slot.0 }
         ensures channel { IfSome result (λ channel. channel < 40) }

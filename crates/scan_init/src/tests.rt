@@ -74,6 +74,7 @@ fn accept_list_holds_eight(rt: HostRuntime) {
     for last in 0..8 {
         assert_eq!(rt; list.add(device(last)), Ok(()));
     }
+    assert!(rt; list.is_full_for(device(8)) && !list.is_full_for(device(3)));
     assert_eq!(rt; list.add(device(8)), Err(ListFull));
     assert_eq!(rt; list.add(device(3)), Ok(()));
     let random = Address {
@@ -104,6 +105,7 @@ fn scanner_listens_in_its_window(rt: HostRuntime) {
         let slot = SlotNo(5 + u64::from(elapsed));
         assert_eq!(rt; scanner.wants(slot), channel, "in {slot:?}");
     }
+    assert_eq!(rt; scanner.wants(SlotNo(4)), Some(37));
     assert_eq!(rt; scanner.params().window, 0x10);
     assert_eq!(rt; slots_of(3), 2);
     windows_recur_on_three_channels();

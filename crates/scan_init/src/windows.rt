@@ -19,13 +19,13 @@ pub fn slots_of(units: u16) -> u64
 
 /// The channel on which a scanner or an initiator listens in a slot. The interval and the window
 /// are in units of 0.625 ms; `since` is the slot in which it began.
+/// A slot before that is as that one.
 pub(crate) fn scan_channel(interval: u16, window: u16, since: SlotNo, slot: SlotNo) -> Option<u8>
     requires interval { 1 ≤ interval }
-    requires begun { since.0 ≤ slot.0 }
     ensures value { result ≡ scan_channel interval window since.0 slot.0 }
     ensures channel { IfSome result (λ channel. channel < 40) }
 {
-    let elapsed = slot.0 - since.0;
+    let elapsed = slot.0.saturating_sub(since.0);
     let interval = slots_of(interval);
     if elapsed % interval < slots_of(window) {
         Some(FIRST_ADVERTISING_CHANNEL + (elapsed / interval % CHANNELS) as u8)
