@@ -10,6 +10,7 @@ use Rattle.hci_cmd.specs.declared.command.CmdRead.TheVariants.{Known}
 use Rattle.hci_evt.specs.declared.event.Event.{Event}
 use Rattle.adv_pdu.specs.declared.pdu.ConnectFields.{ConnectFields}
 use Rattle.host_view.specs.Changes.{view_after}
+use Rattle.host_view.specs.Status.{named_address}
 use Rattle.host_view.specs.Unbuilt.{status_of}
 use Rattle.advertise.specs.Advertising.{AdvertiserFacts}
 use Rattle.advertise.specs.Defaults.{no_address}
@@ -34,10 +35,6 @@ random_or_public public (Some random) = record { random = true; octets = random 
 abbrev pub own_address : Setup → Facts → ℕ → Address
 own_address setup facts own = random_or_public setup.public (if own == 1 then facts.view.random else None)
 
--- an address of this type
-abbrev pub address_of : ℕ → List ℕ → Address
-address_of kind octets = record { random = (kind == 1); octets = octets }
-
 -- ---- advertising (sections 7.8.5 to 7.8.9)
 
 -- an advertiser that is turned on where it was off is a new one: its first event is due in the next slot (our choice)
@@ -59,7 +56,7 @@ advertising_after setup facts (LeSetAdvParams min max kind own peer_kind peer ch
         interval = min;
         kind = kind;
         own = no_address;
-        target = address_of peer_kind peer;
+        target = named_address peer_kind peer;
         channels = channels;
         policy = policy;
       };
@@ -135,7 +132,7 @@ fields_given max latency timeout = record {
 
 -- with policy 0 it is to connect to the peer that is named, with policy 1 to any in the accept list
 abbrev pub peer_named : ℕ → ℕ → List ℕ → Option Address
-peer_named policy kind octets = if policy == 0 then Some (address_of kind octets) else None
+peer_named policy kind octets = if policy == 0 then Some (named_address kind octets) else None
 
 abbrev pub initiator_after : Setup → Facts → Command → Option InitiatorFacts
 initiator_after setup facts Reset = None
