@@ -179,9 +179,13 @@ facts_accepted setup facts command = record facts {
 }
 
 -- a refused command changes nothing, and neither does what is no command
+abbrev pub facts_known : Bool → Setup → Facts → Command → Facts
+facts_known false setup facts command = facts
+facts_known true setup facts command = facts_accepted setup facts command
+
 abbrev pub facts_commanded : Setup → Facts → CmdRead → Facts
 facts_commanded setup facts (Known command) =
-    if status_of facts.view command == 0 then facts_accepted setup facts command else facts
+    facts_known (status_of facts.view command == 0) setup facts command
 facts_commanded setup facts other = facts
 
 -- ---- what is noted
@@ -197,12 +201,17 @@ abbrev pub events_caused : Facts → Command → List Event
 events_caused facts LeCreateCancel = connection_failed (wants_enhanced facts.view) 0x02 ∷ []
 events_caused facts other = []
 
-abbrev pub if_accepted : {X : Type 0} → Facts → Command → List X → List X
-if_accepted facts command notes = if status_of facts.view command == 0 then notes else []
+-- a refused command is answered; before the answer to one that is accepted come the links that it shuts, and after it
+-- the events that it causes
+abbrev pub notes_known : Bool → Setup → Facts → ℕ → Command → List Note
+notes_known false setup facts opcode command =
+    notes_of_events facts.view (answer_to setup facts opcode (Known command))
+notes_known true setup facts opcode command =
+    notes_before facts command
+    ++ notes_of_events facts.view (answer_to setup facts opcode (Known command))
+    ++ notes_of_events facts.view (events_caused facts command)
 
 abbrev pub notes_commanded : Setup → Facts → ℕ → CmdRead → List Note
 notes_commanded setup facts opcode (Known command) =
-    if_accepted facts command (notes_before facts command)
-    ++ notes_of_events facts.view (answer_to setup facts opcode (Known command))
-    ++ notes_of_events facts.view (if_accepted facts command (events_caused facts command))
+    notes_known (status_of facts.view command == 0) setup facts opcode command
 notes_commanded setup facts opcode other = notes_of_events facts.view (answer_to setup facts opcode other)
