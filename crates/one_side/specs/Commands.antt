@@ -10,7 +10,10 @@ use Rattle.hci_cmd.specs.declared.command.CmdRead.TheVariants.{Known}
 use Rattle.hci_evt.specs.declared.event.Event.{Event}
 use Rattle.adv_pdu.specs.declared.pdu.ConnectFields.{ConnectFields}
 use Rattle.host_view.specs.Changes.{view_after}
+use Rattle.host_view.specs.View.{View}
+use Rattle.host_view.specs.Status.{named_address}
 use Rattle.host_view.specs.Unbuilt.{status_of}
+use Rattle.advertise.specs.declared.params.AdvParams.{AdvParams}
 use Rattle.advertise.specs.Advertising.{AdvertiserFacts}
 use Rattle.advertise.specs.Defaults.{no_address}
 use Rattle.scan_init.specs.declared.initiator.InitParams.{InitParams}
@@ -31,46 +34,43 @@ abbrev pub random_or_public : List ℕ → Option (List ℕ) → Address
 random_or_public public None = record { random = false; octets = public }
 random_or_public public (Some random) = record { random = true; octets = random }
 
-abbrev pub own_address : Setup → Facts → ℕ → Address
-own_address setup facts own = random_or_public setup.public (if own == 1 then facts.view.random else None)
-
--- an address of this type
-abbrev pub address_of : ℕ → List ℕ → Address
-address_of kind octets = record { random = (kind == 1); octets = octets }
+abbrev pub own_address : Setup → View → ℕ → Address
+own_address setup view own = random_or_public setup.public (if own == 1 then view.random else None)
 
 -- ---- advertising (sections 7.8.5 to 7.8.9)
 
 -- an advertiser that is turned on where it was off is a new one: its first event is due in the next slot (our choice)
-abbrev pub advertiser_turned_on : Setup → Facts → AdvertiserFacts
-advertiser_turned_on setup facts = record {
-  params = record facts.advertising.params { own = own_address setup facts facts.view.advertising.own };
-  due = facts.turn.begun;
-}
+abbrev pub advertiser_turned_on : Address → ℕ → AdvParams → AdvertiserFacts
+advertiser_turned_on own slot params = record { params = record params { own = own }; due = slot }
 
-abbrev pub advertiser_enabled : Setup → Facts → ℕ → Option AdvertiserFacts → Option AdvertiserFacts
-advertiser_enabled setup facts value None = if value == 1 then Some (advertiser_turned_on setup facts) else None
-advertiser_enabled setup facts value (Some on) = if value == 1 then Some on else None
+abbrev pub advertiser_enabled : Address → ℕ → AdvParams → ℕ → Option AdvertiserFacts → Option AdvertiserFacts
+advertiser_enabled own slot params value None =
+    if value == 1 then Some (advertiser_turned_on own slot params) else None
+advertiser_enabled own slot params value (Some on) = if value == 1 then Some on else None
 
-abbrev pub advertising_after : Setup → Facts → Command → Advertising
-advertising_after setup facts Reset = first_advertising
-advertising_after setup facts (LeSetAdvParams min max kind own peer_kind peer channels policy) =
-    record facts.advertising {
+-- the next slot is the argument `slot` here and below
+abbrev pub advertising_after : Setup → View → ℕ → Command → Advertising → Advertising
+advertising_after setup view slot Reset advertising = first_advertising
+advertising_after setup view slot (LeSetAdvParams min max kind own peer_kind peer channels policy) advertising =
+    record advertising {
       params = record {
         interval = min;
         kind = kind;
         own = no_address;
-        target = address_of peer_kind peer;
+        target = named_address peer_kind peer;
         channels = channels;
         policy = policy;
       };
     }
-advertising_after setup facts (LeSetAdvData count text) =
-    record facts.advertising { data_octets = take count text }
-advertising_after setup facts (LeSetScanResponse count text) =
-    record facts.advertising { response_octets = take count text }
-advertising_after setup facts (LeSetAdvEnable value) =
-    record facts.advertising { on = advertiser_enabled setup facts value facts.advertising.on }
-advertising_after setup facts other = facts.advertising
+advertising_after setup view slot (LeSetAdvData count text) advertising =
+    record advertising { data_octets = take count text }
+advertising_after setup view slot (LeSetScanResponse count text) advertising =
+    record advertising { response_octets = take count text }
+advertising_after setup view slot (LeSetAdvEnable value) advertising = record advertising {
+  on =
+      advertiser_enabled (own_address setup view view.advertising.own) slot advertising.params value advertising.on;
+}
+advertising_after setup view slot other advertising = advertising
 
 -- the radio is free again where an advertiser that held it is turned off (our choice)
 abbrev pub radio_unadvertised : Activity → Radio → Radio
@@ -79,41 +79,44 @@ radio_unadvertised Advertise radio = free_radio
 radio_unadvertised Scan radio = radio
 radio_unadvertised Initiate radio = radio
 
-abbrev pub radio_after : Facts → Command → Radio
-radio_after facts Reset = free_radio
-radio_after facts (LeSetAdvEnable value) =
-    if value == 1 then facts.radio else radio_unadvertised facts.radio.holder facts.radio
-radio_after facts other = facts.radio
+abbrev pub radio_after : Command → Radio → Radio
+radio_after Reset radio = free_radio
+radio_after (LeSetAdvEnable value) radio = if value == 1 then radio else radio_unadvertised radio.holder radio
+radio_after other radio = radio
 
 -- ---- scanning (sections 7.8.10 and 7.8.11)
 
 -- a scanner that is turned on begins in the next slot, and has reported nothing; policy 1 filters by the accept list
-abbrev pub scanner_turned_on : Setup → Facts → ℕ → ScannerFacts
-scanner_turned_on setup facts duplicates = record {
+abbrev pub scanner_turned_on : Address → (listed once : Bool) → ℕ → Scanning → ScannerFacts
+scanner_turned_on own listed once slot scanning = record {
   params = record {
-    active = facts.scanning.active;
-    interval = facts.scanning.interval;
-    window = facts.scanning.window;
-    own = own_address setup facts facts.view.scanning.own;
-    listed = (facts.view.scanning.policy == 1);
-    once = (duplicates == 1);
+    active = scanning.active;
+    interval = scanning.interval;
+    window = scanning.window;
+    own = own;
+    listed = listed;
+    once = once;
   };
-  since = facts.turn.begun;
+  since = slot;
   recent = [];
 }
 
-abbrev pub scanner_enabled : Setup → Facts → ℕ → ℕ → Option ScannerFacts → Option ScannerFacts
-scanner_enabled setup facts value duplicates None =
-    if value == 1 then Some (scanner_turned_on setup facts duplicates) else None
-scanner_enabled setup facts value duplicates (Some on) = if value == 1 then Some on else None
+abbrev pub scanner_enabled : ScannerFacts → ℕ → Option ScannerFacts → Option ScannerFacts
+scanner_enabled new value None = if value == 1 then Some new else None
+scanner_enabled new value (Some on) = if value == 1 then Some on else None
 
-abbrev pub scanning_after : Setup → Facts → Command → Scanning
-scanning_after setup facts Reset = first_scanning
-scanning_after setup facts (LeSetScanParams kind interval window own policy) =
-    record facts.scanning { active = (kind == 1); interval = interval; window = window }
-scanning_after setup facts (LeSetScanEnable value duplicates) =
-    record facts.scanning { on = scanner_enabled setup facts value duplicates facts.scanning.on }
-scanning_after setup facts other = facts.scanning
+abbrev pub scanning_after : Setup → View → ℕ → Command → Scanning → Scanning
+scanning_after setup view slot Reset scanning = first_scanning
+scanning_after setup view slot (LeSetScanParams kind interval window own policy) scanning =
+    record scanning { active = (kind == 1); interval = interval; window = window }
+scanning_after setup view slot (LeSetScanEnable value duplicates) scanning = record scanning {
+  on =
+      scanner_enabled
+      (scanner_turned_on (own_address setup view view.scanning.own) (view.scanning.policy == 1) (duplicates == 1) slot
+      scanning)
+      value scanning.on;
+}
+scanning_after setup view slot other scanning = scanning
 
 -- ---- initiating (sections 7.8.12 and 7.8.13)
 
@@ -135,50 +138,54 @@ fields_given max latency timeout = record {
 
 -- with policy 0 it is to connect to the peer that is named, with policy 1 to any in the accept list
 abbrev pub peer_named : ℕ → ℕ → List ℕ → Option Address
-peer_named policy kind octets = if policy == 0 then Some (address_of kind octets) else None
+peer_named policy kind octets = if policy == 0 then Some (named_address kind octets) else None
 
-abbrev pub initiator_after : Setup → Facts → Command → Option InitiatorFacts
-initiator_after setup facts Reset = None
-initiator_after setup facts
-    (LeCreateConnection interval window policy peer_kind peer own min max latency timeout lengths) =
+abbrev pub initiator_after : Setup → View → ℕ → Command → Option InitiatorFacts → Option InitiatorFacts
+initiator_after setup view slot Reset initiator = None
+initiator_after setup view slot
+    (LeCreateConnection interval window policy peer_kind peer own min max latency timeout lengths) initiator =
     Some (record {
       params = record {
         interval = interval;
         window = window;
-        own = own_address setup facts own;
+        own = own_address setup view own;
         peer = peer_named policy peer_kind peer;
         link = fields_given max latency timeout;
       };
-      since = facts.turn.begun;
+      since = slot;
     })
-initiator_after setup facts LeCreateCancel = None
-initiator_after setup facts other = facts.initiator
+initiator_after setup view slot LeCreateCancel initiator = None
+initiator_after setup view slot other initiator = initiator
 
 -- ---- all commands
 
-abbrev pub links_after : Facts → Command → Links
-links_after facts Reset = without_links facts.links
-links_after facts other = facts.links
+abbrev pub links_after : Command → Links → Links
+links_after Reset links = without_links links
+links_after other links = links
 
-abbrev pub drawn_after : Facts → Command → ℕ
-drawn_after facts LeRand = facts.drawn + 1
-drawn_after facts other = facts.drawn
+abbrev pub drawn_after : Command → ℕ → ℕ
+drawn_after LeRand drawn = drawn + 1
+drawn_after other drawn = drawn
 
 abbrev pub facts_accepted : Setup → Facts → Command → Facts
 facts_accepted setup facts command = record facts {
   view = view_after facts.view command;
-  drawn = drawn_after facts command;
-  radio = radio_after facts command;
-  advertising = advertising_after setup facts command;
-  scanning = scanning_after setup facts command;
-  initiator = initiator_after setup facts command;
-  links = links_after facts command;
+  drawn = drawn_after command facts.drawn;
+  radio = radio_after command facts.radio;
+  advertising = advertising_after setup facts.view facts.turn.begun command facts.advertising;
+  scanning = scanning_after setup facts.view facts.turn.begun command facts.scanning;
+  initiator = initiator_after setup facts.view facts.turn.begun command facts.initiator;
+  links = links_after command facts.links;
 }
 
 -- a refused command changes nothing, and neither does what is no command
+abbrev pub facts_known : Bool → Setup → Facts → Command → Facts
+facts_known false setup facts command = facts
+facts_known true setup facts command = facts_accepted setup facts command
+
 abbrev pub facts_commanded : Setup → Facts → CmdRead → Facts
 facts_commanded setup facts (Known command) =
-    if status_of facts.view command == 0 then facts_accepted setup facts command else facts
+    facts_known (status_of facts.view command == 0) setup facts command
 facts_commanded setup facts other = facts
 
 -- ---- what is noted
@@ -194,12 +201,17 @@ abbrev pub events_caused : Facts → Command → List Event
 events_caused facts LeCreateCancel = connection_failed (wants_enhanced facts.view) 0x02 ∷ []
 events_caused facts other = []
 
-abbrev pub if_accepted : {X : Type 0} → Facts → Command → List X → List X
-if_accepted facts command notes = if status_of facts.view command == 0 then notes else []
+-- a refused command is answered; before the answer to one that is accepted come the links that it shuts, and after it
+-- the events that it causes
+abbrev pub notes_known : Bool → Setup → Facts → ℕ → Command → List Note
+notes_known false setup facts opcode command =
+    notes_of_events facts.view (answer_to setup facts opcode (Known command))
+notes_known true setup facts opcode command =
+    notes_before facts command
+    ++ notes_of_events facts.view (answer_to setup facts opcode (Known command))
+    ++ notes_of_events facts.view (events_caused facts command)
 
 abbrev pub notes_commanded : Setup → Facts → ℕ → CmdRead → List Note
 notes_commanded setup facts opcode (Known command) =
-    if_accepted facts command (notes_before facts command)
-    ++ notes_of_events facts.view (answer_to setup facts opcode (Known command))
-    ++ notes_of_events facts.view (if_accepted facts command (events_caused facts command))
+    notes_known (status_of facts.view command == 0) setup facts opcode command
 notes_commanded setup facts opcode other = notes_of_events facts.view (answer_to setup facts opcode other)

@@ -32,17 +32,8 @@ use Rattle.one_side.specs.Answers.{next_word}
 use Rattle.one_side.specs.Events.{notes_of_events}
 use Rattle.one_side.specs.Facts.{Setup, Facts}
 use Rattle.one_side.specs.Links.{address_kind, facts_opened, notes_opened}
-use Rattle.one_side.specs.Packets.{facts_doing, pdu_heard}
-
--- what comes of a phase: what is held then, what is noted, and what is done in the next phase
-pub record Outcome : Type 0 where
-  pub facts : Facts
-  pub notes : List Note
-  pub next : Doing
-
--- nothing changes
-abbrev pub goes_on : Facts → Doing → Outcome
-goes_on facts doing = record { facts = facts; notes = []; next = doing }
+use Rattle.one_side.specs.Outcome.{Outcome, goes_on}
+use Rattle.one_side.specs.Packets.{pdu_heard}
 
 -- a link is opened
 abbrev pub opens : LinkSetup → Facts → Outcome
@@ -245,8 +236,3 @@ heard setup (CentralListens handle) octets facts = link_heard handle octets fact
 heard setup (PeripheralListens handle) octets facts = link_heard handle octets facts
 -- where it does not listen nothing is heard
 heard setup doing octets facts = unheard doing facts
-
--- ---- what is held after a phase
-
-abbrev pub facts_passed : Outcome → Facts
-facts_passed outcome = facts_doing outcome.next outcome.facts

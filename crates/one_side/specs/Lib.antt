@@ -6,6 +6,7 @@ pub mod Commands
 pub mod Events
 pub mod Links
 pub mod Packets
+pub mod Outcome
 pub mod Radio
 pub mod Heard
 pub mod Side

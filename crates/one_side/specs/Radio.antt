@@ -21,7 +21,7 @@ use Rattle.one_side.specs.declared.doing.Doing.{Doing}
 use Rattle.one_side.specs.declared.doing.Doing.TheVariants.{Advertises, Scans, Initiates, CentralSends, PeripheralListens, Rests}
 use Rattle.one_side.specs.Facts.{Facts, Radio, Advertising}
 use Rattle.one_side.specs.Links.{facts_ending, notes_ending}
-use Rattle.one_side.specs.Packets.{facts_doing}
+use Rattle.one_side.specs.Outcome.{Outcome, goes_on}
 
 -- ---- what wants the radio in a slot
 
@@ -139,32 +139,38 @@ facts_won slot Initiate facts = facts
 -- ---- a turn begins
 
 -- what wins the slot begins, if anything does
-abbrev pub facts_with_winner : ℕ → Option Activity → Facts → Facts
-facts_with_winner slot None facts = facts_doing Rests facts
-facts_with_winner slot (Some activity) facts = facts_doing (doing_won slot activity facts) (facts_won slot activity facts)
+abbrev pub winner_served : ℕ → Option Activity → Facts → Outcome
+winner_served slot None facts = goes_on facts Rests
+winner_served slot (Some activity) facts = goes_on (facts_won slot activity facts) (doing_won slot activity facts)
 
 -- what holds the radio goes on
-abbrev pub facts_with_radio : Bool → ℕ → Option Activity → Facts → Facts
-facts_with_radio true slot winner facts = facts_doing (doing_held slot facts.radio.holder facts) facts
-facts_with_radio false slot winner facts = facts_with_winner slot winner facts
+abbrev pub radio_served : Bool → ℕ → Option Activity → Facts → Outcome
+radio_served true slot winner facts = goes_on facts (doing_held slot facts.radio.holder facts)
+radio_served false slot winner facts = winner_served slot winner facts
 
 -- with the radio off nothing is done
-abbrev pub facts_served : Bool → ℕ → Option Activity → Facts → Facts
-facts_served false slot winner facts = facts_doing Rests facts
-facts_served true slot winner facts = facts_with_radio (is_held_in facts.radio.hold slot) slot winner facts
+abbrev pub served : Bool → ℕ → Option Activity → Facts → Outcome
+served false slot winner facts = goes_on facts Rests
+served true slot winner facts = radio_served (is_held_in facts.radio.hold slot) slot winner facts
+
+-- the links enter their events, whether they get the radio or not
+abbrev pub facts_entering : ℕ → Facts → Facts
+facts_entering slot facts = record facts { links = links_entered slot facts.links }
+
+abbrev pub entered : Bool → ℕ → Facts → Outcome
+entered on slot facts =
+    record (served on slot (winner_of (plan_in slot facts) slot) (facts_entering slot facts)) {
+      notes = notes_entering slot facts.links;
+    }
 
 abbrev pub turn_begins : ℕ → Facts → Facts
 turn_begins slot facts = record facts { turn = record facts.turn { begun = slot + 1; slot = slot } }
 
--- the links enter their events, whether they get the radio or not
-abbrev pub facts_entered : Bool → ℕ → Facts → Facts
-facts_entered on slot facts =
-    facts_served on slot (winner_of (plan_in slot facts) slot)
-    (record facts { links = links_entered slot facts.links })
+-- what comes of the beginning of a turn: first the links end that are due, and then the others enter their events
+abbrev pub outcome_after_ends : Bool → ℕ → List Note → Facts → Outcome
+outcome_after_ends on slot notes facts =
+    record (entered on slot facts) { notes = notes ++ (entered on slot facts).notes }
 
--- first the links end that are due
-abbrev pub facts_begun : ℕ → Bool → Facts → Facts
-facts_begun slot on facts = facts_entered on slot (turn_begins slot (facts_ending slot facts))
-
-abbrev pub notes_begun : ℕ → Facts → List Note
-notes_begun slot facts = notes_ending slot facts ++ notes_entering slot (facts_ending slot facts).links
+abbrev pub outcome_begun : ℕ → Bool → Facts → Outcome
+outcome_begun slot on facts =
+    outcome_after_ends on slot (notes_ending slot facts) (turn_begins slot (facts_ending slot facts))

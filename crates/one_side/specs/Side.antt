@@ -12,9 +12,10 @@ use Rattle.one_side.specs.Step.{Step, HostOctet, TurnBegins, PacketHeard, Nothin
 use Rattle.one_side.specs.Facts.{Setup, Facts, first_facts}
 use Rattle.one_side.specs.Commands.{facts_commanded, notes_commanded}
 use Rattle.one_side.specs.Events.{notes_of_events}
-use Rattle.one_side.specs.Heard.{Outcome, facts_passed, heard, unheard}
+use Rattle.one_side.specs.Heard.{heard, unheard}
+use Rattle.one_side.specs.Outcome.{Outcome, facts_passed}
 use Rattle.one_side.specs.Packets.{facts_doing}
-use Rattle.one_side.specs.Radio.{facts_begun, notes_begun}
+use Rattle.one_side.specs.Radio.{outcome_begun}
 
 -- ---- an octet of the host
 
@@ -56,7 +57,7 @@ outcome_unheard facts = unheard facts.turn.doing facts
 -- what a controller holds after a step; after a turn the radio is idle until the next one begins
 abbrev pub facts_after : Setup → Facts → Step → Facts
 facts_after setup facts (HostOctet octet) = with_octet octet (facts_fed setup facts (result_of facts.octets octet))
-facts_after setup facts (TurnBegins slot on) = facts_begun slot on facts
+facts_after setup facts (TurnBegins slot on) = facts_passed (outcome_begun slot on facts)
 facts_after setup facts (PacketHeard octets) = facts_passed (outcome_heard setup octets facts)
 facts_after setup facts NothingHeard = facts_passed (outcome_unheard facts)
 facts_after setup facts TurnEnds = facts_doing Rests facts
@@ -64,7 +65,7 @@ facts_after setup facts TurnEnds = facts_doing Rests facts
 -- what it notes in a step
 abbrev pub notes_after : Setup → Facts → Step → List Note
 notes_after setup facts (HostOctet octet) = notes_fed setup facts (result_of facts.octets octet)
-notes_after setup facts (TurnBegins slot on) = notes_begun slot facts
+notes_after setup facts (TurnBegins slot on) = (outcome_begun slot on facts).notes
 notes_after setup facts (PacketHeard octets) = (outcome_heard setup octets facts).notes
 notes_after setup facts NothingHeard = (outcome_unheard facts).notes
 notes_after setup facts TurnEnds = []
