@@ -22,18 +22,21 @@ use Rattle.scan_init.specs.Windows.{scan_channel, slots_of}
 use Rattle.slot_plan.specs.declared.Activity.{Activity}
 use Rattle.slot_plan.specs.declared.Activity.TheVariants.{Link, Advertise, Scan, Initiate}
 use Rattle.slot_plan.specs.Holding.{is_held_in, winner_of}
+use Rattle.one_end.specs.declared.setup.LinkSetup.{LinkSetup}
+use Rattle.one_end.specs.Times.{span_of}
 use Rattle.open_links.specs.declared.ended.LinkEnded.{LinkEnded}
-use Rattle.open_links.specs.OpenLinks.{OpenLink, facts_in, link_at}
+use Rattle.open_links.specs.OpenLinks.{Links, OpenLink, facts_in, link_at, link_served, with_change, with_link}
 use Rattle.open_links.specs.Turns.{links_entered, links_staying}
 use Rattle.one_side.specs.declared.doing.Doing.{Doing}
 use Rattle.one_side.specs.declared.doing.Doing.TheVariants.{Advertises, Scans, Initiates, CentralSends, PeripheralListens, Rests}
 use Rattle.one_side.specs.Step.{Step, HostOctet, TurnBegins, PacketHeard, NothingHeard, TurnEnds}
-use Rattle.one_side.specs.Facts.{Setup, Facts, Radio, first_facts}
+use Rattle.one_side.specs.Facts.{Setup, Facts, Radio, first_facts, free_radio}
 use Rattle.one_side.specs.Commands.{facts_accepted, facts_commanded, facts_known}
-use Rattle.one_side.specs.Links.{ends_in, facts_ending, facts_shut, note_shut, radio_without}
+use Rattle.one_side.specs.Heard.{opens}
+use Rattle.one_side.specs.Links.{ends_in, facts_ending, facts_opened, facts_shut, note_opened, note_shut, radio_without, stopped}
 use Rattle.one_side.specs.Outcome.{facts_passed}
 use Rattle.one_side.specs.Packets.{facts_doing}
-use Rattle.one_side.specs.Radio.{advertises_at, advertises_on, doing_held, doing_won, exchange_begins, exchange_if, facts_entering, facts_won, first_exchange, initiates_on, initiator_channel, outcome_begun, plan_in, radio_served, scanner_channel, scans_on, second_exchange, served, slots_since, turn_begins, winner_served}
+use Rattle.one_side.specs.Radio.{advertises_at, advertises_on, doing_held, doing_won, exchange_begins, exchange_if, facts_entering, facts_won, first_exchange, initiates_on, initiator_channel, outcome_begun, plan_in, radio_held, radio_served, scanner_channel, scans_on, second_exchange, served, served_if_on, slots_since, turn_begins, winner_served}
 use Rattle.one_side.specs.Side.{facts_after, facts_fed, facts_of, result_of, with_octet}
 use Rattle.one_side.proofs.Phases.{EachOutcome, heard_is, unheard_is}
 
@@ -62,6 +65,76 @@ shut_is facts (one ∷ ended) = shut_is (facts_shut facts one) ended
 
 pub ending_is : (slot : ℕ) (facts : Facts) → facts_ending slot facts ≡ facts_ended slot facts
 ending_is slot facts = shut_is (record facts { links = links_staying slot facts.links }) (ends_in slot facts)
+
+-- ---- what wins a slot
+
+abbrev pub links_won : ℕ → Activity → Links → Links
+links_won slot (Link handle) links = with_change handle (link_served slot) links
+links_won slot Advertise links = links
+links_won slot Scan links = links
+links_won slot Initiate links = links
+
+abbrev pub radio_won : ℕ → Activity → Radio → Radio
+radio_won slot (Link handle) radio = radio_held (Link handle) slot span_of
+radio_won slot Advertise radio = radio_held Advertise slot 3
+radio_won slot Scan radio = radio
+radio_won slot Initiate radio = radio
+
+abbrev pub advertiser_won : ℕ → Activity → Option AdvertiserFacts → Option AdvertiserFacts
+advertiser_won slot (Link handle) advertiser = advertiser
+advertiser_won slot Advertise advertiser = served_if_on slot advertiser
+advertiser_won slot Scan advertiser = advertiser
+advertiser_won slot Initiate advertiser = advertiser
+
+abbrev pub facts_winning : ℕ → Activity → Facts → Facts
+facts_winning slot activity facts = record facts {
+  links = links_won slot activity facts.links;
+  radio = radio_won slot activity facts.radio;
+  advertising = record facts.advertising { on = advertiser_won slot activity facts.advertising.on };
+}
+
+pub winning_is : (slot : ℕ) (activity : Activity) (facts : Facts) → facts_won slot activity facts ≡ facts_winning slot activity facts
+winning_is slot (Link handle) facts = refl
+winning_is slot Advertise facts = refl
+winning_is slot Scan facts = refl
+winning_is slot Initiate facts = refl
+
+-- ---- a link that is opened
+
+abbrev pub initiator_stopped : Role → Option InitiatorFacts → Option InitiatorFacts
+initiator_stopped Central initiator = None
+initiator_stopped Peripheral initiator = initiator
+
+abbrev pub advertiser_stopped : Role → Option AdvertiserFacts → Option AdvertiserFacts
+advertiser_stopped Central advertiser = advertiser
+advertiser_stopped Peripheral advertiser = None
+
+abbrev pub radio_stopped : Role → Radio → Radio
+radio_stopped Central radio = radio
+radio_stopped Peripheral radio = free_radio
+
+abbrev pub facts_opening : LinkSetup → Facts → Facts
+facts_opening link facts = record facts {
+  view = view_noted facts.view (note_opened link);
+  links = with_link (record { link = link; opened = facts.turn.slot }) facts.links;
+  radio = radio_stopped link.role facts.radio;
+  advertising = record facts.advertising { on = advertiser_stopped link.role facts.advertising.on };
+  initiator = initiator_stopped link.role facts.initiator;
+}
+
+stopped_is : (role : Role) (facts : Facts) → stopped role facts ≡ record facts {
+  radio = radio_stopped role facts.radio;
+  advertising = record facts.advertising { on = advertiser_stopped role facts.advertising.on };
+  initiator = initiator_stopped role facts.initiator;
+}
+stopped_is Central facts = refl
+stopped_is Peripheral facts = refl
+
+pub opening_is : (link : LinkSetup) (facts : Facts) → facts_opened link facts ≡ facts_opening link facts
+opening_is link facts = stopped_is link.role (record facts {
+  view = view_noted facts.view (note_opened link);
+  links = with_link (record { link = link; opened = facts.turn.slot }) facts.links;
+})
 
 -- ---- what a turn may begin with
 
@@ -147,17 +220,34 @@ held_may slot Initiate facts = tt
 
 -- ---- what keeps a fact
 
--- each command that is read and accepted keeps it, and so does each part of a turn
+-- the steps of a turn are all but an octet of the host
+abbrev pub IsInTurn : Step → Type 0
+IsInTurn (HostOctet octet) = ⊥
+IsInTurn (TurnBegins slot on) = ⊤
+IsInTurn (PacketHeard octets) = ⊤
+IsInTurn NothingHeard = ⊤
+IsInTurn TurnEnds = ⊤
+
+-- each part of a turn keeps it
+pub record IsKeptInTurns (setup : Setup) (fact : Facts → Type 0) : Type 0 where
+  pub ends : (slot : ℕ) (facts : Facts) → fact facts → fact (facts_ended slot facts)
+  pub begins : (slot : ℕ) (facts : Facts) → fact facts → fact (turn_begins slot facts)
+  pub enters : (slot : ℕ) (facts : Facts) → fact facts → fact (facts_entering slot facts)
+  pub wins : (slot : ℕ) (activity : Activity) (facts : Facts) → fact facts → fact (facts_winning slot activity facts)
+  pub does : (doing : Doing) (facts : Facts) → MayBegin doing → fact facts → fact (facts_doing doing facts)
+  pub passes : (facts : Facts) → fact facts → EachOutcome setup facts (λ outcome. fact (facts_passed outcome))
+
+-- and so does each command that is read and accepted
 pub record IsKept (setup : Setup) (fact : Facts → Type 0) : Type 0 where
   pub accepted : (facts : Facts) (opcode : ℕ) (octets : List ℕ) (command : Command) → command_of opcode octets ≡ Known command
       → status_of facts.view command ≡ 0 → fact facts → fact (facts_accepted setup facts command)
   pub octet : (facts : Facts) (octet : ℕ) → fact facts → fact (with_octet octet facts)
-  pub ends : (slot : ℕ) (facts : Facts) → fact facts → fact (facts_ended slot facts)
-  pub begins : (slot : ℕ) (facts : Facts) → fact facts → fact (turn_begins slot facts)
-  pub enters : (slot : ℕ) (facts : Facts) → fact facts → fact (facts_entering slot facts)
-  pub wins : (slot : ℕ) (activity : Activity) (facts : Facts) → fact facts → fact (facts_won slot activity facts)
-  pub does : (doing : Doing) (facts : Facts) → MayBegin doing → fact facts → fact (facts_doing doing facts)
-  pub passes : (facts : Facts) → fact facts → EachOutcome setup facts (λ outcome. fact (facts_passed outcome))
+  pub turns : IsKeptInTurns setup fact
+
+-- a link that is opened, and nothing is done in the next phase
+pub opening_passes : (fact : Facts → Type 0) (link : LinkSetup) (facts : Facts) → fact (facts_doing Rests (facts_opening link facts))
+    → fact (facts_passed (opens link facts))
+opening_passes fact link facts holds = subst (λ (opened : Facts). fact (facts_doing Rests opened)) (sym (opening_is link facts)) holds
 
 is_zero : (status : ℕ) → (status == 0) ≡ true → status ≡ 0
 is_zero status is = elim (eqb_tells status 0) [
@@ -170,32 +260,15 @@ holds_by : (setup : Setup) (fact : Facts → Type 0) (accepted : Bool) (facts : 
 holds_by setup fact true facts command later holds = later refl
 holds_by setup fact false facts command later holds = holds
 
-module _ (setup : Setup) (fact : Facts → Type 0) (kept : IsKept setup fact) where
-  -- ---- an octet of the host
+-- ---- a turn
 
-  holds_read : (facts : Facts) (opcode : ℕ) (octets : List ℕ) (read : CmdRead) → command_of opcode octets ≡ read → fact facts
-      → fact (facts_commanded setup facts read)
-  holds_read facts opcode octets (Known command) is holds =
-      let status = status_of facts.view command in
-      holds_by setup fact (status == 0) facts command
-      (λ accepted. kept.accepted facts opcode octets command is (is_zero status accepted) holds) holds
-  holds_read facts opcode octets UnknownOpcode is holds = holds
-  holds_read facts opcode octets BadLength is holds = holds
-
-  holds_fed : (facts : Facts) (fed : Fed) → fact facts → fact (facts_fed setup facts fed)
-  holds_fed facts (Packet (HostCommand opcode body)) holds = holds_read facts opcode body.items (command_of opcode body.items) refl holds
-  holds_fed facts (Packet (Acl handle start count body)) holds = holds
-  holds_fed facts LostSync holds = holds
-  holds_fed facts More holds = holds
-
-  -- ---- a turn begins
-
+module _ (setup : Setup) (fact : Facts → Type 0) (kept : IsKeptInTurns setup fact) where
   holds_winner : (slot : ℕ) (winner : Option Activity) (facts : Facts) → fact facts
       → fact (facts_passed (winner_served slot winner facts))
   holds_winner slot None facts holds = kept.does Rests facts tt holds
   holds_winner slot (Some activity) facts holds =
       kept.does (doing_won slot activity facts) (facts_won slot activity facts) (won_may slot activity facts)
-      (kept.wins slot activity facts holds)
+      (subst fact (sym (winning_is slot activity facts)) (kept.wins slot activity facts holds))
 
   holds_radio : (held : Bool) (slot : ℕ) (winner : Option Activity) (facts : Facts) → fact facts
       → fact (facts_passed (radio_served held slot winner facts))
@@ -215,17 +288,40 @@ module _ (setup : Setup) (fact : Facts → Type 0) (kept : IsKept setup fact) wh
       holds_served on slot (winner_of (plan_in slot begun) slot) (facts_entering slot begun)
       (kept.enters slot begun (kept.begins slot (facts_ending slot facts) ended))
 
-  -- ---- step by step
+  pub turn_keeps : (facts : Facts) (step : Step) → IsInTurn step → fact facts → fact (facts_after setup facts step)
+  turn_keeps facts (HostOctet octet) turn holds = absurd turn
+  turn_keeps facts (TurnBegins slot on) turn holds = holds_begun slot on facts holds
+  turn_keeps facts (PacketHeard octets) turn holds =
+      heard_is setup facts (λ outcome. fact (facts_passed outcome)) (kept.passes facts holds) facts.turn.doing octets refl
+  turn_keeps facts NothingHeard turn holds =
+      unheard_is setup facts (λ outcome. fact (facts_passed outcome)) (kept.passes facts holds) facts.turn.doing refl
+  turn_keeps facts TurnEnds turn holds = kept.does Rests facts tt holds
+
+-- ---- all steps
+
+module _ (setup : Setup) (fact : Facts → Type 0) (kept : IsKept setup fact) where
+  holds_read : (facts : Facts) (opcode : ℕ) (octets : List ℕ) (read : CmdRead) → command_of opcode octets ≡ read → fact facts
+      → fact (facts_commanded setup facts read)
+  holds_read facts opcode octets (Known command) is holds =
+      let status = status_of facts.view command in
+      holds_by setup fact (status == 0) facts command
+      (λ accepted. kept.accepted facts opcode octets command is (is_zero status accepted) holds) holds
+  holds_read facts opcode octets UnknownOpcode is holds = holds
+  holds_read facts opcode octets BadLength is holds = holds
+
+  holds_fed : (facts : Facts) (fed : Fed) → fact facts → fact (facts_fed setup facts fed)
+  holds_fed facts (Packet (HostCommand opcode body)) holds = holds_read facts opcode body.items (command_of opcode body.items) refl holds
+  holds_fed facts (Packet (Acl handle start count body)) holds = holds
+  holds_fed facts LostSync holds = holds
+  holds_fed facts More holds = holds
 
   pub holds_step : (facts : Facts) (step : Step) → fact facts → fact (facts_after setup facts step)
   holds_step facts (HostOctet octet) holds =
       kept.octet (facts_fed setup facts (result_of facts.octets octet)) octet (holds_fed facts (result_of facts.octets octet) holds)
-  holds_step facts (TurnBegins slot on) holds = holds_begun slot on facts holds
-  holds_step facts (PacketHeard octets) holds =
-      heard_is setup facts (λ outcome. fact (facts_passed outcome)) (kept.passes facts holds) facts.turn.doing octets refl
-  holds_step facts NothingHeard holds =
-      unheard_is setup facts (λ outcome. fact (facts_passed outcome)) (kept.passes facts holds) facts.turn.doing refl
-  holds_step facts TurnEnds holds = kept.does Rests facts tt holds
+  holds_step facts (TurnBegins slot on) holds = turn_keeps setup fact kept.turns facts (TurnBegins slot on) tt holds
+  holds_step facts (PacketHeard octets) holds = turn_keeps setup fact kept.turns facts (PacketHeard octets) tt holds
+  holds_step facts NothingHeard holds = turn_keeps setup fact kept.turns facts NothingHeard tt holds
+  holds_step facts TurnEnds holds = turn_keeps setup fact kept.turns facts TurnEnds tt holds
 
   holds_from : (facts : Facts) (past : List Step) → fact facts → fact (fold (facts_after setup) facts past)
   holds_from facts [] holds = holds

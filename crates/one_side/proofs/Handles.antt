@@ -33,7 +33,7 @@ use Rattle.one_side.specs.Packets.{facts_doing, links_sending}
 use Rattle.one_side.specs.Radio.{facts_won}
 use Rattle.one_side.specs.Outcome.{facts_passed}
 use Rattle.one_side.specs.Side.{facts_of}
-use Rattle.one_side.proofs.Always.{IsKept, MayBegin, always}
+use Rattle.one_side.proofs.Always.{IsKept, MayBegin, always, links_won, opening_passes}
 use Rattle.one_side.proofs.Phases.{EachOutcome}
 
 -- ---- changes of links that open none
@@ -157,17 +157,11 @@ command_opens : (command : Command) (links : Links) → OpensNone links (links_a
 command_opens Reset links = reset_opens links
 command_opens other links = nothing_opens links
 
-won_opens : (slot : ℕ) (activity : Activity) (facts : Facts) → OpensNone facts.links (facts_won slot activity facts).links
-won_opens slot (Link handle) facts = change_opens handle (link_served slot) facts.links (λ link. refl)
-won_opens slot Advertise facts = nothing_opens facts.links
-won_opens slot Scan facts = nothing_opens facts.links
-won_opens slot Initiate facts = nothing_opens facts.links
-
-won_doing : (slot : ℕ) (activity : Activity) (facts : Facts) → (facts_won slot activity facts).turn ≡ facts.turn
-won_doing slot (Link handle) facts = refl
-won_doing slot Advertise facts = refl
-won_doing slot Scan facts = refl
-won_doing slot Initiate facts = refl
+won_opens : (slot : ℕ) (activity : Activity) (links : Links) → OpensNone links (links_won slot activity links)
+won_opens slot (Link handle) links = change_opens handle (link_served slot) links (λ link. refl)
+won_opens slot Advertise links = nothing_opens links
+won_opens slot Scan links = nothing_opens links
+won_opens slot Initiate links = nothing_opens links
 
 begin_new : (links : Links) (doing : Doing) → MayBegin doing → IsNew links doing
 begin_new links (Connects channel link) may = absurd may
@@ -183,16 +177,11 @@ opened_fits : (setup : Setup) (link : LinkSetup) (facts : Facts) → HaveOwnHand
     → HaveOwnHandles setup (facts_passed (opens link facts))
 opened_fits setup link facts fits =
     let opened : EndSetup = record { link = link; opened = facts.turn.slot } in
-    role_fits link.role (count_opening opened facts.links ∙ fits.many) (opened_has opened facts.links fits.handles)
-  where
-    role_fits : (role : Role) → length (with_link (record { link = link; opened = facts.turn.slot }) facts.links) ≡ setup.links
-        → HaveHandles 0 (with_link (record { link = link; opened = facts.turn.slot }) facts.links)
-        → HaveOwnHandles setup (facts_doing Rests (stopped role (record facts {
-          view = view_noted facts.view (note_opened link);
-          links = with_link (record { link = link; opened = facts.turn.slot }) facts.links;
-        })))
-    role_fits Central many handles = record { many = many; handles = handles; new = tt }
-    role_fits Peripheral many handles = record { many = many; handles = handles; new = tt }
+    opening_passes (HaveOwnHandles setup) link facts (record {
+      many = count_opening opened facts.links ∙ fits.many;
+      handles = opened_has opened facts.links fits.handles;
+      new = tt;
+    })
 
 asks_fits : (setup : Setup) (asks : Bool) (channel : ℕ) (pdu : AdvPdu) (facts : Facts) → length facts.links ≡ setup.links
     → HaveHandles 0 facts.links → HaveOwnHandles setup (facts_doing (asks_if asks channel pdu) facts)
@@ -233,13 +222,14 @@ handles_kept setup = record {
   accepted = λ facts opcode octets command is accepted fits.
       fits_still setup facts _ (command_opens command facts.links) refl fits;
   octet = λ facts octet fits. record { many = fits.many; handles = fits.handles; new = fits.new };
-  ends = λ slot facts fits. fits_still setup facts _ (staying_opens slot facts.links) refl fits;
-  begins = λ slot facts fits. record { many = fits.many; handles = fits.handles; new = fits.new };
-  enters = λ slot facts fits. fits_still setup facts _ (entering_opens slot facts.links) refl fits;
-  wins = λ slot activity facts fits.
-      fits_still setup facts _ (won_opens slot activity facts) (ap (λ (turn : Turn). turn.doing) (won_doing slot activity facts)) fits;
-  does = λ doing facts may fits. fits_doing setup doing facts fits.many fits.handles (begin_new facts.links doing may);
-  passes = λ facts fits. passes_fits setup facts fits;
+  turns = record {
+    ends = λ slot facts fits. fits_still setup facts _ (staying_opens slot facts.links) refl fits;
+    begins = λ slot facts fits. record { many = fits.many; handles = fits.handles; new = fits.new };
+    enters = λ slot facts fits. fits_still setup facts _ (entering_opens slot facts.links) refl fits;
+    wins = λ slot activity facts fits. fits_still setup facts _ (won_opens slot activity facts.links) refl fits;
+    does = λ doing facts may fits. fits_doing setup doing facts fits.many fits.handles (begin_new facts.links doing may);
+    passes = λ facts fits. passes_fits setup facts fits;
+  };
 }
 
 pub own_handles : (setup : Setup) (past : List Step) → HaveOwnHandles setup (facts_of setup past)

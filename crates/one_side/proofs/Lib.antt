@@ -3,4 +3,9 @@ pub mod Pasts
 pub mod Phases
 pub mod Always
 pub mod Handles
+pub mod TurnNotes
 pub mod NotedLinks
+pub mod AnsweredOnce
+pub mod Feds
+pub mod InOrder
+pub mod Opcodes

@@ -6,4 +6,7 @@ mod doing;
 mod laws;
 
 pub use crate::doing::{Doing, Turn};
-pub use crate::laws::{notes_name_links_of_the_controller, past_grows};
+pub use crate::laws::{
+    commands_are_answered_in_order, each_command_is_answered_once,
+    notes_name_links_of_the_controller, past_grows, refused_command_changes_nothing,
+};
