@@ -9,3 +9,4 @@ pub mod AnsweredOnce
 pub mod Feds
 pub mod InOrder
 pub mod Opcodes
+pub mod Rands

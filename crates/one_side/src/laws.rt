@@ -1,23 +1,29 @@
 //! Laws of one controller. The bodies only call the laws that they rest on: the contracts are the
 //! laws.
-ghost use Rattle.std.specs.Prelude.{◌≡◌, ◌≢◌, ◌↔◌, ◌<◌, ◌^◌, ℕ, true, false};
+ghost use Rattle.std.specs.Prelude.{◌≡◌, ◌≢◌, ◌↔◌, ◌<◌, ◌+◌, ◌^◌, ℕ, true, false};
 ghost use Rattle.std.specs.Prelude.{All, List, [], ◌∷◌, ◌++◌, map};
 ghost use Rattle.ble_base.specs.declared.notes.Note.TheVariants.{Up};
 ghost use Rattle.h4_frames.specs.Frames.{frames};
+ghost use Rattle.h4_frames.specs.declared.packet.HostPacket.TheVariants.{Command as HostCommand};
+ghost use Rattle.h4_frames.specs.declared.packet.Fed.TheVariants.{Packet};
+ghost use Rattle.wire_fields.specs.Field.{little_endian};
 ghost use Rattle.hci_cmd.specs.declared.command.Command.{Command};
+ghost use Rattle.hci_cmd.specs.declared.command.Command.TheVariants.{LeRand};
 ghost use Rattle.hci_cmd.specs.declared.command.CmdRead.{CmdRead};
 ghost use Rattle.hci_cmd.specs.declared.command.CmdRead.TheVariants.{Known};
 ghost use Rattle.hci_evt.specs.Event.{written};
 ghost use Rattle.hci_evt.specs.declared.event.Event.{Event};
 ghost use Rattle.host_view.specs.Unbuilt.{status_of};
 ghost use Rattle.host_view.specs.View.{View};
-ghost use Rattle.one_side.specs.Step.{Step};
+ghost use Rattle.one_side.specs.Step.{Step, HostOctet};
 ghost use Rattle.one_side.specs.Facts.{Setup, Facts};
 ghost use Rattle.one_side.specs.Answers.{AreOneAnswer, HasNoAnswer, IsAnswerTo, answer_to};
+ghost use Rattle.one_side.specs.Answers.{complete_answer, next_word};
 ghost use Rattle.one_side.specs.Commands.{facts_commanded};
 ghost use Rattle.one_side.specs.Events.{notes_of_events};
-ghost use Rattle.one_side.specs.Side.{facts_after, facts_of, notes_after, notes_of};
-ghost use Rattle.one_side.specs.Host.{commands_of, host_octets, is_answered, opcodes_in};
+ghost use Rattle.one_side.specs.Side.{facts_after, facts_of, notes_after, notes_of, result_of};
+ghost use Rattle.one_side.specs.Host.{commands_accepted, commands_of, host_octets, is_answered};
+ghost use Rattle.one_side.specs.Host.{le_rand_count, opcodes_in};
 ghost use Rattle.one_side.specs.Host.{opcodes_of, with_answer};
 ghost use Rattle.one_side.specs.Notes.{HasHandleBelow, answers_among, as_two_octets, one_further};
 
@@ -71,4 +77,27 @@ pub fn notes_name_links_of_the_controller()
         → All (HasHandleBelow setup.links) (notes_after setup (facts_of setup past) step) }
     ensures all { (setup : Setup) (past : List Step)
         → All (HasHandleBelow setup.links) (notes_of setup past) }
+{}
+
+/// Random words are drawn in order, and then again from the first, whatever comes between, a Reset
+/// too: one for each accepted LE Rand, 2018, which returns it, and one for each CONNECT_IND that
+/// the controller sets out to send. After n words the next one is at the place n, modulo the
+/// number of words.
+pub fn random_words_go_round()
+    ensures drawn { (setup : Setup) (past : List Step)
+        → (facts_of setup past).drawn
+        ≡ le_rand_count setup past + (facts_of setup past).connections }
+    ensures counted { (setup : Setup) (past : List Step) (octet : ℕ)
+        → result_of (facts_of setup past).octets octet
+        ≡ Packet (HostCommand 0x2018 (record { items = [] }))
+        → commands_accepted setup (past ++ HostOctet octet ∷ [])
+        ≡ commands_accepted setup past ++ LeRand ∷ [] }
+    ensures returned { (setup : Setup) (past : List Step) (octet : ℕ)
+        → result_of (facts_of setup past).octets octet
+        ≡ Packet (HostCommand 0x2018 (record { items = [] }))
+        → notes_after setup (facts_of setup past) (HostOctet octet)
+        ≡ Up (record {
+          items = written (complete_answer 0x00 0x2018
+              (little_endian 8 (next_word setup (facts_of setup past).drawn)));
+        }) ∷ [] }
 {}
