@@ -66,11 +66,13 @@ drawn_fed setup facts More = grow_by facts.connections facts.drawn facts.drawn 0
 -- in a turn
 drawn_kept : (setup : Setup) (facts : Facts) → IsKeptInTurns setup (GrowBy facts 0)
 drawn_kept setup facts = record {
-  ends = λ slot next grow. grow;
-  begins = λ slot next grow. grow;
-  enters = λ slot next grow. grow;
-  wins = λ slot activity next grow. grow;
-  does = λ doing next may grow. grow;
+  starts = record {
+    ends = λ slot next grow. grow;
+    begins = λ slot next grow. grow;
+    enters = λ slot next grow. grow;
+    wins = λ slot activity next grow. grow;
+    does = λ doing next may grow. grow;
+  };
   passes = λ next grow. record {
     rests = grow;
     awaits_request = λ channel doing. grow;

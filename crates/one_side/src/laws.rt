@@ -1,11 +1,14 @@
 //! Laws of one controller. The bodies only call the laws that they rest on: the contracts are the
 //! laws.
-ghost use Rattle.std.specs.Prelude.{◌≡◌, ◌≢◌, ◌↔◌, ◌<◌, ◌+◌, ◌^◌, ℕ, true, false};
+ghost use Rattle.std.specs.Prelude.{◌≡◌, ◌≢◌, ◌↔◌, ◌<◌, ◌+◌, ◌^◌, ℕ, Bool, true, false};
+ghost use Rattle.std.specs.Prelude.{if◌then◌else◌};
 ghost use Rattle.std.specs.Prelude.{All, List, [], ◌∷◌, ◌++◌, map};
+ghost use Rattle.ble_base.specs.Bits.{has_bit};
 ghost use Rattle.ble_base.specs.declared.notes.Note.TheVariants.{Up};
 ghost use Rattle.h4_frames.specs.Frames.{frames};
+ghost use Rattle.h4_frames.specs.declared.packet.HostPacket.TheVariants.{Acl};
 ghost use Rattle.h4_frames.specs.declared.packet.HostPacket.TheVariants.{Command as HostCommand};
-ghost use Rattle.h4_frames.specs.declared.packet.Fed.TheVariants.{Packet};
+ghost use Rattle.h4_frames.specs.declared.packet.Fed.TheVariants.{Packet, LostSync};
 ghost use Rattle.wire_fields.specs.Field.{little_endian};
 ghost use Rattle.hci_cmd.specs.declared.command.Command.{Command};
 ghost use Rattle.hci_cmd.specs.declared.command.Command.TheVariants.{LeRand};
@@ -13,6 +16,7 @@ ghost use Rattle.hci_cmd.specs.declared.command.CmdRead.{CmdRead};
 ghost use Rattle.hci_cmd.specs.declared.command.CmdRead.TheVariants.{Known};
 ghost use Rattle.hci_evt.specs.Event.{written};
 ghost use Rattle.hci_evt.specs.declared.event.Event.{Event};
+ghost use Rattle.hci_evt.specs.declared.event.Event.TheVariants.{HardwareError};
 ghost use Rattle.host_view.specs.Unbuilt.{status_of};
 ghost use Rattle.host_view.specs.View.{View};
 ghost use Rattle.one_side.specs.Step.{Step, HostOctet};
@@ -21,11 +25,13 @@ ghost use Rattle.one_side.specs.Answers.{AreOneAnswer, HasNoAnswer, IsAnswerTo, 
 ghost use Rattle.one_side.specs.Answers.{complete_answer, next_word};
 ghost use Rattle.one_side.specs.Commands.{facts_commanded};
 ghost use Rattle.one_side.specs.Events.{notes_of_events};
-ghost use Rattle.one_side.specs.Side.{facts_after, facts_of, notes_after, notes_of, result_of};
-ghost use Rattle.one_side.specs.Host.{commands_accepted, commands_of, host_octets, is_answered};
-ghost use Rattle.one_side.specs.Host.{le_rand_count, opcodes_in};
-ghost use Rattle.one_side.specs.Host.{opcodes_of, with_answer};
-ghost use Rattle.one_side.specs.Notes.{HasHandleBelow, answers_among, as_two_octets, one_further};
+ghost use Rattle.one_side.specs.Side.{facts_after, facts_of, notes_after, notes_fed};
+ghost use Rattle.one_side.specs.Side.{notes_of, result_of};
+ghost use Rattle.one_side.specs.Host.{HeardNothing, commands_accepted, commands_of, host_octets};
+ghost use Rattle.one_side.specs.Host.{is_answered, le_rand_count, opcodes_in, opcodes_of};
+ghost use Rattle.one_side.specs.Host.{with_answer};
+ghost use Rattle.one_side.specs.Notes.{HadNoLink, HasHandleBelow, answers_among, answers_of};
+ghost use Rattle.one_side.specs.Notes.{as_two_octets, one_further, without_le_events};
 
 /// With one more step, a controller holds what that step makes of what it held, and has noted what
 /// that step adds to what it had noted.
@@ -68,6 +74,28 @@ pub fn commands_are_answered_in_order()
         → notes_of_events view (event ∷ []) ≡ Up (record { items = written event }) ∷ [] }
     ensures unanswered { (facts : Facts) (read : CmdRead)
         → (is_answered facts read ≡ false) ↔ HasNoAnswer facts read }
+{}
+
+/// A host is answered as if no turn came between its octets, packet by packet. While nothing was
+/// heard it receives nothing else; after that, while no link was opened and none was to be made, LE
+/// events may come between the answers. ACL data has no answer, and a loss of synchronisation is
+/// reported as Hardware Error 01 exactly where bit 15 of the mask is set.
+pub fn a_host_is_answered_whatever_the_turns()
+    ensures alone { (setup : Setup) (past : List Step) → HeardNothing past
+        → notes_of setup past ≡ notes_of setup (map HostOctet (host_octets past)) }
+    ensures beside { (setup : Setup) (past : List Step) → HadNoLink setup past
+        → without_le_events (notes_of setup past)
+        ≡ without_le_events (notes_of setup (map HostOctet (host_octets past))) }
+    ensures by_frames { (setup : Setup) (octets : List ℕ)
+        → notes_of setup (map HostOctet octets) ≡ answers_of setup (frames octets) }
+    ensures acl { (setup : Setup) (facts : Facts) (handle count : ℕ) (start : Bool)
+        (octets : List ℕ)
+        → notes_fed setup facts (Packet (Acl handle start count (record { items = octets })))
+        ≡ [] }
+    ensures loss { (setup : Setup) (facts : Facts)
+        → notes_fed setup facts LostSync
+        ≡ (if has_bit facts.view.mask 15
+        then Up (record { items = written (HardwareError 0x01) }) ∷ [] else []) }
 {}
 
 /// Each note names a link of the controller, by a handle below the number of links that it can
