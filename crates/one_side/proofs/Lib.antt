@@ -14,3 +14,5 @@ pub mod Alike
 pub mod NoLinks
 pub mod Alone
 pub mod ByFrames
+pub mod Understood
+pub mod SixOctets
