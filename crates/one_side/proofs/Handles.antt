@@ -48,7 +48,7 @@ nothing_opens : (links : Links) → OpensNone links links
 nothing_opens links = record { many = refl; handles = λ have. have; free = λ handle none. none }
 
 -- a change of each place
-map_keeps : (change : Option OpenLink → Option OpenLink) → change None ≡ None → (first handle : ℕ) (links : Links)
+pub map_keeps : (change : Option OpenLink → Option OpenLink) → change None ≡ None → (first handle : ℕ) (links : Links)
     → link_from first handle links ≡ None → link_from first handle (map change links) ≡ None
 map_keeps change none first handle [] free = refl
 map_keeps change none first handle (place ∷ links) free =

@@ -16,3 +16,7 @@ pub mod Alone
 pub mod ByFrames
 pub mod Understood
 pub mod SixOctets
+pub mod DataChannels
+pub mod LinkFields
+pub mod Accepted
+pub mod Sent

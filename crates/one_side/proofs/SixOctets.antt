@@ -25,7 +25,7 @@ six_taken start octets room = length-take-le 6 (drop start octets) (omega (arith
 
 -- ---- in commands: a random address, and the target of directed advertising
 
-abbrev SixOf : Command → Type 0
+abbrev pub SixOf : Command → Type 0
 SixOf (LeSetRandomAddress address) = length address ≡ 6
 SixOf (LeSetAdvParams min max kind own peer_kind peer channels policy) = length peer ≡ 6
 SixOf other = ⊤
