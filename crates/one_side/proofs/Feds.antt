@@ -117,7 +117,7 @@ octets_kept setup octets = record {
   };
 }
 
-turn_octets : (setup : Setup) (facts : Facts) (step : Step) → IsInTurn step → (facts_after setup facts step).octets ≡ facts.octets
+pub turn_octets : (setup : Setup) (facts : Facts) (step : Step) → IsInTurn step → (facts_after setup facts step).octets ≡ facts.octets
 turn_octets setup facts step turn = turn_keeps setup (Has facts.octets) (Has facts.octets) (octets_kept setup facts.octets) facts step turn refl
 
 framed_turn : (setup : Setup) (facts next : Facts) (past : List Step) → next.octets ≡ facts.octets

@@ -20,3 +20,4 @@ pub mod DataChannels
 pub mod LinkFields
 pub mod Accepted
 pub mod Sent
+pub mod LeftOn

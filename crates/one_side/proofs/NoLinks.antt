@@ -38,7 +38,7 @@ pub command_none : (command : Command) (links : Links) → AreNone links → Are
 command_none Reset links none = reset_none links
 command_none other links none = none
 
-none_map : (change : Option OpenLink → Option OpenLink) → change None ≡ None → (links : Links) → AreNone links → map change links ≡ links
+pub none_map : (change : Option OpenLink → Option OpenLink) → change None ≡ None → (links : Links) → AreNone links → map change links ≡ links
 none_map change is [] none = refl
 none_map change is (None ∷ links) none = λ i. is i ∷ none_map change is links none i
 none_map change is (Some link ∷ links) none = absurd none

@@ -11,5 +11,6 @@ pub mod Radio
 pub mod Heard
 pub mod Side
 pub mod Sent
+pub mod Intervals
 pub mod Host
 pub mod Notes
