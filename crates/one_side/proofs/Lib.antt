@@ -21,3 +21,4 @@ pub mod LinkFields
 pub mod Accepted
 pub mod Sent
 pub mod LeftOn
+pub mod Lengths

@@ -1,6 +1,6 @@
 //! Laws of one controller. The bodies only call the laws that they rest on: the contracts are the
 //! laws.
-ghost use Rattle.std.specs.Prelude.{◌≡◌, ◌≢◌, ◌↔◌, ◌<◌, ◌+◌, ◌^◌, ◌⊎◌, ℕ, Bool, true, false};
+ghost use Rattle.std.specs.Prelude.{◌≡◌, ◌≢◌, ◌↔◌, ◌<◌, ◌≤◌, ◌+◌, ◌^◌, ◌⊎◌, ℕ, Bool, true, false};
 ghost use Rattle.std.specs.Prelude.{if◌then◌else◌};
 ghost use Rattle.std.specs.Prelude.{All, List, [], ◌∷◌, ◌++◌, Some, length, map};
 ghost use Rattle.ble_base.specs.Bits.{has_bit};
@@ -14,7 +14,7 @@ ghost use Rattle.h4_frames.specs.declared.packet.HostPacket.TheVariants.{Command
 ghost use Rattle.h4_frames.specs.declared.packet.Fed.TheVariants.{Packet, LostSync};
 ghost use Rattle.wire_fields.specs.Field.{little_endian};
 ghost use Rattle.hci_cmd.specs.declared.command.Command.{Command};
-ghost use Rattle.hci_cmd.specs.declared.command.Command.TheVariants.{LeRand};
+ghost use Rattle.hci_cmd.specs.declared.command.Command.TheVariants.{LeRand, LeSetAdvParams};
 ghost use Rattle.hci_cmd.specs.declared.command.CmdRead.{CmdRead};
 ghost use Rattle.hci_cmd.specs.declared.command.CmdRead.TheVariants.{Known};
 ghost use Rattle.hci_evt.specs.Event.{written};
@@ -22,6 +22,8 @@ ghost use Rattle.hci_evt.specs.declared.event.Event.{Event};
 ghost use Rattle.hci_evt.specs.declared.event.Event.TheVariants.{HardwareError};
 ghost use Rattle.host_view.specs.Unbuilt.{status_of};
 ghost use Rattle.host_view.specs.View.{View};
+ghost use Rattle.advertise.specs.Advertising.{AdvertiserFacts};
+ghost use Rattle.scan_init.specs.Windows.{slots_of};
 ghost use Rattle.one_side.specs.Step.{Step, HostOctet};
 ghost use Rattle.one_side.specs.Facts.{Setup, Facts, Sends};
 ghost use Rattle.one_side.specs.Answers.{AreOneAnswer, HasNoAnswer, IsAnswerTo, answer_to};
@@ -32,6 +34,8 @@ ghost use Rattle.one_side.specs.Packets.{advertising_packet, pdu_heard, verdict_
 ghost use Rattle.one_side.specs.Side.{facts_after, facts_of, notes_after, notes_fed};
 ghost use Rattle.one_side.specs.Side.{notes_of, result_of};
 ghost use Rattle.one_side.specs.Sent.{IsAdvertisingPacket, IsLinkPacket};
+ghost use Rattle.one_side.specs.Intervals.{IsLeftOn, doing_at, doing_between, facts_in_turn};
+ghost use Rattle.one_side.specs.Intervals.{place_within};
 ghost use Rattle.one_side.specs.Host.{HeardNothing, commands_accepted, commands_of, host_octets};
 ghost use Rattle.one_side.specs.Host.{is_answered, le_rand_count, opcodes_in, opcodes_of};
 ghost use Rattle.one_side.specs.Host.{with_answer};
@@ -154,4 +158,23 @@ pub fn what_is_sent_is_a_pdu()
     ensures { (setup : Setup) (past : List Step) (channel : ℕ) (octets : List ℕ)
         → length setup.public ≡ 6 → (facts_of setup past).wanted ≡ Sends channel octets
         → IsAdvertisingPacket channel octets ⊎ IsLinkPacket (facts_of setup past) channel octets }
+{}
+
+/// An advertiser that is left on in a controller with no link, with the radio on, is in an event in
+/// the first three slots of each interval and in no others. In these it transmits on the channels
+/// that it uses and is idle on the others; between events the scanner has the radio in its windows,
+/// or else the initiator in its own. An interval that a host may set has 16 slots or more, and so
+/// has the interval of an advertiser at any time.
+pub fn an_advertiser_keeps_its_interval()
+    ensures slots { (start : ℕ) (advertiser : AdvertiserFacts) (turns : ℕ → Facts)
+        → IsLeftOn start advertiser turns → 3 ≤ slots_of advertiser.params.interval → (n : ℕ)
+        → (facts_in_turn (start + n) (turns n)).turn.doing
+        ≡ doing_at (doing_between (start + n) (turns n)) advertiser.params.channels
+        (place_within (slots_of advertiser.params.interval) n) }
+    ensures may_be_set { (view : View) (min max kind own peer_kind : ℕ) (peer : List ℕ)
+        (channels policy : ℕ)
+        → status_of view (LeSetAdvParams min max kind own peer_kind peer channels policy) ≡ 0
+        → 16 ≤ slots_of min }
+    ensures at_any_time { (setup : Setup) (past : List Step) (on : AdvertiserFacts)
+        → (facts_of setup past).advertising.on ≡ Some on → 16 ≤ slots_of on.params.interval }
 {}
