@@ -2,8 +2,8 @@
 use Rattle.std.proofs.Common.{◌≡◌, ℕ, ◌+◌, List, [], ◌∷◌, ◌++◌, Option, None, refl, sym, ap, subst, ◌∙◌}
 use Rattle.ble_base.specs.declared.roles.Side.TheVariants.{A, B}
 use Rattle.ble_base.specs.declared.notes.Note.{Note}
-use Rattle.one_side.specs.Facts.{Setup}
-use Rattle.one_side.specs.Radio.{Use, use_of}
+use Rattle.one_side.specs.Facts.{Setup, Use}
+use Rattle.one_side.specs.Packets.{use_of}
 use Rattle.one_side.specs.Side.{facts_of}
 use Rattle.one_side.specs.Step.{Step}
 use Rattle.controller.specs.Knowing.{Knows}

@@ -3,8 +3,9 @@ use Rattle.std.proofs.Common.{◌≡◌, ℕ, zero, suc, ◌+◌, ◌-◌, ◌<�
 use Rattle.std.specs.Prelude.{nat_lt, nat_le, List, ⊤}
 use Rattle.std.proofs.lemmas.Bool.{ltb-true}
 use Rattle.ble_base.specs.Bits.{has_bit}
-use Rattle.one_side.specs.Facts.{Setup, Facts, Advertiser, Scanner}
-use Rattle.one_side.specs.Radio.{Activity, Advertises, Scans, Rests, Use, Sends, Listens, Idle, activity_in, activity_of, advertising_or, advertising_place, place_by, scanning, scanning_channel, scans_on, slots_of, use_in, use_of}
+use Rattle.one_side.specs.Facts.{Setup, Facts, Advertiser, Scanner, Use, Sends, Listens, Idle}
+use Rattle.one_side.specs.Packets.{use_of}
+use Rattle.one_side.specs.Radio.{Activity, Advertises, Scans, Rests, activity_in, activity_of, advertising_or, advertising_place, place_by, scanning, scanning_channel, scans_on, slots_of, use_in}
 
 abbrev IsPlace : Option ℕ → Type 0
 IsPlace None = ⊤

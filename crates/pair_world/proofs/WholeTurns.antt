@@ -6,8 +6,8 @@ use Rattle.ble_base.specs.declared.notes.Note.{Note}
 use Rattle.journal.specs.declared.entries.Entry.{Entry}
 use Rattle.journal.specs.declared.entries.Entry.TheVariants.{Turn}
 use Rattle.radio_replay.specs.Script.{Turn as ScriptTurn}
-use Rattle.one_side.specs.Facts.{Setup}
-use Rattle.one_side.specs.Radio.{Use, use_of}
+use Rattle.one_side.specs.Facts.{Setup, Use}
+use Rattle.one_side.specs.Packets.{use_of}
 use Rattle.one_side.specs.Side.{facts_of}
 use Rattle.one_side.specs.Step.{Step, TurnBegins, TurnEnds}
 use Rattle.controller.specs.Knowing.{Knows}

@@ -3,7 +3,7 @@ use Rattle.std.proofs.Common.{inl, inr, sym, ap, ◌∙◌}
 use Rattle.std.specs.Option.{option_and_then}
 use Rattle.adv_pdu.specs.Reading.{read_of}
 use Rattle.air_frame.specs.declared.Heard.{Heard}
-use Rattle.one_side.specs.Heard.{pdu_by}
+use Rattle.one_side.specs.Packets.{pdu_by}
 use Rattle.runs.specs.Links.{begins_link, is_connect_ind}
 use Rattle.pair_world.proofs.connect_inds.has_connect_ind.Goals as goal
 

@@ -10,8 +10,9 @@ use Rattle.frame_bits.specs.Whitening.{mask_of, next_mask, whitening_bit, whiten
 use Rattle.air_frame.specs.Hearing.{heard_in}
 use Rattle.adv_pdu.specs.Header.{kept_bits}
 use Rattle.adv_pdu.specs.Reading.{read_of}
-use Rattle.one_side.specs.Radio.{activity_of, advertisement_on, use_of}
-use Rattle.one_side.specs.Heard.{advertisement_heard, verdict_of}
+use Rattle.one_side.specs.Packets.{use_of, verdict_of}
+use Rattle.one_side.specs.Radio.{activity_of, advertisement_on}
+use Rattle.one_side.specs.Heard.{advertisement_heard}
 use Rattle.one_side.specs.Side.{facts_of, result_of}
 use Rattle.runs.specs.History.{fates_used, packet_received, packets_on_air, turns_begun}
 use Rattle.runs.specs.Links.{begins_link}
