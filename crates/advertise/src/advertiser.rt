@@ -115,6 +115,14 @@ impl AdvOff {
         self.params = params;
     }
 
+    /// Its parameters.
+    pub fn params(&self) -> AdvParams
+        ensures value { result ≡ self.now }
+        ensures fits { (1 ≤ result.interval) × (is_supported result.kind ≡ true) }
+    {
+        self.params
+    }
+
     /// Turns it on. Its first event is due in this slot.
     pub fn enable(self, slot: SlotNo) -> AdvOn
         ensures { result ≡ record { params = self; due = slot.0 } }
@@ -144,7 +152,8 @@ impl AdvOn {
 
     /// Its parameters.
     pub fn params(&self) -> AdvParams
-        ensures { result ≡ self.now.params }
+        ensures value { result ≡ self.now.params }
+        ensures fits { (1 ≤ result.interval) × (is_supported result.kind ≡ true) }
     {
         self.params
     }

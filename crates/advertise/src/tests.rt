@@ -50,6 +50,7 @@ fn advertiser_is_due_every_interval(rt: HostRuntime) {
     assert_eq!(rt; off, AdvOff::default());
     let params = params();
     off.set(params);
+    assert_eq!(rt; off.params(), params);
     let mut on = off.enable(SlotNo(7));
     for due in [7, 23, 39] {
         assert_eq!(rt; on.due(), SlotNo(due));

@@ -8,7 +8,7 @@ ghost use Rattle.one_end.specs.Step.{Step};
 ghost use Rattle.one_end.specs.Events.{anchor_of, entries_in};
 ghost use Rattle.open_links.specs.OpenLinks.{Links, OpenLink, HaveHandles, IsFreeHandle, free_from};
 ghost use Rattle.open_links.specs.OpenLinks.{link_after, link_at, link_served, new_link};
-ghost use Rattle.open_links.specs.OpenLinks.{with_change, with_link, without_link};
+ghost use Rattle.open_links.specs.OpenLinks.{with_change, with_link, without_link, without_links};
 ghost use Rattle.open_links.specs.Turns.{HandlesAscend, IsAmong, ends_from, is_anchor};
 ghost use Rattle.open_links.specs.Turns.{links_entered, links_staying, place_staying, reason_at};
 ghost use Rattle.open_links.specs.Slots.{Exchange, IsOnTime, link_through};
@@ -71,6 +71,23 @@ pub fn each_link_has_its_own_handle()
         → HaveHandles 0 (links_staying slot links) }
     ensures entering { (slot : ℕ) (links : Links) → HaveHandles 0 links
         → HaveHandles 0 (links_entered slot links) }
+{}
+
+/// There are as many places as at first: each call keeps their number.
+#[tactic(auto, using(crate::proofs::Counts::counts))]
+pub fn each_call_keeps_the_places()
+    ensures at_first { (n : ℕ) (place : Option OpenLink) → length (replicate n place) ≡ n }
+    ensures opening { (setup : Setup) (links : Links)
+        → length (with_link setup links) ≡ length links }
+    ensures shutting { (handle : ℕ) (links : Links)
+        → length (without_link handle links) ≡ length links }
+    ensures changing { (handle : ℕ) (change : OpenLink → OpenLink) (links : Links)
+        → length (with_change handle change links) ≡ length links }
+    ensures ending { (slot : ℕ) (links : Links)
+        → length (links_staying slot links) ≡ length links }
+    ensures entering { (slot : ℕ) (links : Links)
+        → length (links_entered slot links) ≡ length links }
+    ensures resetting { (links : Links) → length (without_links links) ≡ length links }
 {}
 
 /// A link enters each event in the slot of its anchor, whether it wants the radio or not. At the

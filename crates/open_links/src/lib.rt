@@ -13,8 +13,8 @@ mod using;
 pub use crate::ended::LinkEnded;
 pub use crate::ending::MOST_LINKS;
 pub use crate::laws::{
-    a_change_leaves_other_links, a_link_enters_each_event, each_link_has_its_own_handle,
-    links_end_where_due, new_handle_is_free_and_least,
+    a_change_leaves_other_links, a_link_enters_each_event, each_call_keeps_the_places,
+    each_link_has_its_own_handle, links_end_where_due, new_handle_is_free_and_least,
 };
 pub use crate::links::OpenLinks;
 pub use link_end::{LinkEnd, LinkSetup, LinkStep};

@@ -3,7 +3,8 @@ ghost use Rattle.std.specs.Prelude.{◌≡◌, ◌<◌, ◌^◌};
 
 use crate::{
     LinkEnded, LinkSetup, OpenLinks, a_change_leaves_other_links, a_link_enters_each_event,
-    each_link_has_its_own_handle, links_end_where_due, new_handle_is_free_and_least,
+    each_call_keeps_the_places, each_link_has_its_own_handle, links_end_where_due,
+    new_handle_is_free_and_least,
 };
 use adv_pdu::ConnectFields;
 use arrayvec::ArrayVec;
@@ -125,6 +126,7 @@ fn handles_are_the_least_free_ones(rt: HostRuntime) -> Result<(), Fail> {
     assert_eq!(rt; links.free_handle(), Some(0));
     new_handle_is_free_and_least();
     a_change_leaves_other_links();
+    each_call_keeps_the_places();
     each_link_has_its_own_handle();
     Ok(())
 }

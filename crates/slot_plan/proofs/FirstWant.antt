@@ -1,10 +1,11 @@
 -- Of some wants one comes first.
 use Rattle.std.proofs.Common.{◌≡◌, ℕ, suc, nat_lt, nat_eq, Bool, true, false, ◌||◌, ◌&&◌, List, [], ◌∷◌, get_or}
-use Rattle.std.proofs.Common.{refl, arith}
+use Rattle.std.proofs.Common.{◌↔◌, Option, Some, None, IsNone, IfSome, if◌then◌else◌, refl, ap, arith, rules}
+use Rattle.std.specs.Option.{option_map}
 use Rattle.std.proofs.lemmas.List.Elements.{All-nil, All-cons}
 use Rattle.slot_plan.specs.declared.activities.Activity.{Activity}
 use Rattle.slot_plan.specs.declared.wants.Want.{Want}
-use Rattle.slot_plan.specs.Winner.{class_of, is_before, IsFirst, IsWinner}
+use Rattle.slot_plan.specs.Winner.{class_of, first_activity, first_of, is_before, IsFirst, IsWinner}
 
 -- less by a number, or equal in it and less by what comes next
 abbrev is_less : ℕ → ℕ → Bool → Bool
@@ -27,35 +28,40 @@ not_before_earlier a b c h k =
 
 -- the first of one want more, by whether that comes before the first of the others
 with_one_more : (test : Bool) (want first : Want) (wants : List Want)
-    → is_before want first ≡ test → IsFirst wants first → (new : Want) × IsFirst (want ∷ wants) new
-with_one_more true want first wants e g = (
-  want,
-  record {
-    wants_it = (0, omega arith, refl);
-    none_before =
-        All-cons (λ other. is_before other want ≡ false) want wants (not_before_itself want)
-        (λ k d h. not_before_earlier (get_or wants k d) first want (g.none_before k d h) e);
-  },
-)
-with_one_more false want first wants e g = (
-  first,
-  record {
-    wants_it = (suc g.wants_it.0, omega (arith, g.wants_it.1), g.wants_it.2);
-    none_before = All-cons (λ other. is_before other first ≡ false) want wants e g.none_before;
-  },
-)
+    → is_before want first ≡ test → IsFirst wants first → IsFirst (want ∷ wants) (if test then want else first)
+with_one_more true want first wants e g = record {
+  wants_it = (0, omega arith, refl);
+  none_before =
+      All-cons (λ other. is_before other want ≡ false) want wants (not_before_itself want)
+      (λ k d h. not_before_earlier (get_or wants k d) first want (g.none_before k d h) e);
+}
+with_one_more false want first wants e g = record {
+  wants_it = (suc g.wants_it.0, omega (arith, g.wants_it.1), g.wants_it.2);
+  none_before = All-cons (λ other. is_before other first ≡ false) want wants e g.none_before;
+}
 
-first_exists : (want : Want) (wants : List Want) → (first : Want) × IsFirst (want ∷ wants) first
-first_exists want [] = (
-  want,
-  record {
-    wants_it = (0, omega arith, refl);
-    none_before = All-cons (λ other. is_before other want ≡ false) want [] (not_before_itself want) (All-nil _);
-  },
-)
-first_exists want (next ∷ wants) =
-    let rest = first_exists next wants in
-    with_one_more (is_before want rest.0) want rest.0 (next ∷ wants) refl rest.1
+first_is_first : (want : Want) (wants : List Want) → IsFirst (want ∷ wants) (first_of want wants)
+first_is_first want [] = record {
+  wants_it = (0, omega arith, refl);
+  none_before = All-cons (λ other. is_before other want ≡ false) want [] (not_before_itself want) (All-nil _);
+}
+first_is_first want (next ∷ wants) =
+    with_one_more (is_before want (first_of next wants)) want (first_of next wants) (next ∷ wants) refl
+    (first_is_first next wants)
 
 pub winner_of_wants : (want : Want) (wants : List Want) → (a : Activity) × IsWinner (want ∷ wants) a
-winner_of_wants want wants = let first = first_exists want wants in (first.0.activity, (first.0, first.1, refl))
+winner_of_wants want wants = ((first_of want wants).activity, (first_of want wants, first_is_first want wants, refl))
+
+-- no two activities win
+one_wins : (wants : List Want) (a b : Activity) → IsWinner wants a → IsWinner wants b → a ≡ b
+one_wins wants a b one other = search rules
+
+-- one that is found to be the first, if there is one, is the one that is computed
+pub found_is_first : (wants : List Want) (found : Option Want) → (IsNone found ↔ (wants ≡ [])) → IfSome found (IsFirst wants)
+    → option_map (λ want. want.activity) found ≡ first_activity wants
+found_is_first [] None none some = refl
+found_is_first (want ∷ wants) None none some = absurd (let h = none.0 refl in cc)
+found_is_first [] (Some found) none some = absurd (let h = none.1 refl in cc)
+found_is_first (want ∷ wants) (Some found) none some =
+    ap Some
+    (one_wins (want ∷ wants) found.activity (first_of want wants).activity (found, some, refl) (first_of want wants, first_is_first want wants, refl))

@@ -1,5 +1,5 @@
 -- Which of the activities that want a slot has the radio in it (our choice: Core 5.2, volume 6 part B, leaves it open).
-use Rattle.std.specs.Prelude.{◌≡◌, ℕ, Bool, false, ◌&&◌, ◌||◌, ◌==◌, nat_lt, List}
+use Rattle.std.specs.Prelude.{◌≡◌, ℕ, Bool, false, ◌&&◌, ◌||◌, ◌==◌, nat_lt, List, [], ◌∷◌, Option, Some, None, if◌then◌else◌}
 use Rattle.std.specs.List.{All, Contains}
 use Rattle.slot_plan.specs.declared.activities.Activity.{Activity}
 use Rattle.slot_plan.specs.declared.activities.Activity.TheVariants.{Link, Advertise, Scan, Initiate}
@@ -34,3 +34,15 @@ pub record IsFirst (wants : List Want) (first : Want) : Type 0 where
 -- the activity of such a one has the radio
 abbrev pub IsWinner : List Want → Activity → Type 0
 IsWinner wants activity = (first : Want) × IsFirst wants first × (first.activity ≡ activity)
+
+-- the same computed: the first of two, of one and of others, and the activity of the first of all
+abbrev pub earlier_of : Want → Want → Want
+earlier_of want other = if is_before want other then want else other
+
+abbrev pub first_of : Want → List Want → Want
+first_of want [] = want
+first_of want (next ∷ wants) = earlier_of want (first_of next wants)
+
+abbrev pub first_activity : List Want → Option Activity
+first_activity [] = None
+first_activity (want ∷ wants) = Some (first_of want wants).activity

@@ -2,9 +2,9 @@
 ghost use Rattle.std.specs.Prelude.{◌≡◌, ◌<◌, [], ◌∷◌, ◌++◌, ◌⊎◌, ◌↔◌, length};
 ghost use Rattle.std.specs.Prelude.{Some, None, IsNone, IsTrue, IfSome};
 ghost use Rattle.slot_plan.specs.Winner.{IsWinner};
-ghost use Rattle.slot_plan.specs.Holding.{PlanFacts, IsHeld};
+ghost use Rattle.slot_plan.specs.Holding.{PlanFacts, IsHeld, is_held_in, winner_of};
 
-use crate::wants::first_of;
+use crate::wants::first_activity;
 use crate::{Activity, Want};
 use arrayvec::ArrayVec;
 use ble_base::SlotNo;
@@ -22,7 +22,8 @@ pub struct Hold {
 impl Hold {
     /// Whether this slot is one of them.
     fn covers(self, slot: SlotNo) -> bool
-        ensures { IsTrue result ↔ IsHeld (Some self) slot.0 }
+        ensures held { IsTrue result ↔ IsHeld (Some self) slot.0 }
+        ensures value { result ≡ is_held_in (Some self) slot.0 }
     {
         self.from <= slot && slot.0 - self.from.0 < u64::from(self.slots)
     }
@@ -74,18 +75,27 @@ impl Plan {
     pub fn winner(&self, slot: SlotNo) -> Option<Activity>
         ensures none { IsNone result ↔ ((self.now.wants ≡ []) ⊎ IsHeld self.now.hold slot.0) }
         ensures some { IfSome result (IsWinner self.now.wants) }
+        ensures value { result ≡ winner_of self.now slot.0 }
     {
         if self.is_held(slot) {
             return None;
         }
-        first_of(self.wants.as_slice()).map(|want| want.activity)
+        first_activity(self.wants.as_slice())
     }
 
     /// Whether the radio is held in this slot.
-    fn is_held(&self, slot: SlotNo) -> bool
-        ensures { IsTrue result ↔ IsHeld self.now.hold slot.0 }
+    pub fn is_held(&self, slot: SlotNo) -> bool
+        ensures held { IsTrue result ↔ IsHeld self.now.hold slot.0 }
+        ensures value { result ≡ is_held_in self.now.hold slot.0 }
     {
         self.hold.is_some_and(|hold| hold.covers(slot))
+    }
+
+    /// The slots for which the radio is held, if it is.
+    pub fn held(&self) -> Option<Hold>
+        ensures { result ≡ self.now.hold }
+    {
+        self.hold
     }
 
     /// Holds the radio in this number of slots, from this one on, and in no others.

@@ -1,5 +1,5 @@
 //! Winners of a slot, worked out by hand.
-use crate::{Activity, Plan, winner_exists, winner_is_unique};
+use crate::{Activity, Hold, Plan, winner_exists, winner_is_unique};
 use ble_base::SlotNo;
 
 /// The activity that has slot 50, of two that want it. Each comes with the slot in which it was
@@ -36,6 +36,12 @@ fn held_slots_have_no_winner(rt: HostRuntime) {
     let mut plan = Plan::default();
     plan.want(Activity::Advertise, SlotNo(0));
     plan.hold(SlotNo(50), 4);
+    let hold = Hold {
+        from: SlotNo(50),
+        slots: 4,
+    };
+    assert_eq!(rt; plan.held(), Some(hold));
+    assert!(rt; plan.is_held(SlotNo(53)) && !plan.is_held(SlotNo(54)));
     for (slot, is_free) in [(49, true), (50, false), (53, false), (54, true)] {
         assert_eq!(rt;
             plan.winner(SlotNo(slot)).is_some(),

@@ -1,6 +1,6 @@
 //! An activity that wants a slot, and which of several comes first.
 ghost use Rattle.std.specs.Prelude.{◌≡◌, [], IfSome, IsNone, ◌↔◌};
-ghost use Rattle.slot_plan.specs.Winner.{class_of, handle_of, IsFirst};
+ghost use Rattle.slot_plan.specs.Winner.{class_of, first_activity, handle_of, IsFirst, IsWinner};
 
 use crate::Activity;
 use ble_base::SlotNo;
@@ -30,9 +30,19 @@ impl Want {
 }
 
 /// The first of these, if there are any.
-pub(crate) fn first_of(wants: &[Want]) -> Option<Want>
+fn first_of(wants: &[Want]) -> Option<Want>
     ensures none { IsNone result ↔ (wants.now ≡ []) }
     ensures some { IfSome result (IsFirst wants.now) }
 {
     wants.iter().copied().min_by_key(Want::rank)
+}
+
+/// The activity of the first of these, if there are any.
+#[tactic(auto, using(crate::proofs::FirstWant::found_is_first))]
+pub(crate) fn first_activity(wants: &[Want]) -> Option<Activity>
+    ensures none { IsNone result ↔ (wants.now ≡ []) }
+    ensures some { IfSome result (IsWinner wants.now) }
+    ensures value { result ≡ first_activity wants.now }
+{
+    first_of(wants).map(|want| want.activity)
 }
