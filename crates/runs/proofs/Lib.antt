@@ -12,7 +12,7 @@ pub mod Openings
 pub mod Rounds
 pub mod OfStations
 pub mod Journals
-pub mod Stages
+pub mod Parts
 pub mod Ordered
 pub mod EntryEvents
 pub mod Fates

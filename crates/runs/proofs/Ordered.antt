@@ -1,6 +1,6 @@
 -- The entries of a journal are in order.
 use Rattle.std.proofs.Common.{◌≡◌, ℕ, zero, suc, ◌<◌, List, [], ◌∷◌, ◌++◌, refl, sym, ap, subst, ◌∙◌, append-nil, append_assoc, arith}
-use Rattle.std.specs.Prelude.{map, take, Some}
+use Rattle.std.specs.Prelude.{drop, map, take, Some}
 use Rattle.std.specs.List.{IsDistinct}
 use Rattle.radio_replay.specs.Script.{Script}
 use Rattle.one_side.specs.Step.{Step, HostOctet, TurnBegins, TurnEnds}
@@ -155,9 +155,41 @@ first_ordered = record { turns = []; journal_is = refl; in_parts = tt }
 -- ---- a pair
 
 -- the parts that are left where a station is to transmit
-parts_left : ℕ → List ℕ → List Part
-parts_left phases left = []
+record AreLeft (given : Given) (phases : ℕ) (done : List ℕ) : Type 0 where
+  pub left : List Part
+  pub parts_are : turn_parts ≡ (parts_begun given phases ++ sendings done) ++ left
+
+first_left : (a b : List ℕ) (script : Script) (phases : ℕ) → phases < 3 → AreLeft (given_of a b script) phases []
+first_left a b script zero few = record { left = drop 4 turn_parts; parts_are = refl }
+first_left a b script (suc zero) few = record { left = drop 8 turn_parts; parts_are = refl }
+first_left a b script (suc (suc zero)) few = record { left = drop 12 turn_parts; parts_are = refl }
+first_left a b script (suc (suc (suc phases))) few = absurd (omega (arith, few))
+
+second_left : (a b : List ℕ) (script : Script) (phases : ℕ) → phases < 3 → AreLeft (given_of a b script) phases (0 ∷ [])
+second_left a b script zero few = record { left = drop 5 turn_parts; parts_are = refl }
+second_left a b script (suc zero) few = record { left = drop 9 turn_parts; parts_are = refl }
+second_left a b script (suc (suc zero)) few = record { left = drop 13 turn_parts; parts_are = refl }
+second_left a b script (suc (suc (suc phases))) few = absurd (omega (arith, few))
+
+pair_left : (a b : List ℕ) (script : Script) (phases : ℕ) (done left : List ℕ) (station : ℕ) → (given_of a b script).stations ≡ done ++ station ∷ left → phases < 3
+    → AreLeft (given_of a b script) phases done
+pair_left a b script phases [] left station are few = first_left a b script phases few
+pair_left a b script phases (first ∷ []) left station are few =
+    let same : 0 ≡ first = cc in
+    subst (λ one. AreLeft (given_of a b script) phases (one ∷ [])) same (second_left a b script phases few)
+pair_left a b script phases (first ∷ second ∷ []) left station are few = absurd cc
+pair_left a b script phases (first ∷ second ∷ third ∷ done) left station are few = absurd cc
 
 pub pair_distinct : (a b : List ℕ) (script : Script) → AreDistinct (given_of a b script).stations
 unfolding IsDistinct
 pair_distinct a b script = ((refl, tt), (tt, tt))
+
+pub pair_in_order : (a b : List ℕ) (script : Script) → IsInOrder (journal_of (history_of (run_of (given_of a b script))))
+pair_in_order a b script =
+    let given = given_of a b script in
+    ends_with (run_of given) (IsWhole given (IsOrderedSoFar given)) (IsStopped given (IsOrderedSoFar given)) (λ history. IsInOrder (journal_of history))
+    (run_kept given (IsOrderedSoFar given) (ordered_kept given refl) (record { phase = tt; stands = first_ordered }))
+    (λ history whole. whole.is.stands)
+    (λ history stop stopped.
+    let left = pair_left a b script stopped.phases stopped.done stopped.left stop.sender stopped.stations_are stopped.kept.phase in
+    turn_stops (parts_begun given stopped.phases ++ sendings stopped.done) left.left (journal_of history) left.parts_are stopped.kept.stands)

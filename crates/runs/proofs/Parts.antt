@@ -27,7 +27,7 @@ more_parts (first ∷ parts) [] part entries all is = absurd all
 more_parts (first ∷ parts) (some ∷ others) part entries all is = (all.0, more_parts parts others part entries all.1 is)
 
 -- parts that are left over have no entries
-nothing_for : List Part → List (List Entry)
+abbrev nothing_for : List Part → List (List Entry)
 nothing_for parts = map (λ part. []) parts
 
 left_parts : (parts left : List Part) (others : List (List Entry)) → AreOfParts parts others → AreOfParts (parts ++ left) (others ++ nothing_for left)
