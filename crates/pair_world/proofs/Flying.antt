@@ -207,7 +207,7 @@ received_here station verdict good is = (λ i. (same_number station i && is_good
 same_use : (given : Given) (station : ℕ) (before after : List Event) → past_of station after ≡ past_of station before
     → use_at given station after ≡ use_at given station before
 same_use given station before after past =
-    ap (λ (steps : List Step). use_of (setup_at given station) (facts_of (setup_at given station) steps)) past
+    ap (λ (steps : List Step). use_of (facts_of (setup_at given station) steps)) past
 
 -- ---- a packet is on the air
 

@@ -27,8 +27,8 @@ use Rattle.pair_world.specs.Wishes.{heard_of}
 -- the verdict of a listener on a packet that is on the air with this fate
 abbrev pub verdict_by : Fate → Setup → List Step → ℕ → List ℕ → Verdict
 verdict_by fate setup past channel octets =
-    verdict_where (reaches fate channel (channel_listened (use_of setup (facts_of setup past))))
-    setup (facts_of setup past) (damaged_packet fate octets)
+    verdict_where (reaches fate channel (channel_listened (use_of (facts_of setup past)))) (facts_of setup past)
+    (damaged_packet fate octets)
 
 -- the packet is changed, and has the verdict good
 abbrev pub goes_unseen : Fate → Verdict → List ℕ → Bool
