@@ -1,7 +1,10 @@
--- A fact of the view and of the advertiser that accepted commands and turns keep holds at any time.
-use Rattle.std.proofs.Common.{◌≡◌, ℕ, ◌==◌, Bool, true, false, List, [], ◌∷◌, inl, inr, cond, refl, sym, ◌∙◌}
-use Rattle.std.specs.Prelude.{fold}
-use Rattle.std.proofs.lemmas.Bool.Decides.{eqb_tells}
+-- A fact of what a controller holds is true at any time if each kind of change keeps it.
+use Rattle.std.proofs.Common.{◌≡◌, ℕ, ◌+◌, ◌-◌, ◌/◌, ◌%◌, ◌≤◌, ◌<◌, ◌==◌, Bool, true, false, Option, Some, None, List, [], ◌∷◌, inl, inr, cond, refl, sym, subst, ◌∙◌, arith}
+use Rattle.std.specs.Prelude.{fold, nat_lt, ⊤}
+use Rattle.std.proofs.lemmas.Bool.Decides.{eqb_tells, nat_tests}
+use Rattle.ble_base.specs.Bits.{has_bit}
+use Rattle.ble_base.specs.declared.roles.Role.{Role}
+use Rattle.ble_base.specs.declared.roles.Role.TheVariants.{Central, Peripheral}
 use Rattle.h4_frames.specs.declared.packet.HostPacket.TheVariants.{Command as HostCommand, Acl}
 use Rattle.h4_frames.specs.declared.packet.Fed.{Fed}
 use Rattle.h4_frames.specs.declared.packet.Fed.TheVariants.{More, Packet, LostSync}
@@ -9,22 +12,242 @@ use Rattle.hci_cmd.specs.declared.command.Command.{Command}
 use Rattle.hci_cmd.specs.declared.command.CmdRead.{CmdRead}
 use Rattle.hci_cmd.specs.declared.command.CmdRead.TheVariants.{Known, UnknownOpcode, BadLength}
 use Rattle.hci_cmd.specs.Command.{command_of}
+use Rattle.advertise.specs.Advertising.{AdvertiserFacts, event_channel}
 use Rattle.host_view.specs.View.{View}
-use Rattle.host_view.specs.Changes.{view_after}
+use Rattle.host_view.specs.Noted.{view_noted}
 use Rattle.host_view.specs.Unbuilt.{status_of}
+use Rattle.scan_init.specs.Initiating.{InitiatorFacts}
+use Rattle.scan_init.specs.Reports.{ScannerFacts}
+use Rattle.scan_init.specs.Windows.{scan_channel, slots_of}
+use Rattle.slot_plan.specs.declared.Activity.{Activity}
+use Rattle.slot_plan.specs.declared.Activity.TheVariants.{Link, Advertise, Scan, Initiate}
+use Rattle.slot_plan.specs.Holding.{is_held_in, winner_of}
+use Rattle.one_end.specs.declared.setup.LinkSetup.{LinkSetup}
+use Rattle.one_end.specs.Times.{span_of}
+use Rattle.open_links.specs.declared.ended.LinkEnded.{LinkEnded}
+use Rattle.open_links.specs.OpenLinks.{Links, OpenLink, facts_in, link_at, link_served, with_change, with_link}
+use Rattle.open_links.specs.Turns.{links_entered, links_staying}
+use Rattle.one_side.specs.declared.doing.Doing.{Doing}
+use Rattle.one_side.specs.declared.doing.Doing.TheVariants.{Advertises, Scans, Initiates, CentralSends, PeripheralListens, Rests}
 use Rattle.one_side.specs.Step.{Step, HostOctet, TurnBegins, PacketHeard, NothingHeard, TurnEnds}
-use Rattle.one_side.specs.Facts.{Setup, Facts, Advertiser, first_facts}
-use Rattle.one_side.specs.Commands.{advertiser_after, facts_accepted, facts_commanded}
-use Rattle.one_side.specs.Radio.{advertiser_served}
-use Rattle.one_side.specs.Side.{facts_after, facts_fed, facts_of, result_of}
+use Rattle.one_side.specs.Facts.{Setup, Facts, Radio, first_facts, free_radio}
+use Rattle.one_side.specs.Commands.{facts_accepted, facts_commanded, facts_known}
+use Rattle.one_side.specs.Heard.{opens}
+use Rattle.one_side.specs.Links.{ends_in, facts_ending, facts_opened, facts_shut, note_opened, note_shut, radio_without, stopped}
+use Rattle.one_side.specs.Outcome.{facts_passed}
+use Rattle.one_side.specs.Packets.{facts_doing}
+use Rattle.one_side.specs.Radio.{advertises_at, advertises_on, doing_held, doing_won, exchange_begins, exchange_if, facts_entering, facts_won, first_exchange, initiates_on, initiator_channel, outcome_begun, plan_in, radio_held, radio_served, scanner_channel, scans_on, second_exchange, served, served_if_on, slots_since, turn_begins, winner_served}
+use Rattle.one_side.specs.Side.{facts_after, facts_fed, facts_of, result_of, with_octet}
+use Rattle.one_side.proofs.Phases.{EachOutcome, heard_is, unheard_is}
 
--- each command that is read and accepted keeps the fact, and so does each turn as it begins
-pub record IsKept (fact : View → Advertiser → Type 0) : Type 0 where
+-- ---- links that end
+
+-- the view and the radio after these links ended
+abbrev pub view_shut : View → List LinkEnded → View
+view_shut view [] = view
+view_shut view (one ∷ ended) = view_shut (view_noted view (note_shut one.handle one.reason.0)) ended
+
+abbrev pub radio_shut : Radio → List LinkEnded → Radio
+radio_shut radio [] = radio
+radio_shut radio (one ∷ ended) = radio_shut (radio_without one.handle radio) ended
+
+abbrev pub facts_ended : ℕ → Facts → Facts
+facts_ended slot facts = record facts {
+  view = view_shut facts.view (ends_in slot facts);
+  radio = radio_shut facts.radio (ends_in slot facts);
+  links = links_staying slot facts.links;
+}
+
+shut_is : (facts : Facts) (ended : List LinkEnded)
+    → fold facts_shut facts ended ≡ record facts { view = view_shut facts.view ended; radio = radio_shut facts.radio ended }
+shut_is facts [] = refl
+shut_is facts (one ∷ ended) = shut_is (facts_shut facts one) ended
+
+pub ending_is : (slot : ℕ) (facts : Facts) → facts_ending slot facts ≡ facts_ended slot facts
+ending_is slot facts = shut_is (record facts { links = links_staying slot facts.links }) (ends_in slot facts)
+
+-- ---- what wins a slot
+
+abbrev pub links_won : ℕ → Activity → Links → Links
+links_won slot (Link handle) links = with_change handle (link_served slot) links
+links_won slot Advertise links = links
+links_won slot Scan links = links
+links_won slot Initiate links = links
+
+abbrev pub radio_won : ℕ → Activity → Radio → Radio
+radio_won slot (Link handle) radio = radio_held (Link handle) slot span_of
+radio_won slot Advertise radio = radio_held Advertise slot 3
+radio_won slot Scan radio = radio
+radio_won slot Initiate radio = radio
+
+abbrev pub advertiser_won : ℕ → Activity → Option AdvertiserFacts → Option AdvertiserFacts
+advertiser_won slot (Link handle) advertiser = advertiser
+advertiser_won slot Advertise advertiser = served_if_on slot advertiser
+advertiser_won slot Scan advertiser = advertiser
+advertiser_won slot Initiate advertiser = advertiser
+
+abbrev pub facts_winning : ℕ → Activity → Facts → Facts
+facts_winning slot activity facts = record facts {
+  links = links_won slot activity facts.links;
+  radio = radio_won slot activity facts.radio;
+  advertising = record facts.advertising { on = advertiser_won slot activity facts.advertising.on };
+}
+
+pub winning_is : (slot : ℕ) (activity : Activity) (facts : Facts) → facts_won slot activity facts ≡ facts_winning slot activity facts
+winning_is slot (Link handle) facts = refl
+winning_is slot Advertise facts = refl
+winning_is slot Scan facts = refl
+winning_is slot Initiate facts = refl
+
+-- ---- a link that is opened
+
+abbrev pub initiator_stopped : Role → Option InitiatorFacts → Option InitiatorFacts
+initiator_stopped Central initiator = None
+initiator_stopped Peripheral initiator = initiator
+
+abbrev pub advertiser_stopped : Role → Option AdvertiserFacts → Option AdvertiserFacts
+advertiser_stopped Central advertiser = advertiser
+advertiser_stopped Peripheral advertiser = None
+
+abbrev pub radio_stopped : Role → Radio → Radio
+radio_stopped Central radio = radio
+radio_stopped Peripheral radio = free_radio
+
+abbrev pub facts_opening : LinkSetup → Facts → Facts
+facts_opening link facts = record facts {
+  view = view_noted facts.view (note_opened link);
+  links = with_link (record { link = link; opened = facts.turn.slot }) facts.links;
+  radio = radio_stopped link.role facts.radio;
+  advertising = record facts.advertising { on = advertiser_stopped link.role facts.advertising.on };
+  initiator = initiator_stopped link.role facts.initiator;
+}
+
+stopped_is : (role : Role) (facts : Facts) → stopped role facts ≡ record facts {
+  radio = radio_stopped role facts.radio;
+  advertising = record facts.advertising { on = advertiser_stopped role facts.advertising.on };
+  initiator = initiator_stopped role facts.initiator;
+}
+stopped_is Central facts = refl
+stopped_is Peripheral facts = refl
+
+pub opening_is : (link : LinkSetup) (facts : Facts) → facts_opened link facts ≡ facts_opening link facts
+opening_is link facts = stopped_is link.role (record facts {
+  view = view_noted facts.view (note_opened link);
+  links = with_link (record { link = link; opened = facts.turn.slot }) facts.links;
+})
+
+-- ---- what a turn may begin with
+
+abbrev pub IsAdvertisingChannel : ℕ → Type 0
+IsAdvertisingChannel channel = (37 ≤ channel) × (channel ≤ 39)
+
+-- an advertising channel, or an exchange on a link; no request, no response and no new link
+abbrev pub MayBegin : Doing → Type 0
+MayBegin (Advertises channel) = IsAdvertisingChannel channel
+MayBegin (Scans channel) = IsAdvertisingChannel channel
+MayBegin (Initiates channel) = IsAdvertisingChannel channel
+MayBegin (CentralSends handle) = ⊤
+MayBegin (PeripheralListens handle) = ⊤
+MayBegin Rests = ⊤
+MayBegin other = ⊥
+
+third : (n : ℕ) → (37 ≤ 37 + n % 3) × (37 + n % 3 ≤ 39)
+third n = (omega arith, omega arith)
+
+place_is : (place : ℕ) → nat_lt place 3 ≡ true → place ≤ 2
+place_is place short = grind (arith, nat_tests)
+
+event_may : (listed : Bool) (place : ℕ) → place ≤ 2 → MayBegin (advertises_on (cond listed (Some (37 + place)) None))
+event_may true place short = (omega arith, omega arith)
+event_may false place short = tt
+
+placed_may : (early : Bool) (place channels : ℕ) → nat_lt place 3 ≡ early
+    → MayBegin (cond early (advertises_on (event_channel channels place)) Rests)
+placed_may true place channels is = event_may (has_bit channels place) place (place_is place is)
+placed_may false place channels is = tt
+
+advertises_may : (place : ℕ) (advertiser : Option AdvertiserFacts) → MayBegin (advertises_at place advertiser)
+advertises_may place None = tt
+advertises_may place (Some on) = placed_may (nat_lt place 3) place on.params.channels refl
+
+scans_if : (inside : Bool) (n : ℕ) → MayBegin (scans_on (cond inside (Some (37 + n % 3)) None))
+scans_if true n = third n
+scans_if false n = tt
+
+scans_may : (slot : ℕ) (scanner : Option ScannerFacts) → MayBegin (scans_on (scanner_channel slot scanner))
+scans_may slot None = tt
+scans_may slot (Some on) =
+    scans_if (nat_lt ((slot - on.since) % slots_of on.params.interval) (slots_of on.params.window))
+    ((slot - on.since) / slots_of on.params.interval)
+
+initiates_if : (inside : Bool) (n : ℕ) → MayBegin (initiates_on (cond inside (Some (37 + n % 3)) None))
+initiates_if true n = third n
+initiates_if false n = tt
+
+initiates_may : (slot : ℕ) (initiator : Option InitiatorFacts) → MayBegin (initiates_on (initiator_channel slot initiator))
+initiates_may slot None = tt
+initiates_may slot (Some on) =
+    initiates_if (nat_lt ((slot - on.since) % slots_of on.params.interval) (slots_of on.params.window))
+    ((slot - on.since) / slots_of on.params.interval)
+
+exchange_may : (role : Role) (handle : ℕ) → MayBegin (exchange_begins role handle)
+exchange_may Central handle = tt
+exchange_may Peripheral handle = tt
+
+first_may : (handle : ℕ) (link : Option OpenLink) → MayBegin (first_exchange handle link)
+first_may handle None = tt
+first_may handle (Some link) = exchange_may link.setup.link.role handle
+
+exchange_if_may : (continues : Bool) (role : Role) (handle : ℕ) → MayBegin (exchange_if continues role handle)
+exchange_if_may true role handle = exchange_may role handle
+exchange_if_may false role handle = tt
+
+second_may : (handle : ℕ) (link : Option OpenLink) → MayBegin (second_exchange handle link)
+second_may handle None = tt
+second_may handle (Some link) = exchange_if_may (facts_in link).event.continues link.setup.link.role handle
+
+won_may : (slot : ℕ) (activity : Activity) (facts : Facts) → MayBegin (doing_won slot activity facts)
+won_may slot (Link handle) facts = first_may handle (link_at handle facts.links)
+won_may slot Advertise facts = advertises_may 0 facts.advertising.on
+won_may slot Scan facts = scans_may slot facts.scanning.on
+won_may slot Initiate facts = initiates_may slot facts.initiator
+
+held_may : (slot : ℕ) (activity : Activity) (facts : Facts) → MayBegin (doing_held slot activity facts)
+held_may slot (Link handle) facts = second_may handle (link_at handle facts.links)
+held_may slot Advertise facts = advertises_may (slots_since slot facts.radio.hold) facts.advertising.on
+held_may slot Scan facts = tt
+held_may slot Initiate facts = tt
+
+-- ---- what keeps a fact
+
+-- the steps of a turn are all but an octet of the host
+abbrev pub IsInTurn : Step → Type 0
+IsInTurn (HostOctet octet) = ⊥
+IsInTurn (TurnBegins slot on) = ⊤
+IsInTurn (PacketHeard octets) = ⊤
+IsInTurn NothingHeard = ⊤
+IsInTurn TurnEnds = ⊤
+
+-- each part of a turn keeps it
+pub record IsKeptInTurns (setup : Setup) (fact : Facts → Type 0) : Type 0 where
+  pub ends : (slot : ℕ) (facts : Facts) → fact facts → fact (facts_ended slot facts)
+  pub begins : (slot : ℕ) (facts : Facts) → fact facts → fact (turn_begins slot facts)
+  pub enters : (slot : ℕ) (facts : Facts) → fact facts → fact (facts_entering slot facts)
+  pub wins : (slot : ℕ) (activity : Activity) (facts : Facts) → fact facts → fact (facts_winning slot activity facts)
+  pub does : (doing : Doing) (facts : Facts) → MayBegin doing → fact facts → fact (facts_doing doing facts)
+  pub passes : (facts : Facts) → fact facts → EachOutcome setup facts (λ outcome. fact (facts_passed outcome))
+
+-- and so does each command that is read and accepted
+pub record IsKept (setup : Setup) (fact : Facts → Type 0) : Type 0 where
   pub accepted : (facts : Facts) (opcode : ℕ) (octets : List ℕ) (command : Command) → command_of opcode octets ≡ Known command
-      → status_of facts.view command ≡ 0 → fact facts.view facts.advertiser
-      → fact (view_after facts.view command) (advertiser_after facts command)
-  pub served : (view : View) (on : Bool) (slot : ℕ) (advertiser : Advertiser) → fact view advertiser
-      → fact view (advertiser_served on view.advertising.on slot advertiser)
+      → status_of facts.view command ≡ 0 → fact facts → fact (facts_accepted setup facts command)
+  pub octet : (facts : Facts) (octet : ℕ) → fact facts → fact (with_octet octet facts)
+  pub turns : IsKeptInTurns setup fact
+
+-- a link that is opened, and nothing is done in the next phase
+pub opening_passes : (fact : Facts → Type 0) (link : LinkSetup) (facts : Facts) → fact (facts_doing Rests (facts_opening link facts))
+    → fact (facts_passed (opens link facts))
+opening_passes fact link facts holds = subst (λ (opened : Facts). fact (facts_doing Rests opened)) (sym (opening_is link facts)) holds
 
 is_zero : (status : ℕ) → (status == 0) ≡ true → status ≡ 0
 is_zero status is = elim (eqb_tells status 0) [
@@ -32,42 +255,78 @@ is_zero status is = elim (eqb_tells status 0) [
   | inr other ↦ absurd (let h : true ≡ false = sym is ∙ other.0 in absurd cc)
 ]
 
-abbrev Holds : (View → Advertiser → Type 0) → Facts → Type 0
-Holds fact facts = fact facts.view facts.advertiser
+holds_by : (setup : Setup) (fact : Facts → Type 0) (accepted : Bool) (facts : Facts) (command : Command)
+    → (accepted ≡ true → fact (facts_accepted setup facts command)) → fact facts → fact (facts_known accepted setup facts command)
+holds_by setup fact true facts command later holds = later refl
+holds_by setup fact false facts command later holds = holds
 
-holds_by : (fact : View → Advertiser → Type 0) (accepted : Bool) (one other : Facts) → (accepted ≡ true → Holds fact other) → Holds fact one
-    → Holds fact (cond accepted other one)
-holds_by fact true one other later holds = later refl
-holds_by fact false one other later holds = holds
+-- ---- a turn
 
-module _ (fact : View → Advertiser → Type 0) (kept : IsKept fact) where
-  holds_read : (facts : Facts) (opcode : ℕ) (octets : List ℕ) (read : CmdRead) → command_of opcode octets ≡ read → Holds fact facts
-      → Holds fact (facts_commanded facts read)
+module _ (setup : Setup) (fact : Facts → Type 0) (kept : IsKeptInTurns setup fact) where
+  holds_winner : (slot : ℕ) (winner : Option Activity) (facts : Facts) → fact facts
+      → fact (facts_passed (winner_served slot winner facts))
+  holds_winner slot None facts holds = kept.does Rests facts tt holds
+  holds_winner slot (Some activity) facts holds =
+      kept.does (doing_won slot activity facts) (facts_won slot activity facts) (won_may slot activity facts)
+      (subst fact (sym (winning_is slot activity facts)) (kept.wins slot activity facts holds))
+
+  holds_radio : (held : Bool) (slot : ℕ) (winner : Option Activity) (facts : Facts) → fact facts
+      → fact (facts_passed (radio_served held slot winner facts))
+  holds_radio true slot winner facts holds =
+      kept.does (doing_held slot facts.radio.holder facts) facts (held_may slot facts.radio.holder facts) holds
+  holds_radio false slot winner facts holds = holds_winner slot winner facts holds
+
+  holds_served : (on : Bool) (slot : ℕ) (winner : Option Activity) (facts : Facts) → fact facts
+      → fact (facts_passed (served on slot winner facts))
+  holds_served false slot winner facts holds = kept.does Rests facts tt holds
+  holds_served true slot winner facts holds = holds_radio (is_held_in facts.radio.hold slot) slot winner facts holds
+
+  holds_begun : (slot : ℕ) (on : Bool) (facts : Facts) → fact facts → fact (facts_passed (outcome_begun slot on facts))
+  holds_begun slot on facts holds =
+      let ended = subst fact (sym (ending_is slot facts)) (kept.ends slot facts holds) in
+      let begun = turn_begins slot (facts_ending slot facts) in
+      holds_served on slot (winner_of (plan_in slot begun) slot) (facts_entering slot begun)
+      (kept.enters slot begun (kept.begins slot (facts_ending slot facts) ended))
+
+  pub turn_keeps : (facts : Facts) (step : Step) → IsInTurn step → fact facts → fact (facts_after setup facts step)
+  turn_keeps facts (HostOctet octet) turn holds = absurd turn
+  turn_keeps facts (TurnBegins slot on) turn holds = holds_begun slot on facts holds
+  turn_keeps facts (PacketHeard octets) turn holds =
+      heard_is setup facts (λ outcome. fact (facts_passed outcome)) (kept.passes facts holds) facts.turn.doing octets refl
+  turn_keeps facts NothingHeard turn holds =
+      unheard_is setup facts (λ outcome. fact (facts_passed outcome)) (kept.passes facts holds) facts.turn.doing refl
+  turn_keeps facts TurnEnds turn holds = kept.does Rests facts tt holds
+
+-- ---- all steps
+
+module _ (setup : Setup) (fact : Facts → Type 0) (kept : IsKept setup fact) where
+  holds_read : (facts : Facts) (opcode : ℕ) (octets : List ℕ) (read : CmdRead) → command_of opcode octets ≡ read → fact facts
+      → fact (facts_commanded setup facts read)
   holds_read facts opcode octets (Known command) is holds =
       let status = status_of facts.view command in
-      holds_by fact (status == 0) facts (facts_accepted facts command)
+      holds_by setup fact (status == 0) facts command
       (λ accepted. kept.accepted facts opcode octets command is (is_zero status accepted) holds) holds
   holds_read facts opcode octets UnknownOpcode is holds = holds
   holds_read facts opcode octets BadLength is holds = holds
 
-  holds_fed : (facts : Facts) (fed : Fed) → Holds fact facts → Holds fact (facts_fed facts fed)
+  holds_fed : (facts : Facts) (fed : Fed) → fact facts → fact (facts_fed setup facts fed)
   holds_fed facts (Packet (HostCommand opcode body)) holds = holds_read facts opcode body.items (command_of opcode body.items) refl holds
   holds_fed facts (Packet (Acl handle start count body)) holds = holds
   holds_fed facts LostSync holds = holds
   holds_fed facts More holds = holds
 
-  holds_step : (setup : Setup) (facts : Facts) (step : Step) → Holds fact facts → Holds fact (facts_after setup facts step)
-  holds_step setup facts (HostOctet octet) holds = holds_fed facts (result_of facts.octets octet) holds
-  holds_step setup facts (TurnBegins slot on) holds = kept.served facts.view on slot facts.advertiser holds
-  holds_step setup facts (PacketHeard octets) holds = holds
-  holds_step setup facts NothingHeard holds = holds
-  holds_step setup facts TurnEnds holds = holds
+  pub holds_step : (facts : Facts) (step : Step) → fact facts → fact (facts_after setup facts step)
+  holds_step facts (HostOctet octet) holds =
+      kept.octet (facts_fed setup facts (result_of facts.octets octet)) octet (holds_fed facts (result_of facts.octets octet) holds)
+  holds_step facts (TurnBegins slot on) holds = turn_keeps setup fact kept.turns facts (TurnBegins slot on) tt holds
+  holds_step facts (PacketHeard octets) holds = turn_keeps setup fact kept.turns facts (PacketHeard octets) tt holds
+  holds_step facts NothingHeard holds = turn_keeps setup fact kept.turns facts NothingHeard tt holds
+  holds_step facts TurnEnds holds = turn_keeps setup fact kept.turns facts TurnEnds tt holds
 
-  holds_from : (setup : Setup) (facts : Facts) (past : List Step) → Holds fact facts → Holds fact (fold (facts_after setup) facts past)
-  holds_from setup facts [] holds = holds
-  holds_from setup facts (step ∷ past) holds = holds_from setup (facts_after setup facts step) past (holds_step setup facts step holds)
+  holds_from : (facts : Facts) (past : List Step) → fact facts → fact (fold (facts_after setup) facts past)
+  holds_from facts [] holds = holds
+  holds_from facts (step ∷ past) holds = holds_from (facts_after setup facts step) past (holds_step facts step holds)
 
-  pub always : (setup : Setup) (past : List Step) → fact (first_facts setup).view (first_facts setup).advertiser
-      → fact (facts_of setup past).view (facts_of setup past).advertiser
+  pub always : fact (first_facts setup) → (past : List Step) → fact (facts_of setup past)
   unfolding facts_of
-  always setup past holds = holds_from setup (first_facts setup) past holds
+  always holds past = holds_from (first_facts setup) past holds

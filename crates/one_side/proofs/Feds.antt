@@ -8,14 +8,17 @@ use Rattle.h4_frames.specs.declared.packet.Fed.{Fed}
 use Rattle.h4_frames.specs.declared.packet.Fed.TheVariants.{More, Packet, LostSync}
 use Rattle.h4_frames.specs.Frames.{frames, frame_entry}
 use Rattle.h4_frames.proofs.Feeding.{frames_step}
+use Rattle.hci_cmd.specs.declared.command.Command.{Command}
 use Rattle.hci_cmd.specs.declared.command.CmdRead.{CmdRead}
 use Rattle.hci_cmd.specs.declared.command.CmdRead.TheVariants.{Known, UnknownOpcode, BadLength}
 use Rattle.hci_cmd.specs.Command.{command_of}
 use Rattle.host_view.specs.Unbuilt.{status_of}
 use Rattle.one_side.specs.Step.{Step, HostOctet, TurnBegins, PacketHeard, NothingHeard, TurnEnds}
 use Rattle.one_side.specs.Facts.{Setup, Facts, first_facts}
-use Rattle.one_side.specs.Commands.{facts_accepted, facts_commanded}
+use Rattle.one_side.specs.Commands.{facts_commanded, facts_known}
+use Rattle.one_side.specs.Heard.{link_taken}
 use Rattle.one_side.specs.Side.{facts_after, facts_fed, first_result, result_of}
+use Rattle.one_side.proofs.Always.{IsInTurn, IsKeptInTurns, opening_passes, turn_keeps}
 use Rattle.one_side.specs.Host.{commands_from, commands_in, commands_of, host_octets, opcode_in, opcodes_in, opcodes_of}
 
 first_entry : (place : ℕ) (fed : Fed) → first_result (frame_entry place fed) ≡ fed
@@ -44,23 +47,24 @@ no_frames = refl
 
 -- ---- a packet of the host changes none of its octets
 
-accepted_octets : (accepted : Bool) (one other : Facts) → other.octets ≡ one.octets → (cond accepted other one).octets ≡ one.octets
-accepted_octets true one other same = same
-accepted_octets false one other same = refl
+known_octets : (accepted : Bool) (setup : Setup) (facts : Facts) (command : Command)
+    → (facts_known accepted setup facts command).octets ≡ facts.octets
+known_octets true setup facts command = refl
+known_octets false setup facts command = refl
 
-commanded_octets : (facts : Facts) (read : CmdRead) → (facts_commanded facts read).octets ≡ facts.octets
-commanded_octets facts (Known command) = accepted_octets (status_of facts.view command == 0) facts (facts_accepted facts command) refl
-commanded_octets facts UnknownOpcode = refl
-commanded_octets facts BadLength = refl
+commanded_octets : (setup : Setup) (facts : Facts) (read : CmdRead) → (facts_commanded setup facts read).octets ≡ facts.octets
+commanded_octets setup facts (Known command) = known_octets (status_of facts.view command == 0) setup facts command
+commanded_octets setup facts UnknownOpcode = refl
+commanded_octets setup facts BadLength = refl
 
-pub fed_octets : (facts : Facts) (fed : Fed) → (facts_fed facts fed).octets ≡ facts.octets
-fed_octets facts (Packet (HostCommand opcode body)) = commanded_octets facts (command_of opcode body.items)
-fed_octets facts (Packet (Acl handle start count body)) = refl
-fed_octets facts LostSync = refl
-fed_octets facts More = refl
+pub fed_octets : (setup : Setup) (facts : Facts) (fed : Fed) → (facts_fed setup facts fed).octets ≡ facts.octets
+fed_octets setup facts (Packet (HostCommand opcode body)) = commanded_octets setup facts (command_of opcode body.items)
+fed_octets setup facts (Packet (Acl handle start count body)) = refl
+fed_octets setup facts LostSync = refl
+fed_octets setup facts More = refl
 
 pub more_octets : (setup : Setup) (facts : Facts) (octet : ℕ) → (facts_after setup facts (HostOctet octet)).octets ≡ facts.octets ++ octet ∷ []
-more_octets setup facts octet = ap (λ (octets : List ℕ). octets ++ octet ∷ []) (fed_octets facts (result_of facts.octets octet))
+more_octets setup facts octet = ap (λ (octets : List ℕ). octets ++ octet ∷ []) (fed_octets setup facts (result_of facts.octets octet))
 
 -- ---- the commands of a host are those among its frames
 
@@ -84,13 +88,51 @@ opcodes_more facts octet =
     ∙ opcodes_in-append (frames facts.octets) (frame_entry (length facts.octets + 1) (result_of facts.octets octet))
     ∙ ap (λ (rest : List ℕ). opcodes_in (frames facts.octets) ++ rest) (opcodes_entry facts (length facts.octets + 1) (result_of facts.octets octet))
 
+-- nor does a turn
+octets_kept : (setup : Setup) (octets : List ℕ) → IsKeptInTurns setup (λ (facts : Facts). facts.octets ≡ octets)
+octets_kept setup octets = record {
+  ends = λ slot facts is. is;
+  begins = λ slot facts is. is;
+  enters = λ slot facts is. is;
+  wins = λ slot activity facts is. is;
+  does = λ doing facts may is. is;
+  passes = λ facts is. record {
+    rests = is;
+    awaits_request = λ channel doing. is;
+    awaits_response = λ channel advertiser doing. is;
+    central_listens = λ handle doing. is;
+    sent = λ channel link doing. opening_passes (λ (facts : Facts). facts.octets ≡ octets) link facts is;
+    responds = λ channel on doing is_on. is;
+    taken = λ channel heard pdu on fields handle is_on hears takes free. opening_passes (λ (facts : Facts). facts.octets ≡ octets) (link_taken on.params.own pdu fields handle) facts is;
+    scanned = λ channel heard pdu on doing is_on hears. is;
+    answered = λ channel heard pdu on doing is_on hears. is;
+    connects = λ channel heard pdu on access handle doing is_on hears answers next free in_range. is;
+    received = λ handle heard. is;
+  };
+}
+
+turn_octets : (setup : Setup) (facts : Facts) (step : Step) → IsInTurn step → (facts_after setup facts step).octets ≡ facts.octets
+turn_octets setup facts step turn = turn_keeps setup (λ (after : Facts). after.octets ≡ facts.octets) (octets_kept setup facts.octets) facts step turn refl
+
+framed_turn : (setup : Setup) (facts next : Facts) (past : List Step) → next.octets ≡ facts.octets
+    → opcodes_in (frames (next.octets ++ host_octets past)) ≡ opcodes_in (frames next.octets) ++ opcodes_of (commands_from setup next past)
+    → opcodes_in (frames (facts.octets ++ host_octets past)) ≡ opcodes_in (frames facts.octets) ++ opcodes_of (commands_from setup next past)
+framed_turn setup facts next past same is =
+    subst (λ (octets : List ℕ). opcodes_in (frames (octets ++ host_octets past)) ≡ opcodes_in (frames octets) ++ opcodes_of (commands_from setup next past)) same is
+
 framed_from : (setup : Setup) (facts : Facts) (past : List Step)
     → opcodes_in (frames (facts.octets ++ host_octets past)) ≡ opcodes_in (frames facts.octets) ++ opcodes_of (commands_from setup facts past)
 framed_from setup facts [] =
     ap (λ (octets : List ℕ). opcodes_in (frames octets)) (append-nil facts.octets) ∙ sym (append-nil (opcodes_in (frames facts.octets)))
-framed_from setup facts (TurnBegins slot on ∷ past) = framed_from setup (facts_after setup facts (TurnBegins slot on)) past
-framed_from setup facts (PacketHeard octets ∷ past) = framed_from setup (facts_after setup facts (PacketHeard octets)) past
-framed_from setup facts (NothingHeard ∷ past) = framed_from setup (facts_after setup facts NothingHeard) past
+framed_from setup facts (TurnBegins slot on ∷ past) =
+    framed_turn setup facts (facts_after setup facts (TurnBegins slot on)) past (turn_octets setup facts (TurnBegins slot on) tt)
+    (framed_from setup (facts_after setup facts (TurnBegins slot on)) past)
+framed_from setup facts (PacketHeard octets ∷ past) =
+    framed_turn setup facts (facts_after setup facts (PacketHeard octets)) past (turn_octets setup facts (PacketHeard octets) tt)
+    (framed_from setup (facts_after setup facts (PacketHeard octets)) past)
+framed_from setup facts (NothingHeard ∷ past) =
+    framed_turn setup facts (facts_after setup facts NothingHeard) past (turn_octets setup facts NothingHeard tt)
+    (framed_from setup (facts_after setup facts NothingHeard) past)
 framed_from setup facts (TurnEnds ∷ past) = framed_from setup (facts_after setup facts TurnEnds) past
 framed_from setup facts (HostOctet octet ∷ past) =
     let next = facts_after setup facts (HostOctet octet) in

@@ -1,7 +1,8 @@
 -- The commands of a host are answered in order.
-use Rattle.std.proofs.Common.{◌≡◌, ℕ, ◌+◌, ◌*◌, ◌/◌, ◌%◌, ◌==◌, ◌||◌, Bool, true, false, Option, List, [], ◌∷◌, ◌++◌, map, cond, inl, inr, refl, ap, sym, ◌∙◌, subst, arith}
-use Rattle.std.specs.Prelude.{◌&&◌, not}
+use Rattle.std.proofs.Common.{◌≡◌, ℕ, ◌+◌, ◌*◌, ◌/◌, ◌%◌, ◌==◌, ◌||◌, Bool, true, false, Option, List, [], ◌∷◌, ◌++◌, map, cond, inl, inr, refl, ap, sym, ◌∙◌, subst, append-nil, arith}
+use Rattle.std.specs.Prelude.{◌&&◌, not, All}
 use Rattle.std.proofs.lemmas.Bool.Decides.{eqb_tells}
+use Rattle.std.proofs.lemmas.List.Elements.{All-head, All-tail}
 use Rattle.std.proofs.lemmas.List.Concat.{flat_map-append}
 use Rattle.wire_fields.specs.Field.{little_endian}
 use Rattle.ble_base.specs.Bits.{has_bit}
@@ -11,22 +12,28 @@ use Rattle.h4_frames.specs.declared.packet.HostPacket.TheVariants.{Command as Ho
 use Rattle.h4_frames.specs.declared.packet.Fed.{Fed}
 use Rattle.h4_frames.specs.declared.packet.Fed.TheVariants.{More, Packet, LostSync}
 use Rattle.hci_cmd.specs.declared.command.Command.{Command}
-use Rattle.hci_cmd.specs.declared.command.Command.TheVariants.{HostCompleted}
+use Rattle.hci_cmd.specs.declared.command.Command.TheVariants.{HostCompleted, LeCreateCancel, Reset}
 use Rattle.hci_cmd.specs.declared.command.CmdRead.{CmdRead}
 use Rattle.hci_cmd.specs.declared.command.CmdRead.TheVariants.{Known, UnknownOpcode, BadLength}
 use Rattle.hci_cmd.specs.Command.{command_of, layout_of, layouts}
 use Rattle.hci_evt.specs.Event.{written}
-use Rattle.hci_evt.specs.declared.event.Event.TheVariants.{HardwareError}
+use Rattle.hci_evt.specs.declared.event.Event.{Event}
+use Rattle.hci_evt.specs.declared.event.Event.TheVariants.{DisconnectionComplete, HardwareError, ConnectionComplete, AdvertisingReport, EnhancedConnection, ChannelSelection}
 use Rattle.host_view.specs.View.{View}
 use Rattle.host_view.specs.Unbuilt.{status_of}
+use Rattle.open_links.specs.OpenLinks.{handles_from}
 use Rattle.one_side.specs.Step.{Step, HostOctet, TurnBegins, PacketHeard, NothingHeard, TurnEnds}
-use Rattle.one_side.specs.Facts.{Setup, Facts, Scanner, first_facts}
+use Rattle.one_side.specs.Facts.{Setup, Facts, first_facts}
 use Rattle.one_side.specs.Answers.{accepted_answer, answer_to, complete_answer, has_status_answer, is_host_completed, refused_fields, returned, status_answer}
-use Rattle.one_side.specs.Heard.{Advertisement, advertisement_heard, report_event, reports_of}
-use Rattle.one_side.specs.Side.{events_fed, facts_after, notes_after, notes_from, notes_of, notes_of_events, result_of}
+use Rattle.one_side.specs.Commands.{events_caused, notes_before, notes_commanded, notes_known}
+use Rattle.one_side.specs.Events.{notes_of_events}
+use Rattle.one_side.specs.Links.{connection_failed, note_shut, wants_enhanced}
+use Rattle.one_side.specs.Side.{facts_after, facts_of, notes_after, notes_fed, notes_from, notes_of, result_of}
 use Rattle.one_side.specs.Host.{commands_after, commands_from, commands_in, commands_of, is_answered, opcodes_of, with_answer}
 use Rattle.one_side.specs.Notes.{answers_among, answers_noted, as_two_octets, one_further}
-use Rattle.one_side.proofs.Reports.{reports_unseen}
+use Rattle.one_side.proofs.Always.{IsInTurn, holds_step}
+use Rattle.one_side.proofs.Handles.{HaveOwnHandles, handles_kept, own_handles}
+use Rattle.one_side.proofs.TurnNotes.{EachNote, IsOfTurn, event_noted, turn_noted}
 
 two_octets_hold : (opcode : ℕ) → opcode % 256 + 256 * (opcode / 256 % 256) ≡ opcode % 65536
 two_octets_hold opcode = omega arith
@@ -134,34 +141,99 @@ unfolding little_endian
 loss_says true = refl
 loss_says false = refl
 
-fed_says : (setup : Setup) (facts : Facts) (view : View) (fed : Fed)
-    → answers_among (notes_of_events view (events_fed setup facts fed)) ≡ said (commands_in facts fed)
-fed_says setup facts view (Packet (HostCommand opcode body)) =
-    read_says setup facts view opcode (command_of opcode body.items) (starts_other body.items opcode)
-fed_says setup facts view (Packet (Acl handle start count body)) = refl
-fed_says setup facts view LostSync = loss_says (has_bit view.mask 15)
-fed_says setup facts view More = refl
-
--- ---- a report is no answer
-
-report_says : (advertisement : Advertisement) → answers_among (Up (record { items = written (report_event advertisement) }) ∷ []) ≡ []
-unfolding little_endian
-report_says advertisement = refl
-
-pub reports_say : (view : View) (scanner : Scanner) (heard : Option Advertisement) → answers_among (notes_of_events view (reports_of scanner heard)) ≡ []
-reports_say = reports_unseen answers_among refl report_says
-
--- ---- all steps
-
-step_says : (setup : Setup) (facts : Facts) (step : Step) → answers_among (notes_after setup facts step) ≡ said (commands_after facts step)
-step_says setup facts (HostOctet octet) = fed_says setup facts facts.view (result_of facts.octets octet)
-step_says setup facts (TurnBegins slot on) = refl
-step_says setup facts (PacketHeard octets) = reports_say facts.view facts.scanner (advertisement_heard setup facts octets)
-step_says setup facts NothingHeard = refl
-step_says setup facts TurnEnds = refl
+-- ---- what is noted beside an answer says nothing
 
 answers_among-append : (xs ys : List Note) → answers_among (xs ++ ys) ≡ answers_among xs ++ answers_among ys
 answers_among-append xs ys = flat_map-append answers_noted xs ys
+
+abbrev IsNoAnswer : Note → Type 0
+IsNoAnswer note = answers_noted note ≡ []
+
+none_among : (notes : List Note) → All IsNoAnswer notes → answers_among notes ≡ []
+none_among [] are = refl
+none_among (note ∷ notes) are =
+    λ i. All-head IsNoAnswer note notes are i ++ none_among notes (All-tail IsNoAnswer note notes are) i
+
+turn_event : (event : Event) → IsOfTurn event → answers_noted (Up (record { items = written event })) ≡ []
+unfolding little_endian
+turn_event (DisconnectionComplete status handle reason) is = refl
+turn_event (ConnectionComplete status handle role peer_kind peer interval latency timeout accuracy) is = refl
+turn_event (AdvertisingReport kind address_kind address report rssi) is = refl
+turn_event (EnhancedConnection status handle role peer_kind peer local other interval latency timeout accuracy) is = refl
+turn_event (ChannelSelection handle algorithm) is = refl
+turn_event other is = absurd is
+
+each_silent : (most : ℕ) → EachNote most IsNoAnswer
+each_silent most = record {
+  up = turn_event;
+  opened = λ link below. refl;
+  shut = λ handle reason below. refl;
+  applied = λ handle number event below. refl;
+  entered = λ handle event channel below. refl;
+}
+
+shut_say : (handles : List ℕ) → answers_among (map (λ handle. note_shut handle 0) handles) ≡ []
+shut_say [] = refl
+shut_say (handle ∷ handles) = shut_say handles
+
+before_says : (facts : Facts) (command : Command) → answers_among (notes_before facts command) ≡ []
+before_says facts Reset = shut_say (handles_from 0 facts.links)
+before_says facts other = refl
+
+failed_is : (enhanced : Bool) (status : ℕ) → IsOfTurn (connection_failed enhanced status)
+failed_is true status = tt
+failed_is false status = tt
+
+caused_says : (facts : Facts) (command : Command) → answers_among (notes_of_events facts.view (events_caused facts command)) ≡ []
+caused_says facts LeCreateCancel =
+    let event = connection_failed (wants_enhanced facts.view) 0x02 in
+    none_among (notes_of_events facts.view (event ∷ []))
+    (event_noted 0 IsNoAnswer (each_silent 0) facts.view event (failed_is (wants_enhanced facts.view) 0x02))
+caused_says facts other = refl
+
+-- ---- a packet of the host
+
+known_says : (accepted : Bool) (setup : Setup) (facts : Facts) (opcode : ℕ) (command : Command)
+    → answers_among (notes_known accepted setup facts opcode command)
+    ≡ answers_among (notes_of_events facts.view (answer_to setup facts opcode (Known command)))
+known_says false setup facts opcode command = refl
+known_says true setup facts opcode command =
+    let answer = notes_of_events facts.view (answer_to setup facts opcode (Known command)) in
+    let caused = notes_of_events facts.view (events_caused facts command) in
+    answers_among-append (notes_before facts command ++ answer) caused
+    ∙ (λ i. answers_among-append (notes_before facts command) answer i ++ caused_says facts command i)
+    ∙ (λ i. (before_says facts command i ++ answers_among answer) ++ [])
+    ∙ append-nil (answers_among answer)
+
+command_says : (setup : Setup) (facts : Facts) (opcode : ℕ) (read : CmdRead) → (has_status_answer opcode ≡ true → completes read ≡ false)
+    → answers_among (notes_commanded setup facts opcode read) ≡ said ((opcode, is_answered facts read) ∷ [])
+command_says setup facts opcode (Known command) starter =
+    known_says (status_of facts.view command == 0) setup facts opcode command
+    ∙ read_says setup facts facts.view opcode (Known command) starter
+command_says setup facts opcode UnknownOpcode starter = read_says setup facts facts.view opcode UnknownOpcode starter
+command_says setup facts opcode BadLength starter = read_says setup facts facts.view opcode BadLength starter
+
+fed_says : (setup : Setup) (facts : Facts) (fed : Fed) → answers_among (notes_fed setup facts fed) ≡ said (commands_in facts fed)
+fed_says setup facts (Packet (HostCommand opcode body)) =
+    command_says setup facts opcode (command_of opcode body.items) (starts_other body.items opcode)
+fed_says setup facts (Packet (Acl handle start count body)) = refl
+fed_says setup facts LostSync = loss_says (has_bit facts.view.mask 15)
+fed_says setup facts More = refl
+
+-- ---- all steps
+
+turn_says : (setup : Setup) (facts : Facts) (step : Step) → HaveOwnHandles setup facts → IsInTurn step
+    → answers_among (notes_after setup facts step) ≡ []
+turn_says setup facts step own turn =
+    none_among (notes_after setup facts step) (turn_noted setup.links IsNoAnswer (each_silent setup.links) setup facts step refl own turn)
+
+step_says : (setup : Setup) (facts : Facts) (step : Step) → HaveOwnHandles setup facts
+    → answers_among (notes_after setup facts step) ≡ said (commands_after facts step)
+step_says setup facts (HostOctet octet) own = fed_says setup facts (result_of facts.octets octet)
+step_says setup facts (TurnBegins slot on) own = turn_says setup facts (TurnBegins slot on) own tt
+step_says setup facts (PacketHeard octets) own = turn_says setup facts (PacketHeard octets) own tt
+step_says setup facts NothingHeard own = turn_says setup facts NothingHeard own tt
+step_says setup facts TurnEnds own = refl
 
 said_keep : (b : Bool) (x : ℕ) (xs ys zs : List (ℕ × Bool)) → said zs ≡ said xs ++ said ys
     → map one_further (map as_two_octets (opcodes_of (cond b ((x, b) ∷ with_answer zs) (with_answer zs))))
@@ -173,14 +245,16 @@ said-append : (xs ys : List (ℕ × Bool)) → said (xs ++ ys) ≡ said xs ++ sa
 said-append [] ys = refl
 said-append (x ∷ xs) ys = said_keep x.1 x.0 xs ys (xs ++ ys) (said-append xs ys)
 
-says_from : (setup : Setup) (facts : Facts) (past : List Step) → answers_among (notes_from setup facts past) ≡ said (commands_from setup facts past)
-says_from setup facts [] = refl
-says_from setup facts (step ∷ past) =
+says_from : (setup : Setup) (facts : Facts) (past : List Step) → HaveOwnHandles setup facts
+    → answers_among (notes_from setup facts past) ≡ said (commands_from setup facts past)
+says_from setup facts [] own = refl
+says_from setup facts (step ∷ past) own =
     let next = facts_after setup facts step in
+    let later = says_from setup next past (holds_step setup (HaveOwnHandles setup) (handles_kept setup) facts step own) in
     answers_among-append (notes_after setup facts step) (notes_from setup next past)
-    ∙ (λ i. step_says setup facts step i ++ says_from setup next past i)
+    ∙ (λ i. step_says setup facts step own i ++ later i)
     ∙ sym (said-append (commands_after facts step) (commands_from setup next past))
 
 pub says : (setup : Setup) (past : List Step) → answers_among (notes_of setup past) ≡ said (commands_of setup past)
-unfolding notes_of commands_of
-says setup past = says_from setup (first_facts setup) past
+unfolding notes_of commands_of facts_of
+says setup past = says_from setup (first_facts setup) past (own_handles setup [])

@@ -145,9 +145,10 @@ access_found (Some found) = Some found.0
 abbrev pub next_access_of : Setup → Facts → Option ℕ
 next_access_of setup facts = access_found (nth_access setup.cursor facts.connections)
 
--- the fields of its CONNECT_IND, with the next random word
+-- the fields of its CONNECT_IND, with the next random word; the sleep clock accuracy is sent as 0 (our choice)
 abbrev pub fields_sent : Setup → InitiatorFacts → ℕ → Facts → ConnectFields
-fields_sent setup on access facts = connect_fields on.params.link access (next_word setup facts.drawn) facts.view.map
+fields_sent setup on access facts =
+    record (connect_fields on.params.link access (next_word setup facts.drawn) facts.view.map) { sca = 0 }
 
 abbrev pub link_made : Address → AdvPdu → ConnectFields → ℕ → LinkSetup
 link_made own pdu fields handle = record {

@@ -12,4 +12,3 @@ pub mod Heard
 pub mod Side
 pub mod Host
 pub mod Notes
-pub mod Rows

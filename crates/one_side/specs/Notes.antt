@@ -6,7 +6,7 @@ use Rattle.ble_base.specs.declared.notes.Note.TheVariants.{Up, Opened, Shut, Sen
 use Rattle.h4_frames.specs.declared.packet.Fed.{Fed}
 use Rattle.host_view.specs.Noted.{two_octets}
 use Rattle.one_side.specs.Facts.{Setup, Facts, first_facts}
-use Rattle.one_side.specs.Side.{events_fed, facts_fed, notes_of_events}
+use Rattle.one_side.specs.Side.{facts_fed, notes_fed}
 
 -- ---- answers (sections 7.7.14 and 7.7.15)
 
@@ -53,7 +53,7 @@ without_le_events notes = filter (λ note. not (is_le_note note)) notes
 abbrev pub answers_from : Setup → Facts → List (ℕ × Fed) → List Note
 answers_from setup facts [] = []
 answers_from setup facts (entry ∷ entries) =
-    notes_of_events facts.view (events_fed setup facts entry.1) ++ answers_from setup (facts_fed facts entry.1) entries
+    notes_fed setup facts entry.1 ++ answers_from setup (facts_fed setup facts entry.1) entries
 
 unfoldable pub answers_of : Setup → List (ℕ × Fed) → List Note
 answers_of setup entries = answers_from setup (first_facts setup) entries

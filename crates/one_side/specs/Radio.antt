@@ -13,8 +13,7 @@ use Rattle.slot_plan.specs.declared.Activity.{Activity}
 use Rattle.slot_plan.specs.declared.Activity.TheVariants.{Link, Advertise, Scan, Initiate}
 use Rattle.slot_plan.specs.declared.Want.{Want}
 use Rattle.slot_plan.specs.declared.plan.Hold.{Hold}
-use Rattle.slot_plan.specs.Holding.{PlanFacts, is_held_in}
-use Rattle.slot_plan.specs.Winner.{winner_of}
+use Rattle.slot_plan.specs.Holding.{PlanFacts, is_held_in, winner_of}
 use Rattle.open_links.specs.OpenLinks.{Links, OpenLink, facts_in, link_at, link_served, with_change}
 use Rattle.open_links.specs.Turns.{links_entered, notes_entering, wants_from}
 use Rattle.one_side.specs.declared.doing.Doing.{Doing}

@@ -1,43 +1,25 @@
 //! Laws of one controller. The bodies only call the laws that they rest on: the contracts are the
 //! laws.
-ghost use Rattle.std.specs.Prelude.{◌≡◌, ◌≢◌, ◌↔◌, ◌<◌, ◌≤◌, ◌+◌, ◌^◌, ℕ, Bool, true, false};
-ghost use Rattle.std.specs.Prelude.{List, [], ◌∷◌, ◌++◌, All, None, Some, length, map};
-ghost use Rattle.std.specs.Prelude.{if◌then◌else◌};
-ghost use Rattle.ble_base.specs.Bits.{has_bit};
-ghost use Rattle.ble_base.specs.declared.verdicts.Verdict.TheVariants.{Good};
+ghost use Rattle.std.specs.Prelude.{◌≡◌, ◌≢◌, ◌↔◌, ◌<◌, ◌^◌, ℕ, true, false};
+ghost use Rattle.std.specs.Prelude.{All, List, [], ◌∷◌, ◌++◌, map};
 ghost use Rattle.ble_base.specs.declared.notes.Note.TheVariants.{Up};
 ghost use Rattle.h4_frames.specs.Frames.{frames};
-ghost use Rattle.h4_frames.specs.declared.packet.HostPacket.TheVariants.{Acl};
-ghost use Rattle.h4_frames.specs.declared.packet.HostPacket.TheVariants.{Command as HostCommand};
-ghost use Rattle.h4_frames.specs.declared.packet.Fed.TheVariants.{Packet, LostSync};
-ghost use Rattle.wire_fields.specs.Field.{little_endian};
 ghost use Rattle.hci_cmd.specs.declared.command.Command.{Command};
-ghost use Rattle.hci_cmd.specs.declared.command.Command.TheVariants.{LeRand, LeSetAdvParams};
 ghost use Rattle.hci_cmd.specs.declared.command.CmdRead.{CmdRead};
 ghost use Rattle.hci_cmd.specs.declared.command.CmdRead.TheVariants.{Known};
 ghost use Rattle.hci_evt.specs.Event.{written};
 ghost use Rattle.hci_evt.specs.declared.event.Event.{Event};
-ghost use Rattle.hci_evt.specs.declared.event.Event.TheVariants.{HardwareError};
 ghost use Rattle.host_view.specs.Unbuilt.{status_of};
 ghost use Rattle.host_view.specs.View.{View};
-ghost use Rattle.one_side.specs.Step.{Step, HostOctet};
+ghost use Rattle.one_side.specs.Step.{Step};
+ghost use Rattle.one_side.specs.Facts.{Setup, Facts};
 ghost use Rattle.one_side.specs.Answers.{AreOneAnswer, HasNoAnswer, IsAnswerTo, answer_to};
-ghost use Rattle.one_side.specs.Answers.{complete_answer, next_word};
-ghost use Rattle.one_side.specs.Facts.{Setup, Facts, Advertiser, Scanner};
 ghost use Rattle.one_side.specs.Commands.{facts_commanded};
-ghost use Rattle.one_side.specs.Side.{events_fed, facts_after, facts_of, notes_after, notes_of};
-ghost use Rattle.one_side.specs.Side.{notes_of_events, result_of};
-ghost use Rattle.one_side.specs.Radio.{activity_in, advertising_or, advertising_place};
-ghost use Rattle.one_side.specs.Radio.{Scans, Sends, activity_of, advertisement_on};
-ghost use Rattle.one_side.specs.Radio.{scanning, slots_of, use_of};
-ghost use Rattle.one_side.specs.Addresses.{advertiser_address};
-ghost use Rattle.one_side.specs.Heard.{advertisement_heard, verdict_of};
-ghost use Rattle.one_side.specs.Intervals.{advertiser_left_on, place_within};
-ghost use Rattle.one_side.specs.Host.{HeardNothing, commands_accepted, commands_of, host_octets};
-ghost use Rattle.one_side.specs.Host.{is_answered, le_rand_count, opcodes_in, opcodes_of};
-ghost use Rattle.one_side.specs.Host.{with_answer};
-ghost use Rattle.one_side.specs.Notes.{HasHandleBelow, answers_among, answers_of, as_two_octets};
-ghost use Rattle.one_side.specs.Notes.{one_further, without_le_events};
+ghost use Rattle.one_side.specs.Events.{notes_of_events};
+ghost use Rattle.one_side.specs.Side.{facts_after, facts_of, notes_after, notes_of};
+ghost use Rattle.one_side.specs.Host.{commands_of, host_octets, is_answered, opcodes_in};
+ghost use Rattle.one_side.specs.Host.{opcodes_of, with_answer};
+ghost use Rattle.one_side.specs.Notes.{HasHandleBelow, answers_among, as_two_octets, one_further};
 
 /// With one more step, a controller holds what that step makes of what it held, and has noted what
 /// that step adds to what it had noted.
@@ -51,8 +33,9 @@ pub fn past_grows()
 
 /// A command that is refused leaves a controller as it was.
 pub fn refused_command_changes_nothing()
-    ensures { (facts : Facts) (command : Command) → status_of facts.view command ≢ 0
-        → facts_commanded facts (Known command) ≡ facts }
+    ensures { (setup : Setup) (facts : Facts) (command : Command)
+        → status_of facts.view command ≢ 0
+        → facts_commanded setup facts (Known command) ≡ facts }
 {}
 
 /// A command has exactly one answer, Command Complete or Command Status with its opcode, whatever
@@ -81,108 +64,11 @@ pub fn commands_are_answered_in_order()
         → (is_answered facts read ≡ false) ↔ HasNoAnswer facts read }
 {}
 
-/// A host is answered as if no turn came between its octets, packet by packet. While nothing was
-/// heard it receives nothing else; after that, LE events may come between the answers. ACL data
-/// has no answer, and a loss of synchronisation is reported as Hardware Error 01 exactly where bit
-/// 15 of the mask is set.
-pub fn a_host_is_answered_whatever_the_turns()
-    ensures alone { (setup : Setup) (past : List Step) → HeardNothing past
-        → notes_of setup past ≡ notes_of setup (map HostOctet (host_octets past)) }
-    ensures beside { (setup : Setup) (past : List Step)
-        → without_le_events (notes_of setup past)
-        ≡ without_le_events (notes_of setup (map HostOctet (host_octets past))) }
-    ensures no_le_events { (setup : Setup) (octets : List ℕ)
-        → without_le_events (notes_of setup (map HostOctet octets))
-        ≡ notes_of setup (map HostOctet octets) }
-    ensures by_frames { (setup : Setup) (octets : List ℕ)
-        → notes_of setup (map HostOctet octets) ≡ answers_of setup (frames octets) }
-    ensures acl { (setup : Setup) (facts : Facts) (handle count : ℕ) (start : Bool)
-        (octets : List ℕ)
-        → notes_of_events facts.view (events_fed setup facts
-        (Packet (Acl handle start count (record { items = octets })))) ≡ [] }
-    ensures loss { (setup : Setup) (facts : Facts)
-        → notes_of_events facts.view (events_fed setup facts LostSync)
-        ≡ (if has_bit facts.view.mask 15
-        then Up (record { items = written (HardwareError 0x01) }) ∷ [] else []) }
-{}
-
 /// Each note names a link of the controller, by a handle below the number of links that it can
 /// hold, or is a packet to its host.
 pub fn notes_name_links_of_the_controller()
-    ensures handles { (setup : Setup) (facts : Facts) (step : Step)
-        → All (HasHandleBelow setup.links) (notes_after setup facts step) }
+    ensures step { (setup : Setup) (past : List Step) (step : Step)
+        → All (HasHandleBelow setup.links) (notes_after setup (facts_of setup past) step) }
+    ensures all { (setup : Setup) (past : List Step)
+        → All (HasHandleBelow setup.links) (notes_of setup past) }
 {}
-
-/// LE Rand, 2018, returns the random words in order, and then again from the first, whatever comes
-/// between, a Reset too: after n accepted LE Rand commands the next one returns the word at the
-/// place n, modulo the number of words.
-pub fn random_words_go_round()
-    ensures drawn { (setup : Setup) (past : List Step)
-        → (facts_of setup past).drawn ≡ le_rand_count setup past }
-    ensures counted { (setup : Setup) (past : List Step) (octet : ℕ)
-        → result_of (facts_of setup past).octets octet
-        ≡ Packet (HostCommand 0x2018 (record { items = [] }))
-        → commands_accepted setup (past ++ HostOctet octet ∷ [])
-        ≡ commands_accepted setup past ++ LeRand ∷ [] }
-    ensures returned { (setup : Setup) (past : List Step) (octet : ℕ)
-        → result_of (facts_of setup past).octets octet
-        ≡ Packet (HostCommand 0x2018 (record { items = [] }))
-        → notes_after setup (facts_of setup past) (HostOctet octet)
-        ≡ Up (record {
-          items = written (complete_answer 0x00 0x2018
-              (little_endian 8 (next_word setup (le_rand_count setup past))));
-        }) ∷ [] }
-{}
-
-/// An advertiser that is turned on in a slot and left on, with its radio on, is in an event in the
-/// first three slots of each interval and in no others. In these it transmits on the channels that
-/// it uses and is idle on the others, and between events a scanner has the radio. An interval that
-/// a host may set has 16 slots or more, and so has the interval of an advertiser at any time.
-pub fn an_advertiser_keeps_its_interval()
-    ensures place { (advertiser : Advertiser) (start slots : ℕ) → advertiser.event_slot ≡ None
-        → 3 ≤ slots_of advertiser.interval
-        → advertising_place (start + slots) (advertiser_left_on advertiser start slots)
-        ≡ place_within (slots_of advertiser.interval) slots }
-    ensures activity { (advertiser : Advertiser) (scanner : Scanner) (scans : Bool)
-        (start slots : ℕ) → advertiser.event_slot ≡ None → 3 ≤ slots_of advertiser.interval
-        → activity_in true scans (start + slots) (advertiser_left_on advertiser start slots) scanner
-        ≡ advertising_or (scanning scans (start + slots) scanner) advertiser.channels
-        (place_within (slots_of advertiser.interval) slots) }
-    ensures may_be_set { (view : View) (min max kind own peer_kind : ℕ) (peer : List ℕ)
-        (channels policy : ℕ)
-        → status_of view (LeSetAdvParams min max kind own peer_kind peer channels policy) ≡ 0
-        → 16 ≤ slots_of min }
-    ensures at_any_time { (setup : Setup) (past : List Step)
-        → 16 ≤ slots_of (facts_of setup past).advertiser.interval }
-{}
-
-/// What an advertiser transmits is its advertisement on a channel. A scanner that listens on that
-/// channel in the first phase judges it good, and it is to that scanner an advertisement of type 3
-/// with the advertiser's address and all of its data. Where the public address has six octets, so
-/// has the address of the advertiser at any time, and its data has 31 octets at most.
-pub fn an_advertisement_is_understood()
-    ensures sent { (setup : Setup) (sender : Facts) (channel : ℕ) (octets : List ℕ)
-        → use_of setup sender ≡ Sends channel octets
-        → octets ≡ advertisement_on setup sender channel }
-    ensures good { (setup other : Setup) (sender listener : Facts) (channel : ℕ)
-        → length (advertiser_address setup sender).octets ≡ 6
-        → length sender.advertiser.data_octets ≤ 31
-        → listener.turn.phase ≡ 0 → activity_of listener ≡ Scans channel
-        → verdict_of other listener (advertisement_on setup sender channel) ≡ Good }
-    ensures says { (setup other : Setup) (sender listener : Facts) (channel : ℕ)
-        → length (advertiser_address setup sender).octets ≡ 6
-        → length sender.advertiser.data_octets ≤ 31
-        → listener.turn.phase ≡ 0 → activity_of listener ≡ Scans channel
-        → advertisement_heard other listener (advertisement_on setup sender channel)
-        ≡ Some (record {
-          event_type = 3;
-          from = advertiser_address setup sender;
-          data_octets = sender.advertiser.data_octets;
-        }) }
-    ensures lengths { (setup : Setup) (past : List Step) → length setup.public ≡ 6
-        → (length (advertiser_address setup (facts_of setup past)).octets ≡ 6)
-        × (length (facts_of setup past).advertiser.data_octets ≤ 31) }
-{
-    air_frame::laws::packet_tells_its_pdu();
-    air_frame::laws::pdu_form_is_a_count();
-}

@@ -4,13 +4,9 @@
 
 mod doing;
 mod laws;
-mod rows;
 
 pub use crate::doing::{Doing, Turn};
 pub use crate::laws::{
-    a_host_is_answered_whatever_the_turns, an_advertisement_is_understood,
-    an_advertiser_keeps_its_interval, commands_are_answered_in_order,
-    each_command_is_answered_once, notes_name_links_of_the_controller, past_grows,
-    random_words_go_round, refused_command_changes_nothing,
+    commands_are_answered_in_order, each_command_is_answered_once,
+    notes_name_links_of_the_controller, past_grows, refused_command_changes_nothing,
 };
-pub use crate::rows::{worked_advertisement, worked_answers, worked_rows};
