@@ -79,3 +79,16 @@ pub begins_none : HasSevenMore → (channel : ℕ) (octets : List ℕ) → (leng
 unfolding begins_link
 begins_none seven channel octets other =
     by_cases (begins_link channel octets) (λ is. other (length_43 seven channel octets (and_parts (is_advertising channel) (is_connect_ind (pdu_heard channel octets)) is).1))
+
+-- and neither do those on another channel
+begins_if : (there connects : Bool) → there ≡ false → false ≡ (there && connects)
+begins_if false connects is = refl
+begins_if true connects is = absurd (true≢false is)
+
+pub begins_nowhere : (channel : ℕ) (octets : List ℕ) → is_advertising channel ≡ false → false ≡ begins_link channel octets
+unfolding begins_link
+begins_nowhere channel octets is = begins_if (is_advertising channel) (is_connect_ind (pdu_heard channel octets)) is
+
+pub begins_here : (channel : ℕ) (octets : List ℕ) → is_advertising channel ≡ true → is_connect_ind (pdu_heard channel octets) ≡ begins_link channel octets
+unfolding begins_link
+begins_here channel octets is = ap (λ (there : Bool). there && is_connect_ind (pdu_heard channel octets)) (sym is)
