@@ -228,13 +228,17 @@ IsInTurn (PacketHeard octets) = ⊤
 IsInTurn NothingHeard = ⊤
 IsInTurn TurnEnds = ⊤
 
--- each part of a turn keeps it
-pub record IsKeptInTurns (setup : Setup) (fact : Facts → Type 0) : Type 0 where
+-- each part of the beginning of a turn keeps it
+pub record IsKeptAtStarts (fact : Facts → Type 0) : Type 0 where
   pub ends : (slot : ℕ) (facts : Facts) → fact facts → fact (facts_ended slot facts)
   pub begins : (slot : ℕ) (facts : Facts) → fact facts → fact (turn_begins slot facts)
   pub enters : (slot : ℕ) (facts : Facts) → fact facts → fact (facts_entering slot facts)
   pub wins : (slot : ℕ) (activity : Activity) (facts : Facts) → fact facts → fact (facts_winning slot activity facts)
   pub does : (doing : Doing) (facts : Facts) → MayBegin doing → fact facts → fact (facts_doing doing facts)
+
+-- and so does what comes of a phase
+pub record IsKeptInTurns (setup : Setup) (fact : Facts → Type 0) : Type 0 where
+  pub starts : IsKeptAtStarts fact
   pub passes : (facts : Facts) → fact facts → EachOutcome setup facts (λ outcome. fact (facts_passed outcome))
 
 -- and so does each command that is read and accepted
@@ -262,7 +266,7 @@ holds_by setup fact false facts command later holds = holds
 
 -- ---- a turn
 
-module _ (setup : Setup) (fact : Facts → Type 0) (kept : IsKeptInTurns setup fact) where
+module _ (fact : Facts → Type 0) (kept : IsKeptAtStarts fact) where
   holds_winner : (slot : ℕ) (winner : Option Activity) (facts : Facts) → fact facts
       → fact (facts_passed (winner_served slot winner facts))
   holds_winner slot None facts holds = kept.does Rests facts tt holds
@@ -281,21 +285,22 @@ module _ (setup : Setup) (fact : Facts → Type 0) (kept : IsKeptInTurns setup f
   holds_served false slot winner facts holds = kept.does Rests facts tt holds
   holds_served true slot winner facts holds = holds_radio (is_held_in facts.radio.hold slot) slot winner facts holds
 
-  holds_begun : (slot : ℕ) (on : Bool) (facts : Facts) → fact facts → fact (facts_passed (outcome_begun slot on facts))
-  holds_begun slot on facts holds =
+  pub start_keeps : (slot : ℕ) (on : Bool) (facts : Facts) → fact facts → fact (facts_passed (outcome_begun slot on facts))
+  start_keeps slot on facts holds =
       let ended = subst fact (sym (ending_is slot facts)) (kept.ends slot facts holds) in
       let begun = turn_begins slot (facts_ending slot facts) in
       holds_served on slot (winner_of (plan_in slot begun) slot) (facts_entering slot begun)
       (kept.enters slot begun (kept.begins slot (facts_ending slot facts) ended))
 
+module _ (setup : Setup) (fact : Facts → Type 0) (kept : IsKeptInTurns setup fact) where
   pub turn_keeps : (facts : Facts) (step : Step) → IsInTurn step → fact facts → fact (facts_after setup facts step)
   turn_keeps facts (HostOctet octet) turn holds = absurd turn
-  turn_keeps facts (TurnBegins slot on) turn holds = holds_begun slot on facts holds
+  turn_keeps facts (TurnBegins slot on) turn holds = start_keeps fact kept.starts slot on facts holds
   turn_keeps facts (PacketHeard octets) turn holds =
       heard_is setup facts (λ outcome. fact (facts_passed outcome)) (kept.passes facts holds) facts.turn.doing octets refl
   turn_keeps facts NothingHeard turn holds =
       unheard_is setup facts (λ outcome. fact (facts_passed outcome)) (kept.passes facts holds) facts.turn.doing refl
-  turn_keeps facts TurnEnds turn holds = kept.does Rests facts tt holds
+  turn_keeps facts TurnEnds turn holds = kept.starts.does Rests facts tt holds
 
 -- ---- all steps
 
@@ -323,7 +328,7 @@ module _ (setup : Setup) (fact : Facts → Type 0) (kept : IsKept setup fact) wh
   holds_step facts NothingHeard holds = turn_keeps setup fact kept.turns facts NothingHeard tt holds
   holds_step facts TurnEnds holds = turn_keeps setup fact kept.turns facts TurnEnds tt holds
 
-  holds_from : (facts : Facts) (past : List Step) → fact facts → fact (fold (facts_after setup) facts past)
+  pub holds_from : (facts : Facts) (past : List Step) → fact facts → fact (fold (facts_after setup) facts past)
   holds_from facts [] holds = holds
   holds_from facts (step ∷ past) holds = holds_from (facts_after setup facts step) past (holds_step facts step holds)
 

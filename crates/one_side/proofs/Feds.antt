@@ -91,11 +91,13 @@ opcodes_more facts octet =
 -- nor does a turn
 octets_kept : (setup : Setup) (octets : List ℕ) → IsKeptInTurns setup (λ (facts : Facts). facts.octets ≡ octets)
 octets_kept setup octets = record {
-  ends = λ slot facts is. is;
-  begins = λ slot facts is. is;
-  enters = λ slot facts is. is;
-  wins = λ slot activity facts is. is;
-  does = λ doing facts may is. is;
+  starts = record {
+    ends = λ slot facts is. is;
+    begins = λ slot facts is. is;
+    enters = λ slot facts is. is;
+    wins = λ slot activity facts is. is;
+    does = λ doing facts may is. is;
+  };
   passes = λ facts is. record {
     rests = is;
     awaits_request = λ channel doing. is;

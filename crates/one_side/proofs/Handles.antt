@@ -223,11 +223,13 @@ handles_kept setup = record {
       fits_still setup facts _ (command_opens command facts.links) refl fits;
   octet = λ facts octet fits. record { many = fits.many; handles = fits.handles; new = fits.new };
   turns = record {
-    ends = λ slot facts fits. fits_still setup facts _ (staying_opens slot facts.links) refl fits;
-    begins = λ slot facts fits. record { many = fits.many; handles = fits.handles; new = fits.new };
-    enters = λ slot facts fits. fits_still setup facts _ (entering_opens slot facts.links) refl fits;
-    wins = λ slot activity facts fits. fits_still setup facts _ (won_opens slot activity facts.links) refl fits;
-    does = λ doing facts may fits. fits_doing setup doing facts fits.many fits.handles (begin_new facts.links doing may);
+    starts = record {
+      ends = λ slot facts fits. fits_still setup facts _ (staying_opens slot facts.links) refl fits;
+      begins = λ slot facts fits. record { many = fits.many; handles = fits.handles; new = fits.new };
+      enters = λ slot facts fits. fits_still setup facts _ (entering_opens slot facts.links) refl fits;
+      wins = λ slot activity facts fits. fits_still setup facts _ (won_opens slot activity facts.links) refl fits;
+      does = λ doing facts may fits. fits_doing setup doing facts fits.many fits.handles (begin_new facts.links doing may);
+    };
     passes = λ facts fits. passes_fits setup facts fits;
   };
 }

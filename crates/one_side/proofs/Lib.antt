@@ -9,3 +9,8 @@ pub mod AnsweredOnce
 pub mod Feds
 pub mod InOrder
 pub mod Opcodes
+pub mod Rands
+pub mod Alike
+pub mod NoLinks
+pub mod Alone
+pub mod ByFrames

@@ -15,7 +15,7 @@ use Rattle.open_links.specs.OpenLinks.{free_from}
 use Rattle.one_side.specs.declared.doing.Doing.{Doing}
 use Rattle.one_side.specs.declared.doing.Doing.TheVariants.{Advertises, AwaitsRequest, Responds, Scans, Requests, AwaitsResponse, Initiates, Connects, CentralSends, CentralListens, PeripheralListens, PeripheralSends, Rests}
 use Rattle.one_side.specs.Facts.{Setup, Facts}
-use Rattle.one_side.specs.Heard.{advertiser_answers, advertiser_heard, answers_by_connecting, connects_at, connects_if, connects_under, connects_with, facts_connecting, fields_sent, heard, if_pdu, initiator_heard, is_new_between, link_heard, link_made, link_taken, next_access_of, opens, scanner_heard, taken_if, taken_under, unheard}
+use Rattle.one_side.specs.Heard.{advertiser_answers, advertiser_heard, answers_by_connecting, connects as makes, facts_connecting, fields_sent, heard, if_pdu, initiator_heard, link_heard, link_if, link_made, link_taken, link_under, link_wanted, link_with, next_access_of, opens, scanner_heard, taken_if, taken_under, unheard}
 use Rattle.one_side.specs.Outcome.{Outcome, goes_on}
 use Rattle.one_side.specs.Packets.{pdu_heard}
 
@@ -99,44 +99,44 @@ module _ (setup : Setup) (facts : Facts) (P : Outcome → Type 0) (each : EachOu
 
   -- ---- an initiator
 
-  connects_with_is : (in_range : Bool) (channel : ℕ) (octets : List ℕ) (pdu : AdvPdu) (on : InitiatorFacts) (access handle : ℕ)
+  range_is : (in_range : Bool) (channel : ℕ) (octets : List ℕ) (pdu : AdvPdu) (on : InitiatorFacts) (access handle : ℕ)
       → facts.turn.doing ≡ Initiates channel → facts.initiator ≡ Some on → pdu_heard channel octets ≡ Some pdu
       → answers_by_connecting on pdu facts ≡ true → next_access_of setup facts ≡ Some access
       → free_from 0 facts.links ≡ Some handle → is_in_range (fields_sent setup on access facts) ≡ in_range
-      → P (connects_with in_range setup channel (link_made on.params.own pdu (fields_sent setup on access facts) handle) facts)
-  connects_with_is false channel octets pdu on access handle doing is_on hears answers next free fits = each.rests
-  connects_with_is true channel octets pdu on access handle doing is_on hears answers next free fits =
+      → P (makes (link_if in_range (link_made on.params.own pdu (fields_sent setup on access facts) handle)) setup channel facts)
+  range_is false channel octets pdu on access handle doing is_on hears answers next free fits = each.rests
+  range_is true channel octets pdu on access handle doing is_on hears answers next free fits =
       each.connects channel octets pdu on access handle doing is_on hears answers next free fits
 
-  connects_under_is : (handle : Option ℕ) (channel : ℕ) (octets : List ℕ) (pdu : AdvPdu) (on : InitiatorFacts) (access : ℕ)
+  handle_is : (handle : Option ℕ) (channel : ℕ) (octets : List ℕ) (pdu : AdvPdu) (on : InitiatorFacts) (access : ℕ)
       → facts.turn.doing ≡ Initiates channel → facts.initiator ≡ Some on → pdu_heard channel octets ≡ Some pdu
       → answers_by_connecting on pdu facts ≡ true → next_access_of setup facts ≡ Some access → free_from 0 facts.links ≡ handle
-      → P (connects_under handle setup channel on pdu access facts)
-  connects_under_is None channel octets pdu on access doing is_on hears answers next free = each.rests
-  connects_under_is (Some handle) channel octets pdu on access doing is_on hears answers next free =
-      connects_with_is (is_in_range (fields_sent setup on access facts)) channel octets pdu on access handle doing is_on hears answers next free refl
+      → P (makes (link_under handle setup on pdu access facts) setup channel facts)
+  handle_is None channel octets pdu on access doing is_on hears answers next free = each.rests
+  handle_is (Some handle) channel octets pdu on access doing is_on hears answers next free =
+      range_is (is_in_range (fields_sent setup on access facts)) channel octets pdu on access handle doing is_on hears answers next free refl
 
-  connects_at_is : (access : Option ℕ) (channel : ℕ) (octets : List ℕ) (pdu : AdvPdu) (on : InitiatorFacts)
+  access_is : (access : Option ℕ) (channel : ℕ) (octets : List ℕ) (pdu : AdvPdu) (on : InitiatorFacts)
       → facts.turn.doing ≡ Initiates channel → facts.initiator ≡ Some on → pdu_heard channel octets ≡ Some pdu
       → answers_by_connecting on pdu facts ≡ true → next_access_of setup facts ≡ access
-      → P (connects_at access setup channel on pdu facts)
-  connects_at_is None channel octets pdu on doing is_on hears answers next = each.rests
-  connects_at_is (Some access) channel octets pdu on doing is_on hears answers next =
-      connects_under_is (free_from 0 facts.links) channel octets pdu on access doing is_on hears answers next refl
+      → P (makes (link_with access setup on pdu facts) setup channel facts)
+  access_is None channel octets pdu on doing is_on hears answers next = each.rests
+  access_is (Some access) channel octets pdu on doing is_on hears answers next =
+      handle_is (free_from 0 facts.links) channel octets pdu on access doing is_on hears answers next refl
 
-  connects_if_is : (answers : Bool) (channel : ℕ) (octets : List ℕ) (pdu : AdvPdu) (on : InitiatorFacts)
+  wanted_is : (answers : Bool) (channel : ℕ) (octets : List ℕ) (pdu : AdvPdu) (on : InitiatorFacts)
       → facts.turn.doing ≡ Initiates channel → facts.initiator ≡ Some on → pdu_heard channel octets ≡ Some pdu
-      → answers_by_connecting on pdu facts ≡ answers → P (connects_if answers setup channel on pdu facts)
-  connects_if_is false channel octets pdu on doing is_on hears answers = each.rests
-  connects_if_is true channel octets pdu on doing is_on hears answers =
-      connects_at_is (next_access_of setup facts) channel octets pdu on doing is_on hears answers refl
+      → answers_by_connecting on pdu facts ≡ answers → P (makes (link_wanted answers setup on pdu facts) setup channel facts)
+  wanted_is false channel octets pdu on doing is_on hears answers = each.rests
+  wanted_is true channel octets pdu on doing is_on hears answers =
+      access_is (next_access_of setup facts) channel octets pdu on doing is_on hears answers refl
 
   initiator_is : (initiator : Option InitiatorFacts) (channel : ℕ) (octets : List ℕ) (pdu : AdvPdu)
       → facts.turn.doing ≡ Initiates channel → facts.initiator ≡ initiator → pdu_heard channel octets ≡ Some pdu
       → P (initiator_heard initiator setup channel pdu facts)
   initiator_is None channel octets pdu doing is_on hears = each.rests
   initiator_is (Some on) channel octets pdu doing is_on hears =
-      connects_if_is (answers_by_connecting on pdu facts) channel octets pdu on doing is_on hears refl
+      wanted_is (answers_by_connecting on pdu facts) channel octets pdu on doing is_on hears refl
 
   -- ---- a phase
 

@@ -169,34 +169,40 @@ facts_connecting setup facts = record facts {
   connections = facts.connections + 1;
 }
 
-abbrev pub connects_with : Bool → Setup → ℕ → LinkSetup → Facts → Outcome
-connects_with false setup channel link facts = goes_on facts Rests
-connects_with true setup channel link facts = goes_on (facts_connecting setup facts) (Connects channel link)
+abbrev pub link_if : Bool → LinkSetup → Option LinkSetup
+link_if false link = None
+link_if true link = Some link
 
-abbrev pub connects_under : Option ℕ → Setup → ℕ → InitiatorFacts → AdvPdu → ℕ → Facts → Outcome
-connects_under None setup channel on pdu access facts = goes_on facts Rests
-connects_under (Some handle) setup channel on pdu access facts =
-    connects_with (is_in_range (fields_sent setup on access facts)) setup channel
-    (link_made on.params.own pdu (fields_sent setup on access facts) handle) facts
+abbrev pub link_under : Option ℕ → Setup → InitiatorFacts → AdvPdu → ℕ → Facts → Option LinkSetup
+link_under None setup on pdu access facts = None
+link_under (Some handle) setup on pdu access facts =
+    link_if (is_in_range (fields_sent setup on access facts))
+    (link_made on.params.own pdu (fields_sent setup on access facts) handle)
 
-abbrev pub connects_at : Option ℕ → Setup → ℕ → InitiatorFacts → AdvPdu → Facts → Outcome
-connects_at None setup channel on pdu facts = goes_on facts Rests
-connects_at (Some access) setup channel on pdu facts =
-    connects_under (free_from 0 facts.links) setup channel on pdu access facts
+abbrev pub link_with : Option ℕ → Setup → InitiatorFacts → AdvPdu → Facts → Option LinkSetup
+link_with None setup on pdu facts = None
+link_with (Some access) setup on pdu facts = link_under (free_from 0 facts.links) setup on pdu access facts
 
-abbrev pub connects_if : Bool → Setup → ℕ → InitiatorFacts → AdvPdu → Facts → Outcome
-connects_if false setup channel on pdu facts = goes_on facts Rests
-connects_if true setup channel on pdu facts = connects_at (next_access_of setup facts) setup channel on pdu facts
+abbrev pub link_wanted : Bool → Setup → InitiatorFacts → AdvPdu → Facts → Option LinkSetup
+link_wanted false setup on pdu facts = None
+link_wanted true setup on pdu facts = link_with (next_access_of setup facts) setup on pdu facts
 
 -- it answers where it is to connect to the sender and has no link to it yet
 abbrev pub answers_by_connecting : InitiatorFacts → AdvPdu → Facts → Bool
 answers_by_connecting on pdu facts =
     is_accepted on.params facts.view.accepted pdu && is_new_between on.params.own (sender_of pdu) facts.links
 
+-- the link that it makes with the sender: with the next access address, under a free handle
+abbrev pub link_to : Setup → InitiatorFacts → AdvPdu → Facts → Option LinkSetup
+link_to setup on pdu facts = link_wanted (answers_by_connecting on pdu facts) setup on pdu facts
+
+abbrev pub connects : Option LinkSetup → Setup → ℕ → Facts → Outcome
+connects None setup channel facts = goes_on facts Rests
+connects (Some link) setup channel facts = goes_on (facts_connecting setup facts) (Connects channel link)
+
 abbrev pub initiator_heard : Option InitiatorFacts → Setup → ℕ → AdvPdu → Facts → Outcome
 initiator_heard None setup channel pdu facts = goes_on facts Rests
-initiator_heard (Some on) setup channel pdu facts =
-    connects_if (answers_by_connecting on pdu facts) setup channel on pdu facts
+initiator_heard (Some on) setup channel pdu facts = connects (link_to setup on pdu facts) setup channel facts
 
 -- ---- a link that receives (section 4.5)
 

@@ -1,12 +1,14 @@
 -- What the notes of a controller say: which are answers, which LE events, and which links they name (Core 5.2, volume 4
 -- part E, section 7.7).
-use Rattle.std.specs.Prelude.{ℕ, ◌%◌, ◌^◌, ◌<◌, ◌==◌, ◌&&◌, not, Bool, false, List, [], ◌∷◌, ◌++◌, filter, flat_map, slice_index, ⊤, if◌then◌else◌}
+use Rattle.std.specs.Prelude.{◌≡◌, ℕ, ◌%◌, ◌^◌, ◌<◌, ◌==◌, ◌&&◌, not, Bool, true, false, List, [], ◌∷◌, ◌++◌, filter, flat_map, slice_index, ⊤, if◌then◌else◌}
+use Rattle.std.specs.List.{list_any}
 use Rattle.ble_base.specs.declared.notes.Note.{Note}
 use Rattle.ble_base.specs.declared.notes.Note.TheVariants.{Up, Opened, Shut, Sent, Took, Enter, Applied, Began, Refused, Done}
 use Rattle.h4_frames.specs.declared.packet.Fed.{Fed}
 use Rattle.host_view.specs.Noted.{two_octets}
+use Rattle.one_side.specs.Step.{Step}
 use Rattle.one_side.specs.Facts.{Setup, Facts, first_facts}
-use Rattle.one_side.specs.Side.{facts_fed, notes_fed}
+use Rattle.one_side.specs.Side.{facts_fed, facts_of, notes_fed, notes_of}
 
 -- ---- answers (sections 7.7.14 and 7.7.15)
 
@@ -72,3 +74,12 @@ HasHandleBelow links (Applied handle number event) = handle < links
 HasHandleBelow links (Began handle kind) = handle < links
 HasHandleBelow links (Refused handle kind code) = handle < links
 HasHandleBelow links (Done handle kind) = handle < links
+
+abbrev pub is_opening : Note → Bool
+is_opening (Opened handle role own peer) = true
+is_opening other = false
+
+-- no link was opened, and the controller set out to make none
+pub record HadNoLink (setup : Setup) (past : List Step) : Type 0 where
+  pub opened_none : list_any is_opening (notes_of setup past) ≡ false
+  pub made_none : (facts_of setup past).connections ≡ 0

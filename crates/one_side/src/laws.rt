@@ -1,25 +1,37 @@
 //! Laws of one controller. The bodies only call the laws that they rest on: the contracts are the
 //! laws.
-ghost use Rattle.std.specs.Prelude.{◌≡◌, ◌≢◌, ◌↔◌, ◌<◌, ◌^◌, ℕ, true, false};
+ghost use Rattle.std.specs.Prelude.{◌≡◌, ◌≢◌, ◌↔◌, ◌<◌, ◌+◌, ◌^◌, ℕ, Bool, true, false};
+ghost use Rattle.std.specs.Prelude.{if◌then◌else◌};
 ghost use Rattle.std.specs.Prelude.{All, List, [], ◌∷◌, ◌++◌, map};
+ghost use Rattle.ble_base.specs.Bits.{has_bit};
 ghost use Rattle.ble_base.specs.declared.notes.Note.TheVariants.{Up};
 ghost use Rattle.h4_frames.specs.Frames.{frames};
+ghost use Rattle.h4_frames.specs.declared.packet.HostPacket.TheVariants.{Acl};
+ghost use Rattle.h4_frames.specs.declared.packet.HostPacket.TheVariants.{Command as HostCommand};
+ghost use Rattle.h4_frames.specs.declared.packet.Fed.TheVariants.{Packet, LostSync};
+ghost use Rattle.wire_fields.specs.Field.{little_endian};
 ghost use Rattle.hci_cmd.specs.declared.command.Command.{Command};
+ghost use Rattle.hci_cmd.specs.declared.command.Command.TheVariants.{LeRand};
 ghost use Rattle.hci_cmd.specs.declared.command.CmdRead.{CmdRead};
 ghost use Rattle.hci_cmd.specs.declared.command.CmdRead.TheVariants.{Known};
 ghost use Rattle.hci_evt.specs.Event.{written};
 ghost use Rattle.hci_evt.specs.declared.event.Event.{Event};
+ghost use Rattle.hci_evt.specs.declared.event.Event.TheVariants.{HardwareError};
 ghost use Rattle.host_view.specs.Unbuilt.{status_of};
 ghost use Rattle.host_view.specs.View.{View};
-ghost use Rattle.one_side.specs.Step.{Step};
+ghost use Rattle.one_side.specs.Step.{Step, HostOctet};
 ghost use Rattle.one_side.specs.Facts.{Setup, Facts};
 ghost use Rattle.one_side.specs.Answers.{AreOneAnswer, HasNoAnswer, IsAnswerTo, answer_to};
+ghost use Rattle.one_side.specs.Answers.{complete_answer, next_word};
 ghost use Rattle.one_side.specs.Commands.{facts_commanded};
 ghost use Rattle.one_side.specs.Events.{notes_of_events};
-ghost use Rattle.one_side.specs.Side.{facts_after, facts_of, notes_after, notes_of};
-ghost use Rattle.one_side.specs.Host.{commands_of, host_octets, is_answered, opcodes_in};
-ghost use Rattle.one_side.specs.Host.{opcodes_of, with_answer};
-ghost use Rattle.one_side.specs.Notes.{HasHandleBelow, answers_among, as_two_octets, one_further};
+ghost use Rattle.one_side.specs.Side.{facts_after, facts_of, notes_after, notes_fed};
+ghost use Rattle.one_side.specs.Side.{notes_of, result_of};
+ghost use Rattle.one_side.specs.Host.{HeardNothing, commands_accepted, commands_of, host_octets};
+ghost use Rattle.one_side.specs.Host.{is_answered, le_rand_count, opcodes_in, opcodes_of};
+ghost use Rattle.one_side.specs.Host.{with_answer};
+ghost use Rattle.one_side.specs.Notes.{HadNoLink, HasHandleBelow, answers_among, answers_of};
+ghost use Rattle.one_side.specs.Notes.{as_two_octets, one_further, without_le_events};
 
 /// With one more step, a controller holds what that step makes of what it held, and has noted what
 /// that step adds to what it had noted.
@@ -64,6 +76,28 @@ pub fn commands_are_answered_in_order()
         → (is_answered facts read ≡ false) ↔ HasNoAnswer facts read }
 {}
 
+/// A host is answered as if no turn came between its octets, packet by packet. While nothing was
+/// heard it receives nothing else; after that, while no link was opened and none was to be made, LE
+/// events may come between the answers. ACL data has no answer, and a loss of synchronisation is
+/// reported as Hardware Error 01 exactly where bit 15 of the mask is set.
+pub fn a_host_is_answered_whatever_the_turns()
+    ensures alone { (setup : Setup) (past : List Step) → HeardNothing past
+        → notes_of setup past ≡ notes_of setup (map HostOctet (host_octets past)) }
+    ensures beside { (setup : Setup) (past : List Step) → HadNoLink setup past
+        → without_le_events (notes_of setup past)
+        ≡ without_le_events (notes_of setup (map HostOctet (host_octets past))) }
+    ensures by_frames { (setup : Setup) (octets : List ℕ)
+        → notes_of setup (map HostOctet octets) ≡ answers_of setup (frames octets) }
+    ensures acl { (setup : Setup) (facts : Facts) (handle count : ℕ) (start : Bool)
+        (octets : List ℕ)
+        → notes_fed setup facts (Packet (Acl handle start count (record { items = octets })))
+        ≡ [] }
+    ensures loss { (setup : Setup) (facts : Facts)
+        → notes_fed setup facts LostSync
+        ≡ (if has_bit facts.view.mask 15
+        then Up (record { items = written (HardwareError 0x01) }) ∷ [] else []) }
+{}
+
 /// Each note names a link of the controller, by a handle below the number of links that it can
 /// hold, or is a packet to its host.
 pub fn notes_name_links_of_the_controller()
@@ -71,4 +105,27 @@ pub fn notes_name_links_of_the_controller()
         → All (HasHandleBelow setup.links) (notes_after setup (facts_of setup past) step) }
     ensures all { (setup : Setup) (past : List Step)
         → All (HasHandleBelow setup.links) (notes_of setup past) }
+{}
+
+/// Random words are drawn in order, and then again from the first, whatever comes between, a Reset
+/// too: one for each accepted LE Rand, 2018, which returns it, and one for each CONNECT_IND that
+/// the controller sets out to send. After n words the next one is at the place n, modulo the
+/// number of words.
+pub fn random_words_go_round()
+    ensures drawn { (setup : Setup) (past : List Step)
+        → (facts_of setup past).drawn
+        ≡ le_rand_count setup past + (facts_of setup past).connections }
+    ensures counted { (setup : Setup) (past : List Step) (octet : ℕ)
+        → result_of (facts_of setup past).octets octet
+        ≡ Packet (HostCommand 0x2018 (record { items = [] }))
+        → commands_accepted setup (past ++ HostOctet octet ∷ [])
+        ≡ commands_accepted setup past ++ LeRand ∷ [] }
+    ensures returned { (setup : Setup) (past : List Step) (octet : ℕ)
+        → result_of (facts_of setup past).octets octet
+        ≡ Packet (HostCommand 0x2018 (record { items = [] }))
+        → notes_after setup (facts_of setup past) (HostOctet octet)
+        ≡ Up (record {
+          items = written (complete_answer 0x00 0x2018
+              (little_endian 8 (next_word setup (facts_of setup past).drawn)));
+        }) ∷ [] }
 {}

@@ -43,6 +43,7 @@ pub(crate) fn enter_from(
         → EnterAll links.new known slot.0 handle out.old.items out.new.items plan.old.wants plan.new.wants }
     ensures hold { plan.new.hold ≡ plan.old.hold }
     ensures few { array_vec_len out.new ≤ array_vec_len out.old + 5 * length links.old }
+    ensures few_wants { length plan.new.wants ≤ length plan.old.wants + length links.old }
     ensures places { length links.new ≡ length links.old }
 {
     let Some((first, rest)) = links.split_first_mut() else {

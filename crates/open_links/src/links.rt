@@ -135,6 +135,7 @@ impl<const L: usize> OpenLinks<L> {
             → plan.new.wants ≡ plan.old.wants ++ wants_from slot.0 0 links }
         ensures hold { plan.new.hold ≡ plan.old.hold }
         ensures few { array_vec_len out.new ≤ array_vec_len out.old + 5 * L }
+        ensures few_wants { length plan.new.wants ≤ length plan.old.wants + L }
     {
         enter_from(&mut self.places, 0, slot, plan, out);
     }

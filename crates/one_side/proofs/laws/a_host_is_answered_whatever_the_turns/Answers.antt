@@ -1,0 +1,13 @@
+-- Proof of `laws::a_host_is_answered_whatever_the_turns`.
+use Rattle.one_side.proofs.Alone.{alone, beside}
+use Rattle.one_side.proofs.ByFrames.{by_frames}
+use Rattle.one_side.proofs.laws.a_host_is_answered_whatever_the_turns.Goals as goal
+
+pub returns-clause-alone : goal.returns-clause-alone
+returns-clause-alone c = alone
+
+pub returns-clause-beside : goal.returns-clause-beside
+returns-clause-beside c = beside
+
+pub returns-clause-by_frames : goal.returns-clause-by_frames
+returns-clause-by_frames c = by_frames
