@@ -18,3 +18,4 @@ pub mod EntryEvents
 pub mod Fates
 pub mod UpToDate
 pub mod Answers
+pub mod LinkSteps
