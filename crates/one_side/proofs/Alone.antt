@@ -132,7 +132,7 @@ alone_from setup other one (HostOctet octet ∷ past) none like =
     λ i. octet_notes setup other one octet like i ++ later i
 alone_from setup other one (TurnBegins slot on ∷ past) none like =
     let later = alone_from setup other (facts_after setup one (TurnBegins slot on)) past none
-    (start_keeps (IsLike other) (start_like other) slot on one like) in
+    (start_keeps (IsLike other) (IsLike other) (start_like other) slot on one like) in
     λ i. begin_notes setup slot on one like.none i ++ later i
 alone_from setup other one (PacketHeard octets ∷ past) none like = absurd none
 alone_from setup other one (NothingHeard ∷ past) none like =
@@ -228,12 +228,16 @@ phase_beside setup other facts like = record {
 }
 
 -- the links that a controller set out to make are never less
-grows : (setup : Setup) (least : ℕ) → IsKept setup (λ (facts : Facts). least ≤ facts.connections)
+abbrev HasMade : ℕ → Facts → Type 0
+HasMade least facts = least ≤ facts.connections
+
+grows : (setup : Setup) (least : ℕ) → IsKept setup (HasMade least) (HasMade least)
 grows setup least = record {
   accepted = λ facts opcode octets command is accepted more. more;
   octet = λ facts octet more. more;
   turns = record {
     starts = record {
+      weakens = λ facts more. more;
       ends = λ slot facts more. more;
       begins = λ slot facts more. more;
       enters = λ slot facts more. more;
@@ -245,10 +249,10 @@ grows setup least = record {
       awaits_request = λ channel doing. more;
       awaits_response = λ channel advertiser doing. more;
       central_listens = λ handle doing. more;
-      sent = λ channel link doing. opening_passes (λ (facts : Facts). least ≤ facts.connections) link facts more;
+      sent = λ channel link doing. opening_passes (HasMade least) link facts more;
       responds = λ channel on doing is_on. more;
       taken = λ channel octets pdu on fields handle is_on hears takes free.
-          opening_passes (λ (facts : Facts). least ≤ facts.connections) (link_taken on.params.own pdu fields handle) facts more;
+          opening_passes (HasMade least) (link_taken on.params.own pdu fields handle) facts more;
       scanned = λ channel octets pdu on doing is_on hears. more;
       answered = λ channel octets pdu on doing is_on hears. more;
       connects = λ channel octets pdu on access handle doing is_on hears answers next free in_range. omega (arith, more);
@@ -259,7 +263,7 @@ grows setup least = record {
 
 none_made : (setup : Setup) (next : Facts) (past : List Step) → (fold (facts_after setup) next past).connections ≡ 0 → next.connections ≡ 0
 none_made setup next past none =
-    let more = holds_from setup (λ (facts : Facts). next.connections ≤ facts.connections) (grows setup next.connections) next past (omega arith) in
+    let more = holds_from setup (HasMade next.connections) (HasMade next.connections) (grows setup next.connections) next past (omega arith) in
     omega (arith, more, none)
 
 or_false : (one other : Bool) → (one || other) ≡ false → (one ≡ false) × (other ≡ false)
@@ -296,7 +300,7 @@ beside_from setup other one (TurnBegins slot on ∷ past) like opened made =
     let none = opened_in (notes_after setup one (TurnBegins slot on)) (notes_from setup next past) opened in
     phase_from setup other (notes_after setup one (TurnBegins slot on)) next past
     (ap without_le_events (begin_notes setup slot on one like.none))
-    (beside_from setup other next past (start_keeps (IsLike other) (start_like other) slot on one like) none.1 made)
+    (beside_from setup other next past (start_keeps (IsLike other) (IsLike other) (start_like other) slot on one like) none.1 made)
 beside_from setup other one (PacketHeard octets ∷ past) like opened made =
     let next = facts_after setup one (PacketHeard octets) in
     let none = opened_in (notes_after setup one (PacketHeard octets)) (notes_from setup next past) opened in

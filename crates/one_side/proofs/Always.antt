@@ -228,25 +228,26 @@ IsInTurn (PacketHeard octets) = ⊤
 IsInTurn NothingHeard = ⊤
 IsInTurn TurnEnds = ⊤
 
--- each part of the beginning of a turn keeps it
-pub record IsKeptAtStarts (fact : Facts → Type 0) : Type 0 where
-  pub ends : (slot : ℕ) (facts : Facts) → fact facts → fact (facts_ended slot facts)
-  pub begins : (slot : ℕ) (facts : Facts) → fact facts → fact (turn_begins slot facts)
-  pub enters : (slot : ℕ) (facts : Facts) → fact facts → fact (facts_entering slot facts)
-  pub wins : (slot : ℕ) (activity : Activity) (facts : Facts) → fact facts → fact (facts_winning slot activity facts)
-  pub does : (doing : Doing) (facts : Facts) → MayBegin doing → fact facts → fact (facts_doing doing facts)
+-- each part of the beginning of a turn keeps what is left of it there, and what is done next makes it whole again
+pub record IsKeptAtStarts (weak fact : Facts → Type 0) : Type 0 where
+  pub weakens : (facts : Facts) → fact facts → weak facts
+  pub ends : (slot : ℕ) (facts : Facts) → weak facts → weak (facts_ended slot facts)
+  pub begins : (slot : ℕ) (facts : Facts) → weak facts → weak (turn_begins slot facts)
+  pub enters : (slot : ℕ) (facts : Facts) → weak facts → weak (facts_entering slot facts)
+  pub wins : (slot : ℕ) (activity : Activity) (facts : Facts) → weak facts → weak (facts_winning slot activity facts)
+  pub does : (doing : Doing) (facts : Facts) → MayBegin doing → weak facts → fact (facts_doing doing facts)
 
 -- and so does what comes of a phase
-pub record IsKeptInTurns (setup : Setup) (fact : Facts → Type 0) : Type 0 where
-  pub starts : IsKeptAtStarts fact
+pub record IsKeptInTurns (setup : Setup) (weak fact : Facts → Type 0) : Type 0 where
+  pub starts : IsKeptAtStarts weak fact
   pub passes : (facts : Facts) → fact facts → EachOutcome setup facts (λ outcome. fact (facts_passed outcome))
 
 -- and so does each command that is read and accepted
-pub record IsKept (setup : Setup) (fact : Facts → Type 0) : Type 0 where
+pub record IsKept (setup : Setup) (weak fact : Facts → Type 0) : Type 0 where
   pub accepted : (facts : Facts) (opcode : ℕ) (octets : List ℕ) (command : Command) → command_of opcode octets ≡ Known command
       → status_of facts.view command ≡ 0 → fact facts → fact (facts_accepted setup facts command)
   pub octet : (facts : Facts) (octet : ℕ) → fact facts → fact (with_octet octet facts)
-  pub turns : IsKeptInTurns setup fact
+  pub turns : IsKeptInTurns setup weak fact
 
 -- a link that is opened, and nothing is done in the next phase
 pub opening_passes : (fact : Facts → Type 0) (link : LinkSetup) (facts : Facts) → fact (facts_doing Rests (facts_opening link facts))
@@ -266,45 +267,45 @@ holds_by setup fact false facts command later holds = holds
 
 -- ---- a turn
 
-module _ (fact : Facts → Type 0) (kept : IsKeptAtStarts fact) where
-  holds_winner : (slot : ℕ) (winner : Option Activity) (facts : Facts) → fact facts
+module _ (weak fact : Facts → Type 0) (kept : IsKeptAtStarts weak fact) where
+  holds_winner : (slot : ℕ) (winner : Option Activity) (facts : Facts) → weak facts
       → fact (facts_passed (winner_served slot winner facts))
   holds_winner slot None facts holds = kept.does Rests facts tt holds
   holds_winner slot (Some activity) facts holds =
       kept.does (doing_won slot activity facts) (facts_won slot activity facts) (won_may slot activity facts)
-      (subst fact (sym (winning_is slot activity facts)) (kept.wins slot activity facts holds))
+      (subst weak (sym (winning_is slot activity facts)) (kept.wins slot activity facts holds))
 
-  holds_radio : (held : Bool) (slot : ℕ) (winner : Option Activity) (facts : Facts) → fact facts
+  holds_radio : (held : Bool) (slot : ℕ) (winner : Option Activity) (facts : Facts) → weak facts
       → fact (facts_passed (radio_served held slot winner facts))
   holds_radio true slot winner facts holds =
       kept.does (doing_held slot facts.radio.holder facts) facts (held_may slot facts.radio.holder facts) holds
   holds_radio false slot winner facts holds = holds_winner slot winner facts holds
 
-  holds_served : (on : Bool) (slot : ℕ) (winner : Option Activity) (facts : Facts) → fact facts
+  holds_served : (on : Bool) (slot : ℕ) (winner : Option Activity) (facts : Facts) → weak facts
       → fact (facts_passed (served on slot winner facts))
   holds_served false slot winner facts holds = kept.does Rests facts tt holds
   holds_served true slot winner facts holds = holds_radio (is_held_in facts.radio.hold slot) slot winner facts holds
 
   pub start_keeps : (slot : ℕ) (on : Bool) (facts : Facts) → fact facts → fact (facts_passed (outcome_begun slot on facts))
   start_keeps slot on facts holds =
-      let ended = subst fact (sym (ending_is slot facts)) (kept.ends slot facts holds) in
+      let ended = subst weak (sym (ending_is slot facts)) (kept.ends slot facts (kept.weakens facts holds)) in
       let begun = turn_begins slot (facts_ending slot facts) in
       holds_served on slot (winner_of (plan_in slot begun) slot) (facts_entering slot begun)
       (kept.enters slot begun (kept.begins slot (facts_ending slot facts) ended))
 
-module _ (setup : Setup) (fact : Facts → Type 0) (kept : IsKeptInTurns setup fact) where
+module _ (setup : Setup) (weak fact : Facts → Type 0) (kept : IsKeptInTurns setup weak fact) where
   pub turn_keeps : (facts : Facts) (step : Step) → IsInTurn step → fact facts → fact (facts_after setup facts step)
   turn_keeps facts (HostOctet octet) turn holds = absurd turn
-  turn_keeps facts (TurnBegins slot on) turn holds = start_keeps fact kept.starts slot on facts holds
+  turn_keeps facts (TurnBegins slot on) turn holds = start_keeps weak fact kept.starts slot on facts holds
   turn_keeps facts (PacketHeard octets) turn holds =
       heard_is setup facts (λ outcome. fact (facts_passed outcome)) (kept.passes facts holds) facts.turn.doing octets refl
   turn_keeps facts NothingHeard turn holds =
       unheard_is setup facts (λ outcome. fact (facts_passed outcome)) (kept.passes facts holds) facts.turn.doing refl
-  turn_keeps facts TurnEnds turn holds = kept.starts.does Rests facts tt holds
+  turn_keeps facts TurnEnds turn holds = kept.starts.does Rests facts tt (kept.starts.weakens facts holds)
 
 -- ---- all steps
 
-module _ (setup : Setup) (fact : Facts → Type 0) (kept : IsKept setup fact) where
+module _ (setup : Setup) (weak fact : Facts → Type 0) (kept : IsKept setup weak fact) where
   holds_read : (facts : Facts) (opcode : ℕ) (octets : List ℕ) (read : CmdRead) → command_of opcode octets ≡ read → fact facts
       → fact (facts_commanded setup facts read)
   holds_read facts opcode octets (Known command) is holds =
@@ -323,10 +324,10 @@ module _ (setup : Setup) (fact : Facts → Type 0) (kept : IsKept setup fact) wh
   pub holds_step : (facts : Facts) (step : Step) → fact facts → fact (facts_after setup facts step)
   holds_step facts (HostOctet octet) holds =
       kept.octet (facts_fed setup facts (result_of facts.octets octet)) octet (holds_fed facts (result_of facts.octets octet) holds)
-  holds_step facts (TurnBegins slot on) holds = turn_keeps setup fact kept.turns facts (TurnBegins slot on) tt holds
-  holds_step facts (PacketHeard octets) holds = turn_keeps setup fact kept.turns facts (PacketHeard octets) tt holds
-  holds_step facts NothingHeard holds = turn_keeps setup fact kept.turns facts NothingHeard tt holds
-  holds_step facts TurnEnds holds = turn_keeps setup fact kept.turns facts TurnEnds tt holds
+  holds_step facts (TurnBegins slot on) holds = turn_keeps setup weak fact kept.turns facts (TurnBegins slot on) tt holds
+  holds_step facts (PacketHeard octets) holds = turn_keeps setup weak fact kept.turns facts (PacketHeard octets) tt holds
+  holds_step facts NothingHeard holds = turn_keeps setup weak fact kept.turns facts NothingHeard tt holds
+  holds_step facts TurnEnds holds = turn_keeps setup weak fact kept.turns facts TurnEnds tt holds
 
   pub holds_from : (facts : Facts) (past : List Step) → fact facts → fact (fold (facts_after setup) facts past)
   holds_from facts [] holds = holds

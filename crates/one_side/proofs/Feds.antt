@@ -89,9 +89,13 @@ opcodes_more facts octet =
     ∙ ap (λ (rest : List ℕ). opcodes_in (frames facts.octets) ++ rest) (opcodes_entry facts (length facts.octets + 1) (result_of facts.octets octet))
 
 -- nor does a turn
-octets_kept : (setup : Setup) (octets : List ℕ) → IsKeptInTurns setup (λ (facts : Facts). facts.octets ≡ octets)
+abbrev Has : List ℕ → Facts → Type 0
+Has octets facts = facts.octets ≡ octets
+
+octets_kept : (setup : Setup) (octets : List ℕ) → IsKeptInTurns setup (Has octets) (Has octets)
 octets_kept setup octets = record {
   starts = record {
+    weakens = λ facts is. is;
     ends = λ slot facts is. is;
     begins = λ slot facts is. is;
     enters = λ slot facts is. is;
@@ -103,9 +107,9 @@ octets_kept setup octets = record {
     awaits_request = λ channel doing. is;
     awaits_response = λ channel advertiser doing. is;
     central_listens = λ handle doing. is;
-    sent = λ channel link doing. opening_passes (λ (facts : Facts). facts.octets ≡ octets) link facts is;
+    sent = λ channel link doing. opening_passes (Has octets) link facts is;
     responds = λ channel on doing is_on. is;
-    taken = λ channel heard pdu on fields handle is_on hears takes free. opening_passes (λ (facts : Facts). facts.octets ≡ octets) (link_taken on.params.own pdu fields handle) facts is;
+    taken = λ channel heard pdu on fields handle is_on hears takes free. opening_passes (Has octets) (link_taken on.params.own pdu fields handle) facts is;
     scanned = λ channel heard pdu on doing is_on hears. is;
     answered = λ channel heard pdu on doing is_on hears. is;
     connects = λ channel heard pdu on access handle doing is_on hears answers next free in_range. is;
@@ -114,7 +118,7 @@ octets_kept setup octets = record {
 }
 
 turn_octets : (setup : Setup) (facts : Facts) (step : Step) → IsInTurn step → (facts_after setup facts step).octets ≡ facts.octets
-turn_octets setup facts step turn = turn_keeps setup (λ (after : Facts). after.octets ≡ facts.octets) (octets_kept setup facts.octets) facts step turn refl
+turn_octets setup facts step turn = turn_keeps setup (Has facts.octets) (Has facts.octets) (octets_kept setup facts.octets) facts step turn refl
 
 framed_turn : (setup : Setup) (facts next : Facts) (past : List Step) → next.octets ≡ facts.octets
     → opcodes_in (frames (next.octets ++ host_octets past)) ≡ opcodes_in (frames next.octets) ++ opcodes_of (commands_from setup next past)

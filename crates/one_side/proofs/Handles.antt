@@ -48,7 +48,7 @@ nothing_opens : (links : Links) → OpensNone links links
 nothing_opens links = record { many = refl; handles = λ have. have; free = λ handle none. none }
 
 -- a change of each place
-map_keeps : (change : Option OpenLink → Option OpenLink) → change None ≡ None → (first handle : ℕ) (links : Links)
+pub map_keeps : (change : Option OpenLink → Option OpenLink) → change None ≡ None → (first handle : ℕ) (links : Links)
     → link_from first handle links ≡ None → link_from first handle (map change links) ≡ None
 map_keeps change none first handle [] free = refl
 map_keeps change none first handle (place ∷ links) free =
@@ -217,13 +217,14 @@ passes_fits setup facts fits = record {
   received = λ handle octets. reply_fits setup (replies_in (link_at handle facts.links) octets) handle octets facts fits;
 }
 
-pub handles_kept : (setup : Setup) → IsKept setup (HaveOwnHandles setup)
+pub handles_kept : (setup : Setup) → IsKept setup (HaveOwnHandles setup) (HaveOwnHandles setup)
 handles_kept setup = record {
   accepted = λ facts opcode octets command is accepted fits.
       fits_still setup facts _ (command_opens command facts.links) refl fits;
   octet = λ facts octet fits. record { many = fits.many; handles = fits.handles; new = fits.new };
   turns = record {
     starts = record {
+      weakens = λ facts fits. fits;
       ends = λ slot facts fits. fits_still setup facts _ (staying_opens slot facts.links) refl fits;
       begins = λ slot facts fits. record { many = fits.many; handles = fits.handles; new = fits.new };
       enters = λ slot facts fits. fits_still setup facts _ (entering_opens slot facts.links) refl fits;
@@ -236,5 +237,5 @@ handles_kept setup = record {
 
 pub own_handles : (setup : Setup) (past : List Step) → HaveOwnHandles setup (facts_of setup past)
 own_handles setup past =
-    always setup (HaveOwnHandles setup) (handles_kept setup)
+    always setup (HaveOwnHandles setup) (HaveOwnHandles setup) (handles_kept setup)
     (record { many = count_at_first setup.links None; handles = none_have 0 setup.links; new = tt }) past

@@ -250,7 +250,7 @@ says_from : (setup : Setup) (facts : Facts) (past : List Step) → HaveOwnHandle
 says_from setup facts [] own = refl
 says_from setup facts (step ∷ past) own =
     let next = facts_after setup facts step in
-    let later = says_from setup next past (holds_step setup (HaveOwnHandles setup) (handles_kept setup) facts step own) in
+    let later = says_from setup next past (holds_step setup (HaveOwnHandles setup) (HaveOwnHandles setup) (handles_kept setup) facts step own) in
     answers_among-append (notes_after setup facts step) (notes_from setup next past)
     ∙ (λ i. step_says setup facts step own i ++ later i)
     ∙ sym (said-append (commands_after facts step) (commands_from setup next past))

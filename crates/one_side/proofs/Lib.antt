@@ -14,3 +14,9 @@ pub mod Alike
 pub mod NoLinks
 pub mod Alone
 pub mod ByFrames
+pub mod Understood
+pub mod SixOctets
+pub mod DataChannels
+pub mod LinkFields
+pub mod Accepted
+pub mod Sent

@@ -124,8 +124,9 @@ links_like other facts after octets view drawn links doing like = record {
   makes_none = subst MakesNone (sym doing) like.makes_none;
 }
 
-pub start_like : (other : Facts) → IsKeptAtStarts (IsLike other)
+pub start_like : (other : Facts) → IsKeptAtStarts (IsLike other) (IsLike other)
 start_like other = record {
+  weakens = λ facts like. like;
   ends = λ slot facts like.
       links_like other facts _ refl (ap (view_shut facts.view) (none_end slot 0 facts.links like.none)) refl
       (none_stay slot facts.links like.none) refl like;

@@ -97,7 +97,7 @@ names_from setup facts (step ∷ past) own =
     All-append (HasHandleBelow setup.links) (notes_after setup facts step) (notes_from setup (facts_after setup facts step) past)
     (step_named setup facts step own)
     (names_from setup (facts_after setup facts step) past
-    (holds_step setup (HaveOwnHandles setup) (handles_kept setup) facts step own))
+    (holds_step setup (HaveOwnHandles setup) (HaveOwnHandles setup) (handles_kept setup) facts step own))
 
 pub past_names_links : (setup : Setup) (past : List Step) → All (HasHandleBelow setup.links) (notes_of setup past)
 unfolding notes_of facts_of

@@ -64,9 +64,10 @@ drawn_fed setup facts LostSync = grow_by facts.connections facts.drawn facts.dra
 drawn_fed setup facts More = grow_by facts.connections facts.drawn facts.drawn 0 (no_more facts.drawn)
 
 -- in a turn
-drawn_kept : (setup : Setup) (facts : Facts) → IsKeptInTurns setup (GrowBy facts 0)
+drawn_kept : (setup : Setup) (facts : Facts) → IsKeptInTurns setup (GrowBy facts 0) (GrowBy facts 0)
 drawn_kept setup facts = record {
   starts = record {
+    weakens = λ next grow. grow;
     ends = λ slot next grow. grow;
     begins = λ slot next grow. grow;
     enters = λ slot next grow. grow;
@@ -91,7 +92,7 @@ drawn_kept setup facts = record {
 
 drawn_turn : (setup : Setup) (facts : Facts) (step : Step) → IsInTurn step → GrowBy facts 0 (facts_after setup facts step)
 drawn_turn setup facts step turn =
-    turn_keeps setup (GrowBy facts 0) (drawn_kept setup facts) facts step turn
+    turn_keeps setup (GrowBy facts 0) (GrowBy facts 0) (drawn_kept setup facts) facts step turn
     (grow_by facts.connections facts.drawn facts.drawn 0 (no_more facts.drawn))
 
 drawn_step : (setup : Setup) (facts : Facts) (step : Step)

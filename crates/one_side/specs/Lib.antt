@@ -10,5 +10,6 @@ pub mod Outcome
 pub mod Radio
 pub mod Heard
 pub mod Side
+pub mod Sent
 pub mod Host
 pub mod Notes

@@ -1,10 +1,13 @@
 //! Laws of one controller. The bodies only call the laws that they rest on: the contracts are the
 //! laws.
-ghost use Rattle.std.specs.Prelude.{◌≡◌, ◌≢◌, ◌↔◌, ◌<◌, ◌+◌, ◌^◌, ℕ, Bool, true, false};
+ghost use Rattle.std.specs.Prelude.{◌≡◌, ◌≢◌, ◌↔◌, ◌<◌, ◌+◌, ◌^◌, ◌⊎◌, ℕ, Bool, true, false};
 ghost use Rattle.std.specs.Prelude.{if◌then◌else◌};
-ghost use Rattle.std.specs.Prelude.{All, List, [], ◌∷◌, ◌++◌, map};
+ghost use Rattle.std.specs.Prelude.{All, List, [], ◌∷◌, ◌++◌, Some, length, map};
 ghost use Rattle.ble_base.specs.Bits.{has_bit};
 ghost use Rattle.ble_base.specs.declared.notes.Note.TheVariants.{Up};
+ghost use Rattle.ble_base.specs.declared.verdicts.Verdict.TheVariants.{Good};
+ghost use Rattle.adv_pdu.specs.declared.pdu.AdvPdu.{AdvPdu};
+ghost use Rattle.adv_pdu.specs.Pdu.{IsPdu};
 ghost use Rattle.h4_frames.specs.Frames.{frames};
 ghost use Rattle.h4_frames.specs.declared.packet.HostPacket.TheVariants.{Acl};
 ghost use Rattle.h4_frames.specs.declared.packet.HostPacket.TheVariants.{Command as HostCommand};
@@ -20,13 +23,15 @@ ghost use Rattle.hci_evt.specs.declared.event.Event.TheVariants.{HardwareError};
 ghost use Rattle.host_view.specs.Unbuilt.{status_of};
 ghost use Rattle.host_view.specs.View.{View};
 ghost use Rattle.one_side.specs.Step.{Step, HostOctet};
-ghost use Rattle.one_side.specs.Facts.{Setup, Facts};
+ghost use Rattle.one_side.specs.Facts.{Setup, Facts, Sends};
 ghost use Rattle.one_side.specs.Answers.{AreOneAnswer, HasNoAnswer, IsAnswerTo, answer_to};
 ghost use Rattle.one_side.specs.Answers.{complete_answer, next_word};
 ghost use Rattle.one_side.specs.Commands.{facts_commanded};
 ghost use Rattle.one_side.specs.Events.{notes_of_events};
+ghost use Rattle.one_side.specs.Packets.{advertising_packet, pdu_heard, verdict_advertising};
 ghost use Rattle.one_side.specs.Side.{facts_after, facts_of, notes_after, notes_fed};
 ghost use Rattle.one_side.specs.Side.{notes_of, result_of};
+ghost use Rattle.one_side.specs.Sent.{IsAdvertisingPacket, IsLinkPacket};
 ghost use Rattle.one_side.specs.Host.{HeardNothing, commands_accepted, commands_of, host_octets};
 ghost use Rattle.one_side.specs.Host.{is_answered, le_rand_count, opcodes_in, opcodes_of};
 ghost use Rattle.one_side.specs.Host.{with_answer};
@@ -128,4 +133,25 @@ pub fn random_words_go_round()
           items = written (complete_answer 0x00 0x2018
               (little_endian 8 (next_word setup (facts_of setup past).drawn)));
         }) ∷ [] }
+{}
+
+/// The packet of a PDU on an advertising channel is good to a controller that listens on that
+/// channel, and is to it that very PDU.
+pub fn a_pdu_is_understood()
+    ensures good { (channel : ℕ) (pdu : AdvPdu) → IsPdu pdu
+        → verdict_advertising channel (advertising_packet channel pdu) ≡ Good }
+    ensures says { (channel : ℕ) (pdu : AdvPdu) → IsPdu pdu
+        → pdu_heard channel (advertising_packet channel pdu) ≡ Some pdu }
+{
+    air_frame::laws::packet_tells_its_pdu();
+    air_frame::laws::pdu_form_is_a_count();
+}
+
+/// What a controller wants to send is the packet of a PDU on one of the advertising channels, or
+/// that of the link on which it is to send, on a data channel; if its public address has six
+/// octets.
+pub fn what_is_sent_is_a_pdu()
+    ensures { (setup : Setup) (past : List Step) (channel : ℕ) (octets : List ℕ)
+        → length setup.public ≡ 6 → (facts_of setup past).wanted ≡ Sends channel octets
+        → IsAdvertisingPacket channel octets ⊎ IsLinkPacket (facts_of setup past) channel octets }
 {}

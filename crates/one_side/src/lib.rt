@@ -7,7 +7,7 @@ mod laws;
 
 pub use crate::doing::{Doing, Turn};
 pub use crate::laws::{
-    a_host_is_answered_whatever_the_turns, commands_are_answered_in_order,
+    a_host_is_answered_whatever_the_turns, a_pdu_is_understood, commands_are_answered_in_order,
     each_command_is_answered_once, notes_name_links_of_the_controller, past_grows,
-    random_words_go_round, refused_command_changes_nothing,
+    random_words_go_round, refused_command_changes_nothing, what_is_sent_is_a_pdu,
 };
