@@ -19,3 +19,4 @@ pub mod Fates
 pub mod UpToDate
 pub mod Answers
 pub mod LinkSteps
+pub mod Doings

@@ -43,6 +43,7 @@ use Rattle.one_side.specs.Radio.{facts_entering, outcome_begun, plan_in, served,
 use Rattle.one_side.specs.Side.{facts_after, facts_fed, result_of}
 use Rattle.one_side.proofs.Always.{ending_is, links_won, opening_is, winning_is}
 use Rattle.one_side.proofs.Phases.{EachOutcome, heard_is, unheard_is}
+use Rattle.runs.specs.OnAir.{ends_phase}
 use Rattle.runs.specs.Run.{step_of}
 
 -- ---- a fact of what each link was set up with
@@ -183,7 +184,7 @@ module _ (P : EndSetup → Type 0) where
 
   -- what a link was set up with that is opened in a step
   pub record MayOpen (facts : Facts) (step : Step) : Type 0 where
-    pub made : (channel : ℕ) (link : LinkSetup) → facts.turn.doing ≡ Connects channel link
+    pub made : (channel : ℕ) (link : LinkSetup) → ends_phase step ≡ true → facts.turn.doing ≡ Connects channel link
         → P (record { link = link; opened = facts.turn.slot })
     pub taken : (channel : ℕ) (octets : List ℕ) (on : AdvertiserFacts) (pdu : AdvPdu) (fields : ConnectFields) (handle : ℕ)
         → step ≡ PacketHeard octets → facts.turn.doing ≡ AwaitsRequest channel → pdu_heard channel octets ≡ Some pdu
@@ -266,7 +267,7 @@ module _ (P : EndSetup → Type 0) where
   heard_linked setup facts octets (CentralListens handle) is may each = received_linked handle octets facts each
   heard_linked setup facts octets (PeripheralListens handle) is may each = received_linked handle octets facts each
   heard_linked setup facts octets doing is may each =
-      unheard_linked facts doing (λ channel link same. may.made channel link (is ∙ same)) each
+      unheard_linked facts doing (λ channel link same. may.made channel link refl (is ∙ same)) each
 
   -- ---- a step
 
@@ -279,7 +280,7 @@ module _ (P : EndSetup → Type 0) where
   step_linked setup facts (PacketHeard octets) may each =
       passed_linked (heard setup facts.turn.doing octets facts) (heard_linked setup facts octets facts.turn.doing refl may each)
   step_linked setup facts NothingHeard may each =
-      passed_linked (unheard facts.turn.doing facts) (unheard_linked facts facts.turn.doing may.made each)
+      passed_linked (unheard facts.turn.doing facts) (unheard_linked facts facts.turn.doing (λ channel link is. may.made channel link refl is) each)
   step_linked setup facts TurnEnds may each = sends facts.turn.slot Rests facts.links each
 
 -- ---- the slot of a turn
