@@ -20,3 +20,4 @@ pub mod UpToDate
 pub mod Answers
 pub mod LinkSteps
 pub mod Doings
+pub mod LinkEnds
