@@ -1,2 +1,7 @@
 -- The lemmas of this crate.
 pub mod SameEvent
+pub mod TurnPlaces
+pub mod OpenSteps
+pub mod TurnSteps
+pub mod Entering
+pub mod BetweenTurns

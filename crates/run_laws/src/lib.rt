@@ -3,4 +3,4 @@
 
 mod ends;
 
-pub use crate::ends::ends_of_one_link_have_one_connect_ind;
+pub use crate::ends::{each_end_enters_its_events, ends_of_one_link_have_one_connect_ind};
