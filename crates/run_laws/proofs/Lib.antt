@@ -5,3 +5,4 @@ pub mod OpenSteps
 pub mod TurnSteps
 pub mod Entering
 pub mod BetweenTurns
+pub mod SentPackets
