@@ -6,3 +6,5 @@ pub mod TurnSteps
 pub mod Entering
 pub mod BetweenTurns
 pub mod SentPackets
+pub mod ConnectInds
+pub mod DistinctAccess

@@ -1,8 +1,7 @@
 -- What each packet is that a controller of a run sends.
-use Rattle.std.proofs.Common.{◌≡◌, ℕ, zero, suc, ◌+◌, ◌<◌, ◌≤◌, ◌==◌, ◌⊎◌, inl, inr, Bool, true, false, Option, Some, None, List, [], ◌∷◌, ◌++◌, cond, length, refl, sym, ap, subst, ◌∙◌, arith}
-use Rattle.std.specs.Prelude.{⊤, ◌&&◌, nat_le, nat_lt}
+use Rattle.std.proofs.Common.{◌≡◌, ℕ, ◌==◌, ◌⊎◌, inl, inr, Bool, true, false, Option, Some, None, List, cond, length, refl, sym, ap, subst, ◌∙◌}
+use Rattle.std.specs.Prelude.{⊤}
 use Rattle.std.specs.Option.{option_map}
-use Rattle.std.proofs.lemmas.Bool.{le-leb, lt-ltb}
 use Rattle.ble_base.specs.declared.addresses.Address.{Address}
 use Rattle.adv_pdu.specs.declared.pdu.AdvPdu.{AdvPdu}
 use Rattle.adv_pdu.specs.declared.pdu.AdvPdu.TheVariants.{Ind, Direct, Nonconn, ScanReq, ScanRsp, Connect, ScanInd}
@@ -11,22 +10,21 @@ use Rattle.advertise.specs.declared.params.AdvParams.{AdvParams}
 use Rattle.advertise.specs.Advertising.{AdvertiserFacts, advertisement}
 use Rattle.one_end.specs.Packets.{packet_sent}
 use Rattle.one_end.specs.Step.{PacketSent}
-use Rattle.one_end.specs.declared.setup.LinkSetup.{LinkSetup}
 use Rattle.open_links.specs.OpenLinks.{Links, OpenLink, facts_in, link_after, link_at, with_change}
 use Rattle.open_links.proofs.Handles.{changed_is}
 use Rattle.scan_init.specs.Reports.{ScannerFacts}
 use Rattle.one_side.specs.declared.doing.Doing.{Doing}
 use Rattle.one_side.specs.declared.doing.Doing.TheVariants.{Advertises, AwaitsRequest, Responds, Scans, Requests, AwaitsResponse, Initiates, Connects, CentralSends, CentralListens, PeripheralListens, PeripheralSends, Rests}
-use Rattle.one_side.specs.Step.{Step, HostOctet, TurnBegins, PacketHeard, NothingHeard, TurnEnds}
-use Rattle.one_side.specs.Facts.{Setup, Facts, Advertising, Use, Sends, Listens, Idle, first_facts}
+use Rattle.one_side.specs.Step.{Step, HostOctet}
+use Rattle.one_side.specs.Facts.{Setup, Facts, Use, Sends, Listens, Idle}
 use Rattle.one_side.specs.Heard.{heard, unheard}
-use Rattle.one_side.specs.Packets.{advertisement_sent, advertising_packet, facts_doing, listens_on, request_sent, response_sent, sends_on, sends_pdu, use_for}
+use Rattle.one_side.specs.Packets.{advertising_packet, facts_doing, listens_on, sends_on, sends_pdu, use_for}
 use Rattle.one_side.specs.Radio.{outcome_begun}
 use Rattle.one_side.specs.Sent.{SendsOn}
 use Rattle.one_side.specs.Side.{facts_after, facts_of}
 use Rattle.one_side.proofs.Always.{IsAdvertisingChannel}
-use Rattle.one_side.proofs.Sent.{AdvertiserFits, AdvertisingFits, CanSend, DoingFits, ScannerFits, SendsWell, SomePdu, advertisement_is, request_is, response_is, sends_well}
-use Rattle.runs.specs.Links.{is_advertising, is_connect_ind}
+use Rattle.one_side.proofs.Sent.{AdvertisingFits, DoingFits, ScannerFits, SendsWell, SomePdu, advertisement_is, request_is, response_is, sends_well}
+use Rattle.runs.specs.Links.{is_connect_ind}
 use Rattle.runs.specs.Run.{step_of}
 use Rattle.run_laws.proofs.TurnPlaces.{Between, IsTurned, Stage, Standing, Within, standing, turned}
 use Rattle.run_laws.proofs.TurnSteps.{octet_turn}

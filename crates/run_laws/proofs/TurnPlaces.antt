@@ -24,7 +24,7 @@ pub record Standing : Type 0 where
   -- how many turns the controller began
   pub begun : ℕ
 
-abbrev at_stage : Stage → ℕ → Standing
+abbrev pub at_stage : Stage → ℕ → Standing
 at_stage stage begun = record { stage = stage; begun = begun }
 
 -- the calls that may be made, and where they lead
@@ -152,7 +152,7 @@ octets_stand given station (octet ∷ octets) other begun history stands =
     octets_stand given station octets other begun (after_call given station (HostOctet octet) history)
     (octet_by given station octet other begun history (other == station) refl stands)
 
-event_past : (other : ℕ) (history : List Event) (event : Event) → steps_in other event ≡ [] → past_of other (history ++ event ∷ []) ≡ past_of other history
+pub event_past : (other : ℕ) (history : List Event) (event : Event) → steps_in other event ≡ [] → past_of other (history ++ event ∷ []) ≡ past_of other history
 event_past other history event none = flat_nothing (steps_in other) history event none
 
 feed_stands : (given : Given) (station : ℕ) (octets : List ℕ) (other begun : ℕ) (history : List Event)
