@@ -8,3 +8,4 @@ pub mod BetweenTurns
 pub mod SentPackets
 pub mod ConnectInds
 pub mod DistinctAccess
+pub mod Hearings
