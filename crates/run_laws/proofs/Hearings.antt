@@ -53,7 +53,7 @@ pub record IsLinkOnAir (facts : Facts) (channel : ℕ) (octets : List ℕ) : Typ
 abbrev pub IsOnAir : Facts → ℕ → List ℕ → Type 0
 IsOnAir facts channel octets = IsPduOnAir channel octets ⊎ IsLinkOnAir facts channel octets
 
-on_air : (facts : Facts) (channel : ℕ) (octets : List ℕ) → IsUseSent facts (Sends channel octets) → IsOnAir facts channel octets
+pub on_air : (facts : Facts) (channel : ℕ) (octets : List ℕ) → IsUseSent facts (Sends channel octets) → IsOnAir facts channel octets
 on_air facts channel octets (inl sent) =
     inl (record { pdu = sent.pdu; is_pdu = sent.is_pdu; packet = sent.packet; on_channel = sent.on_channel; ch_sel = sent.ch_sel })
 on_air facts channel octets (inr sent) =
@@ -83,7 +83,7 @@ still_on_air setup facts channel octets (inr sent) =
 -- ---- what is heard
 
 -- before the sender takes what it heard in the phase, it wants to send the packet
-abbrev OnAirIf : Bool → Given → List Event → ℕ → ℕ → List ℕ → Type 0
+abbrev pub OnAirIf : Bool → Given → List Event → ℕ → ℕ → List ℕ → Type 0
 OnAirIf true given history sender channel octets = IsOnAir (facts_at given sender history) channel octets
 OnAirIf false given history sender channel octets = use_at given sender history ≡ Sends channel octets
 
@@ -181,7 +181,7 @@ packet_heard given fates station channel octets history other is_one wanted fals
       sent = use_same given heard.sender history after (event_past heard.sender history event refl) ∙ heard.sent;
     }
 
-wanted_is : (given : Given) (station : ℕ) (history : List Event) → (facts_at given station history).wanted ≡ use_at given station history
+pub wanted_is : (given : Given) (station : ℕ) (history : List Event) → (facts_at given station history).wanted ≡ use_at given station history
 unfolding use_of
 wanted_is given station history = refl
 

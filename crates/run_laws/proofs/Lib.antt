@@ -9,3 +9,4 @@ pub mod SentPackets
 pub mod ConnectInds
 pub mod DistinctAccess
 pub mod Hearings
+pub mod ByCalls
