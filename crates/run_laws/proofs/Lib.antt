@@ -10,3 +10,4 @@ pub mod ConnectInds
 pub mod DistinctAccess
 pub mod Hearings
 pub mod ByCalls
+pub mod ChSel
