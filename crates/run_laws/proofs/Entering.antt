@@ -35,7 +35,7 @@ use Rattle.runs.specs.Run.{Given, facts_at, run_of, setup_at, history_of}
 use Rattle.runs.proofs.LinkEnds.{AreTaken}
 use Rattle.runs.proofs.Stations.{is_in}
 use Rattle.run_laws.specs.Ends.{HaveOneConnectInd}
-use Rattle.run_laws.proofs.OpenSteps.{EachOpen, IsKeptOpen, MayOpen, begin_open, end_open, none_open, octet_open, open_has, phase_open}
+use Rattle.run_laws.proofs.OpenSteps.{EachOpen, IsKeptOpen, MayOpen, begin_open, end_open, none_open, octet_open, open_has, phase_open, IsKeptServed}
 use Rattle.run_laws.proofs.TurnPlaces.{Between, IsTurned, Stage, Within, stands_in_run, turned}
 use Rattle.run_laws.proofs.TurnSteps.{FitsChannel, FitsFirst, IsListening, begins_listening, may_fit, phase_fits, phase_listens, initiates, pending, MakesWell, begins_begun, begins_make, begins_may, begins_slot, octet_turn, phase_makes, phase_turn}
 
@@ -139,11 +139,16 @@ other_step slot link step none entering = record {
   earlier = entering.earlier;
 }
 
-entering_open : (slot : ℕ) → IsKeptOpen (IsEntering slot)
-entering_open slot = record {
+entering_served : (slot : ℕ) → IsKeptServed (IsEntering slot)
+entering_served slot = record {
   served = λ now link entering.
       record { on_time = same_on_time slot link (link_served now link) refl refl entering.on_time; some = entering.some; earlier = entering.earlier };
   sent = λ now link entering. other_step slot link (PacketSent now) (fold-append count_entry 0 link.past (PacketSent now ∷ [])) entering;
+}
+
+entering_open : (slot : ℕ) → IsKeptOpen (IsEntering slot)
+entering_open slot = record {
+  serving = entering_served slot;
   received = λ now octets link entering.
       other_step slot link (PacketReceived now octets) (fold-append count_entry 0 link.past (PacketReceived now octets ∷ [])) entering;
 }
@@ -189,7 +194,7 @@ entering_kept taken setup = record {
   };
   begins = λ begun on facts are. record {
     in_turn = (turn_kept setup).begins begun on facts are.in_turn;
-    each = begin_open (IsEntering begun) (IsEntering (begun + 1)) (entering_open (begun + 1)) setup begun on facts (entered_next begun) are.each;
+    each = begin_open (IsEntering begun) (IsEntering (begun + 1)) (entering_served (begun + 1)) setup begun on facts (entered_next begun) are.each;
   };
   passes = λ phases begun received facts are. record {
     in_turn = (turn_kept setup).passes phases begun received facts are.in_turn;
@@ -197,7 +202,7 @@ entering_kept taken setup = record {
   };
   ends = λ begun facts are. record {
     in_turn = (turn_kept setup).ends begun facts are.in_turn;
-    each = end_open (IsEntering begun) (entering_open begun) setup facts are.each;
+    each = end_open (IsEntering begun) (entering_served begun) setup facts are.each;
   };
 }
 
