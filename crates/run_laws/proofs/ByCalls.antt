@@ -44,6 +44,7 @@ pub record IsKeptByCalls (given : Given) (M : (ℕ → Facts) → Type 0) : Type
       → IsInTurn (setup_at given station) Between slot (before station) → M before → M after
   pub passes : (station phases turns : ℕ) (received : Option (List ℕ)) (before after : ℕ → Facts) → IsCalled given station (step_of received) before after
       → IsInTurn (setup_at given station) (Within phases) turns (before station)
+      → ((other : ℕ) → is_in other given.stations ≡ true → (before other).turn.slot + 1 ≡ turns)
       → ((octets : List ℕ) → received ≡ Some octets → WasSent given before station octets) → M before → M after
   pub ends : (station : ℕ) (before after : ℕ → Facts) → IsCalled given station TurnEnds before after → M before → M after
 
@@ -128,6 +129,12 @@ at_turn given place history stand station is =
     let setup = setup_at given station in
     turned setup (IsInTurn setup) (turn_kept setup) (past_of station history) (stands_at place station (turns_begun history)) (turn_first setup) (stand station is)
 
+one_slot : (given : Given) (history : List Event) (station phases turns : ℕ) (listened : Bool)
+    → StandsBy given history station (if listened then at_stage (Within (suc phases)) turns else at_stage (Within phases) turns)
+    → (facts_at given station history).turn.slot + 1 ≡ turns
+one_slot given history station phases turns true stands = stands.slot_is
+one_slot given history station phases turns false stands = stands.slot_is
+
 last_turn : (turns slot : ℕ) → turns ≡ slot + 1 → turns - 1 ≡ slot
 last_turn turns slot is = omega (arith, is)
 
@@ -188,6 +195,8 @@ holds_kept given M calls six distinct = let kept = hearing_kept given six distin
         hearing = kept.on_hearing phases done left station history are some holds.hearing;
         so_far = call_holds given M station (step_of received) history (calls.passes station phases (turns_begun history) received _ _
             (called_facts given station (step_of received) history is) turn
+            (λ other in_it. one_slot given history other phases (turns_begun history) (is_in other done)
+            (at_turn given (AtListening phases done (station ∷ left)) history holds.hearing.stand other in_it))
             (was_sent given six phases done left station history distinct are holds.hearing) holds.so_far.last) holds.so_far;
       };
   on_heard = λ phases history holds. record { hearing = kept.on_heard phases history holds.hearing; so_far = holds.so_far };

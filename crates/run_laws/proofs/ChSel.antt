@@ -226,7 +226,7 @@ two_kept understood given = record {
         links = step_linked HasTwo setup (before station) (TurnBegins slot on) (opens_none HasTwo (before station) (TurnBegins slot on) refl) have.links;
         makes = may_make _ (begins_may setup slot on (before station) in_turn.begun_is);
       }) all;
-  passes = λ station phases turns received before after called in_turn sent all.
+  passes = λ station phases turns received before after called in_turn slots sent all.
       let setup = setup_at given station in
       let have = all station called.is_one in
       one_called given station (step_of received) before after called (record {

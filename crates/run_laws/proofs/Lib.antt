@@ -11,3 +11,5 @@ pub mod DistinctAccess
 pub mod Hearings
 pub mod ByCalls
 pub mod ChSel
+pub mod LinkPasses
+pub mod Agreed
