@@ -13,3 +13,4 @@ pub mod ByCalls
 pub mod ChSel
 pub mod LinkPasses
 pub mod Agreed
+pub mod InAgreement

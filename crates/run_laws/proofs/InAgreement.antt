@@ -1,0 +1,270 @@
+-- In every run of two controllers with one link each, both ends of one link stay in agreement.
+use Rattle.std.proofs.Common.{◌≡◌, ◌≢◌, ℕ, zero, suc, ◌+◌, ◌<◌, ◌≤◌, ◌==◌, ◌⊎◌, inl, inr, Bool, true, false, Option, Some, None, List, [], ◌∷◌, ◌++◌, length, replicate, refl, sym, ap, subst, ◌∙◌, arith}
+use Rattle.std.specs.Prelude.{⊤, if◌then◌else◌}
+use Rattle.std.specs.Option.{option_map}
+use Rattle.std.proofs.lemmas.Bool.{eqb-true, eqb-false, false_from_ne_true}
+use Rattle.one_end.specs.Setup.{Setup as EndSetup}
+use Rattle.one_end.specs.Step.{PacketSent, PacketReceived}
+use Rattle.one_end.specs.Packets.{packet_sent}
+use Rattle.one_end.specs.Pair.{AreInAgreement}
+use Rattle.one_end.specs.declared.setup.LinkSetup.{LinkSetup}
+use Rattle.one_end.proofs.Pairs.{AreAgreed}
+use Rattle.one_end.proofs.Received.{IsHeardWhole}
+use Rattle.open_links.specs.OpenLinks.{Links, OpenLink, facts_in, link_after, link_at, link_from, link_served, new_link, with_change, with_change_from, with_link}
+use Rattle.open_links.specs.Turns.{entered_if, is_anchor, link_entered}
+use Rattle.open_links.proofs.Ends.{entered_setup}
+use Rattle.one_side.specs.declared.doing.Doing.{Doing}
+use Rattle.one_side.specs.declared.doing.Doing.TheVariants.{Rests}
+use Rattle.one_side.specs.declared.doing.Turn.{Turn}
+use Rattle.one_side.specs.Step.{Step, HostOctet, TurnBegins, TurnEnds}
+use Rattle.one_side.specs.Facts.{Setup, Facts, Use, Sends, Listens, Idle, first_facts}
+use Rattle.one_side.specs.Heard.{reply_if}
+use Rattle.one_side.specs.Packets.{links_sending, listens_on}
+use Rattle.one_side.specs.Side.{facts_after}
+use Rattle.one_side.proofs.Always.{holds_step}
+use Rattle.one_side.proofs.DataChannels.{link_channel}
+use Rattle.one_side.proofs.Handles.{HaveOwnHandles, handles_kept, own_handles}
+use Rattle.runs.specs.Feeding.{AreDistinct}
+use Rattle.runs.specs.History.{Event}
+use Rattle.runs.specs.LinkEnds.{HaveAddresses}
+use Rattle.runs.specs.Run.{Given, facts_at, history_of, run_of, setup_at, step_of}
+use Rattle.runs.proofs.Calls.{same_station}
+use Rattle.runs.proofs.Stations.{is_in}
+use Rattle.run_laws.specs.Ends.{HaveOneConnectInd}
+use Rattle.run_laws.proofs.Agreed.{Agree, ack_of, agree_entered, agree_new, agree_received, agree_sent, agree_served, other_way}
+use Rattle.run_laws.proofs.ByCalls.{IsCalled, IsKeptByCalls, WasSent, always_by_calls}
+use Rattle.run_laws.proofs.Entering.{IsInTurn}
+use Rattle.run_laws.proofs.Hearings.{IsLinkOnAir, IsOnAir}
+use Rattle.run_laws.proofs.LinkPasses.{IsPassing, Leaves, Opens, Receives, is_on_link, phase_passes}
+use Rattle.run_laws.proofs.OpenSteps.{AtOpen, EachOpen, IsKeptServed, begin_open, changed, end_open, none_open, octet_open, open_has, open_more, opened, sends}
+use Rattle.run_laws.proofs.TurnPlaces.{Between, Within}
+use Rattle.run_laws.proofs.TurnSteps.{begins_begun, begins_slot, octet_turn, phase_turn}
+
+-- there are two stations, each with one link at most
+pub record IsPair (given : Given) : Type 0 where
+  pub only : (one other third : ℕ) → is_in one given.stations ≡ true → is_in other given.stations ≡ true → is_in third given.stations ≡ true
+      → (one == other) ≡ false → (one == third) ≡ false → third ≡ other
+  pub links : (station : ℕ) → (setup_at given station).links ≤ 1
+
+-- ---- the links of one station
+
+abbrev OpenedBefore : ℕ → OpenLink → Type 0
+OpenedBefore slot link = link.setup.opened < slot
+
+-- nothing happened yet to one that was opened in this slot
+abbrev IsFresh : ℕ → OpenLink → Type 0
+IsFresh slot link = link.setup.opened ≡ slot → link.past ≡ []
+
+record IsStation (setup : Setup) (facts : Facts) : Type 0 where
+  own : HaveOwnHandles setup facts
+  earlier : EachOpen (OpenedBefore facts.turn.begun) facts.links
+  fresh : EachOpen (IsFresh facts.turn.slot) facts.links
+  -- while it sends or listens on one, all were opened before
+  old : is_on_link facts.turn.doing ≡ true → EachOpen (OpenedBefore facts.turn.slot) facts.links
+
+before_served : (slot : ℕ) → IsKeptServed (OpenedBefore slot)
+before_served slot = record { served = λ now link is. is; sent = λ now link is. is }
+
+before_entered : (slot now : ℕ) (link : OpenLink) → OpenedBefore slot link → OpenedBefore slot (link_entered now link)
+before_entered slot now link is = subst (λ (s : EndSetup). s.opened < slot) (sym (entered_setup (is_anchor now link) now link)) is
+
+before_fresh : (slot : ℕ) (link : OpenLink) → OpenedBefore slot link → IsFresh slot link
+before_fresh slot link is = λ same. absurd (omega (arith, is, same))
+
+before_next : (slot : ℕ) (link : OpenLink) → OpenedBefore slot link → OpenedBefore (slot + 1) link
+before_next slot link is = omega (arith, is)
+
+own_step : (setup : Setup) (facts : Facts) (step : Step) → HaveOwnHandles setup facts → HaveOwnHandles setup (facts_after setup facts step)
+own_step setup facts step own = holds_step setup (HaveOwnHandles setup) (HaveOwnHandles setup) (handles_kept setup) facts step own
+
+station_fed : (setup : Setup) (facts : Facts) (octet : ℕ) → IsStation setup facts → IsStation setup (facts_after setup facts (HostOctet octet))
+station_fed setup facts octet is =
+    let same = (octet_turn setup facts octet).turn in
+    let after = facts_after setup facts (HostOctet octet) in record {
+      own = own_step setup facts (HostOctet octet) is.own;
+      earlier = subst (λ (turn : Turn). EachOpen (OpenedBefore turn.begun) after.links) (sym same) (octet_open (OpenedBefore facts.turn.begun) setup facts octet is.earlier);
+      fresh = subst (λ (turn : Turn). EachOpen (IsFresh turn.slot) after.links) (sym same) (octet_open (IsFresh facts.turn.slot) setup facts octet is.fresh);
+      old = subst (λ (turn : Turn). is_on_link turn.doing ≡ true → EachOpen (OpenedBefore turn.slot) after.links) (sym same)
+          (λ on. octet_open (OpenedBefore facts.turn.slot) setup facts octet (is.old on));
+    }
+
+station_begins : (setup : Setup) (facts : Facts) (slot : ℕ) (on : Bool) → facts.turn.begun ≡ slot → IsStation setup facts → IsStation setup (facts_after setup facts (TurnBegins slot on))
+station_begins setup facts slot on begun is =
+    let after = facts_after setup facts (TurnBegins slot on) in
+    let before : EachOpen (OpenedBefore slot) after.links =
+    begin_open (OpenedBefore slot) (OpenedBefore slot) (before_served slot) setup slot on facts (before_entered slot slot)
+    (subst (λ n. EachOpen (OpenedBefore n) facts.links) begun is.earlier) in
+    let now = sym (begins_slot setup slot on facts) in record {
+      own = own_step setup facts (TurnBegins slot on) is.own;
+      earlier = subst (λ n. EachOpen (OpenedBefore n) after.links) (sym (begins_begun setup slot on facts))
+          (open_more (OpenedBefore slot) (OpenedBefore (slot + 1)) after.links (before_next slot) before);
+      fresh = subst (λ n. EachOpen (IsFresh n) after.links) now (open_more (OpenedBefore slot) (IsFresh slot) after.links (before_fresh slot) before);
+      old = λ does. subst (λ n. EachOpen (OpenedBefore n) after.links) now before;
+    }
+
+station_ends : (setup : Setup) (facts : Facts) → IsStation setup facts → IsStation setup (facts_after setup facts TurnEnds)
+station_ends setup facts is = record {
+  own = own_step setup facts TurnEnds is.own;
+  earlier = is.earlier;
+  fresh = is.fresh;
+  old = λ does. absurd cc;
+}
+
+-- what receives, and may send after that, was opened before
+received_before : (slot now handle : ℕ) (octets : List ℕ) (replies : Bool) (links : Links) → EachOpen (OpenedBefore slot) links
+    → EachOpen (OpenedBefore slot) (links_sending now (reply_if replies handle) (with_change handle (link_after (PacketReceived now octets)) links))
+received_before slot now handle octets replies links each =
+    sends (OpenedBefore slot) (before_served slot) now (reply_if replies handle) _
+    (changed (OpenedBefore slot) handle (link_after (PacketReceived now octets)) links (λ link is. is) each)
+
+now_before : (slot begun : ℕ) → slot + 1 ≡ begun → slot < begun
+now_before slot begun is = omega (arith, is)
+
+no_link : (X : Type 0) (on : Bool) → on ≡ false → on ≡ true → X
+no_link X on off is = absurd (let h : true ≡ false = sym is ∙ off in absurd cc)
+
+passing_before : (facts after : Facts) (received : Option (List ℕ)) (begun : ℕ) → facts.turn.slot + 1 ≡ begun → IsPassing facts received after
+    → EachOpen (OpenedBefore begun) facts.links → EachOpen (OpenedBefore begun) after.links
+passing_before facts after received begun now (Leaves same on) each = subst (EachOpen (OpenedBefore begun)) (sym same) each
+passing_before facts after received begun now (Opens link is none) each =
+    subst (EachOpen (OpenedBefore begun)) (sym is)
+    (opened (OpenedBefore begun) (record { link = link; opened = facts.turn.slot }) facts.links (now_before facts.turn.slot begun now) each)
+passing_before facts after received begun now (Receives handle octets is wanted on replies links_are) each =
+    subst (EachOpen (OpenedBefore begun)) (sym links_are) (received_before begun facts.turn.slot handle octets replies facts.links each)
+
+passing_fresh : (setup : Setup) (facts after : Facts) (received : Option (List ℕ)) → IsStation setup facts → IsPassing facts received after
+    → EachOpen (IsFresh facts.turn.slot) after.links
+passing_fresh setup facts after received station (Leaves same on) = subst (EachOpen (IsFresh facts.turn.slot)) (sym same) station.fresh
+passing_fresh setup facts after received station (Opens link is none) =
+    subst (EachOpen (IsFresh facts.turn.slot)) (sym is)
+    (opened (IsFresh facts.turn.slot) (record { link = link; opened = facts.turn.slot }) facts.links (λ same. refl) station.fresh)
+passing_fresh setup facts after received station (Receives handle octets is wanted on replies links_are) =
+    let slot = facts.turn.slot in
+    subst (EachOpen (IsFresh slot)) (sym links_are)
+    (open_more (OpenedBefore slot) (IsFresh slot) _ (before_fresh slot) (received_before slot slot handle octets replies facts.links (station.old on)))
+
+passing_old : (setup : Setup) (facts after : Facts) (received : Option (List ℕ)) → IsStation setup facts → IsPassing facts received after
+    → is_on_link after.turn.doing ≡ true → EachOpen (OpenedBefore facts.turn.slot) after.links
+passing_old setup facts after received station (Leaves same on) does = subst (EachOpen (OpenedBefore facts.turn.slot)) (sym same) (station.old (on does))
+passing_old setup facts after received station (Opens link is none) does = no_link _ (is_on_link after.turn.doing) none does
+passing_old setup facts after received station (Receives handle octets is wanted on replies links_are) does =
+    subst (EachOpen (OpenedBefore facts.turn.slot)) (sym links_are)
+    (received_before facts.turn.slot facts.turn.slot handle octets replies facts.links (station.old on))
+
+station_passes : (setup : Setup) (facts : Facts) (phases turns : ℕ) (received : Option (List ℕ)) → IsInTurn setup (Within phases) turns facts → IsStation setup facts
+    → IsStation setup (facts_after setup facts (step_of received))
+station_passes setup facts phases turns received in_turn is =
+    let after = facts_after setup facts (step_of received) in
+    let passing = phase_passes setup facts received in_turn.listens in
+    let turn = phase_turn setup facts received in
+    let now = in_turn.slot_is ∙ sym in_turn.begun_is in record {
+      own = own_step setup facts (step_of received) is.own;
+      earlier = subst (λ n. EachOpen (OpenedBefore n) after.links) (sym turn.begun) (passing_before facts after received facts.turn.begun now passing is.earlier);
+      fresh = subst (λ n. EachOpen (IsFresh n) after.links) (sym turn.slot) (passing_fresh setup facts after received is passing);
+      old = λ does. subst (λ n. EachOpen (OpenedBefore n) after.links) (sym turn.slot) (passing_old setup facts after received is passing does);
+    }
+
+-- ---- the links of two stations
+
+abbrev AllAgree : Links → Links → Type 0
+AllAgree ones others = EachOpen (λ one. EachOpen (λ other. Agree one other) others) ones
+
+agree_back : (ones others : Links) → AllAgree ones others → AllAgree others ones
+agree_back ones [] all = tt
+agree_back ones (None ∷ others) all = (tt, agree_back ones others (open_more _ _ ones (λ one each. each.1) all))
+agree_back ones (Some other ∷ others) all = (
+  open_more _ (λ one. Agree other one) ones (λ one each. other_way one other each.0) all,
+  agree_back ones others (open_more _ _ ones (λ one each. each.1) all),
+)
+
+abbrev WithAll : Links → OpenLink → Type 0
+WithAll others one = EachOpen (λ other. Agree one other) others
+
+all_entered : (others : Links) (slot : ℕ) (one : OpenLink) → WithAll others one → WithAll others (link_entered slot one)
+all_entered others slot one all = open_more (λ other. Agree one other) (λ other. Agree (link_entered slot one) other) others (λ other agree. agree_entered slot one other agree) all
+
+all_served : (others : Links) → IsKeptServed (WithAll others)
+all_served others = record {
+  served = λ slot one all. open_more (λ other. Agree one other) (λ other. Agree (link_served slot one) other) others (λ other agree. agree_served slot one other agree) all;
+  sent = λ slot one all. open_more (λ other. Agree one other) (λ other. Agree (link_after (PacketSent slot) one) other) others (λ other agree. agree_sent slot one other agree) all;
+}
+
+-- a change of the link under one handle
+changed_at : (P : OpenLink → Type 0) (first handle : ℕ) (change : OpenLink → OpenLink) (links : Links)
+    → ((link : OpenLink) → link_from first handle links ≡ Some link → P link → P (change link)) → EachOpen P links
+    → EachOpen P (with_change_from first handle (option_map change) links)
+changed_at P first handle change [] more each = tt
+changed_at P first handle change (place ∷ links) more each = at (first == handle) refl more (changed_at P (first + 1) handle change links)
+  where
+    here : (one : Option OpenLink) → ((link : OpenLink) → one ≡ Some link → P link → P (change link)) → AtOpen P one → AtOpen P (option_map change one)
+    here None more has = tt
+    here (Some link) more has = more link refl has
+
+    at : (test : Bool) → (first == handle) ≡ test
+        → ((link : OpenLink) → (if test then place else link_from (first + 1) handle links) ≡ Some link → P link → P (change link))
+        → (((link : OpenLink) → link_from (first + 1) handle links ≡ Some link → P link → P (change link)) → EachOpen P links
+        → EachOpen P (with_change_from (first + 1) handle (option_map change) links))
+        → EachOpen P (if test then option_map change place ∷ links else place ∷ with_change_from (first + 1) handle (option_map change) links)
+    at true is own rest = (here place own each.0, each.1)
+    at false is own rest = (each.0, rest own each.1)
+
+-- a station with one link
+one_open : (P : OpenLink → Type 0) (handle : ℕ) (links : Links) (link : OpenLink) → length links ≤ 1 → link_at handle links ≡ Some link → P link → EachOpen P links
+one_open P handle [] link few is holds = absurd cc
+one_open P handle (place ∷ []) link few is holds = (at (0 == handle) is, tt)
+  where
+    here : (one : Option OpenLink) → one ≡ Some link → AtOpen P one
+    here None same = absurd cc
+    here (Some other) same = let equal : link ≡ other = cc in subst P equal holds
+
+    at : (test : Bool) → (if test then place else None) ≡ Some link → AtOpen P place
+    at true same = here place same
+    at false same = absurd cc
+one_open P handle (place ∷ second ∷ links) link few is holds = absurd (omega (arith, few))
+
+listens_where : (found : Option OpenLink) (link : OpenLink) (channel : ℕ) (wanted : Use) → wanted ≡ listens_on found → found ≡ Some link → wanted ≡ Listens channel
+    → channel ≡ (facts_in link).event.channel
+listens_where None link channel wanted is at listens = absurd cc
+listens_where (Some other) link channel wanted is at listens =
+    let same : other ≡ link = cc in
+    let one : Listens channel ≡ Listens (facts_in other).event.channel = sym listens ∙ is in
+    let equal : channel ≡ (facts_in other).event.channel = cc in
+    equal ∙ ap (λ (l : OpenLink). (facts_in l).event.channel) same
+
+-- what it receives on a link is what the other station sent on its own
+heard_agree : IsHeardWhole → (slot : ℕ) (octets : List ℕ) (one : OpenLink) (facts : Facts) (channel : ℕ) → length facts.links ≤ 1
+    → channel ≡ (facts_in one).event.channel → IsOnAir facts channel octets → WithAll facts.links one → WithAll facts.links (link_after (PacketReceived slot octets) one)
+heard_agree whole slot octets one facts channel few is (inl sent) all =
+    let below : channel < 37 = subst (λ (n : ℕ). n < 37) (sym is) (link_channel one) in
+    let from = sent.on_channel.0 in absurd (omega (arith, below, from))
+heard_agree whole slot octets one facts channel few is (inr sent) all =
+    let from = link_after (PacketSent sent.slot) sent.link in
+    one_open (λ other. Agree (link_after (PacketReceived slot octets) one) other) sent.handle facts.links from few sent.is_open
+    (agree_received whole slot sent.slot one sent.link octets sent.packet (sym sent.channel_is ∙ is)
+    (open_has (λ other. Agree one other) 0 sent.handle facts.links from all sent.is_open))
+
+record HasChannel (facts : Facts) : Type 0 where
+  channel : ℕ
+  is : facts.wanted ≡ Listens channel
+
+passing_agree : IsHeardWhole → (given : Given) → (others : Facts) (facts after : Facts) (received : Option (List ℕ)) → length others.links ≤ 1
+    → EachOpen (IsFresh others.turn.slot) others.links → others.turn.slot ≡ facts.turn.slot
+    → ((octets : List ℕ) (channel : ℕ) → received ≡ Some octets → facts.wanted ≡ Listens channel → IsOnAir others channel octets)
+    → ((octets : List ℕ) → received ≡ Some octets → HasChannel facts) → IsPassing facts received after
+    → AllAgree facts.links others.links → AllAgree after.links others.links
+passing_agree whole given others facts after received few fresh slot heard listens (Leaves same on) all =
+    subst (λ links. AllAgree links others.links) (sym same) all
+passing_agree whole given others facts after received few fresh slot heard listens (Opens link is none) all =
+    let end : EndSetup = record { link = link; opened = facts.turn.slot } in
+    subst (λ links. AllAgree links others.links) (sym is)
+    (opened (WithAll others.links) end facts.links
+    (open_more (IsFresh others.turn.slot) (λ other. Agree (new_link end) other) others.links
+    (λ other new. agree_new end other (λ same. new (sym same ∙ sym slot))) fresh) all)
+passing_agree whole given others facts after received few fresh slot heard listens (Receives handle octets is wanted on replies links_are) all =
+    let channel = listens octets is in
+    subst (λ links. AllAgree links others.links) (sym links_are)
+    (sends (WithAll others.links) (all_served others.links) facts.turn.slot (reply_if replies handle) _
+    (changed_at (WithAll others.links) 0 handle (link_after (PacketReceived facts.turn.slot octets)) facts.links
+    (λ one at each. heard_agree whole facts.turn.slot octets one others channel.channel few
+    (listens_where (link_at handle facts.links) one channel.channel facts.wanted wanted at channel.is)
+    (heard octets channel.channel is channel.is) each) all))
