@@ -1,5 +1,5 @@
 -- In every run of two controllers with one link each, both ends of one link stay in agreement.
-use Rattle.std.proofs.Common.{◌≡◌, ◌≢◌, ℕ, zero, suc, ◌+◌, ◌<◌, ◌≤◌, ◌==◌, ◌⊎◌, inl, inr, Bool, true, false, Option, Some, None, List, [], ◌∷◌, ◌++◌, length, replicate, refl, sym, ap, subst, ◌∙◌, arith}
+use Rattle.std.proofs.Common.{◌≡◌, ◌≢◌, ℕ, zero, suc, ◌+◌, ◌<◌, ◌≤◌, ◌==◌, ◌||◌, ◌⊎◌, inl, inr, Bool, true, false, Option, Some, None, List, [], ◌∷◌, ◌++◌, length, replicate, refl, sym, ap, subst, ◌∙◌, arith}
 use Rattle.std.specs.Prelude.{⊤, if◌then◌else◌}
 use Rattle.std.specs.Option.{option_map}
 use Rattle.std.proofs.lemmas.Bool.{eqb-true, eqb-false, false_from_ne_true}
@@ -20,7 +20,7 @@ use Rattle.one_side.specs.Step.{Step, HostOctet, TurnBegins, TurnEnds}
 use Rattle.one_side.specs.Facts.{Setup, Facts, Use, Sends, Listens, Idle, first_facts}
 use Rattle.one_side.specs.Heard.{reply_if}
 use Rattle.one_side.specs.Packets.{links_sending, listens_on}
-use Rattle.one_side.specs.Side.{facts_after}
+use Rattle.one_side.specs.Side.{facts_after, facts_of}
 use Rattle.one_side.proofs.Always.{holds_step}
 use Rattle.one_side.proofs.DataChannels.{link_channel}
 use Rattle.one_side.proofs.Handles.{HaveOwnHandles, handles_kept, own_handles}
@@ -30,7 +30,7 @@ use Rattle.runs.specs.LinkEnds.{HaveAddresses}
 use Rattle.runs.specs.Run.{Given, facts_at, history_of, run_of, setup_at, step_of}
 use Rattle.runs.proofs.Calls.{same_station}
 use Rattle.runs.proofs.Stations.{is_in}
-use Rattle.run_laws.specs.Ends.{HaveOneConnectInd}
+use Rattle.run_laws.specs.Ends.{HaveOneConnectInd, AreEnds, IsOpen, OpenEnd}
 use Rattle.run_laws.proofs.Agreed.{Agree, ack_of, agree_entered, agree_new, agree_received, agree_sent, agree_served, other_way}
 use Rattle.run_laws.proofs.ByCalls.{IsCalled, IsKeptByCalls, WasSent, always_by_calls}
 use Rattle.run_laws.proofs.Entering.{IsInTurn}
@@ -39,6 +39,9 @@ use Rattle.run_laws.proofs.LinkPasses.{IsPassing, Leaves, Opens, Receives, is_on
 use Rattle.run_laws.proofs.OpenSteps.{AtOpen, EachOpen, IsKeptServed, begin_open, changed, end_open, none_open, octet_open, open_has, open_more, opened, sends}
 use Rattle.run_laws.proofs.TurnPlaces.{Between, Within}
 use Rattle.run_laws.proofs.TurnSteps.{begins_begun, begins_slot, octet_turn, phase_turn}
+use Rattle.run_laws.proofs.SameEvent.{one_connect_ind, two_stations}
+use Rattle.radio_replay.specs.Script.{Script}
+use Rattle.runs.specs.Pair.{given_of}
 
 -- there are two stations, each with one link at most
 pub record IsPair (given : Given) : Type 0 where
@@ -268,3 +271,141 @@ passing_agree whole given others facts after received few fresh slot heard liste
     (λ one at each. heard_agree whole facts.turn.slot octets one others channel.channel few
     (listens_where (link_at handle facts.links) one channel.channel facts.wanted wanted at channel.is)
     (heard octets channel.channel is channel.is) each) all))
+
+-- ---- each call
+
+record AreStations (given : Given) (facts : ℕ → Facts) : Type 0 where
+  each : (station : ℕ) → is_in station given.stations ≡ true → IsStation (setup_at given station) (facts station)
+  agree : (one other : ℕ) → is_in one given.stations ≡ true → is_in other given.stations ≡ true → (one == other) ≡ false
+      → AllAgree (facts one).links (facts other).links
+
+differs_back : (one other : ℕ) → (one == other) ≡ false → (other == one) ≡ false
+differs_back one other differs = false_from_ne_true (other == one) (λ same. eqb-false one other differs (sym (eqb-true other one same)))
+
+stations_called : (given : Given) (station : ℕ) (step : Step) (before after : ℕ → Facts) → IsCalled given station step before after
+    → IsStation (setup_at given station) (facts_after (setup_at given station) (before station) step)
+    → ((other : ℕ) → is_in other given.stations ≡ true → (station == other) ≡ false
+    → AllAgree (facts_after (setup_at given station) (before station) step).links (before other).links)
+    → AreStations given before → AreStations given after
+stations_called given station step before after called next agrees are = record {
+  each = λ other is. each_by other is (other == station) refl;
+  agree = λ one other is is_too differs. agree_by one other is is_too differs (one == station) (other == station) refl refl;
+}
+  where
+    each_by : (other : ℕ) → is_in other given.stations ≡ true → (same : Bool) → (other == station) ≡ same → IsStation (setup_at given other) (after other)
+    each_by other is true one =
+        subst (λ n. IsStation (setup_at given n) (after n)) (sym (eqb-true other station one)) (subst (IsStation (setup_at given station)) (sym called.own) next)
+    each_by other is false differs = subst (IsStation (setup_at given other)) (sym (called.others other differs)) (are.each other is)
+
+    called_agrees : (other : ℕ) → is_in other given.stations ≡ true → (other == station) ≡ false → AllAgree (after station).links (after other).links
+    called_agrees other is differs =
+        subst (λ (f : Facts). AllAgree f.links (after other).links) (sym called.own)
+        (subst (λ (f : Facts). AllAgree (facts_after (setup_at given station) (before station) step).links f.links) (sym (called.others other differs))
+        (agrees other is (differs_back other station differs)))
+
+    agree_by : (one other : ℕ) → is_in one given.stations ≡ true → is_in other given.stations ≡ true → (one == other) ≡ false → (same same_too : Bool)
+        → (one == station) ≡ same → (other == station) ≡ same_too → AllAgree (after one).links (after other).links
+    agree_by one other is is_too differs true true here here_too =
+        absurd (eqb-false one other differs (eqb-true one station here ∙ sym (eqb-true other station here_too)))
+    agree_by one other is is_too differs true false here there =
+        subst (λ n. AllAgree (after n).links (after other).links) (sym (eqb-true one station here)) (called_agrees other is_too there)
+    agree_by one other is is_too differs false true there here =
+        subst (λ n. AllAgree (after one).links (after n).links) (sym (eqb-true other station here))
+        (agree_back (after station).links (after one).links (called_agrees one is there))
+    agree_by one other is is_too differs false false there there_too =
+        subst (λ (f : Facts). AllAgree f.links (after other).links) (sym (called.others one there))
+        (subst (λ (f : Facts). AllAgree (before one).links f.links) (sym (called.others other there_too)) (are.agree one other is is_too differs))
+
+few_links : (given : Given) → IsPair given → (station : ℕ) (facts : Facts) → IsStation (setup_at given station) facts → length facts.links ≤ 1
+few_links given pair station facts is = let many = is.own.many in let few = pair.links station in omega (arith, many, few)
+
+one_channel : (one other : ℕ) → Listens one ≡ Listens other → one ≡ other
+one_channel one other is = cc
+
+one_slot : (one other turns : ℕ) → one + 1 ≡ turns → other + 1 ≡ turns → one ≡ other
+one_slot one other turns is is_too = omega (arith, is, is_too)
+
+agreement_kept : IsHeardWhole → (given : Given) → IsPair given → IsKeptByCalls given (AreStations given)
+agreement_kept whole given pair = record {
+  feeds = λ station octet before after called are.
+      let setup = setup_at given station in
+      let is = called.is_one in
+      stations_called given station (HostOctet octet) before after called (station_fed setup (before station) octet (are.each station is))
+      (λ other is_too differs. octet_open (WithAll (before other).links) setup (before station) octet (are.agree station other is is_too differs)) are;
+  begins = λ station slot on before after called in_turn are.
+      let setup = setup_at given station in
+      let is = called.is_one in
+      stations_called given station (TurnBegins slot on) before after called (station_begins setup (before station) slot on in_turn.begun_is (are.each station is))
+      (λ other is_too differs. begin_open (WithAll (before other).links) (WithAll (before other).links) (all_served (before other).links) setup slot on (before station)
+      (all_entered (before other).links slot) (are.agree station other is is_too differs)) are;
+  passes = λ station phases turns received before after called in_turn slots sent are.
+      let setup = setup_at given station in
+      let is = called.is_one in
+      stations_called given station (step_of received) before after called (station_passes setup (before station) phases turns received in_turn (are.each station is))
+      (λ other is_too differs. passing_agree whole given (before other) (before station) _ received (few_links given pair other (before other) (are.each other is_too))
+      (are.each other is_too).fresh (one_slot _ _ turns (slots other is_too) in_turn.slot_is)
+      (λ octets channel was wanted. let heard = sent octets was in
+      subst (λ n. IsOnAir (before n) channel octets) (pair.only station other heard.sender is is_too heard.is_one differs heard.differs)
+      (subst (λ n. IsOnAir (before heard.sender) n octets) (one_channel heard.channel channel (sym heard.listens ∙ wanted)) heard.sent))
+      (λ octets was. record { channel = (sent octets was).channel; is = (sent octets was).listens })
+      (phase_passes setup (before station) received in_turn.listens) (are.agree station other is is_too differs)) are;
+  ends = λ station before after called are.
+      let setup = setup_at given station in
+      let is = called.is_one in
+      stations_called given station TurnEnds before after called (station_ends setup (before station) (are.each station is))
+      (λ other is_too differs. are.agree station other is is_too differs) are;
+}
+
+-- ---- the run
+
+first_station : (setup : Setup) → IsStation setup (first_facts setup)
+unfolding facts_of
+first_station setup = record {
+  own = own_handles setup [];
+  earlier = none_open (OpenedBefore 0) setup.links;
+  fresh = none_open (IsFresh 0) setup.links;
+  old = λ on. absurd cc;
+}
+
+-- at any time of a run
+pub stays_in_agreement : IsHeardWhole → (given : Given) → IsPair given → (before rest : List Event) (central peripheral : OpenEnd) → AreDistinct given.stations → HaveAddresses given
+    → is_in central.station given.stations ≡ true → is_in peripheral.station given.stations ≡ true → history_of (run_of given) ≡ before ++ rest
+    → AreEnds before central peripheral → IsOpen given before central → IsOpen given before peripheral
+    → AreInAgreement (ack_of central.link) (ack_of peripheral.link)
+stays_in_agreement whole given pair before rest central peripheral distinct six is is_too at ends is_open is_open_too =
+    let are = always_by_calls given (AreStations given) (agreement_kept whole given pair) six distinct (record {
+      each = λ station in_it. first_station (setup_at given station);
+      agree = λ one other in_it in_too differs. none_open (WithAll (replicate (setup_at given other).links None)) (setup_at given one).links;
+    }) before rest at in
+    let differs = two_stations before central peripheral ends in
+    let all = are.agree central.station peripheral.station is is_too (false_from_ne_true (central.station == peripheral.station) (λ same. differs (eqb-true central.station peripheral.station same))) in
+    let others = (facts_at given peripheral.station before).links in
+    let each = open_has (WithAll others) 0 central.handle (facts_at given central.station before).links central.link all is_open in
+    (open_has (λ other. Agree central.link other) 0 peripheral.handle others peripheral.link each is_open_too (one_connect_ind before central peripheral ends)).step
+
+-- ---- a pair
+
+in_pair : (station : ℕ) → is_in station (0 ∷ 1 ∷ []) ≡ true → station ≤ 1
+in_pair station is = by (station == 0) (station == 1) refl refl is
+  where
+    by : (first second : Bool) → (station == 0) ≡ first → (station == 1) ≡ second → (first || (second || false)) ≡ true → station ≤ 1
+    by true second one other holds = let same = eqb-true station 0 one in omega (arith, same)
+    by false true one other holds = let same = eqb-true station 1 other in omega (arith, same)
+    by false false one other holds = absurd cc
+
+third_of_two : (one other third : ℕ) → one ≤ 1 → other ≤ 1 → third ≤ 1 → (one == other) ≡ false → (one == third) ≡ false → third ≡ other
+third_of_two one other third a b c differs differs_too =
+    let apart = eqb-false one other differs in
+    let apart_too = eqb-false one third differs_too in
+    omega (arith, a, b, c, apart, apart_too)
+
+pub is_pair : (a b : List ℕ) (script : Script) → IsPair (given_of a b script)
+is_pair a b script = record {
+  only = λ one other third is is_too is_three differs differs_too.
+      third_of_two one other third (in_pair one is) (in_pair other is_too) (in_pair third is_three) differs differs_too;
+  links = links_of;
+}
+  where
+    links_of : (station : ℕ) → (setup_at (given_of a b script) station).links ≤ 1
+    links_of zero = omega arith
+    links_of (suc station) = omega arith

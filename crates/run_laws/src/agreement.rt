@@ -1,0 +1,31 @@
+//! Acknowledgement on the links of a pair in each run. The body only calls the laws that it rests
+//! on: the contract is the law.
+ghost use Rattle.std.specs.Prelude.{◌≡◌, ◌++◌, ℕ, List, length};
+ghost use Rattle.std.specs.List.{Contains};
+ghost use Rattle.one_end.specs.Pair.{AreInAgreement};
+ghost use Rattle.open_links.specs.OpenLinks.{facts_in};
+ghost use Rattle.radio_replay.specs.Script.{Script};
+ghost use Rattle.runs.specs.History.{Event};
+ghost use Rattle.runs.specs.Pair.{given_of};
+ghost use Rattle.runs.specs.Run.{history_of, run_of};
+ghost use Rattle.run_laws.specs.Ends.{AreEnds, IsOpen, OpenEnd};
+
+/// At any time of a run of a pair, both open ends of one link are in agreement, whatever the radio
+/// loses or changes and whatever each host does: SN and NESN of each end are the numbers of its
+/// PDUs that are acknowledged and of those that it accepted, modulo 2; each accepts what the other
+/// sent, in order, all but at most the last PDU; and it takes for acknowledged only what the other
+/// accepted (Core 5.2, volume 6 part B, section 4.5.9).
+pub fn ends_stay_in_agreement_in_every_run()
+    ensures { (a b : List ℕ) (script : Script) (before rest : List Event)
+        (central peripheral : OpenEnd)
+        → length script.a.public ≡ 6 → length script.b.public ≡ 6
+        → Contains (given_of a b script).stations central.station
+        → Contains (given_of a b script).stations peripheral.station
+        → history_of (run_of (given_of a b script)) ≡ before ++ rest
+        → AreEnds before central peripheral → IsOpen (given_of a b script) before central
+        → IsOpen (given_of a b script) before peripheral
+        → AreInAgreement (facts_in central.link).acknowledgement
+        (facts_in peripheral.link).acknowledgement }
+{
+    air_frame::laws::packet_tells_its_pdu();
+}
