@@ -1,5 +1,5 @@
 -- The ends of one link stay in agreement as either sends, and as it receives what the other sent.
-use Rattle.std.proofs.Common.{◌≡◌, ℕ, ◌+◌, ◌<◌, ◌≤◌, ◌==◌, Bool, true, false, Option, Some, None, List, [], ◌∷◌, ◌++◌, length, refl, sym, ap, subst, ◌∙◌, arith}
+use Rattle.std.proofs.Common.{◌≡◌, ℕ, ◌<◌, Bool, true, false, List, [], ◌∷◌, length, refl, sym, ap, subst, ◌∙◌, arith}
 use Rattle.std.proofs.lemmas.Bool.{eqb-true, eqb-false}
 use Rattle.std.proofs.lemmas.List.{length_push}
 use Rattle.std.proofs.lemmas.List.Sums.{fold-append}
@@ -8,7 +8,7 @@ use Rattle.ack_bit.proofs.Links.{begins}
 use Rattle.one_end.specs.Acknowledgement.{Acknowledgement, after_sending, empty_pdu, end_of, first_acknowledgement, is_acked, next_sent}
 use Rattle.one_end.specs.End.{facts_after, facts_of, facts_sent}
 use Rattle.one_end.specs.Facts.{Facts, first_facts}
-use Rattle.one_end.specs.Packets.{header_sent, packet_sent}
+use Rattle.one_end.specs.Packets.{packet_sent}
 use Rattle.one_end.specs.Pair.{AreOneLink}
 use Rattle.one_end.specs.Setup.{Setup}
 use Rattle.one_end.specs.Step.{Step, EventEntered, PacketSent, PacketReceived}

@@ -1,6 +1,6 @@
 -- In a run each link has channel selection algorithm #2: ChSel is 1 in what both ends heard of each other.
-use Rattle.std.proofs.Common.{◌≡◌, ℕ, zero, suc, ◌+◌, ◌<◌, ◌≤◌, ◌==◌, ◌⊎◌, inl, inr, Bool, true, false, Option, Some, None, List, [], ◌∷◌, ◌++◌, refl, sym, ap, subst, ◌∙◌, arith}
-use Rattle.std.specs.Prelude.{⊤, ◌&&◌, if◌then◌else◌}
+use Rattle.std.proofs.Common.{◌≡◌, ℕ, ◌<◌, ◌==◌, inl, inr, Bool, true, false, Option, Some, None, List, ◌++◌, refl, sym, ap, subst, ◌∙◌, arith}
+use Rattle.std.specs.Prelude.{⊤, if◌then◌else◌}
 use Rattle.std.proofs.lemmas.Bool.{and_parts, eqb-true}
 use Rattle.ble_base.specs.declared.addresses.Address.{Address}
 use Rattle.adv_pdu.specs.declared.pdu.AdvPdu.{AdvPdu}
@@ -10,20 +10,19 @@ use Rattle.adv_pdu.specs.Pdu.{ch_sel_of, sender_of}
 use Rattle.adv_pdu.specs.Ranges.{is_in_range}
 use Rattle.advertise.specs.declared.answers.AdvAnswer.TheVariants.{Ignore, Respond, Connect as Takes}
 use Rattle.advertise.specs.declared.params.AdvParams.{AdvParams}
-use Rattle.advertise.specs.Advertising.{AdvertiserFacts}
 use Rattle.advertise.specs.Answers.{advertiser_answer, is_scan_answered}
 use Rattle.one_end.specs.Setup.{Setup as EndSetup}
 use Rattle.one_end.specs.declared.setup.LinkSetup.{LinkSetup}
 use Rattle.scan_init.specs.Initiating.{InitiatorFacts, is_accepted, is_connectable_to, is_sought}
-use Rattle.open_links.specs.OpenLinks.{OpenLink, facts_in, free_from, link_at}
+use Rattle.open_links.specs.OpenLinks.{OpenLink, free_from, link_at}
 use Rattle.one_side.specs.declared.doing.Doing.{Doing}
-use Rattle.one_side.specs.declared.doing.Doing.TheVariants.{Advertises, AwaitsRequest, Responds, Scans, Requests, AwaitsResponse, Initiates, Connects, CentralSends, CentralListens, PeripheralListens, PeripheralSends, Rests}
+use Rattle.one_side.specs.declared.doing.Doing.TheVariants.{Advertises, Requests, Initiates, Connects, CentralSends}
 use Rattle.one_side.specs.declared.doing.Turn.{Turn}
-use Rattle.one_side.specs.Step.{Step, HostOctet, TurnBegins, PacketHeard, NothingHeard, TurnEnds}
-use Rattle.one_side.specs.Facts.{Setup, Facts, Use, Sends, Listens, Idle, first_facts}
-use Rattle.one_side.specs.Heard.{answers_by_connecting, connects, fields_sent, heard, if_pdu, initiator_heard, is_new_between, link_if, link_made, link_taken, link_to, link_under, link_wanted, link_with, next_access_of, unheard}
-use Rattle.one_side.specs.Packets.{advertising_packet, pdu_heard}
-use Rattle.one_side.specs.Side.{facts_after, facts_of}
+use Rattle.one_side.specs.Step.{Step, HostOctet, TurnBegins, PacketHeard, TurnEnds}
+use Rattle.one_side.specs.Facts.{Setup, Facts, Listens}
+use Rattle.one_side.specs.Heard.{answers_by_connecting, connects, fields_sent, heard, if_pdu, initiator_heard, is_new_between, link_if, link_made, link_to, link_under, link_wanted, link_with, next_access_of, unheard}
+use Rattle.one_side.specs.Packets.{pdu_heard}
+use Rattle.one_side.specs.Side.{facts_after}
 use Rattle.one_side.proofs.Always.{IsAdvertisingChannel, MayBegin}
 use Rattle.one_side.proofs.DataChannels.{link_channel}
 use Rattle.runs.specs.Feeding.{AreDistinct}
@@ -31,14 +30,14 @@ use Rattle.runs.specs.History.{Event}
 use Rattle.runs.specs.LinkEnds.{HaveAddresses}
 use Rattle.runs.specs.OnAir.{ends_phase}
 use Rattle.runs.specs.Run.{Given, setup_at, facts_at, step_of, run_of, history_of}
-use Rattle.runs.proofs.LinkEnds.{AreTaken, IsUnderstood}
+use Rattle.runs.proofs.LinkEnds.{IsUnderstood}
 use Rattle.runs.proofs.LinkSteps.{EachLink, MayOpen, link_has, none_linked, step_linked}
 use Rattle.runs.proofs.Stations.{is_in}
 use Rattle.run_laws.proofs.ByCalls.{IsCalled, IsKeptByCalls, WasSent, always_by_calls}
 use Rattle.run_laws.proofs.Entering.{IsInTurn}
 use Rattle.run_laws.proofs.Hearings.{IsOnAir}
 use Rattle.run_laws.proofs.SentPackets.{HasChSel}
-use Rattle.run_laws.proofs.TurnPlaces.{Between, Within}
+use Rattle.run_laws.proofs.TurnPlaces.{Within}
 use Rattle.run_laws.proofs.TurnSteps.{FitsChannel, IsListening, begins_may, initiates, octet_turn, pending, phase_turn}
 use Rattle.one_end.specs.Pair.{AreOneLink}
 use Rattle.run_laws.specs.Ends.{AreEnds, IsOpen, OpenEnd}

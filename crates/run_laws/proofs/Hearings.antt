@@ -1,8 +1,7 @@
 -- What each station of a run hears in a phase: a packet that another one wants to send in it.
-use Rattle.std.proofs.Common.{◌≡◌, ℕ, zero, suc, ◌+◌, ◌<◌, ◌==◌, ◌⊎◌, inl, inr, Bool, true, false, Option, Some, None, List, [], ◌∷◌, ◌++◌, refl, sym, ap, subst, ◌∙◌, append_assoc}
-use Rattle.std.specs.Prelude.{⊤, map, take, if◌then◌else◌}
-use Rattle.std.proofs.lemmas.Bool.{eqb-true, eqb-false}
-use Rattle.ble_base.specs.declared.notes.Note.{Note}
+use Rattle.std.proofs.Common.{◌≡◌, ℕ, ◌==◌, ◌⊎◌, inl, inr, Bool, true, false, Option, Some, None, List, [], ◌∷◌, ◌++◌, refl, sym, ap, subst, ◌∙◌}
+use Rattle.std.specs.Prelude.{map, take, if◌then◌else◌}
+use Rattle.std.proofs.lemmas.Bool.{eqb-true}
 use Rattle.adv_pdu.specs.declared.pdu.AdvPdu.{AdvPdu}
 use Rattle.adv_pdu.specs.Pdu.{IsPdu}
 use Rattle.one_end.specs.Packets.{packet_sent}
@@ -10,8 +9,8 @@ use Rattle.one_end.specs.Step.{PacketSent}
 use Rattle.open_links.specs.OpenLinks.{OpenLink, facts_in, link_after, link_at}
 use Rattle.one_side.specs.declared.doing.Doing.{Doing}
 use Rattle.one_side.specs.declared.doing.Doing.TheVariants.{Advertises, CentralSends, PeripheralSends}
-use Rattle.one_side.specs.Step.{Step, HostOctet, TurnBegins, PacketHeard, NothingHeard, TurnEnds}
-use Rattle.one_side.specs.Facts.{Setup, Facts, Use, Sends, Listens, Idle}
+use Rattle.one_side.specs.Step.{Step, HostOctet, TurnBegins, NothingHeard, TurnEnds}
+use Rattle.one_side.specs.Facts.{Setup, Facts, Sends, Listens}
 use Rattle.one_side.specs.Heard.{unheard}
 use Rattle.one_side.specs.Outcome.{facts_passed}
 use Rattle.one_side.specs.Packets.{advertising_packet, use_of}
@@ -20,16 +19,15 @@ use Rattle.one_side.specs.Side.{facts_after, facts_of, notes_after}
 use Rattle.one_side.proofs.Always.{IsAdvertisingChannel}
 use Rattle.one_side.proofs.Pasts.{facts_more}
 use Rattle.radio_replay.specs.declared.fates.Fate.{Fate}
-use Rattle.runs.specs.Due.{packet_in}
 use Rattle.runs.specs.Feeding.{AreDistinct}
-use Rattle.runs.specs.History.{Event, TurnBegan, HostFed, Called, Noted, Transmitted, Hearing, has_received, past_of, packet_received, received_after, turns_begun}
+use Rattle.runs.specs.History.{Event, TurnBegan, HostFed, Transmitted, has_received, past_of, packet_received, turns_begun}
 use Rattle.runs.specs.LinkEnds.{HaveAddresses}
 use Rattle.runs.specs.Run.{Given, setup_at, facts_at, use_at, octets_left, after_call, after_octets, after_feed, hearings_of, step_of}
 use Rattle.runs.proofs.Calls.{past_other, past_own}
-use Rattle.runs.proofs.LinkEnds.{IsListener, is_listener, received_by, received_event}
+use Rattle.runs.proofs.LinkEnds.{is_listener, received_by, received_event}
 use Rattle.runs.proofs.Stations.{is_in, among, in_more_other, in_more_same, not_before}
-use Rattle.runs.proofs.Walk.{Place, NoTurn, AtFeeds, AtBegins, AfterPhases, AtPackets, AtListening, AtEnds, IsKept}
-use Rattle.run_laws.proofs.SentPackets.{HasChSel, IsLinkSent, IsPduSent, IsUseSent, use_is_sent}
+use Rattle.runs.proofs.Walk.{Place, AtPackets, AtListening, IsKept}
+use Rattle.run_laws.proofs.SentPackets.{HasChSel, IsUseSent, use_is_sent}
 use Rattle.run_laws.proofs.TurnPlaces.{AllStand, event_past, stands_at, stands_kept}
 
 -- ---- what is on the air

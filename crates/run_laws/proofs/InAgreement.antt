@@ -1,23 +1,18 @@
 -- In every run of two controllers with one link each, both ends of one link stay in agreement.
-use Rattle.std.proofs.Common.{◌≡◌, ◌≢◌, ℕ, zero, suc, ◌+◌, ◌<◌, ◌≤◌, ◌==◌, ◌||◌, ◌⊎◌, inl, inr, Bool, true, false, Option, Some, None, List, [], ◌∷◌, ◌++◌, length, replicate, refl, sym, ap, subst, ◌∙◌, arith}
-use Rattle.std.specs.Prelude.{⊤, if◌then◌else◌}
+use Rattle.std.proofs.Common.{◌≡◌, ℕ, zero, suc, ◌+◌, ◌<◌, ◌≤◌, ◌==◌, ◌||◌, inl, inr, Bool, true, false, Option, Some, None, List, [], ◌∷◌, ◌++◌, length, replicate, refl, sym, ap, subst, ◌∙◌, arith}
+use Rattle.std.specs.Prelude.{if◌then◌else◌}
 use Rattle.std.specs.Option.{option_map}
 use Rattle.std.proofs.lemmas.Bool.{eqb-true, eqb-false, false_from_ne_true}
 use Rattle.one_end.specs.Setup.{Setup as EndSetup}
 use Rattle.one_end.specs.Step.{PacketSent, PacketReceived}
-use Rattle.one_end.specs.Packets.{packet_sent}
 use Rattle.one_end.specs.Pair.{AreInAgreement}
-use Rattle.one_end.specs.declared.setup.LinkSetup.{LinkSetup}
-use Rattle.one_end.proofs.Pairs.{AreAgreed}
 use Rattle.one_end.proofs.Received.{IsHeardWhole}
-use Rattle.open_links.specs.OpenLinks.{Links, OpenLink, facts_in, link_after, link_at, link_from, link_served, new_link, with_change, with_change_from, with_link}
-use Rattle.open_links.specs.Turns.{entered_if, is_anchor, link_entered}
+use Rattle.open_links.specs.OpenLinks.{Links, OpenLink, facts_in, link_after, link_at, link_from, link_served, new_link, with_change, with_change_from}
+use Rattle.open_links.specs.Turns.{is_anchor, link_entered}
 use Rattle.open_links.proofs.Ends.{entered_setup}
-use Rattle.one_side.specs.declared.doing.Doing.{Doing}
-use Rattle.one_side.specs.declared.doing.Doing.TheVariants.{Rests}
 use Rattle.one_side.specs.declared.doing.Turn.{Turn}
 use Rattle.one_side.specs.Step.{Step, HostOctet, TurnBegins, TurnEnds}
-use Rattle.one_side.specs.Facts.{Setup, Facts, Use, Sends, Listens, Idle, first_facts}
+use Rattle.one_side.specs.Facts.{Setup, Facts, Use, Listens, first_facts}
 use Rattle.one_side.specs.Heard.{reply_if}
 use Rattle.one_side.specs.Packets.{links_sending, listens_on}
 use Rattle.one_side.specs.Side.{facts_after, facts_of}
@@ -28,16 +23,15 @@ use Rattle.runs.specs.Feeding.{AreDistinct}
 use Rattle.runs.specs.History.{Event}
 use Rattle.runs.specs.LinkEnds.{HaveAddresses}
 use Rattle.runs.specs.Run.{Given, facts_at, history_of, run_of, setup_at, step_of}
-use Rattle.runs.proofs.Calls.{same_station}
 use Rattle.runs.proofs.Stations.{is_in}
-use Rattle.run_laws.specs.Ends.{HaveOneConnectInd, AreEnds, IsOpen, OpenEnd}
+use Rattle.run_laws.specs.Ends.{AreEnds, IsOpen, OpenEnd}
 use Rattle.run_laws.proofs.Agreed.{Agree, ack_of, agree_entered, agree_new, agree_received, agree_sent, agree_served, other_way}
-use Rattle.run_laws.proofs.ByCalls.{IsCalled, IsKeptByCalls, WasSent, always_by_calls}
+use Rattle.run_laws.proofs.ByCalls.{IsCalled, IsKeptByCalls, always_by_calls}
 use Rattle.run_laws.proofs.Entering.{IsInTurn}
-use Rattle.run_laws.proofs.Hearings.{IsLinkOnAir, IsOnAir}
+use Rattle.run_laws.proofs.Hearings.{IsOnAir}
 use Rattle.run_laws.proofs.LinkPasses.{IsPassing, Leaves, Opens, Receives, is_on_link, phase_passes}
-use Rattle.run_laws.proofs.OpenSteps.{AtOpen, EachOpen, IsKeptServed, begin_open, changed, end_open, none_open, octet_open, open_has, open_more, opened, sends}
-use Rattle.run_laws.proofs.TurnPlaces.{Between, Within}
+use Rattle.run_laws.proofs.OpenSteps.{AtOpen, EachOpen, IsKeptServed, begin_open, changed, none_open, octet_open, open_has, open_more, opened, sends}
+use Rattle.run_laws.proofs.TurnPlaces.{Within}
 use Rattle.run_laws.proofs.TurnSteps.{begins_begun, begins_slot, octet_turn, phase_turn}
 use Rattle.run_laws.proofs.SameEvent.{one_connect_ind, two_stations}
 use Rattle.radio_replay.specs.Script.{Script}

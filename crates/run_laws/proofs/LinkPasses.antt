@@ -1,6 +1,6 @@
 -- What a phase does to the links of a controller: nothing; it opens one; or one receives, and may send after that.
-use Rattle.std.proofs.Common.{◌≡◌, ℕ, Bool, true, false, Option, Some, None, List, refl, sym, ap, subst, ◌∙◌}
-use Rattle.std.specs.Prelude.{⊤, ◌&&◌}
+use Rattle.std.proofs.Common.{◌≡◌, ℕ, Bool, true, false, Option, Some, None, List, refl, ap}
+use Rattle.std.specs.Prelude.{◌&&◌}
 use Rattle.ble_base.specs.declared.addresses.Address.{Address}
 use Rattle.adv_pdu.specs.declared.pdu.AdvPdu.{AdvPdu}
 use Rattle.adv_pdu.specs.declared.pdu.ConnectFields.{ConnectFields}
@@ -14,13 +14,13 @@ use Rattle.scan_init.specs.Initiating.{InitiatorFacts}
 use Rattle.scan_init.specs.Reports.{ScannerFacts, does_ask, scan_answer}
 use Rattle.open_links.specs.OpenLinks.{free_from, link_after, link_at, with_change, with_link}
 use Rattle.one_side.specs.declared.doing.Doing.{Doing}
-use Rattle.one_side.specs.declared.doing.Doing.TheVariants.{Advertises, AwaitsRequest, Responds, Scans, Requests, AwaitsResponse, Initiates, Connects, CentralSends, CentralListens, PeripheralListens, PeripheralSends, Rests}
+use Rattle.one_side.specs.declared.doing.Doing.TheVariants.{Advertises, AwaitsRequest, Scans, Requests, AwaitsResponse, Initiates, Connects, CentralSends, CentralListens, PeripheralListens, PeripheralSends}
 use Rattle.one_side.specs.Facts.{Setup, Facts}
-use Rattle.one_side.specs.Heard.{advertiser_answers, advertiser_heard, asks_if, connects, heard, if_pdu, initiator_heard, link_heard, link_taken, link_to, opens, replies_in, reply_if, scanner_after, scanner_heard, taken_if, taken_under, unheard, with_scanner}
+use Rattle.one_side.specs.Heard.{advertiser_answers, advertiser_heard, asks_if, connects, heard, if_pdu, initiator_heard, link_taken, link_to, opens, replies_in, reply_if, scanner_after, scanner_heard, taken_if, taken_under, unheard, with_scanner}
 use Rattle.one_side.specs.Outcome.{Outcome, facts_passed}
 use Rattle.one_side.specs.Packets.{facts_doing, links_sending, listens_on, pdu_heard}
 use Rattle.one_side.specs.Side.{facts_after}
-use Rattle.one_side.proofs.Always.{facts_opening, opening_is}
+use Rattle.one_side.proofs.Always.{opening_is}
 use Rattle.runs.specs.Run.{step_of}
 use Rattle.run_laws.proofs.TurnSteps.{IsListening}
 
