@@ -1,5 +1,6 @@
 -- The lemmas of this crate.
-pub mod Keeping
+pub mod Accepting
+pub mod Beginning
+pub mod Connecting
 pub mod Going
-pub mod ScanTimes
-pub mod Words
+pub mod Shutting

@@ -1,8 +1,6 @@
 -- The definitions of this crate.
 pub mod Actions
-pub mod Activities
+pub mod Fitting
 pub mod Held
 pub mod Knowing
-pub mod Phases
-pub mod ReportKinds
-pub mod Reports
+pub mod Steps

@@ -1,12 +1,16 @@
 //! The answer to a command: Command Status or Command Complete, and what it returns (Core 5.2,
 //! volume 4 part E, sections 7.7.14 and 7.7.15).
-ghost use Rattle.std.specs.Prelude.{◌≡◌, ◌≤◌, ◌∷◌, [], ◌+◌, ◌++◌, length, if◌then◌else◌};
+ghost use Rattle.std.specs.Prelude.{◌≡◌, ◌≤◌, ◌<◌, ◌^◌, ◌∷◌, [], ◌+◌, ◌++◌, length, if◌then◌else◌};
 ghost use Rattle.std.specs.Option.{option_to_list};
 ghost use Rattle.wire_fields.specs.Field.{little_endian};
 ghost use Rattle.hci_evt.specs.declared.event.Event.TheVariants.{CommandComplete};
+ghost use Rattle.open_links.specs.Knowing.{Knows as KnowsLinks};
+ghost use Rattle.open_links.specs.OpenLinks.{Links, link_at};
 ghost use Rattle.one_side.specs.Answers.{accepted_answer, answer_with, complete_answer};
-ghost use Rattle.one_side.specs.Answers.{has_status_answer, next_word, refused_fields};
+ghost use Rattle.one_side.specs.Answers.{has_status_answer, map_of, next_word, refused_fields};
 ghost use Rattle.one_side.specs.Answers.{returned, status_answer};
+ghost use Rattle.one_side.specs.Facts.{Setup, Facts};
+ghost use Rattle.controller.specs.Knowing.{IsAt};
 
 use crate::controllers::Controller;
 use arrayvec::ArrayVec;
@@ -14,7 +18,7 @@ use ble_base::{ErrCode, PAYLOAD_OCTETS};
 use hci_cmd::Command;
 use hci_evt::Event;
 use host_view::ACCEPT_LIST_SIZE;
-use wire_fields::{put_octets, put_u16, put_u64};
+use wire_fields::{put_octets, put_u16, put_u40, put_u64};
 
 /// How many further commands the host may send.
 const FURTHER_COMMANDS: u8 = 1;
@@ -157,17 +161,30 @@ fn put_longest(fields: &mut Fields)
 
 impl<const L: usize, const T: usize, const R: usize> Controller<L, T, R> {
     /// The random word that is drawn next.
-    fn next_word(&self) -> u64
-        ensures { result ≡ next_word self.now.setup self.now.facts.drawn }
+    pub(crate) fn random_word(&self) -> u64
+        ensures { (has : Setup) (facts : Facts) → IsAt has self.now facts
+            → result ≡ next_word has facts.drawn }
     {
         self.words[self.next_word]
+    }
+
+    /// The channel map of the link under a handle, 0 where it is not open.
+    fn map_in_use(&self, handle: u16) -> u64
+        ensures value { (links : Links) → KnowsLinks self.now.links links
+            → result ≡ map_of (link_at handle links) }
+        ensures fits { result < 2 ^ 40 }
+    {
+        match self.links.params(handle) {
+            None => 0,
+            Some(params) => params.map.bits(),
+        }
     }
 
     /// Appends what an accepted command returns after its status (sections 7.3, 7.4 and 7.8).
     fn put_returned(&self, command: &Command, fields: &mut Fields)
         requires { length fields.old.items ≤ 1 }
-        ensures { fields.new.items
-            ≡ fields.old.items ++ returned self.now.setup self.now.facts command.now }
+        ensures { (has : Setup) (facts : Facts) → IsAt has self.now facts
+            → fields.new.items ≡ fields.old.items ++ returned has facts command.now }
     {
         match command {
             Command::ReadLocalVersion => put_octets(fields, &VERSION),
@@ -179,10 +196,14 @@ impl<const L: usize, const T: usize, const R: usize> Controller<L, T, R> {
             }
             Command::LeReadFeatures => put_octets(fields, &LE_FEATURES),
             Command::LeReadListSize => fields.push(ACCEPT_LIST_SIZE as u8),
-            Command::LeRand => put_u64(fields, self.next_word()),
+            Command::LeRand => put_u64(fields, self.random_word()),
             Command::LeReadMaxLength => {
                 put_longest(fields);
                 put_longest(fields);
+            }
+            Command::LeReadChannelMap { handle } => {
+                put_u16(fields, *handle);
+                put_u40(fields, self.map_in_use(*handle));
             }
             Command::LeReadPhy { handle } => {
                 put_u16(fields, *handle);
@@ -199,8 +220,8 @@ impl<const L: usize, const T: usize, const R: usize> Controller<L, T, R> {
 
     /// The answer to an accepted command that does not start something.
     fn accepted_answer(&self, opcode: u16, command: &Command) -> Option<Event>
-        ensures { option_to_list result
-            ≡ accepted_answer self.now.setup self.now.facts opcode command.now }
+        ensures { (has : Setup) (facts : Facts) → IsAt has self.now facts
+            → option_to_list result ≡ accepted_answer has facts opcode command.now }
     {
         match command {
             Command::HostCompleted { .. } => None,
@@ -214,8 +235,8 @@ impl<const L: usize, const T: usize, const R: usize> Controller<L, T, R> {
 
     /// The answer to a command with this opcode that has this status.
     pub(crate) fn answer(&self, opcode: u16, command: &Command, status: ErrCode) -> Option<Event>
-        ensures { option_to_list result
-            ≡ answer_with self.now.setup self.now.facts opcode command.now status.0 }
+        ensures { (has : Setup) (facts : Facts) → IsAt has self.now facts
+            → option_to_list result ≡ answer_with has facts opcode command.now status.0 }
     {
         if status == ErrCode::UNKNOWN_HCI_COMMAND || has_status_answer(opcode) {
             return Some(status_answer(status, opcode));

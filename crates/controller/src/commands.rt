@@ -1,55 +1,174 @@
-//! What an octet of the host completes, and what a controller makes of it.
-ghost use Rattle.std.specs.Prelude.{◌≡◌, ◌<◌, ◌++◌, length};
+//! Commands of the host: their answers, and what they change.
+ghost use Rattle.std.specs.Prelude.{◌≡◌, ◌≤◌, ◌<◌, ◌+◌, ◌%◌, ◌++◌, length, [], ◌∷◌};
+ghost use Rattle.std.specs.Option.{option_to_list};
 ghost use Rattle.arrayvec.specs.ArrayVec.{array_vec_len};
 ghost use Rattle.hci_cmd.specs.Command.{command_of};
 ghost use Rattle.hci_cmd.specs.declared.command.CmdRead.TheVariants.{Known};
 ghost use Rattle.host_view.specs.Unbuilt.{status_of};
-ghost use Rattle.one_side.specs.Answers.{answer_to};
-ghost use Rattle.one_side.specs.Commands.{advertiser_after, scanner_after, turned_on};
-ghost use Rattle.one_side.specs.Side.{events_fed, notes_of_events};
-ghost use Rattle.controller.specs.Held.{accepts, obeys, obeys_read, place_after, takes};
+ghost use Rattle.open_links.specs.Knowing.{Knows as KnowsLinks};
+ghost use Rattle.open_links.specs.OpenLinks.{Links};
+ghost use Rattle.one_side.specs.Commands.{advertising_after, events_caused, facts_accepted};
+ghost use Rattle.one_side.specs.Commands.{facts_commanded, fields_given, initiator_after};
+ghost use Rattle.one_side.specs.Commands.{links_after, notes_before, notes_commanded, own_address};
+ghost use Rattle.one_side.specs.Commands.{peer_named, radio_after, scanning_after};
+ghost use Rattle.one_side.specs.Events.{notes_of_events};
+ghost use Rattle.one_side.specs.Facts.{Setup, Facts};
+ghost use Rattle.one_side.specs.Side.{facts_fed, notes_fed};
+ghost use Rattle.controller.specs.Knowing.{IsAt};
+ghost use Rattle.controller.specs.Steps.{held_accepted, links_notes, place_after};
 
-use crate::advertisers::Advertiser;
+use crate::advertising::{Advertising, ON};
 use crate::answers::{short_answer, status_answer};
 use crate::controllers::Controller;
-use crate::masks::tell;
-use crate::scanners::Scanner;
-use ble_base::{ErrCode, Outbox};
+use crate::masks::{tell, wants_enhanced};
+use crate::opening::{connection_failed, note_shuts};
+use crate::scanning::Scanning;
+use adv_pdu::ConnectFields;
+use advertise::AdvParams;
+use ble_base::{Address, ErrCode, Outbox, SlotNo};
 use h4_frames::{Fed, HostPacket};
 use hci_cmd::{CmdRead, Command, read};
 use hci_evt::Event;
-use host_view::status;
+use host_view::{HostView, status};
+use scan_init::{InitParams, Initiator};
+use slot_plan::Activity;
+
+/// Own_Address_Type of the random address (Core 5.2, volume 4 part E, sections 7.8.5 and 7.8.10).
+const RANDOM: u8 = 1;
+
+/// The filter policy by which only devices of the accept list count.
+const LISTED: u8 = 1;
+
+/// LE_Scan_Type of an active scanner (section 7.8.10), and the value by which duplicates are filtered
+/// (section 7.8.11).
+const ACTIVE: u8 = 1;
+
+const FILTERED: u8 = 1;
 
 /// The code of the Hardware Error that reports a loss of synchronisation (our choice).
 const LOST_SYNC: u8 = 0x01;
 
-/// Whether a value turns something on that was off.
-fn turns_on(is_on: bool, value: u8) -> bool
-    ensures { result ≡ turned_on is_on value }
+/// The fields of the CONNECT_IND that LE Create Connection gives: the longest interval, the latency
+/// and the supervision timeout. The transmit window is one slot, without an offset (our choice).
+fn fields_given(max: u16, latency: u16, timeout: u16) -> ConnectFields
+    ensures { result ≡ fields_given max latency timeout }
 {
-    value == 1 && !is_on
+    ConnectFields {
+        win_size: 1,
+        interval: max,
+        latency,
+        timeout,
+        ..ConnectFields::default()
+    }
+}
+
+/// The event that an accepted command causes after its answer: LE Create Connection Cancel that of a
+/// connection that was not made.
+fn event_caused(view: &HostView, command: &Command) -> Option<Event>
+    ensures { (facts : Facts) → view.now ≡ facts.view
+        → option_to_list result ≡ events_caused facts command.now }
+{
+    match command {
+        Command::LeCreateCancel => Some(connection_failed(
+            wants_enhanced(view),
+            ErrCode::UNKNOWN_CONNECTION_IDENTIFIER,
+        )),
+        _ => None,
+    }
+}
+
+/// The peer that LE Create Connection names, with policy 0.
+fn peer_named(policy: u8, kind: u8, octets: &[u8; 6]) -> Option<Address>
+    ensures { result ≡ peer_named policy kind octets.now }
+{
+    if policy == 0 {
+        Some(Address {
+            random: kind == RANDOM,
+            octets: *octets,
+        })
+    } else {
+        None
+    }
 }
 
 impl<const L: usize, const T: usize, const R: usize> Controller<L, T, R> {
-    /// What an accepted command changes of advertising.
-    fn accept_advertising(&mut self, command: &Command)
-        ensures { self.new ≡ record self.old {
-          facts = record self.old.facts {
-            advertiser = advertiser_after self.old.facts command.now;
-          };
-        } }
+    /// Its own address of this type: the random one for type 1, where one is set, else the public
+    /// one.
+    fn own_address(&self, own: u8) -> Address
+        ensures { result ≡ own_address self.now.setup self.now.view own }
+    {
+        match self.view.random() {
+            Some(octets) if own == RANDOM => Address {
+                random: true,
+                octets,
+            },
+            _ => Address {
+                random: false,
+                octets: self.public,
+            },
+        }
+    }
+
+    /// The slot of the next turn.
+    fn next_slot(&self) -> SlotNo
+        ensures { result.0 ≡ self.now.turn.begun }
+    {
+        SlotNo(self.turn.begun)
+    }
+
+    /// What an accepted command changes of the radio: an advertiser that is turned off leaves it.
+    fn accept_radio(&mut self, command: &Command)
+        ensures { self.new
+            ≡ record self.old { radio = radio_after command.now self.old.radio } }
     {
         match command {
-            Command::Reset => self.advertiser = Advertiser::new(),
-            Command::LeSetAdvParams { min, channels, .. } => {
-                self.advertiser.set_parameters(*min, *channels);
+            Command::Reset => self.free_radio(),
+            Command::LeSetAdvEnable { value }
+                if *value != ON && self.holder == Activity::Advertise => {
+                self.free_radio();
             }
-            Command::LeSetAdvData { length, octets } => self.advertiser.set_data(*length, octets),
+            _ => {}
+        }
+    }
+
+    /// What an accepted command changes of advertising.
+    fn accept_advertising(&mut self, command: &Command)
+        requires { status_of self.old.view command.now ≡ 0 }
+        ensures { self.new ≡ record self.old {
+          advertising = advertising_after self.old.setup self.old.view
+              self.old.turn.begun command.now self.old.advertising;
+        } }
+    {
+        host_view::laws::accepted_parameters_are_in_range();
+        match command {
+            Command::Reset => self.advertising = Advertising::new(),
+            Command::LeSetAdvParams {
+                min,
+                kind,
+                peer_kind,
+                peer,
+                channels,
+                policy,
+                ..
+            } => self.advertising.set_parameters(AdvParams {
+                interval: *min,
+                kind: *kind,
+                own: Address::default(),
+                target: Address {
+                    random: *peer_kind == RANDOM,
+                    octets: *peer,
+                },
+                channels: *channels,
+                policy: *policy,
+            }),
+            Command::LeSetAdvData { length, octets } => self.advertising.set_data(*length, octets),
             Command::LeSetScanResponse { length, octets } => {
-                self.advertiser.set_response(*length, octets);
+                self.advertising.set_response(*length, octets);
             }
-            Command::LeSetAdvEnable { value } if turns_on(self.view.advertising().on, *value) => {
-                self.advertiser.restart();
+            Command::LeSetAdvEnable { value } => {
+                let own = self.own_address(self.view.advertising().own);
+                let slot = self.next_slot();
+                self.advertising.enable(*value, own, slot);
             }
             _ => {}
         }
@@ -57,24 +176,63 @@ impl<const L: usize, const T: usize, const R: usize> Controller<L, T, R> {
 
     /// What an accepted command changes of scanning.
     fn accept_scanning(&mut self, command: &Command)
-        requires { status_of self.old.facts.view command.now ≡ 0 }
+        requires { status_of self.old.view command.now ≡ 0 }
         ensures { self.new ≡ record self.old {
-          facts = record self.old.facts {
-            scanner = scanner_after self.old.facts command.now;
-          };
+          scanning = scanning_after self.old.setup self.old.view
+              self.old.turn.begun command.now self.old.scanning;
         } }
     {
+        host_view::laws::accepted_parameters_are_in_range();
         match command {
-            Command::Reset => self.scanner = Scanner::new(),
+            Command::Reset => self.scanning = Scanning::new(),
             Command::LeSetScanParams {
                 kind,
                 interval,
                 window,
                 ..
-            } => self.scanner.set_parameters(*kind == 1, *interval, *window),
-            Command::LeSetScanEnable { value, duplicates }
-                if turns_on(self.view.scanning().on, *value) => {
-                self.scanner.restart(self.turn.begun(), *duplicates == 1);
+            } => self.scanning.set_parameters(*kind == ACTIVE, *interval, *window),
+            Command::LeSetScanEnable { value, duplicates } => {
+                let own = self.own_address(self.view.scanning().own);
+                let listed = self.view.scanning().policy == LISTED;
+                let slot = self.next_slot();
+                self.scanning
+                    .enable(*value, own, listed, *duplicates == FILTERED, slot);
+            }
+            _ => {}
+        }
+    }
+
+    /// What an accepted command changes of initiating.
+    fn accept_initiating(&mut self, command: &Command)
+        requires { status_of self.old.view command.now ≡ 0 }
+        ensures { self.new ≡ record self.old {
+          initiator = initiator_after self.old.setup self.old.view
+              self.old.turn.begun command.now self.old.initiator;
+        } }
+    {
+        host_view::laws::accepted_parameters_are_in_range();
+        match command {
+            Command::Reset | Command::LeCreateCancel => self.initiator = None,
+            Command::LeCreateConnection {
+                scan_interval,
+                window,
+                policy,
+                peer_kind,
+                peer,
+                own,
+                max,
+                latency,
+                timeout,
+                ..
+            } => {
+                let params = InitParams {
+                    interval: *scan_interval,
+                    window: *window,
+                    own: self.own_address(*own),
+                    peer: peer_named(*policy, *peer_kind, peer),
+                    link: fields_given(*max, *latency, *timeout),
+                };
+                self.initiator = Some(Initiator::new(params, self.next_slot()));
             }
             _ => {}
         }
@@ -84,62 +242,103 @@ impl<const L: usize, const T: usize, const R: usize> Controller<L, T, R> {
     /// the first.
     fn draw(&mut self, command: &Command)
         ensures { self.new ≡ record self.old {
-          facts = record self.old.facts {
-            drawn
-                = place_after (length self.old.setup.words) self.old.facts.drawn command.now;
-          };
+          place = place_after (length self.old.setup.words) command.now self.old.place;
         } }
     {
         match command {
-            Command::LeRand => {
-                let count = self.words.len();
-                self.next_word = (self.next_word + 1) % count;
+            Command::LeRand => self.draw_word(),
+            _ => {}
+        }
+    }
+
+    /// A random word is drawn.
+    pub(crate) fn draw_word(&mut self)
+        ensures { self.new ≡ record self.old {
+          place = (self.old.place + 1) % length self.old.setup.words;
+        } }
+    {
+        let count = self.words.len();
+        self.next_word = (self.next_word + 1) % count;
+    }
+
+    /// Carries out an accepted command, but for its links.
+    fn accept(&mut self, command: &Command)
+        requires { status_of self.old.view command.now ≡ 0 }
+        ensures { self.new ≡ held_accepted self.old command.now }
+    {
+        self.accept_radio(command);
+        self.accept_advertising(command);
+        self.accept_scanning(command);
+        self.accept_initiating(command);
+        self.draw(command);
+        self.view.command(command);
+    }
+
+    /// Shuts the links that an accepted command shuts: a Reset shuts all.
+    fn accept_links(&mut self, command: &Command, out: &mut Outbox)
+        requires { array_vec_len out.old ≤ 50 }
+        ensures rest { self.new ≡ record self.old { links = self.new.links } }
+        ensures links { (links : Links) → KnowsLinks self.old.links links
+            → KnowsLinks self.new.links (links_after command.now links) }
+        ensures notes { (links : Links) → KnowsLinks self.old.links links
+            → out.new.items ≡ out.old.items ++ links_notes command.now links }
+        ensures few { array_vec_len out.new ≤ array_vec_len out.old + 6 }
+    {
+        match command {
+            Command::Reset => {
+                let handles = self.links.shut_all();
+                note_shuts(handles.as_slice(), out);
             }
             _ => {}
         }
     }
 
-    /// Carries out an accepted command.
-    fn accept(&mut self, command: &Command)
-        requires { status_of self.old.facts.view command.now ≡ 0 }
-        ensures { self.new ≡ record self.old {
-          facts
-              = accepts self.old.setup self.old.facts command.now;
-        } }
+    /// Carries out an accepted command, and notes its answer and what it causes.
+    fn take_accepted(&mut self, command: &Command, answer: Option<Event>, out: &mut Outbox)
+        requires status { status_of self.old.view command.now ≡ 0 }
+        requires room { array_vec_len out.old ≤ 50 }
+        ensures at { (has : Setup) (facts : Facts) → IsAt has self.old facts
+            → IsAt has self.new (facts_accepted has facts command.now) }
+        ensures notes { (has : Setup) (facts : Facts) → IsAt has self.old facts
+            → out.new.items ≡ out.old.items ++ notes_before facts command.now
+            ++ notes_of_events facts.view (option_to_list answer)
+            ++ notes_of_events facts.view (events_caused facts command.now) }
+        ensures framer { self.new.framer ≡ self.old.framer }
     {
-        self.accept_advertising(command);
-        self.accept_scanning(command);
-        self.draw(command);
-        self.view.command(command);
+        self.accept_links(command, out);
+        tell(&self.view, answer, out);
+        tell(&self.view, event_caused(&self.view, command), out);
+        self.accept(command);
     }
 
     /// Takes a command: answers it, and carries it out where it is accepted.
     fn take_known(&mut self, opcode: u16, command: &Command, out: &mut Outbox)
-        requires room { array_vec_len out.old < 64 }
-        ensures facts { self.new ≡ record self.old {
-          facts
-              = obeys self.old.setup self.old.facts command.now;
-        } }
-        ensures notes { out.new.items ≡ out.old.items ++ notes_of_events self.old.facts.view
-            (answer_to self.old.setup self.old.facts opcode (Known command.now)) }
+        requires room { array_vec_len out.old ≤ 50 }
+        ensures at { (has : Setup) (facts : Facts) → IsAt has self.old facts
+            → IsAt has self.new (facts_commanded has facts (Known command.now)) }
+        ensures notes { (has : Setup) (facts : Facts) → IsAt has self.old facts
+            → out.new.items
+            ≡ out.old.items ++ notes_commanded has facts opcode (Known command.now) }
+        ensures framer { self.new.framer ≡ self.old.framer }
     {
         let status = status(&self.view, command);
         let answer = self.answer(opcode, command, status);
-        tell(&self.view, answer, out);
         if status == ErrCode::SUCCESS {
-            self.accept(command);
+            self.take_accepted(command, answer, out);
+        } else {
+            tell(&self.view, answer, out);
         }
     }
 
     /// Takes an opcode and the octets of its parameters.
     fn take_command(&mut self, opcode: u16, parameters: &[u8], out: &mut Outbox)
-        requires room { array_vec_len out.old < 64 }
-        ensures facts { self.new ≡ record self.old {
-          facts = obeys_read self.old.setup
-              self.old.facts (command_of opcode parameters.now);
-        } }
-        ensures notes { out.new.items ≡ out.old.items ++ notes_of_events self.old.facts.view
-            (answer_to self.old.setup self.old.facts opcode (command_of opcode parameters.now)) }
+        requires room { array_vec_len out.old ≤ 50 }
+        ensures at { (has : Setup) (facts : Facts) → IsAt has self.old facts
+            → IsAt has self.new (facts_commanded has facts (command_of opcode parameters.now)) }
+        ensures notes { (has : Setup) (facts : Facts) → IsAt has self.old facts
+            → out.new.items
+            ≡ out.old.items ++ notes_commanded has facts opcode (command_of opcode parameters.now) }
+        ensures framer { self.new.framer ≡ self.old.framer }
     {
         match read(opcode, parameters) {
             CmdRead::Known(command) => self.take_known(opcode, &command, out),
@@ -153,20 +352,18 @@ impl<const L: usize, const T: usize, const R: usize> Controller<L, T, R> {
 
     /// Takes what an octet of the host completed.
     pub(crate) fn take(&mut self, fed: &Fed, out: &mut Outbox)
-        requires room { array_vec_len out.old < 64 }
-        ensures facts { self.new
-            ≡ record self.old { facts = takes self.old.setup self.old.facts fed.now } }
-        ensures notes { out.new.items ≡ out.old.items ++ notes_of_events self.old.facts.view
-            (events_fed self.old.setup self.old.facts fed.now) }
+        requires room { array_vec_len out.old ≤ 50 }
+        ensures at { (has : Setup) (facts : Facts) → IsAt has self.old facts
+            → IsAt has self.new (facts_fed has facts fed.now) }
+        ensures notes { (has : Setup) (facts : Facts) → IsAt has self.old facts
+            → out.new.items ≡ out.old.items ++ notes_fed has facts fed.now }
+        ensures framer { self.new.framer ≡ self.old.framer }
     {
         match fed {
             Fed::More | Fed::Packet(HostPacket::Acl { .. }) => {}
             Fed::LostSync => {
-                tell(
-                    &self.view,
-                    Some(Event::HardwareError { code: LOST_SYNC }),
-                    out,
-                );
+                let event = Event::HardwareError { code: LOST_SYNC };
+                tell(&self.view, Some(event), out);
             }
             Fed::Packet(HostPacket::Command { opcode, body }) => {
                 self.take_command(*opcode, body.as_slice(), out);

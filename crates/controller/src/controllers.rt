@@ -2,22 +2,24 @@
 ghost use Rattle.std.specs.Prelude.{◌≡◌, ◌*◌, ◌+◌, ◌<◌, ◌≤◌, ◌^◌};
 ghost use Rattle.std.specs.Prelude.{List, [], ◌∷◌, ◌++◌, length, IfOk};
 ghost use Rattle.ble_base.specs.declared.Config.{Config};
-ghost use Rattle.one_side.specs.Facts.{Setup, setup_of};
-ghost use Rattle.one_side.specs.Heard.{verdict_of};
-ghost use Rattle.one_side.specs.Radio.{use_of};
+ghost use Rattle.one_side.specs.Facts.{Setup, free_radio, setup_of};
+ghost use Rattle.one_side.specs.Packets.{use_of, verdict_of};
 ghost use Rattle.one_side.specs.Side.{facts_of};
 ghost use Rattle.one_side.specs.Step.{Step, HostOctet, TurnBegins};
 ghost use Rattle.one_side.specs.Step.{PacketHeard, NothingHeard, TurnEnds};
 ghost use Rattle.controller.specs.Knowing.{Goes, Knows, use_wanted};
 
-use crate::advertisers::Advertiser;
+use crate::advertising::Advertising;
 use crate::intents::Intent;
-use crate::scanners::Scanner;
-use crate::turns::Turn;
+use crate::scanning::Scanning;
 use arrayvec::ArrayVec;
 use ble_base::{Config, Outbox, RANDOM_WORDS, SlotNo, Verdict};
 use h4_frames::Framer;
 use host_view::HostView;
+use one_side::{Doing, Turn};
+use open_links::OpenLinks;
+use scan_init::{Initiator, next_access};
+use slot_plan::{Activity, Plan};
 use std::alloc::{AllocError, Global};
 use std::marker::Model;
 
@@ -34,20 +36,30 @@ pub struct Controller<const L: usize, const T: usize, const R: usize> {
     pub(crate) words: ArrayVec<u64, RANDOM_WORDS>,
     /// The place among the random words of the one that is drawn next.
     pub(crate) next_word: usize,
+    /// The access address of the next new link, and where to search for the one after it.
+    pub(crate) next_access: Option<(u32, u64)>,
     pub(crate) framer: Framer,
     pub(crate) view: HostView,
     pub(crate) turn: Turn,
-    pub(crate) advertiser: Advertiser,
-    pub(crate) scanner: Scanner,
+    /// What wants the radio, and for which slots it is held.
+    pub(crate) plan: Plan,
+    /// What holds it.
+    pub(crate) holder: Activity,
+    pub(crate) advertising: Advertising,
+    pub(crate) scanning: Scanning,
+    pub(crate) initiator: Option<Initiator>,
+    pub(crate) links: OpenLinks<L>,
 }
 
 impl<const L: usize, const T: usize, const R: usize> Model for Controller<L, T, R> {
-    ghost use Rattle.std.specs.Prelude.{◌<◌, ◌≤◌, [], length};
+    ghost use Rattle.std.specs.Prelude.{◌<◌, ◌≤◌, ◌^◌, length};
+    ghost use Rattle.controller.specs.Fitting.{CanDo};
     ghost use Rattle.controller.specs.Held.{Held};
 
     ghost Value = { Held };
 
-    ghost invariant = { λ c. (c.next_word < length c.words.items) × (T ≤ 255) };
+    ghost invariant = { λ c. (c.next_word < length c.words.items) × (T ≤ 255) × (L ≤ 6)
+        × (c.turn.slot < 2 ^ 32) × CanDo L c.turn.doing };
 
     ghost view = { λ c. record {
       setup = record {
@@ -59,14 +71,15 @@ impl<const L: usize, const T: usize, const R: usize> Model for Controller<L, T, 
         air_buffers = R;
       };
       framer = c.framer;
-      facts = record {
-        octets = [];
-        view = c.view;
-        drawn = c.next_word;
-        turn = c.turn;
-        advertiser = c.advertiser;
-        scanner = c.scanner;
-      };
+      view = c.view;
+      place = c.next_word;
+      access = c.next_access;
+      turn = c.turn;
+      radio = record { hold = c.plan.hold; holder = c.holder };
+      advertising = c.advertising;
+      scanning = c.scanning;
+      initiator = c.initiator;
+      links = c.links;
     } };
 }
 
@@ -77,7 +90,7 @@ impl<const L: usize, const T: usize, const R: usize> Controller<L, T, R> {
     /// # Errors
     ///
     /// Out of memory.
-    #[tactic(auto, unfolding(crate::specs::Knowing::Knows, crate::specs::Held::kept, one_side::specs::Side::facts_of))]
+    #[tactic(auto, unfolding(crate::specs::Knowing::Knows, one_side::specs::Side::facts_of))]
     pub fn start(alloc: Global, config: Config) -> Result<Self, AllocError>
         requires words { 1 ≤ length config.words.items }
         requires sizes { (1 ≤ L) × (1 ≤ T) × (T ≤ 255) × (1 ≤ R) × (8 * L + R + 8 ≤ 64) }
@@ -89,11 +102,20 @@ impl<const L: usize, const T: usize, const R: usize> Controller<L, T, R> {
             cursor: config.cursor,
             words: config.words,
             next_word: 0,
+            next_access: next_access(config.cursor, 0),
             framer: Framer::new(),
             view: HostView::new(L as u16),
-            turn: Turn::new(),
-            advertiser: Advertiser::new(),
-            scanner: Scanner::new(),
+            turn: Turn {
+                begun: 0,
+                slot: 0,
+                doing: Doing::Rests,
+            },
+            plan: Plan::new(),
+            holder: Activity::Scan,
+            advertising: Advertising::new(),
+            scanning: Scanning::new(),
+            initiator: None,
+            links: OpenLinks::new(),
         })
     }
 
@@ -116,10 +138,10 @@ impl<const L: usize, const T: usize, const R: usize> Controller<L, T, R> {
             → Goes setup self.new past (TurnBegins slot.0 radio_on) out.new.items }
         ensures wants { (setup : Setup) (past : List Step) → Knows setup self.old past
             → use_wanted result
-            ≡ use_of setup (facts_of setup (past ++ TurnBegins slot.0 radio_on ∷ [])) }
+            ≡ use_of (facts_of setup (past ++ TurnBegins slot.0 radio_on ∷ [])) }
     {
-        self.begin(slot.0, radio_on);
-        self.intent()
+        let doing = self.begin(slot, radio_on, out);
+        self.prepare(doing)
     }
 
     /// What this controller makes of octets that are on the air in the phase that comes next:
@@ -127,7 +149,7 @@ impl<const L: usize, const T: usize, const R: usize> Controller<L, T, R> {
     /// without preamble (Core 5.2, volume 6 part B, section 2.1).
     pub fn judge(&self, octets: &[u8]) -> Verdict
         ensures { (setup : Setup) (past : List Step) → Knows setup self.now past
-            → result ≡ verdict_of setup (facts_of setup past) octets.now }
+            → result ≡ verdict_of (facts_of setup past) octets.now }
     {
         self.verdict(octets)
     }
@@ -140,12 +162,10 @@ impl<const L: usize, const T: usize, const R: usize> Controller<L, T, R> {
         ensures goes { (setup : Setup) (past : List Step) → Knows setup self.old past
             → Goes setup self.new past (PacketHeard octets.now) out.new.items }
         ensures wants { (setup : Setup) (past : List Step) → Knows setup self.old past
-            → use_wanted result
-            ≡ use_of setup (facts_of setup (past ++ PacketHeard octets.now ∷ [])) }
+            → use_wanted result ≡ use_of (facts_of setup (past ++ PacketHeard octets.now ∷ [])) }
     {
-        self.hear(octets, out);
-        self.pass_phase();
-        self.intent()
+        let doing = self.hear(octets, out);
+        self.prepare(doing)
     }
 
     /// Takes that nothing was heard in this phase, and gives what is wanted in the next one.
@@ -154,10 +174,10 @@ impl<const L: usize, const T: usize, const R: usize> Controller<L, T, R> {
         ensures goes { (setup : Setup) (past : List Step) → Knows setup self.old past
             → Goes setup self.new past NothingHeard out.new.items }
         ensures wants { (setup : Setup) (past : List Step) → Knows setup self.old past
-            → use_wanted result ≡ use_of setup (facts_of setup (past ++ NothingHeard ∷ [])) }
+            → use_wanted result ≡ use_of (facts_of setup (past ++ NothingHeard ∷ [])) }
     {
-        self.pass_phase();
-        self.intent()
+        let doing = self.hear_nothing(out);
+        self.prepare(doing)
     }
 
     /// Ends the turn.
@@ -166,6 +186,14 @@ impl<const L: usize, const T: usize, const R: usize> Controller<L, T, R> {
         ensures goes { (setup : Setup) (past : List Step) → Knows setup self.old past
             → Goes setup self.new past TurnEnds out.new.items }
     {
-        self.end();
+        self.prepare(Doing::Rests);
+    }
+
+    /// Nothing holds the radio.
+    pub(crate) fn free_radio(&mut self)
+        ensures { self.new ≡ record self.old { radio = free_radio } }
+    {
+        self.plan.release();
+        self.holder = Activity::Scan;
     }
 }

@@ -1,14 +1,13 @@
 //! A controller, call by call: the octets of its host, the turns of the radio, and what it sends to
 //! the air and to its host.
 //!
-//! It answers all commands of the table, and carries out those that need no link. It advertises
-//! without being connectable, and scans passively (Core 5.2, volume 6 part B, sections 4.4.2 and
-//! 4.4.3, and volume 4 part E). A turn is a slot of 1.25 ms and has three phases; in each the
-//! controller sends a packet, listens on a channel, or is idle. What it does is defined in
-//! `one_side`, by the calls on it.
+//! It answers all commands of the table, and carries out those that are built. It advertises, scans,
+//! initiates, and keeps its links (Core 5.2, volume 6 part B, sections 4.4 and 4.5, and volume 4
+//! part E). A turn is a slot of 1.25 ms and has three phases; in each the controller sends a packet,
+//! listens on a channel, or is idle. What it does is defined in `one_side`, by the calls on it.
 #![tactic(auto)]
 
-mod advertisers;
+mod advertising;
 #[cfg(test)]
 mod advertising_tests;
 #[cfg(test)]
@@ -20,10 +19,11 @@ mod commands;
 mod controllers;
 mod intents;
 mod masks;
+mod opening;
 mod packets;
+mod phases;
 mod radio;
-mod reports;
-mod scanners;
+mod scanning;
 #[cfg(test)]
 mod scanning_tests;
 #[cfg(test)]

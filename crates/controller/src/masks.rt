@@ -1,9 +1,10 @@
 //! The masks of events: what is sent to the host, and what is withheld.
-ghost use Rattle.std.specs.Prelude.{◌≡◌, ◌<◌, ◌++◌};
+ghost use Rattle.std.specs.Prelude.{◌≡◌, ◌<◌, ◌≤◌, ◌+◌, ◌++◌};
 ghost use Rattle.std.specs.Option.{option_to_list};
 ghost use Rattle.arrayvec.specs.ArrayVec.{array_vec_len};
 ghost use Rattle.hci_evt.specs.Event.{mask_bit_of};
-ghost use Rattle.one_side.specs.Side.{notes_of_events, passes};
+ghost use Rattle.one_side.specs.Links.{wants_enhanced};
+ghost use Rattle.one_side.specs.Events.{notes_of_events, passes};
 
 use ble_base::{Note, Outbox, has_bit};
 use hci_evt::{Event, MaskBit, mask_bit, write};
@@ -24,11 +25,23 @@ fn passes(view: &HostView, event: &Event) -> bool
     }
 }
 
+/// The bit of the mask of LE events that asks for LE Enhanced Connection Complete (section 7.8.1).
+const ENHANCED: u8 = 9;
+
+/// Whether the host is to receive LE Enhanced Connection Complete in place of LE Connection
+/// Complete.
+pub(crate) fn wants_enhanced(view: &HostView) -> bool
+    ensures { result ≡ wants_enhanced view.now }
+{
+    has_bit(view.le_mask(), ENHANCED)
+}
+
 /// Sends the host an event, if its masks let it through.
 pub(crate) fn tell(view: &HostView, event: Option<Event>, out: &mut Outbox)
     requires room { array_vec_len out.old < 64 }
-    ensures { out.new.items
+    ensures notes { out.new.items
         ≡ out.old.items ++ notes_of_events view.now (option_to_list event) }
+    ensures few { array_vec_len out.new ≤ array_vec_len out.old + 1 }
 {
     match event {
         Some(event) if passes(view, &event) => out.push(Note::Up(write(&event))),

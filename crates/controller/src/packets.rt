@@ -1,29 +1,25 @@
 //! Packets of the advertising channels: what is sent, and what is heard.
-ghost use Rattle.std.specs.Prelude.{◌≡◌, ◌<◌};
+ghost use Rattle.std.specs.Prelude.{◌≡◌, ◌<◌, Some, IfSome};
 ghost use Rattle.std.specs.Option.{option_map};
-ghost use Rattle.adv_pdu.specs.Pdu.{written};
-ghost use Rattle.air_frame.specs.Packet.{on_air};
-ghost use Rattle.one_side.specs.Heard.{heard_on_channel, pdu_by, verdict_by};
-ghost use Rattle.adv_pdu.specs.declared.pdu.AdvPdu.TheVariants.{Nonconn};
+ghost use Rattle.adv_pdu.specs.Pdu.{FitsBits};
+ghost use Rattle.one_side.specs.Packets.{advertising_packet, connect_sent, heard_on_channel};
+ghost use Rattle.one_side.specs.Packets.{pdu_heard, sends_pdu, verdict_advertising};
+ghost use Rattle.controller.specs.Fitting.{IsTakeable};
+ghost use Rattle.controller.specs.Knowing.{sends_octets, use_wanted};
 
-use crate::advertisers::MOST_DATA;
+use crate::intents::Intent;
 use adv_pdu::AdvPdu;
 use air_frame::{ADVERTISING_ACCESS, ADVERTISING_CRC_INIT, Heard, build, unframe};
 use arrayvec::ArrayVec;
-use ble_base::{AIR_PACKET_OCTETS, Address, Verdict};
+use ble_base::{AIR_PACKET_OCTETS, Verdict};
+use one_end::LinkSetup;
 
-/// The packet of an advertiser that is neither connectable nor scannable, on a channel (Core 5.2,
-/// volume 6 part B, section 2.3.1.3).
-pub(crate) fn advertisement(
-    channel: u8,
-    from: Address,
-    body: ArrayVec<u8, MOST_DATA>,
-) -> ArrayVec<u8, AIR_PACKET_OCTETS>
-    requires { channel < 40 }
-    ensures { result.items
-        ≡ on_air channel ADVERTISING_ACCESS ADVERTISING_CRC_INIT (written (Nonconn from body)) }
+/// A PDU on an advertising channel.
+fn advertising_packet(channel: u8, pdu: &AdvPdu) -> ArrayVec<u8, AIR_PACKET_OCTETS>
+    requires channel { channel < 40 }
+    requires fits { FitsBits pdu.now }
+    ensures { result.items ≡ advertising_packet channel pdu.now }
 {
-    let pdu = AdvPdu::Nonconn { from, body };
     build(
         channel,
         ADVERTISING_ACCESS,
@@ -32,10 +28,53 @@ pub(crate) fn advertisement(
     )
 }
 
-/// What a listener on this channel makes of the octets of a packet.
+/// Sends a PDU on an advertising channel, if there is one.
+pub(crate) fn send_pdu(channel: u8, pdu: Option<AdvPdu>) -> Intent
+    requires channel { channel < 40 }
+    requires fits { IfSome pdu FitsBits }
+    ensures { use_wanted result ≡ sends_pdu channel pdu }
+{
+    match pdu {
+        None => Intent::Idle,
+        Some(pdu) => Intent::Send {
+            channel,
+            octets: advertising_packet(channel, &pdu),
+        },
+    }
+}
+
+/// Sends a packet on a channel, if there are both.
+pub(crate) fn send_packet(
+    channel: Option<u8>,
+    packet: Option<ArrayVec<u8, AIR_PACKET_OCTETS>>,
+) -> Intent
+    ensures { use_wanted result
+        ≡ sends_octets channel (option_map (λ packet. packet.items) packet) }
+{
+    match (channel, packet) {
+        (Some(channel), Some(octets)) => Intent::Send { channel, octets },
+        _ => Intent::Idle,
+    }
+}
+
+/// The CONNECT_IND of a link.
+pub(crate) fn connect_ind(link: &LinkSetup) -> Option<AdvPdu>
+    requires { IsTakeable link.now.fields }
+    ensures value { result ≡ connect_sent link.now }
+    ensures fits { IfSome result FitsBits }
+{
+    Some(AdvPdu::Connect {
+        from: link.own,
+        to: link.peer,
+        ch_sel: true,
+        fields: link.fields,
+    })
+}
+
+/// The verdict of a listener on this advertising channel.
 pub(crate) fn judge(channel: u8, octets: &[u8]) -> Verdict
     requires { channel < 40 }
-    ensures { result ≡ verdict_by (heard_on_channel channel octets.now) }
+    ensures { result ≡ verdict_advertising channel octets.now }
 {
     match unframe(channel, ADVERTISING_ACCESS, ADVERTISING_CRC_INIT, octets) {
         Heard::NotOurs => Verdict::Missed,
@@ -44,13 +83,15 @@ pub(crate) fn judge(channel: u8, octets: &[u8]) -> Verdict
     }
 }
 
-/// The PDU of a packet that is heard whole on this channel.
-pub(crate) fn pdu(channel: u8, octets: &[u8]) -> Option<ArrayVec<u8, 257>>
+/// The PDU of a packet that is heard whole on this advertising channel.
+#[tactic(auto, unfolding(one_side::specs::Packets::pdu_heard))]
+pub(crate) fn read_pdu(channel: u8, octets: &[u8]) -> Option<AdvPdu>
     requires { channel < 40 }
-    ensures { option_map (λ pdu. pdu.items) result ≡ pdu_by (heard_on_channel channel octets.now) }
+    ensures value { result ≡ pdu_heard channel octets.now }
+    ensures fits { IfSome result FitsBits }
 {
     match unframe(channel, ADVERTISING_ACCESS, ADVERTISING_CRC_INIT, octets) {
-        Heard::Whole(pdu) => Some(pdu),
+        Heard::Whole(pdu) => AdvPdu::read(pdu.as_slice()),
         Heard::NotOurs | Heard::Broken => None,
     }
 }

@@ -1,215 +1,152 @@
-//! What a controller does with its radio.
-ghost use Rattle.std.specs.Prelude.{◌≡◌, ◌+◌, ◌<◌, ◌^◌, ◌++◌, IfSome};
-ghost use Rattle.arrayvec.specs.ArrayVec.{array_vec_len};
-ghost use Rattle.one_side.specs.Heard.{advertisement_heard, verdict_of};
-ghost use Rattle.one_side.specs.Radio.{activity_of, advertisement_on, channel_listened};
-ghost use Rattle.one_side.specs.Radio.{own_address, scanning, use_of};
-ghost use Rattle.one_side.specs.Side.{facts_begun, facts_ended, notes_of_events};
-ghost use Rattle.controller.specs.Phases.{next_kept};
-ghost use Rattle.controller.specs.Activities.{activity_done, HasChannel};
-ghost use Rattle.controller.specs.Actions.{IsOnAir, use_by};
-ghost use Rattle.controller.specs.Held.{hears, passes_phase, reports_heard};
-ghost use Rattle.controller.specs.Knowing.{use_wanted};
+//! What a controller wants of the radio for what it does, and its verdict on what reaches it.
+ghost use Rattle.std.specs.Prelude.{◌≡◌, ◌<◌, ◌^◌, IfSome};
+ghost use Rattle.adv_pdu.specs.Pdu.{FitsBits};
+ghost use Rattle.open_links.specs.Knowing.{Knows as KnowsLinks};
+ghost use Rattle.open_links.specs.OpenLinks.{Links, link_after, link_at, with_change};
+ghost use Rattle.one_end.specs.Step.{PacketSent};
+ghost use Rattle.one_side.specs.Facts.{Setup, Facts};
+ghost use Rattle.one_side.specs.Packets.{advertisement_sent, facts_doing, links_sending, listens_on};
+ghost use Rattle.one_side.specs.Packets.{request_sent, response_sent, sends_on, use_for};
+ghost use Rattle.one_side.specs.Packets.{verdict_of, verdict_of_link};
+ghost use Rattle.controller.specs.Fitting.{CanDo};
+ghost use Rattle.controller.specs.Knowing.{IsAt, use_wanted};
 
-use crate::advertisers::FIRST_ADVERTISING_CHANNEL;
 use crate::controllers::Controller;
-use crate::intents::{Action, Intent};
-use crate::masks::tell;
-use crate::packets::{advertisement, judge, pdu};
-use crate::reports::{Advertisement, read_advertisement};
-use crate::turns::Phase;
-use arrayvec::ArrayVec;
-use ble_base::{AIR_PACKET_OCTETS, Address, Outbox, Verdict};
-
-/// Own_Address_Type of the random address (Core 5.2, volume 4 part E, sections 7.8.5 and 7.8.10).
-const RANDOM: u8 = 1;
-
-/// What a controller does in a slot.
-#[derive(Clone, Copy, Debug)]
-pub(crate) enum Activity {
-    /// It advertises on this channel, 37 to 39.
-    Advertises { channel: u8 },
-    /// It scans on this channel, 37 to 39.
-    Scans { channel: u8 },
-    /// It does nothing.
-    Rests,
-}
+use crate::intents::Intent;
+use crate::packets::{connect_ind, judge, send_packet, send_pdu};
+use adv_pdu::AdvPdu;
+use ble_base::{Address, SlotNo, Verdict};
+use one_side::Doing;
 
 impl<const L: usize, const T: usize, const R: usize> Controller<L, T, R> {
-    /// What its scanner does in a slot that no advertiser has.
-    fn scanning(&self) -> Activity
-        ensures value { activity_done result ≡ scanning self.now.facts.view.scanning.on
-            self.now.facts.turn.slot self.now.facts.scanner }
-        ensures channel { HasChannel result }
+    /// The SCAN_REQ to an advertiser. None where no scanner is on.
+    fn request(&self, advertiser: Address) -> Option<AdvPdu>
+        ensures value { (has : Setup) (facts : Facts) → IsAt has self.now facts
+            → result ≡ request_sent advertiser facts }
+        ensures fits { IfSome result FitsBits }
     {
-        if !self.view.scanning().on {
-            return Activity::Rests;
-        }
-        match self.scanner.channel(self.turn.slot()) {
-            None => Activity::Rests,
-            Some(channel) => Activity::Scans { channel },
+        Some(AdvPdu::ScanReq {
+            from: self.scanning.on.as_ref()?.params().own,
+            to: advertiser,
+        })
+    }
+
+    /// Sends on the link under a handle.
+    fn send_on(&mut self, handle: u16) -> Intent
+        ensures at { (has : Setup) (facts : Facts) → IsAt has self.old facts
+            → IsAt has self.new (record facts {
+              links = with_change handle (link_after (PacketSent facts.turn.slot)) facts.links;
+            }) }
+        ensures wanted { (links : Links) → KnowsLinks self.old.links links
+            → use_wanted result ≡ sends_on (link_at handle links) }
+        ensures framer { self.new.framer ≡ self.old.framer }
+    {
+        let channel = self.links.channel(handle);
+        let packet = self.links.to_send(handle, SlotNo(self.turn.slot));
+        send_packet(channel, packet)
+    }
+
+    /// Listens on the link under a handle.
+    fn listen_on(&self, handle: u16) -> Intent
+        ensures { (links : Links) → KnowsLinks self.now.links links
+            → use_wanted result ≡ listens_on (link_at handle links) }
+    {
+        match self.links.channel(handle) {
+            None => Intent::Idle,
+            Some(channel) => Intent::Listen { channel },
         }
     }
 
-    /// What it does in the slot of the turn.
-    #[tactic(auto, unfolding(one_side::specs::Radio::activity_of))]
-    fn activity(&self) -> Activity
-        ensures value { activity_done result ≡ activity_of self.now.facts }
-        ensures channel { HasChannel result }
+    /// What it wants of the radio, for what it does.
+    fn intent(&mut self, doing: Doing) -> Intent
+        requires { CanDo L doing }
+        ensures at { (has : Setup) (facts : Facts) → IsAt has self.old facts
+            → IsAt has self.new (record facts {
+              links = links_sending facts.turn.slot doing facts.links;
+            }) }
+        ensures wanted { (has : Setup) (facts : Facts) → IsAt has self.old facts
+            → use_wanted result ≡ use_for facts doing }
+        ensures framer { self.new.framer ≡ self.old.framer }
     {
-        if !self.turn.is_on() {
-            return Activity::Rests;
-        }
-        if !self.view.advertising().on {
-            return self.scanning();
-        }
-        match self.advertiser.place(self.turn.slot()) {
-            None => self.scanning(),
-            Some(place) if self.advertiser.uses(place) => Activity::Advertises {
-                channel: FIRST_ADVERTISING_CHANNEL + place,
-            },
-            Some(_) => Activity::Rests,
-        }
-    }
-
-    /// Its own address of this type: the random one for type 1, where one is set, else the public
-    /// one.
-    fn own_address(&self, own: u8) -> Address
-        ensures { result ≡ own_address self.now.setup self.now.facts.view.random own }
-    {
-        match self.view.random() {
-            Some(octets) if own == RANDOM => Address {
-                random: true,
-                octets,
-            },
-            _ => Address {
-                random: false,
-                octets: self.public,
-            },
-        }
-    }
-
-    /// The packet that it advertises on this channel.
-    #[tactic(auto, unfolding(one_side::specs::Radio::advertisement_on))]
-    fn packet(&self, channel: u8) -> ArrayVec<u8, AIR_PACKET_OCTETS>
-        requires { channel < 40 }
-        ensures { result.items ≡ advertisement_on self.now.setup self.now.facts channel }
-    {
-        let own = self.own_address(self.view.advertising().own);
-        advertisement(channel, own, self.advertiser.body())
-    }
-
-    /// What it does in the phase that comes next.
-    #[tactic(auto, unfolding(one_side::specs::Radio::use_of))]
-    fn action(&self) -> Action
-        ensures value { use_by self.now.setup self.now.facts result
-            ≡ use_of self.now.setup self.now.facts }
-        ensures channel { IsOnAir result }
-    {
-        match self.turn.phase() {
-            Phase::First => match self.activity() {
-                Activity::Advertises { channel } => Action::Transmit { channel },
-                Activity::Scans { channel } => Action::Listen { channel },
-                Activity::Rests => Action::Rest,
-            },
-            Phase::Second => match self.activity() {
-                Activity::Advertises { channel } => Action::Listen { channel },
-                Activity::Scans { .. } | Activity::Rests => Action::Rest,
-            },
-            Phase::Later => Action::Rest,
-        }
-    }
-
-    /// What it wants in the phase that comes next.
-    pub(crate) fn intent(&self) -> Intent
-        ensures { use_wanted result ≡ use_of self.now.setup self.now.facts }
-    {
-        match self.action() {
-            Action::Transmit { channel } => Intent::Send {
+        match doing {
+            Doing::AwaitsRequest { channel }
+            | Doing::Scans { channel }
+            | Doing::AwaitsResponse { channel }
+            | Doing::Initiates { channel } => Intent::Listen { channel },
+            Doing::CentralSends { handle } | Doing::PeripheralSends { handle } => {
+                self.send_on(handle)
+            }
+            Doing::CentralListens { handle } | Doing::PeripheralListens { handle } => {
+                self.listen_on(handle)
+            }
+            Doing::Advertises { channel } => {
+                send_pdu(channel, self.advertising.advertisement())
+            }
+            Doing::Responds { channel } => send_pdu(channel, self.advertising.response()),
+            Doing::Requests {
                 channel,
-                octets: self.packet(channel),
-            },
-            Action::Listen { channel } => Intent::Listen { channel },
-            Action::Rest => Intent::Idle,
+                advertiser,
+            } => send_pdu(channel, self.request(advertiser)),
+            Doing::Connects { channel, link } => send_pdu(channel, connect_ind(&link)),
+            Doing::Rests => Intent::Idle,
         }
     }
 
-    /// The channel on which it listens in the phase that comes next.
-    fn listens_on(&self) -> Option<u8>
-        ensures value { result ≡ channel_listened (use_of self.now.setup self.now.facts) }
-        ensures channel { IfSome result (λ channel. channel < 40) }
+    /// It does this in the phase that comes next.
+    fn set_doing(&mut self, doing: Doing)
+        requires { CanDo L doing }
+        ensures { self.new
+            ≡ record self.old { turn = record self.old.turn { doing = doing } } }
     {
-        match self.action() {
-            Action::Listen { channel } => Some(channel),
-            Action::Transmit { .. } | Action::Rest => None,
-        }
+        self.turn.doing = doing;
     }
 
-    /// What it makes of octets that are on the air in the phase that comes next.
-    #[tactic(auto, unfolding(one_side::specs::Heard::verdict_of))]
-    pub(crate) fn verdict(&self, octets: &[u8]) -> Verdict
-        ensures { result ≡ verdict_of self.now.setup self.now.facts octets.now }
+    /// It does this in the phase that comes next. It gives what it wants of the radio for that.
+    pub(crate) fn prepare(&mut self, doing: Doing) -> Intent
+        requires { CanDo L doing }
+        ensures at { (has : Setup) (facts : Facts) → IsAt has self.old facts
+            → IsAt has self.new (facts_doing doing facts) }
+        ensures wanted { (has : Setup) (facts : Facts) → IsAt has self.old facts
+            → use_wanted result ≡ use_for facts doing }
+        ensures framer { self.new.framer ≡ self.old.framer }
     {
-        match self.listens_on() {
+        let intent = self.intent(doing);
+        self.set_doing(doing);
+        intent
+    }
+
+    /// What the link under a handle makes of octets.
+    fn judge_on_link(&self, handle: u16, octets: &[u8]) -> Verdict
+        ensures { (links : Links) → KnowsLinks self.now.links links
+            → result ≡ verdict_of_link (link_at handle links) octets.now }
+    {
+        match self.links.judge(handle, octets) {
             None => Verdict::Missed,
-            Some(channel) => judge(channel, octets),
+            Some(verdict) => verdict,
         }
     }
 
-    /// The advertisement that a packet is, where it scans in this phase.
-    #[tactic(auto, unfolding(one_side::specs::Heard::advertisement_heard))]
-    fn advertisement(&self, octets: &[u8]) -> Option<Advertisement>
-        ensures { result ≡ advertisement_heard self.now.setup self.now.facts octets.now }
+    /// What it makes of octets that reach it in the phase that comes next.
+    #[tactic(auto, unfolding(one_side::specs::Packets::verdict_of))]
+    pub(crate) fn verdict(&self, octets: &[u8]) -> Verdict
+        ensures { (has : Setup) (facts : Facts) → IsAt has self.now facts
+            → result ≡ verdict_of facts octets.now }
     {
-        let Phase::First = self.turn.phase() else {
-            return None;
-        };
-        let Activity::Scans { channel } = self.activity() else {
-            return None;
-        };
-        let own = self.own_address(self.view.scanning().own);
-        read_advertisement(&own, pdu(channel, octets)?.as_slice())
-    }
-
-    /// Takes a packet that was heard, and reports it.
-    pub(crate) fn hear(&mut self, octets: &[u8], out: &mut Outbox)
-        requires room { array_vec_len out.old < 64 }
-        ensures facts { self.new ≡ record self.old {
-          facts
-              = hears (advertisement_heard self.old.setup self.old.facts octets.now) self.old.facts;
-        } }
-        ensures notes { out.new.items ≡ out.old.items ++ notes_of_events self.old.facts.view
-            (reports_heard self.old.facts.scanner
-            (advertisement_heard self.old.setup self.old.facts octets.now)) }
-    {
-        if let Some(advertisement) = self.advertisement(octets) {
-            let event = self.scanner.hear(advertisement);
-            tell(&self.view, event, out);
+        match self.turn.doing {
+            Doing::AwaitsRequest { channel }
+            | Doing::Scans { channel }
+            | Doing::AwaitsResponse { channel }
+            | Doing::Initiates { channel } => judge(channel, octets),
+            Doing::CentralListens { handle } | Doing::PeripheralListens { handle } => {
+                self.judge_on_link(handle, octets)
+            }
+            Doing::Advertises { .. }
+            | Doing::Responds { .. }
+            | Doing::Requests { .. }
+            | Doing::Connects { .. }
+            | Doing::CentralSends { .. }
+            | Doing::PeripheralSends { .. }
+            | Doing::Rests => Verdict::Missed,
         }
-    }
-
-    /// A turn begins in this slot, with the radio on or off: its advertiser is served.
-    pub(crate) fn begin(&mut self, slot: u64, on: bool)
-        requires { slot < 2 ^ 32 }
-        ensures { self.new ≡ record self.old { facts = facts_begun slot on self.old.facts } }
-    {
-        self.turn.begin(slot, on);
-        if on && self.view.advertising().on {
-            self.advertiser.serve(slot);
-        }
-    }
-
-    /// A phase of the turn is over.
-    pub(crate) fn pass_phase(&mut self)
-        ensures { self.new ≡ record self.old { facts = passes_phase self.old.facts } }
-    {
-        self.turn.pass_phase();
-    }
-
-    /// The turn ends.
-    pub(crate) fn end(&mut self)
-        ensures { self.new ≡ record self.old { facts = facts_ended self.old.facts } }
-    {
-        self.turn.end();
     }
 }

@@ -1,10 +1,18 @@
 -- Proof of `controllers::Controller::begin_turn`.
-use Rattle.controller.proofs.Going.{begin_goes, wants}
+use Rattle.std.proofs.Common.{refl, ◌∙◌}
+use Rattle.one_side.specs.Radio.{outcome_begun}
+use Rattle.one_side.specs.Side.{facts_of}
+use Rattle.one_side.specs.Step.{TurnBegins}
+use Rattle.controller.proofs.Going.{at_facts, turn_goes, wants_then}
 use Rattle.controller.proofs.controllers.Controller.begin_turn.Goals as goal
 
 pub returns-clause-goes : goal.returns-clause-goes
 returns-clause-goes g c = λ setup past knows.
-    begin_goes setup past c.args.slot.0 c.args.radio_on _ _ _ c.begin.ensures c.requires.empty knows
+    turn_goes setup past (TurnBegins c.args.slot.0 c.args.radio_on) _ _ _ _ _ _ (outcome_begun c.args.slot.0 c.args.radio_on (facts_of setup past))
+    tt refl refl c.requires.empty (c.begin-doing.ensures.passes setup _ (at_facts setup _ past knows))
+    c.prepare.ensures.at (c.prepare.ensures.framer ∙ c.begin-doing.ensures.framer) knows
 
 pub returns-clause-wants : goal.returns-clause-wants
-returns-clause-wants g c = λ setup past knows. wants setup _ _ _ c.intent.ensures (returns-clause-goes g c setup past knows).knows
+returns-clause-wants g c = λ setup past knows.
+    wants_then setup past (TurnBegins c.args.slot.0 c.args.radio_on) _ _ _ _ (outcome_begun c.args.slot.0 c.args.radio_on (facts_of setup past)) _
+    refl (c.begin-doing.ensures.passes setup _ (at_facts setup _ past knows)) c.prepare.ensures.wanted

@@ -1,9 +1,17 @@
 -- Proof of `controllers::Controller::unheard`.
-use Rattle.controller.proofs.Going.{pass_goes, wants}
+use Rattle.std.proofs.Common.{refl, ◌∙◌}
+use Rattle.one_side.specs.Side.{facts_of, outcome_unheard}
+use Rattle.one_side.specs.Step.{NothingHeard}
+use Rattle.controller.proofs.Going.{at_facts, turn_goes, wants_then}
 use Rattle.controller.proofs.controllers.Controller.unheard.Goals as goal
 
 pub returns-clause-goes : goal.returns-clause-goes
-returns-clause-goes g c = λ setup past knows. pass_goes setup past _ _ _ c.pass_phase.ensures c.requires.empty knows
+returns-clause-goes g c = λ setup past knows.
+    turn_goes setup past NothingHeard _ _ _ _ _ _ (outcome_unheard (facts_of setup past))
+    tt refl refl c.requires.empty (c.hear_nothing-doing.ensures.passes setup _ (at_facts setup _ past knows))
+    c.prepare.ensures.at (c.prepare.ensures.framer ∙ c.hear_nothing-doing.ensures.framer) knows
 
 pub returns-clause-wants : goal.returns-clause-wants
-returns-clause-wants g c = λ setup past knows. wants setup _ _ _ c.intent.ensures (returns-clause-goes g c setup past knows).knows
+returns-clause-wants g c = λ setup past knows.
+    wants_then setup past NothingHeard _ _ _ _ (outcome_unheard (facts_of setup past)) _
+    refl (c.hear_nothing-doing.ensures.passes setup _ (at_facts setup _ past knows)) c.prepare.ensures.wanted

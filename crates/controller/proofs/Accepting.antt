@@ -1,0 +1,45 @@
+-- What an accepted command makes of what is held.
+use Rattle.std.proofs.Common.{◌≡◌, ℕ, ◌+◌, ◌%◌, length, refl, ap, ◌∙◌}
+use Rattle.std.proofs.Math.Nat.{mod-add-mod}
+use Rattle.hci_cmd.specs.declared.command.Command.{Command}
+use Rattle.hci_cmd.specs.declared.command.Command.TheVariants.{LeRand}
+use Rattle.host_view.specs.Changes.{view_after}
+use Rattle.open_links.specs.Knowing.{Knows as KnowsLinks}
+use Rattle.one_side.specs.Commands.{advertising_after, drawn_after, facts_accepted, initiator_after, links_after, radio_after, scanning_after}
+use Rattle.one_side.specs.Facts.{Setup, Facts}
+use Rattle.controller.specs.Held.{Held}
+use Rattle.controller.specs.Knowing.{IsAt}
+use Rattle.controller.specs.Steps.{held_accepted, place_after}
+
+place_is : (count drawn : ℕ) (command : Command) → place_after count command (drawn % count) ≡ drawn_after command drawn % count
+place_is count drawn LeRand = mod-add-mod drawn count 1
+place_is count drawn other = refl
+
+pub accepts_is : (has : Setup) (held shut new : Held) (facts : Facts) (command : Command) → shut ≡ record held { links = shut.links }
+    → KnowsLinks shut.links (links_after command facts.links) → new ≡ held_accepted shut command
+    → IsAt has held facts → IsAt has new (facts_accepted has facts command)
+accepts_is has held shut new facts command rest links is k =
+    let setup : shut.setup ≡ has = ap (λ (h : Held). h.setup) rest ∙ k.setup in
+    let view : shut.view ≡ facts.view = ap (λ (h : Held). h.view) rest ∙ k.view in
+    let turn : shut.turn ≡ facts.turn = ap (λ (h : Held). h.turn) rest ∙ k.turn in
+    let place : shut.place ≡ facts.drawn % length has.words = ap (λ (h : Held). h.place) rest ∙ k.place in
+    let radio : shut.radio ≡ facts.radio = ap (λ (h : Held). h.radio) rest ∙ k.radio in
+    let advertising : shut.advertising ≡ facts.advertising = ap (λ (h : Held). h.advertising) rest ∙ k.advertising in
+    let scanning : shut.scanning ≡ facts.scanning = ap (λ (h : Held). h.scanning) rest ∙ k.scanning in
+    let initiator : shut.initiator ≡ facts.initiator = ap (λ (h : Held). h.initiator) rest ∙ k.initiator in
+    record {
+      setup = ap (λ (h : Held). h.setup) is ∙ setup;
+      view = ap (λ (h : Held). h.view) is ∙ ap (λ v. view_after v command) view;
+      place = ap (λ (h : Held). h.place) is ∙ (λ i. place_after (length (setup i).words) command (place i))
+          ∙ place_is (length has.words) facts.drawn command;
+      access = ap (λ (h : Held). h.access) is ∙ ap (λ (h : Held). h.access) rest ∙ k.access;
+      turn = ap (λ (h : Held). h.turn) is ∙ turn;
+      radio = ap (λ (h : Held). h.radio) is ∙ ap (radio_after command) radio;
+      advertising = ap (λ (h : Held). h.advertising) is
+          ∙ (λ i. advertising_after (setup i) (view i) (turn i).begun command (advertising i));
+      scanning = ap (λ (h : Held). h.scanning) is
+          ∙ (λ i. scanning_after (setup i) (view i) (turn i).begun command (scanning i));
+      initiator = ap (λ (h : Held). h.initiator) is
+          ∙ (λ i. initiator_after (setup i) (view i) (turn i).begun command (initiator i));
+      links = rw (ap (λ (h : Held). h.links) is) links;
+    }

@@ -1,0 +1,15 @@
+-- Proof of `controllers::Controller::hear`.
+use Rattle.std.proofs.Common.{ap, sym, ◌∙◌, subst}
+use Rattle.one_side.specs.declared.doing.Doing.{Doing}
+use Rattle.one_side.specs.declared.doing.Turn.{Turn}
+use Rattle.one_side.specs.Heard.{heard}
+use Rattle.controller.specs.Held.{Held}
+use Rattle.controller.specs.Knowing.{Passes}
+use Rattle.controller.proofs.controllers.Controller.hear.Goals as goal
+
+pub returns-in-Initiates-clause-passes : goal.returns-in-Initiates-clause-passes
+returns-in-Initiates-clause-passes g c = λ has facts k.
+    subst (λ (doing : Doing). Passes has c.hear_connectable.new.self c.args.out.now.items c.args.out.now.items
+    c.hear_connectable.result (heard has doing c.args.octets.now facts))
+    (sym (sym (ap (λ (turn : Turn). turn.doing) k.turn) ∙ sym (ap (λ (held : Held). held.turn.doing) c.self.view_is) ∙ c.in-Initiates.is))
+    (c.hear_connectable.ensures.passes has facts _ k)

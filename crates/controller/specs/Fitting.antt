@@ -1,0 +1,49 @@
+-- That what a controller does can be done: channels of the air, and a link that may be opened.
+use Rattle.std.specs.Prelude.{◌<◌, ◌≤◌, ◌^◌, ℕ, ⊤}
+use Rattle.adv_pdu.specs.Ranges.{IsInRange}
+use Rattle.adv_pdu.specs.declared.pdu.ConnectFields.{ConnectFields}
+use Rattle.advertise.specs.declared.answers.AdvAnswer.{AdvAnswer}
+use Rattle.advertise.specs.declared.answers.AdvAnswer.TheVariants.{Ignore, Respond, Connect}
+use Rattle.one_end.specs.declared.setup.LinkSetup.{LinkSetup}
+use Rattle.one_side.specs.declared.doing.Doing.{Doing}
+use Rattle.one_side.specs.declared.doing.Doing.TheVariants.{Advertises, AwaitsRequest, Responds, Scans, Requests, AwaitsResponse, Initiates, Connects, CentralSends, CentralListens, PeripheralListens, PeripheralSends, Rests}
+
+-- a link may be opened by a controller that holds this number of links
+pub record IsOpenable (links : ℕ) (link : LinkSetup) : Type 0 where
+  pub handle : link.handle < links
+  pub fields : IsInRange link.fields
+  pub crc_init : link.fields.crc_init < 2 ^ 24
+  pub sca : link.fields.sca < 8
+  pub max_rx_from : 27 ≤ link.max_rx
+  pub max_rx_to : link.max_rx ≤ 251
+
+-- a CONNECT_IND that is sent, on a channel of the air, opens such a link
+pub record IsConnecting (links channel : ℕ) (link : LinkSetup) : Type 0 where
+  pub on_air : channel < 40
+  pub opens : IsOpenable links link
+
+-- an advertiser takes a CONNECT_IND only with such fields
+pub record IsTakeable (taken : ConnectFields) : Type 0 where
+  pub range : IsInRange taken
+  pub crc_init : taken.crc_init < 2 ^ 24
+  pub sca : taken.sca < 8
+
+abbrev pub IsAnswerable : AdvAnswer → Type 0
+IsAnswerable Ignore = ⊤
+IsAnswerable Respond = ⊤
+IsAnswerable (Connect fields) = IsTakeable fields
+
+abbrev pub CanDo : ℕ → Doing → Type 0
+CanDo links (Advertises channel) = channel < 40
+CanDo links (AwaitsRequest channel) = channel < 40
+CanDo links (Responds channel) = channel < 40
+CanDo links (Scans channel) = channel < 40
+CanDo links (Requests channel advertiser) = channel < 40
+CanDo links (AwaitsResponse channel) = channel < 40
+CanDo links (Initiates channel) = channel < 40
+CanDo links (Connects channel link) = IsConnecting links channel link
+CanDo links (CentralSends handle) = ⊤
+CanDo links (CentralListens handle) = ⊤
+CanDo links (PeripheralListens handle) = ⊤
+CanDo links (PeripheralSends handle) = ⊤
+CanDo links Rests = ⊤

@@ -1,0 +1,499 @@
+//! A phase of a turn: what is made of a packet that was heard, or of none.
+ghost use Rattle.std.specs.Prelude.{◌≡◌, ◌≤◌, ◌<◌, ◌^◌, ℕ, List, IfSome};
+ghost use Rattle.std.specs.Option.{option_and_then, option_to_list};
+ghost use Rattle.arrayvec.specs.ArrayVec.{array_vec_len};
+ghost use Rattle.ble_base.specs.declared.notes.Note.{Note};
+ghost use Rattle.adv_pdu.specs.Pdu.{FitsBits, body_of, ch_sel_of, sender_of};
+ghost use Rattle.adv_pdu.specs.Ranges.{IsInRange};
+ghost use Rattle.scan_init.specs.Reports.{does_ask};
+ghost use Rattle.open_links.specs.Knowing.{Knows as KnowsLinks};
+ghost use Rattle.open_links.specs.OpenLinks.{Links, free_from};
+ghost use Rattle.one_side.specs.Facts.{Setup, Facts};
+ghost use Rattle.scan_init.specs.Access.{next_access_of as next_access_from};
+ghost use Rattle.advertise.specs.Answers.{advertiser_answer};
+ghost use Rattle.one_side.specs.Packets.{pdu_heard};
+ghost use Rattle.one_side.specs.Heard.{advertiser_answers, advertiser_heard};
+ghost use Rattle.one_side.specs.Heard.{answers_by_connecting, asks_if, connects, if_pdu, taken_if};
+ghost use Rattle.one_side.specs.Heard.{does_report, events_reported, facts_connecting};
+ghost use Rattle.one_side.specs.Heard.{fields_sent, heard, initiator_heard, is_new_between};
+ghost use Rattle.one_side.specs.Heard.{link_heard, link_to, next_access_of, octets_reported};
+ghost use Rattle.one_side.specs.Heard.{report_event, scanner_heard, taken_under, unheard};
+ghost use Rattle.controller.specs.Fitting.{CanDo, IsAnswerable, IsOpenable};
+ghost use Rattle.controller.specs.Knowing.{IsAt, Passes};
+ghost use Rattle.controller.specs.Steps.{held_connecting};
+
+use crate::advertising::MOST_DATA;
+use crate::controllers::Controller;
+use crate::masks::tell;
+use crate::opening::address_kind;
+use crate::packets::read_pdu;
+use adv_pdu::{AdvPdu, ConnectFields};
+use advertise::{AdvAnswer, AdvOn};
+use arrayvec::ArrayVec;
+use ble_base::{Address, Outbox, Role, SlotNo};
+use hci_evt::Event;
+use one_end::LinkSetup;
+use one_side::Doing;
+use scan_init::{AcceptList, Initiator, ReportKind, ScanAnswer, next_access};
+use wire_fields::put_octets;
+
+/// The signal strength in a report where it is not known (Core 5.2, volume 4 part E, section
+/// 7.7.65.2).
+const NO_RSSI: u8 = 0x7F;
+
+/// The most octets of a payload that the ends of this controller receive (volume 6 part B, section
+/// 4.5.10).
+const MOST_RECEIVED: u16 = 251;
+
+/// The sender of a PDU.
+fn sender(pdu: &AdvPdu) -> Address
+    ensures { result ≡ sender_of pdu.now }
+{
+    match pdu {
+        AdvPdu::Ind { from, .. }
+        | AdvPdu::Direct { from, .. }
+        | AdvPdu::Nonconn { from, .. }
+        | AdvPdu::ScanReq { from, .. }
+        | AdvPdu::ScanRsp { from, .. }
+        | AdvPdu::Connect { from, .. }
+        | AdvPdu::ScanInd { from, .. } => *from,
+    }
+}
+
+/// ChSel of a PDU, false where the type has none.
+fn ch_sel(pdu: &AdvPdu) -> bool
+    ensures { result ≡ ch_sel_of pdu.now }
+{
+    match pdu {
+        AdvPdu::Ind { ch_sel, .. }
+        | AdvPdu::Direct { ch_sel, .. }
+        | AdvPdu::Connect { ch_sel, .. } => *ch_sel,
+        _ => false,
+    }
+}
+
+/// The advertising or scan response data of a PDU.
+fn octets_reported(pdu: &AdvPdu) -> ArrayVec<u8, MOST_DATA>
+    ensures { result.items ≡ octets_reported (body_of pdu.now) }
+{
+    let mut octets = ArrayVec::new();
+    match pdu {
+        AdvPdu::Ind { body, .. }
+        | AdvPdu::Nonconn { body, .. }
+        | AdvPdu::ScanRsp { body, .. }
+        | AdvPdu::ScanInd { body, .. } => put_octets(&mut octets, body.as_slice()),
+        _ => {}
+    }
+    octets
+}
+
+/// The report of a PDU of this kind.
+fn report_event(pdu: &AdvPdu, kind: ReportKind) -> Event
+    ensures { result ≡ report_event pdu.now kind }
+{
+    let from = sender(pdu);
+    Event::AdvertisingReport {
+        kind: kind.event_type(),
+        address_kind: address_kind(&from),
+        address: from.octets,
+        octets: octets_reported(pdu),
+        rssi: NO_RSSI,
+    }
+}
+
+/// Whether the answer of a scanner has it report.
+fn does_report(answer: ScanAnswer) -> bool
+    ensures { result ≡ does_report answer }
+{
+    matches!(answer, ScanAnswer::Report | ScanAnswer::ReportAndAsk)
+}
+
+/// Whether the answer of a scanner has it send a SCAN_REQ.
+fn does_ask(answer: ScanAnswer) -> bool
+    ensures { result ≡ does_ask answer }
+{
+    matches!(answer, ScanAnswer::Ask | ScanAnswer::ReportAndAsk)
+}
+
+/// The report of a PDU, where the answer of the scanner has it report.
+fn event_reported(answer: ScanAnswer, pdu: &AdvPdu) -> Option<Event>
+    ensures { option_to_list result ≡ events_reported answer pdu.now }
+{
+    if !does_report(answer) {
+        return None;
+    }
+    Some(report_event(pdu, ReportKind::of(pdu)?))
+}
+
+/// What an active scanner does after an advertisement: it asks, or not.
+fn asks_if(asks: bool, channel: u8, pdu: &AdvPdu) -> Doing
+    requires { channel < 40 }
+    ensures value { result ≡ asks_if asks channel pdu.now }
+    ensures can { (links : ℕ) → CanDo links result }
+{
+    if asks {
+        Doing::Requests {
+            channel,
+            advertiser: sender(pdu),
+        }
+    } else {
+        Doing::Rests
+    }
+}
+
+/// The access address of the link after the next one, and where to search for the one after that.
+fn access_after(cursor: u32, next: Option<(u32, u64)>) -> Option<(u32, u64)>
+    ensures { result ≡ option_and_then (λ found. next_access_from cursor found.1) next }
+{
+    let (_, travelled) = next?;
+    next_access(cursor, travelled)
+}
+
+/// The answer of an advertiser to a PDU.
+#[tactic(auto, using(crate::proofs::Connecting::answer_fits))]
+fn advertiser_answer(on: &AdvOn, pdu: &AdvPdu, list: &AcceptList) -> AdvAnswer
+    requires { FitsBits pdu.now }
+    ensures value { result ≡ advertiser_answer on.now.params list.now pdu.now }
+    ensures fits { IsAnswerable result }
+{
+    on.answer(pdu, list)
+}
+
+impl<const L: usize, const T: usize, const R: usize> Controller<L, T, R> {
+    /// Whether it has no link between these two addresses.
+    fn is_new_between(&self, own: &Address, peer: &Address) -> bool
+        ensures { (links : Links) → KnowsLinks self.now.links links
+            → result ≡ is_new_between own.now peer.now links }
+    {
+        !self.links.has_link_between(own, peer)
+    }
+
+    /// Opens a link that a CONNECT_IND asks for, where there is room for it.
+    fn take_link(
+        &mut self,
+        own: Address,
+        pdu: &AdvPdu,
+        fields: ConnectFields,
+        out: &mut Outbox,
+    ) -> Doing
+        requires range { IsInRange fields }
+        requires crc_init { fields.crc_init < 2 ^ 24 }
+        requires sca { fields.sca < 8 }
+        requires room { array_vec_len out.old ≤ 50 }
+        ensures passes { (has : Setup) (facts : Facts) → IsAt has self.old facts
+            → Passes has self.new out.old.items out.new.items result
+            (taken_under (free_from 0 facts.links) own pdu.now fields facts) }
+        ensures can { CanDo L result }
+        ensures framer { self.new.framer ≡ self.old.framer }
+    {
+        if let Some(handle) = self.links.free_handle() {
+            let link = LinkSetup {
+                role: Role::Peripheral,
+                handle,
+                own,
+                peer: sender(pdu),
+                fields,
+                two: ch_sel(pdu),
+                max_rx: MOST_RECEIVED,
+            };
+            self.open(link, out);
+        }
+        Doing::Rests
+    }
+
+    /// Opens a link that a CONNECT_IND asks for, if it is a new one.
+    fn take_if(
+        &mut self,
+        is_new: bool,
+        own: Address,
+        pdu: &AdvPdu,
+        fields: ConnectFields,
+        out: &mut Outbox,
+    ) -> Doing
+        requires range { IsInRange fields }
+        requires crc_init { fields.crc_init < 2 ^ 24 }
+        requires sca { fields.sca < 8 }
+        requires room { array_vec_len out.old ≤ 50 }
+        ensures passes { (has : Setup) (facts : Facts) → IsAt has self.old facts
+            → Passes has self.new out.old.items out.new.items result
+            (taken_if is_new own pdu.now fields facts) }
+        ensures can { CanDo L result }
+        ensures framer { self.new.framer ≡ self.old.framer }
+    {
+        if is_new {
+            self.take_link(own, pdu, fields, out)
+        } else {
+            Doing::Rests
+        }
+    }
+
+    /// Opens a link that a CONNECT_IND asks for, unless it has one between these two addresses.
+    fn take_new_link(
+        &mut self,
+        own: Address,
+        pdu: &AdvPdu,
+        fields: ConnectFields,
+        out: &mut Outbox,
+    ) -> Doing
+        requires range { IsInRange fields }
+        requires crc_init { fields.crc_init < 2 ^ 24 }
+        requires sca { fields.sca < 8 }
+        requires room { array_vec_len out.old ≤ 50 }
+        ensures passes { (has : Setup) (facts : Facts) → IsAt has self.old facts
+            → Passes has self.new out.old.items out.new.items result
+            (taken_if (is_new_between own (sender_of pdu.now) facts.links) own pdu.now fields
+            facts) }
+        ensures can { CanDo L result }
+        ensures framer { self.new.framer ≡ self.old.framer }
+    {
+        let is_new = self.is_new_between(&own, &sender(pdu));
+        self.take_if(is_new, own, pdu, fields, out)
+    }
+
+    /// What an advertiser with this own address does about a request, by its answer to it.
+    fn answer_request(
+        &mut self,
+        answer: AdvAnswer,
+        channel: u8,
+        own: Address,
+        pdu: &AdvPdu,
+        out: &mut Outbox,
+    ) -> Doing
+        requires channel { channel < 40 }
+        requires fits { IsAnswerable answer }
+        requires room { array_vec_len out.old ≤ 50 }
+        ensures passes { (has : Setup) (facts : Facts) → IsAt has self.old facts
+            → Passes has self.new out.old.items out.new.items result
+            (advertiser_answers answer channel own pdu.now facts) }
+        ensures can { CanDo L result }
+        ensures framer { self.new.framer ≡ self.old.framer }
+    {
+        match answer {
+            AdvAnswer::Ignore => Doing::Rests,
+            AdvAnswer::Respond => Doing::Responds { channel },
+            AdvAnswer::Connect(fields) => self.take_new_link(own, pdu, fields, out),
+        }
+    }
+
+    /// Takes a packet that follows an advertisement on this channel.
+    fn hear_request(&mut self, channel: u8, octets: &[u8], out: &mut Outbox) -> Doing
+        requires channel { channel < 40 }
+        requires room { array_vec_len out.old ≤ 50 }
+        ensures passes { (has : Setup) (facts : Facts) → IsAt has self.old facts
+            → Passes has self.new out.old.items out.new.items result
+            (if_pdu (pdu_heard channel octets.now) facts
+            (λ pdu. advertiser_heard facts.advertising.on channel pdu facts)) }
+        ensures can { CanDo L result }
+        ensures framer { self.new.framer ≡ self.old.framer }
+    {
+        let Some(pdu) = read_pdu(channel, octets) else {
+            return Doing::Rests;
+        };
+        let Some(on) = &self.advertising.on else {
+            return Doing::Rests;
+        };
+        let own = on.params().own;
+        let answer = advertiser_answer(on, &pdu, self.view.accept_list());
+        self.answer_request(answer, channel, own, &pdu, out)
+    }
+
+    /// Takes a packet that a scanner hears on this channel: it reports, and asks where it may.
+    fn hear_advertisement(
+        &mut self,
+        may_ask: bool,
+        channel: u8,
+        octets: &[u8],
+        out: &mut Outbox,
+    ) -> Doing
+        requires channel { channel < 40 }
+        requires room { array_vec_len out.old ≤ 50 }
+        ensures passes { (has : Setup) (facts : Facts) → IsAt has self.old facts
+            → Passes has self.new out.old.items out.new.items result
+            (if_pdu (pdu_heard channel octets.now) facts
+            (λ pdu. scanner_heard facts.scanning.on may_ask channel pdu facts)) }
+        ensures can { CanDo L result }
+        ensures framer { self.new.framer ≡ self.old.framer }
+    {
+        let Some(pdu) = read_pdu(channel, octets) else {
+            return Doing::Rests;
+        };
+        let Some(on) = &mut self.scanning.on else {
+            return Doing::Rests;
+        };
+        let answer = on.hears(&pdu, self.view.accept_list());
+        tell(&self.view, event_reported(answer, &pdu), out);
+        asks_if(may_ask && does_ask(answer), channel, &pdu)
+    }
+
+    /// Whether an initiator answers a PDU: it is to connect to the sender, and has no link to it.
+    fn answers_by_connecting(&self, on: &Initiator, pdu: &AdvPdu) -> bool
+        ensures { (has : Setup) (facts : Facts) → IsAt has self.now facts
+            → result ≡ answers_by_connecting on.now pdu.now facts }
+    {
+        on.accepts(pdu, self.view.accept_list())
+            && self.is_new_between(&on.params().own, &sender(pdu))
+    }
+
+    /// The fields of the CONNECT_IND of an initiator with this access address.
+    fn fields_sent(&self, on: &Initiator, access: u32) -> ConnectFields
+        ensures value { (has : Setup) (facts : Facts) → IsAt has self.now facts
+            → result ≡ fields_sent has on.now access facts }
+        ensures crc_init { result.crc_init < 2 ^ 24 }
+        ensures sca { result.sca ≡ 0 }
+    {
+        scan_init::laws::initiators_connect_in_range();
+        ConnectFields {
+            sca: 0,
+            ..on.connect_fields(access, self.random_word(), self.view.map())
+        }
+    }
+
+    /// The access address of the next new link.
+    fn access(&self) -> Option<u32>
+        ensures { (has : Setup) (facts : Facts) → IsAt has self.now facts
+            → result ≡ next_access_of has facts }
+    {
+        match self.next_access {
+            None => None,
+            Some((access, _)) => Some(access),
+        }
+    }
+
+    /// The link that an initiator makes with the sender of a PDU. None where it does not answer.
+    fn link_to(&self, on: &Initiator, pdu: &AdvPdu) -> Option<LinkSetup>
+        ensures value { (has : Setup) (facts : Facts) → IsAt has self.now facts
+            → result ≡ link_to has on.now pdu.now facts }
+        ensures can { IfSome result (IsOpenable L) }
+    {
+        if !self.answers_by_connecting(on, pdu) {
+            return None;
+        }
+        let access = self.access()?;
+        let handle = self.links.free_handle()?;
+        let fields = self.fields_sent(on, access);
+        if !fields.is_in_range() {
+            return None;
+        }
+        Some(LinkSetup {
+            role: Role::Central,
+            handle,
+            own: on.params().own,
+            peer: sender(pdu),
+            fields,
+            two: ch_sel(pdu),
+            max_rx: MOST_RECEIVED,
+        })
+    }
+
+    /// Draws a random word, and takes an access address.
+    fn take_access(&mut self)
+        ensures { self.new ≡ held_connecting self.old }
+    {
+        self.draw_word();
+        self.next_access = access_after(self.cursor, self.next_access);
+        self.view.address_left(self.next_access.is_some());
+    }
+
+    /// An initiator makes this link on this channel, if there is one to be made.
+    #[tactic(auto, using(crate::proofs::Connecting::connecting_is))]
+    fn connect(&mut self, link: Option<LinkSetup>, channel: u8) -> Doing
+        requires channel { channel < 40 }
+        requires link { IfSome link (IsOpenable L) }
+        ensures passes { (has : Setup) (facts : Facts) (noted : List Note) → IsAt has self.old facts
+            → Passes has self.new noted noted result (connects link has channel facts) }
+        ensures can { CanDo L result }
+        ensures framer { self.new.framer ≡ self.old.framer }
+    {
+        match link {
+            None => Doing::Rests,
+            Some(link) => {
+                self.take_access();
+                Doing::Connects { channel, link }
+            }
+        }
+    }
+
+    /// Takes a packet that an initiator hears on this channel.
+    fn hear_connectable(&mut self, channel: u8, octets: &[u8]) -> Doing
+        requires channel { channel < 40 }
+        ensures passes { (has : Setup) (facts : Facts) (noted : List Note) → IsAt has self.old facts
+            → Passes has self.new noted noted result (if_pdu (pdu_heard channel octets.now) facts
+            (λ pdu. initiator_heard facts.initiator has channel pdu facts)) }
+        ensures can { CanDo L result }
+        ensures framer { self.new.framer ≡ self.old.framer }
+    {
+        let Some(pdu) = read_pdu(channel, octets) else {
+            return Doing::Rests;
+        };
+        let Some(on) = &self.initiator else {
+            return Doing::Rests;
+        };
+        let link = self.link_to(on, &pdu);
+        self.connect(link, channel)
+    }
+
+    /// The link under a handle receives a packet. A peripheral may answer it.
+    fn hear_on_link(&mut self, handle: u16, octets: &[u8]) -> Doing
+        ensures at { (has : Setup) (facts : Facts) → IsAt has self.old facts
+            → IsAt has self.new (link_heard handle octets.now facts).facts }
+        ensures next { (has : Setup) (facts : Facts) → IsAt has self.old facts
+            → result ≡ (link_heard handle octets.now facts).next }
+        ensures can { CanDo L result }
+        ensures framer { self.new.framer ≡ self.old.framer }
+    {
+        match self.links.heard(handle, octets, SlotNo(self.turn.slot)) {
+            Some(step) if step.reply => Doing::PeripheralSends { handle },
+            _ => Doing::Rests,
+        }
+    }
+
+    /// What follows what was done in a phase in which nothing was heard.
+    pub(crate) fn hear_nothing(&mut self, out: &mut Outbox) -> Doing
+        requires room { array_vec_len out.old ≤ 50 }
+        ensures passes { (has : Setup) (facts : Facts) → IsAt has self.old facts
+            → Passes has self.new out.old.items out.new.items result
+            (unheard facts.turn.doing facts) }
+        ensures can { CanDo L result }
+        ensures framer { self.new.framer ≡ self.old.framer }
+    {
+        match self.turn.doing {
+            Doing::Advertises { channel } => Doing::AwaitsRequest { channel },
+            Doing::Requests { channel, .. } => Doing::AwaitsResponse { channel },
+            Doing::CentralSends { handle } => Doing::CentralListens { handle },
+            Doing::Connects { link, .. } => {
+                self.open(link, out);
+                Doing::Rests
+            }
+            _ => Doing::Rests,
+        }
+    }
+
+    /// Takes a packet that was heard in a phase. Where it does not listen nothing is heard.
+    pub(crate) fn hear(&mut self, octets: &[u8], out: &mut Outbox) -> Doing
+        requires room { array_vec_len out.old ≤ 50 }
+        ensures passes { (has : Setup) (facts : Facts) → IsAt has self.old facts
+            → Passes has self.new out.old.items out.new.items result
+            (heard has facts.turn.doing octets.now facts) }
+        ensures can { CanDo L result }
+        ensures framer { self.new.framer ≡ self.old.framer }
+    {
+        match self.turn.doing {
+            Doing::AwaitsRequest { channel } => self.hear_request(channel, octets, out),
+            Doing::Scans { channel } => self.hear_advertisement(true, channel, octets, out),
+            Doing::AwaitsResponse { channel } => {
+                self.hear_advertisement(false, channel, octets, out)
+            }
+            Doing::Initiates { channel } => self.hear_connectable(channel, octets),
+            Doing::CentralListens { handle } | Doing::PeripheralListens { handle } => {
+                self.hear_on_link(handle, octets)
+            }
+            Doing::Advertises { .. }
+            | Doing::Responds { .. }
+            | Doing::Requests { .. }
+            | Doing::Connects { .. }
+            | Doing::CentralSends { .. }
+            | Doing::PeripheralSends { .. }
+            | Doing::Rests => self.hear_nothing(out),
+        }
+    }
+}

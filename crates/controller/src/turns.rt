@@ -1,0 +1,256 @@
+//! The beginning of a turn: which links end, what has the radio, and what is done first.
+ghost use Rattle.std.specs.Prelude.{◌≡◌, ◌≤◌, ◌<◌, ◌+◌, ◌*◌, ◌^◌, ◌++◌, ℕ, length, IfSome};
+ghost use Rattle.arrayvec.specs.ArrayVec.{array_vec_len};
+ghost use Rattle.open_links.specs.Knowing.{Knows as KnowsLinks};
+ghost use Rattle.open_links.specs.OpenLinks.{Links, link_at, link_served, with_change};
+ghost use Rattle.open_links.specs.Turns.{links_entered, notes_entering, wants_from};
+ghost use Rattle.slot_plan.specs.Holding.{winner_of};
+ghost use Rattle.one_side.specs.Facts.{Setup, Facts};
+ghost use Rattle.one_side.specs.Radio.{advertises_at, doing_held, doing_won, exchange_begins};
+ghost use Rattle.one_side.specs.Radio.{facts_entering, winner_served};
+ghost use Rattle.one_side.specs.Radio.{facts_won, first_exchange, initiator_channel};
+ghost use Rattle.one_side.specs.Radio.{initiates_on, outcome_begun, plan_in, radio_held};
+ghost use Rattle.one_side.specs.Radio.{scanner_channel, scans_on, second_exchange, served};
+ghost use Rattle.one_side.specs.Radio.{slots_since, turn_begins, want_if};
+ghost use Rattle.controller.specs.Fitting.{CanDo};
+ghost use Rattle.controller.specs.Knowing.{IsAt, Passes};
+
+use crate::controllers::Controller;
+use ble_base::{Outbox, Role, SlotNo};
+use one_side::Doing;
+use slot_plan::{Activity, Plan};
+
+/// The slots for which the event of a link holds the radio, and that of an advertiser.
+const LINK_SLOTS: u8 = 2;
+
+const ADVERTISING_SLOTS: u8 = 3;
+
+/// The first part of an exchange: a central sends, and a peripheral listens.
+fn exchange_begins(role: Role, handle: u16) -> Doing
+    ensures value { result ≡ exchange_begins role handle }
+    ensures can { (links : ℕ) → CanDo links result }
+{
+    match role {
+        Role::Central => Doing::CentralSends { handle },
+        Role::Peripheral => Doing::PeripheralListens { handle },
+    }
+}
+
+/// Adds an activity to the plan, if it wants the slot.
+fn want_if(plan: &mut Plan, wants: bool, activity: Activity)
+    requires { length plan.old.wants < 16 }
+    ensures wants { plan.new.wants ≡ plan.old.wants ++ want_if wants activity }
+    ensures hold { plan.new.hold ≡ plan.old.hold }
+    ensures few { length plan.new.wants ≤ length plan.old.wants + 1 }
+{
+    if wants {
+        plan.want(activity, SlotNo(0));
+    }
+}
+
+impl<const L: usize, const T: usize, const R: usize> Controller<L, T, R> {
+    /// The channel on which its initiator listens in a slot. None where there is none, or outside
+    /// its window.
+    fn initiator_channel(&self, slot: SlotNo) -> Option<u8>
+        ensures value { result ≡ initiator_channel slot.0 self.now.initiator }
+        ensures channel { IfSome result (λ channel. channel < 40) }
+    {
+        self.initiator.as_ref()?.wants(slot)
+    }
+
+    /// All links enter the events whose anchors are in this slot. It gives what wins the slot.
+    fn enter_events(&mut self, slot: SlotNo, out: &mut Outbox) -> Option<Activity>
+        requires slot { slot.0 < 2 ^ 32 }
+        requires room { array_vec_len out.old ≤ 30 }
+        ensures at { (has : Setup) (facts : Facts) → IsAt has self.old facts
+            → IsAt has self.new (facts_entering slot.0 facts) }
+        ensures notes { (has : Setup) (facts : Facts) → IsAt has self.old facts
+            → out.new.items ≡ out.old.items ++ notes_entering slot.0 facts.links }
+        ensures winner { (has : Setup) (facts : Facts) → IsAt has self.old facts
+            → result ≡ winner_of (plan_in slot.0 facts) slot.0 }
+        ensures framer { self.new.framer ≡ self.old.framer }
+    {
+        self.plan.clear();
+        self.links.enter(slot, &mut self.plan, out);
+        let advertises = self.advertising.wants(slot);
+        want_if(&mut self.plan, advertises, Activity::Advertise);
+        let scans = self.scanning.channel(slot).is_some();
+        want_if(&mut self.plan, scans, Activity::Scan);
+        let initiates = self.initiator_channel(slot).is_some();
+        want_if(&mut self.plan, initiates, Activity::Initiate);
+        self.plan.winner(slot)
+    }
+
+    /// The first exchange of the event of the link under a handle.
+    fn first_exchange(&self, handle: u16) -> Doing
+        ensures value { (links : Links) → KnowsLinks self.now.links links
+            → result ≡ first_exchange handle (link_at handle links) }
+        ensures can { CanDo L result }
+    {
+        match self.links.setup(handle) {
+            None => Doing::Rests,
+            Some(setup) => exchange_begins(setup.role, handle),
+        }
+    }
+
+    /// The second exchange of the event of the link under a handle, if it has one.
+    fn second_exchange(&self, handle: u16) -> Doing
+        ensures value { (links : Links) → KnowsLinks self.now.links links
+            → result ≡ second_exchange handle (link_at handle links) }
+        ensures can { CanDo L result }
+    {
+        match self.links.again(handle) {
+            Some(true) => self.first_exchange(handle),
+            _ => Doing::Rests,
+        }
+    }
+
+    /// What the advertiser does in the slot with this place in its event.
+    fn advertises_at(&self, place: u64) -> Doing
+        ensures value { result ≡ advertises_at place self.now.advertising.on }
+        ensures can { CanDo L result }
+    {
+        match self.advertising.channel(place) {
+            None => Doing::Rests,
+            Some(channel) => Doing::Advertises { channel },
+        }
+    }
+
+    /// What an activity that wins a slot does first.
+    fn doing_won(&self, slot: SlotNo, activity: Activity) -> Doing
+        ensures value { (has : Setup) (facts : Facts) → IsAt has self.now facts
+            → result ≡ doing_won slot.0 activity facts }
+        ensures can { CanDo L result }
+    {
+        match activity {
+            Activity::Link(handle) => self.first_exchange(handle),
+            Activity::Advertise => self.advertises_at(0),
+            Activity::Scan => match self.scanning.channel(slot) {
+                None => Doing::Rests,
+                Some(channel) => Doing::Scans { channel },
+            },
+            Activity::Initiate => match self.initiator_channel(slot) {
+                None => Doing::Rests,
+                Some(channel) => Doing::Initiates { channel },
+            },
+        }
+    }
+
+    /// How many slots before this one the radio is held.
+    fn slots_since(&self, slot: SlotNo) -> u64
+        ensures { result ≡ slots_since slot.0 self.now.radio.hold }
+    {
+        match self.plan.held() {
+            None => 0,
+            Some(hold) => slot.0.saturating_sub(hold.from.0),
+        }
+    }
+
+    /// What holds the radio does in this slot.
+    fn doing_held(&self, slot: SlotNo) -> Doing
+        ensures value { (has : Setup) (facts : Facts) → IsAt has self.now facts
+            → result ≡ doing_held slot.0 facts.radio.holder facts }
+        ensures can { CanDo L result }
+    {
+        match self.holder {
+            Activity::Link(handle) => self.second_exchange(handle),
+            Activity::Advertise => self.advertises_at(self.slots_since(slot)),
+            Activity::Scan | Activity::Initiate => Doing::Rests,
+        }
+    }
+
+    /// An activity holds the radio for this number of slots.
+    fn hold_radio(&mut self, activity: Activity, slot: SlotNo, slots: u8)
+        ensures { self.new ≡ record self.old { radio = radio_held activity slot.0 slots } }
+    {
+        self.plan.hold(slot, slots);
+        self.holder = activity;
+    }
+
+    /// An activity wins a slot.
+    fn win(&mut self, slot: SlotNo, activity: Activity)
+        requires { slot.0 < 2 ^ 32 }
+        ensures at { (has : Setup) (facts : Facts) → IsAt has self.old facts
+            → IsAt has self.new (facts_won slot.0 activity facts) }
+        ensures framer { self.new.framer ≡ self.old.framer }
+    {
+        match activity {
+            Activity::Link(handle) => {
+                self.links.serve(handle, slot);
+                self.hold_radio(activity, slot, LINK_SLOTS);
+            }
+            Activity::Advertise => {
+                self.advertising.serve(slot);
+                self.hold_radio(activity, slot, ADVERTISING_SLOTS);
+            }
+            Activity::Scan | Activity::Initiate => {}
+        }
+    }
+
+    /// What wins the slot, if anything does, has the radio. It gives what is done first.
+    fn serve_winner(&mut self, slot: SlotNo, winner: Option<Activity>) -> Doing
+        requires { slot.0 < 2 ^ 32 }
+        ensures at { (has : Setup) (facts : Facts) → IsAt has self.old facts
+            → IsAt has self.new (winner_served slot.0 winner facts).facts }
+        ensures next { (has : Setup) (facts : Facts) → IsAt has self.old facts
+            → result ≡ (winner_served slot.0 winner facts).next }
+        ensures can { CanDo L result }
+        ensures framer { self.new.framer ≡ self.old.framer }
+    {
+        match winner {
+            None => Doing::Rests,
+            Some(activity) => {
+                let doing = self.doing_won(slot, activity);
+                self.win(slot, activity);
+                doing
+            }
+        }
+    }
+
+    /// What holds the radio goes on, or what wins the slot has it. With the radio off nothing is
+    /// done.
+    fn serve(&mut self, on: bool, slot: SlotNo, winner: Option<Activity>) -> Doing
+        requires { slot.0 < 2 ^ 32 }
+        ensures at { (has : Setup) (facts : Facts) → IsAt has self.old facts
+            → IsAt has self.new (served on slot.0 winner facts).facts }
+        ensures next { (has : Setup) (facts : Facts) → IsAt has self.old facts
+            → result ≡ (served on slot.0 winner facts).next }
+        ensures can { CanDo L result }
+        ensures framer { self.new.framer ≡ self.old.framer }
+    {
+        if !on {
+            return Doing::Rests;
+        }
+        if self.plan.is_held(slot) {
+            return self.doing_held(slot);
+        }
+        self.serve_winner(slot, winner)
+    }
+
+    /// A turn begins in this slot.
+    fn begin_slot(&mut self, slot: SlotNo)
+        requires { slot.0 < 2 ^ 32 }
+        ensures at { (has : Setup) (facts : Facts) → IsAt has self.old facts
+            → IsAt has self.new (turn_begins slot.0 facts) }
+        ensures framer { self.new.framer ≡ self.old.framer }
+    {
+        self.turn.begun = slot.0 + 1;
+        self.turn.slot = slot.0;
+    }
+
+    /// A turn begins in this slot, with the radio on or off. It gives what is done first.
+    pub(crate) fn begin(&mut self, slot: SlotNo, on: bool, out: &mut Outbox) -> Doing
+        requires slot { slot.0 < 2 ^ 32 }
+        requires room { array_vec_len out.old ≤ 4 }
+        ensures passes { (has : Setup) (facts : Facts) → IsAt has self.old facts
+            → Passes has self.new out.old.items out.new.items result
+            (outcome_begun slot.0 on facts) }
+        ensures can { CanDo L result }
+        ensures framer { self.new.framer ≡ self.old.framer }
+    {
+        self.end_links(slot, out);
+        self.begin_slot(slot);
+        let winner = self.enter_events(slot, out);
+        self.serve(on, slot, winner)
+    }
+}
