@@ -22,3 +22,4 @@ pub mod Accepted
 pub mod Sent
 pub mod LeftOn
 pub mod Lengths
+pub mod Requests
