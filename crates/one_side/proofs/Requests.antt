@@ -77,31 +77,9 @@ asks_after setup view slot other initiator accepted well = well
 
 -- ---- turns
 
-stopped_map : (role : Role) (view : View) → (stopped_by role view).map ≡ view.map
-stopped_map Central view = refl
-stopped_map Peripheral view = refl
-
-opened_map : (view : View) (link : LinkSetup) → (view_noted view (note_opened link)).map ≡ view.map
-unfolding view_noted
-opened_map view link = stopped_map link.role view
-
-shut_map : (view : View) (handle reason : ℕ) → (view_noted view (note_shut handle reason)).map ≡ view.map
-unfolding view_noted
-shut_map view handle reason = refl
-
-ended_map : (view : View) (ended : List LinkEnded) → (view_shut view ended).map ≡ view.map
-ended_map view [] = refl
-ended_map view (one ∷ ended) =
-    ended_map (view_noted view (note_shut one.handle one.reason.0)) ended ∙ shut_map view one.handle one.reason.0
-
 stopped_asks : (role : Role) (initiator : Option InitiatorFacts) → AsksWell initiator → AsksWell (initiator_stopped role initiator)
 stopped_asks Central initiator well = tt
 stopped_asks Peripheral initiator well = well
-
-opened_asks : (link : LinkSetup) (facts : Facts) → MayAsk facts
-    → IsMap (view_noted facts.view (note_opened link)).map × AsksWell (initiator_stopped link.role facts.initiator)
-opened_asks link facts may =
-    (subst IsMap (sym (opened_map facts.view link)) may.map_is, stopped_asks link.role facts.initiator may.request)
 
 asks_kept : (setup : Setup) → IsKept setup MayAsk MayAsk
 asks_kept setup = record {
@@ -114,7 +92,7 @@ asks_kept setup = record {
     starts = record {
       weakens = λ facts may. may;
       ends = λ slot facts may.
-          record { map_is = subst IsMap (sym (ended_map facts.view (ends_in slot facts))) may.map_is; request = may.request };
+          record { map_is = may.map_is; request = may.request };
       begins = λ slot facts may. record { map_is = may.map_is; request = may.request };
       enters = λ slot facts may. record { map_is = may.map_is; request = may.request };
       wins = λ slot activity facts may. record { map_is = may.map_is; request = may.request };
@@ -127,12 +105,12 @@ asks_kept setup = record {
       central_listens = λ handle doing. record { map_is = may.map_is; request = may.request };
       sent = λ channel link doing.
           opening_passes MayAsk link facts
-          (record { map_is = (opened_asks link facts may).0; request = (opened_asks link facts may).1 });
+          (record { map_is = may.map_is; request = stopped_asks link.role facts.initiator may.request });
       responds = λ channel on doing is_on. record { map_is = may.map_is; request = may.request };
       taken = λ channel octets pdu on fields handle is_on hears takes free.
           let link = link_taken on.params.own pdu fields handle in
           opening_passes MayAsk link facts
-          (record { map_is = (opened_asks link facts may).0; request = (opened_asks link facts may).1 });
+          (record { map_is = may.map_is; request = stopped_asks link.role facts.initiator may.request });
       scanned = λ channel octets pdu on doing is_on hears. record { map_is = may.map_is; request = may.request };
       answered = λ channel octets pdu on doing is_on hears. record { map_is = may.map_is; request = may.request };
       connects = λ channel octets pdu on access handle doing is_on hears answers next free in_range.
