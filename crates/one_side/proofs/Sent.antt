@@ -80,7 +80,7 @@ record CanSend (facts : Facts) : Type 0 where
   initiator : InitiatorFits facts.initiator
 
 -- what it is to do can be done
-abbrev DoingFits : Doing → Type 0
+abbrev pub DoingFits : Doing → Type 0
 DoingFits (Advertises channel) = IsAdvertisingChannel channel
 DoingFits (AwaitsRequest channel) = IsAdvertisingChannel channel
 DoingFits (Responds channel) = IsAdvertisingChannel channel
@@ -542,3 +542,6 @@ pub is_sent : (setup : Setup) (past : List Step) (channel : ℕ) (octets : List 
     → (facts_of setup past).wanted ≡ Sends channel octets
     → IsAdvertisingPacket channel octets ⊎ IsLinkPacket (facts_of setup past) channel octets
 is_sent setup past channel octets six is = subst (IsWanted (facts_of setup past)) is (sends_well setup six past).wanted
+
+pub can_be_done : (setup : Setup) (past : List Step) → length setup.public ≡ 6 → DoingFits (facts_of setup past).turn.doing
+can_be_done setup past six = (sends_well setup six past).does

@@ -2,8 +2,8 @@
 use Rattle.std.proofs.Common.{◌≡◌, ℕ, ◌+◌, List, [], ◌∷◌, ◌++◌, Option, None, refl, sym, ap, subst, ◌∙◌}
 use Rattle.ble_base.specs.declared.roles.Side.TheVariants.{A, B}
 use Rattle.ble_base.specs.declared.notes.Note.{Note}
-use Rattle.one_side.specs.Facts.{Setup}
-use Rattle.one_side.specs.Radio.{Use, use_of}
+use Rattle.one_side.specs.Facts.{Setup, Use}
+use Rattle.one_side.specs.Packets.{use_of}
 use Rattle.one_side.specs.Side.{facts_of}
 use Rattle.one_side.specs.Step.{Step}
 use Rattle.controller.specs.Knowing.{Knows}
@@ -66,15 +66,15 @@ both_called names given step_a step_b history a called_a new_a b called_b new_b 
 -- ---- what both want then
 
 wants_then : (setup : Setup) (step : Step) (wanted : Use) (past after : List Step) → after ≡ past ++ step ∷ []
-    → wanted ≡ use_of setup (facts_of setup (past ++ step ∷ [])) → wanted ≡ use_of setup (facts_of setup after)
-wants_then setup step wanted past after is wants = wants ∙ ap (λ (steps : List Step). use_of setup (facts_of setup steps)) (sym is)
+    → wanted ≡ use_of (facts_of setup (past ++ step ∷ [])) → wanted ≡ use_of (facts_of setup after)
+wants_then setup step wanted past after is wants = wants ∙ ap (λ (steps : List Step). use_of (facts_of setup steps)) (sym is)
 
 pub in_phase : (given : Given) (slot : ℕ) (step_a step_b : Step) (history : List Event) (a b new_a new_b : StationState) (log : LogState) (wanted_a wanted_b : Use)
     (packets : ℕ) → given.stations ≡ 0 ∷ 1 ∷ [] → Keeps given 0 history a → Keeps given 1 history b
     → turns_begun history ≡ slot + 1 → fates_used history ≡ packets → packets_on_air history ≡ packets
     → BothCalled given step_a step_b history new_a new_b log
-    → ((setup : Setup) (past : List Step) → Knows setup a.held past → wanted_a ≡ use_of setup (facts_of setup (past ++ step_a ∷ [])))
-    → ((setup : Setup) (past : List Step) → Knows setup b.held past → wanted_b ≡ use_of setup (facts_of setup (past ++ step_b ∷ [])))
+    → ((setup : Setup) (past : List Step) → Knows setup a.held past → wanted_a ≡ use_of (facts_of setup (past ++ step_a ∷ [])))
+    → ((setup : Setup) (past : List Step) → Knows setup b.held past → wanted_b ≡ use_of (facts_of setup (past ++ step_b ∷ [])))
     → InPhase given slot new_a new_b log wanted_a wanted_b packets (called_both given step_a step_b history)
 in_phase given slot step_a step_b history a b new_a new_b log wanted_a wanted_b packets stations keeps_a keeps_b turns fates packets_are both wants_a wants_b = record {
   air = record {
@@ -110,8 +110,8 @@ pub both_listened : NamesItsLinks → (given : Given) (slot : ℕ) (history : Li
     → HasHeard given slot a b log packets at_a at_b history
     → Calls (step_of at_a) a called_a new_a log first_log notes_a (with_entries (entries_noted A called_a.links notes_a) log)
     → Calls (step_of at_b) b called_b new_b first_log new_log notes_b (with_entries (entries_noted B called_b.links notes_b) first_log)
-    → ((setup : Setup) (past : List Step) → Knows setup a.held past → wanted_a ≡ use_of setup (facts_of setup (past ++ step_of at_a ∷ [])))
-    → ((setup : Setup) (past : List Step) → Knows setup b.held past → wanted_b ≡ use_of setup (facts_of setup (past ++ step_of at_b ∷ [])))
+    → ((setup : Setup) (past : List Step) → Knows setup a.held past → wanted_a ≡ use_of (facts_of setup (past ++ step_of at_a ∷ [])))
+    → ((setup : Setup) (past : List Step) → Knows setup b.held past → wanted_b ≡ use_of (facts_of setup (past ++ step_of at_b ∷ [])))
     → InPhase given slot new_a new_b new_log wanted_a wanted_b packets (after_listenings given given.stations history)
 both_listened names given slot history a called_a new_a b called_b new_b log first_log new_log notes_a notes_b wanted_a wanted_b packets at_a at_b heard call_a call_b wants_a wants_b =
     subst (InPhase given slot new_a new_b new_log wanted_a wanted_b packets)

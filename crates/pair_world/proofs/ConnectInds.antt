@@ -9,9 +9,9 @@ use Rattle.adv_pdu.specs.Reading.{is_adv_pdu, is_payload_length, pdu_of_type, re
 use Rattle.air_frame.specs.declared.Heard.TheVariants.{NotOurs, Broken, Whole}
 use Rattle.air_frame.specs.Hearing.{heard_in}
 use Rattle.air_frame.specs.Packet.{is_packet, on_air, pdu_in}
-use Rattle.one_side.specs.Heard.{pdu_by}
+use Rattle.one_side.specs.Packets.{pdu_by, pdu_heard}
 use Rattle.air_frame.specs.declared.advertising.TheConstants.{ADVERTISING_ACCESS, ADVERTISING_CRC_INIT}
-use Rattle.runs.specs.Links.{begins_link, is_connect_ind}
+use Rattle.runs.specs.Links.{begins_link, is_advertising, is_connect_ind}
 
 -- a packet has seven octets more than its PDU
 abbrev pub HasSevenMore : Type 0
@@ -62,8 +62,8 @@ length_36 pdu is =
     eqb-true (slice_index pdu 1) 34 (payload_34 (kind == 5) (slice_index pdu 1) _ parts.1 (type_five kind pdu read.1)) in
     omega (arith, counted, payload)
 
-length_43 : HasSevenMore → (channel : ℕ) (octets : List ℕ) → begins_link channel octets ≡ true → length octets ≡ 43
-unfolding begins_link heard_in
+length_43 : HasSevenMore → (channel : ℕ) (octets : List ℕ) → is_connect_ind (pdu_heard channel octets) ≡ true → length octets ≡ 43
+unfolding pdu_heard heard_in
 length_43 seven channel octets is =
     let pdu = pdu_in channel octets in
     let whole = whole_pdu _ (is_packet channel ADVERTISING_ACCESS ADVERTISING_CRC_INIT octets) pdu is in
@@ -76,4 +76,19 @@ by_cases false never = refl
 
 -- octets of another length begin no link
 pub begins_none : HasSevenMore → (channel : ℕ) (octets : List ℕ) → (length octets ≡ 43 → ⊥) → false ≡ begins_link channel octets
-begins_none seven channel octets other = by_cases (begins_link channel octets) (λ is. other (length_43 seven channel octets is))
+unfolding begins_link
+begins_none seven channel octets other =
+    by_cases (begins_link channel octets) (λ is. other (length_43 seven channel octets (and_parts (is_advertising channel) (is_connect_ind (pdu_heard channel octets)) is).1))
+
+-- and neither do those on another channel
+begins_if : (there connects : Bool) → there ≡ false → false ≡ (there && connects)
+begins_if false connects is = refl
+begins_if true connects is = absurd (true≢false is)
+
+pub begins_nowhere : (channel : ℕ) (octets : List ℕ) → is_advertising channel ≡ false → false ≡ begins_link channel octets
+unfolding begins_link
+begins_nowhere channel octets is = begins_if (is_advertising channel) (is_connect_ind (pdu_heard channel octets)) is
+
+pub begins_here : (channel : ℕ) (octets : List ℕ) → is_advertising channel ≡ true → is_connect_ind (pdu_heard channel octets) ≡ begins_link channel octets
+unfolding begins_link
+begins_here channel octets is = ap (λ (there : Bool). there && is_connect_ind (pdu_heard channel octets)) (sym is)

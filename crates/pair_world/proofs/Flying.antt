@@ -10,7 +10,8 @@ use Rattle.journal.specs.declared.entries.Entry.TheVariants.{Air}
 use Rattle.radio_replay.specs.declared.fates.Fate.{Fate}
 use Rattle.radio_replay.specs.Damage.{damaged_packet}
 use Rattle.one_side.specs.Step.{Step}
-use Rattle.one_side.specs.Radio.{Use, Sends, Listens, Idle, use_of}
+use Rattle.one_side.specs.Facts.{Use, Sends, Listens, Idle}
+use Rattle.one_side.specs.Packets.{use_of}
 use Rattle.one_side.specs.Side.{facts_of}
 use Rattle.controller.specs.Knowing.{Knows}
 use Rattle.runs.specs.History.{Event, Transmitted, Hearing, fates_used, fed_to, has_received, is_good, packet_received, packets_on_air, past_of, turns_begun}
@@ -206,7 +207,7 @@ received_here station verdict good is = (λ i. (same_number station i && is_good
 same_use : (given : Given) (station : ℕ) (before after : List Event) → past_of station after ≡ past_of station before
     → use_at given station after ≡ use_at given station before
 same_use given station before after past =
-    ap (λ (steps : List Step). use_of (setup_at given station) (facts_of (setup_at given station) steps)) past
+    ap (λ (steps : List Step). use_of (facts_of (setup_at given station) steps)) past
 
 -- ---- a packet is on the air
 

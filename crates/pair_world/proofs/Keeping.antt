@@ -6,14 +6,15 @@ use Rattle.ble_base.specs.declared.roles.Side.{Side}
 use Rattle.ble_base.specs.declared.roles.Side.TheVariants.{A, B}
 use Rattle.ble_base.specs.declared.notes.Note.{Note}
 use Rattle.one_side.specs.Step.{Step}
-use Rattle.one_side.specs.Facts.{Setup, Facts}
+use Rattle.one_side.specs.Facts.{Setup}
 use Rattle.one_side.specs.Notes.{HasHandleBelow}
-use Rattle.one_side.specs.Side.{notes_after}
+use Rattle.one_side.specs.Side.{facts_of, notes_after}
 use Rattle.controller.specs.Knowing.{Knows}
 use Rattle.runs.specs.History.{Event, past_of}
 use Rattle.runs.specs.Journal.{journal_from, journal_of, side_of}
 use Rattle.runs.specs.Links.{Links, links_after, links_of}
-use Rattle.runs.specs.Run.{Given, after_call, facts_at, setup_at}
+use Rattle.runs.specs.Run.{Given, after_call, setup_at}
+use Rattle.pair_world.specs.declared.links.TheConstants.{LINKS}
 use Rattle.pair_world.specs.KnownLinks.{KnownLinks}
 use Rattle.pair_world.specs.Logs.{LogState, entries_noted, known_after, with_entries}
 use Rattle.pair_world.specs.Stations.{StationState, Keeps, KnowsLinks, StationIsUpTo, HasStepped, number_of}
@@ -22,13 +23,13 @@ use Rattle.pair_world.proofs.Numbers.{begun_notes, entries_are, knows_notes, sam
 
 -- each note names a link of its controller
 abbrev pub NamesItsLinks : Type 0
-NamesItsLinks = (setup : Setup) (facts : Facts) (step : Step) → All (HasHandleBelow setup.links) (notes_after setup facts step)
+NamesItsLinks = (setup : Setup) (past : List Step) (step : Step) → All (HasHandleBelow setup.links) (notes_after setup (facts_of setup past) step)
 
-names_three : NamesItsLinks → (given : Given) (station : ℕ) (step : Step) (history : List Event) → (setup_at given station).links ≡ 3
-    → All (HasHandleBelow 3) (notes_in_call given station step history)
-names_three names given station step history three =
-    subst (λ (links : ℕ). All (HasHandleBelow links) (notes_in_call given station step history)) three
-    (names (setup_at given station) (facts_at given station history) step)
+names_own : NamesItsLinks → (given : Given) (station : ℕ) (step : Step) (history : List Event) → (setup_at given station).links ≡ LINKS
+    → All (HasHandleBelow LINKS) (notes_in_call given station step history)
+names_own names given station step history own =
+    subst (λ (links : ℕ). All (HasHandleBelow links) (notes_in_call given station step history)) own
+    (names (setup_at given station) (past_of station history) step)
 
 pub side_is : (side : Side) → side_of (number_of side) ≡ side
 side_is A = refl
@@ -36,7 +37,7 @@ side_is B = refl
 
 -- the station that was called
 called_at : (given : Given) (side : Side) (station : ℕ) (step : Step) (history : List Event) (before after : StationState) (log : LogState) (notes : List Note)
-    → side_of station ≡ side → notes ≡ notes_in_call given station step history → All (HasHandleBelow 3) notes
+    → side_of station ≡ side → notes ≡ notes_in_call given station step history → All (HasHandleBelow LINKS) notes
     → StationIsUpTo given station history before log → HasStepped (setup_at given station) (past_of station history) step before after notes
     → StationIsUpTo given station (after_call given station step history)
     (record after { links = known_after after.links notes }) (with_entries (entries_noted side after.links notes) log)
@@ -70,7 +71,7 @@ pub called : NamesItsLinks → (given : Given) (side : Side) (step : Step) (hist
 called names given side step history before after written log new_log notes at took log_is written_is =
     rw log_is (rw written_is
     (called_at given side (number_of side) step history before after log notes (side_is side) took.goes.notes
-    (subst (All (HasHandleBelow 3)) (sym took.goes.notes) (names_three names given (number_of side) step history at.keeps.handles)) at took))
+    (subst (All (HasHandleBelow LINKS)) (sym took.goes.notes) (names_own names given (number_of side) step history at.keeps.handles)) at took))
 
 -- a call on the controller of another station
 pub keeps_other : (given : Given) (station other : ℕ) (step : Step) (history : List Event) (state : StationState) → (other == station) ≡ false

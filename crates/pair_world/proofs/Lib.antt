@@ -7,7 +7,6 @@ pub mod Outcomes
 pub mod Noting
 pub mod Feeding
 pub mod ConnectInds
-pub mod Channels
 pub mod Flying
 pub mod Transmitting
 pub mod BothCalled

@@ -12,6 +12,7 @@ use Rattle.journal.specs.declared.entries.Entry.TheVariants.{Opened as OpenedEnt
 use Rattle.one_side.specs.Notes.{HasHandleBelow}
 use Rattle.runs.specs.Links.{Links, links_after, links_noted, with_handle}
 use Rattle.runs.specs.Journal.{entry_of, journal_from, side_of}
+use Rattle.pair_world.specs.declared.links.TheConstants.{LINKS}
 use Rattle.pair_world.specs.KnownLinks.{KnownLinks, number_in, with_note, with_handle as known_with}
 use Rattle.pair_world.specs.Logs.{entry_noted, entries_noted, known_after}
 use Rattle.pair_world.specs.Stations.{KnowsLinks}
@@ -19,7 +20,7 @@ use Rattle.pair_world.proofs.Calls.{noted_events, same_number}
 
 -- ---- one note
 
-pub entry_is : (side : Side) (station : ℕ) (links : Links) (known : KnownLinks) (note : Note) → KnowsLinks station links known → HasHandleBelow 3 note
+pub entry_is : (side : Side) (station : ℕ) (links : Links) (known : KnownLinks) (note : Note) → KnowsLinks station links known → HasHandleBelow LINKS note
     → entry_noted side known note ≡ entry_of side (links.link_of station) (links.last_of station) note
 entry_is side station links known (Up packet) k below = refl
 entry_is side station links known (Opened handle role own peer) k below = ap (λ link. OpenedEntry side link handle role) k.last_is
@@ -37,7 +38,7 @@ entry_is side station links known (Refused handle kind code) k below =
     ap (λ link. RefusedEntry side link kind code) (k.by_handle_are handle below)
 entry_is side station links known (Done handle kind) k below = ap (λ link. DoneEntry side link kind) (k.by_handle_are handle below)
 
-opened_at : (station handle n : ℕ) (links : Links) (known : KnownLinks) → KnowsLinks station links known → handle < 3 → n < 3
+opened_at : (station handle n : ℕ) (links : Links) (known : KnownLinks) → KnowsLinks station links known → handle < LINKS → n < LINKS
     → number_in (known_with handle known) n ≡ (with_handle station handle links).link_of station n
 opened_at station handle n links known k below n_below = elim (eqb_tells n handle) [
   | inl same ↦
@@ -53,7 +54,7 @@ opened_at station handle n links known k below n_below = elim (eqb_tells n handl
       (sym (λ i. same_number station i && other.0 i))
 ]
 
-knows_opened : (station handle : ℕ) (links : Links) (known : KnownLinks) → KnowsLinks station links known → handle < 3
+knows_opened : (station handle : ℕ) (links : Links) (known : KnownLinks) → KnowsLinks station links known → handle < LINKS
     → KnowsLinks station (with_handle station handle links) (known_with handle known)
 knows_opened station handle links known k below = record {
   last_is = k.last_is;
@@ -61,7 +62,7 @@ knows_opened station handle links known k below = record {
   by_handle_are = λ n n_below. opened_at station handle n links known k below n_below;
 }
 
-pub knows_note : (station : ℕ) (links : Links) (known : KnownLinks) (note : Note) → KnowsLinks station links known → HasHandleBelow 3 note
+pub knows_note : (station : ℕ) (links : Links) (known : KnownLinks) (note : Note) → KnowsLinks station links known → HasHandleBelow LINKS note
     → KnowsLinks station (links_noted station note links) (with_note known note)
 knows_note station links known (Opened handle role own peer) k below = knows_opened station handle links known k below
 knows_note station links known (Up packet) k below = k
@@ -115,20 +116,20 @@ all_tail : (count : ℕ) (note : Note) (notes : List Note) → All (HasHandleBel
 all_tail count note notes all = λ place other lt. all (suc place) other (omega arith)
 
 pub entries_are : (side : Side) (station : ℕ) (links : Links) (known : KnownLinks) (notes : List Note) → side_of station ≡ side
-    → KnowsLinks station links known → All (HasHandleBelow 3) notes
+    → KnowsLinks station links known → All (HasHandleBelow LINKS) notes
     → entries_noted side known notes ≡ journal_from links (noted_events station notes)
 entries_are side station links known [] of k below = refl
 entries_are side station links known (note ∷ notes) of k below =
-    ap (λ (entry : Entry). entry ∷ entries_noted side (with_note known note) notes) (entry_is side station links known note k (all_head 3 note notes below))
+    ap (λ (entry : Entry). entry ∷ entries_noted side (with_note known note) notes) (entry_is side station links known note k (all_head LINKS note notes below))
     ∙ ap (λ (one : Side). entry_of one (links.link_of station) (links.last_of station) note ∷ entries_noted side (with_note known note) notes) (sym of)
     ∙ ap (λ (entries : List Entry). entry_of (side_of station) (links.link_of station) (links.last_of station) note ∷ entries)
-    (entries_are side station (links_noted station note links) (with_note known note) notes of (knows_note station links known note k (all_head 3 note notes below)) (all_tail 3 note notes below))
+    (entries_are side station (links_noted station note links) (with_note known note) notes of (knows_note station links known note k (all_head LINKS note notes below)) (all_tail LINKS note notes below))
 
 pub knows_notes : (station : ℕ) (links : Links) (known : KnownLinks) (notes : List Note) → KnowsLinks station links known
-    → All (HasHandleBelow 3) notes → KnowsLinks station (fold links_after links (noted_events station notes)) (known_after known notes)
+    → All (HasHandleBelow LINKS) notes → KnowsLinks station (fold links_after links (noted_events station notes)) (known_after known notes)
 knows_notes station links known [] k below = k
 knows_notes station links known (note ∷ notes) k below =
-    knows_notes station (links_noted station note links) (with_note known note) notes (knows_note station links known note k (all_head 3 note notes below)) (all_tail 3 note notes below)
+    knows_notes station (links_noted station note links) (with_note known note) notes (knows_note station links known note k (all_head LINKS note notes below)) (all_tail LINKS note notes below)
 
 pub same_notes : (station other : ℕ) (links : Links) (known : KnownLinks) (notes : List Note) → (other == station) ≡ false
     → KnowsLinks other links known → KnowsLinks other (fold links_after links (noted_events station notes)) known

@@ -3,7 +3,7 @@ use Rattle.std.proofs.Common.{◌≡◌, ℕ, Bool, List, [], ◌∷◌, sym, ap
 use Rattle.ble_base.specs.declared.roles.Side.TheVariants.{A, B}
 use Rattle.journal.specs.declared.entries.Entry.{Entry}
 use Rattle.radio_replay.specs.declared.fates.Fate.{Fate}
-use Rattle.one_side.specs.Radio.{Use}
+use Rattle.one_side.specs.Facts.{Use}
 use Rattle.runs.specs.History.{Event}
 use Rattle.runs.specs.Run.{Given, GoesOn, Run, after_packet, after_packets, and_then}
 use Rattle.pair_world.specs.declared.stops.Stop.{Stop}

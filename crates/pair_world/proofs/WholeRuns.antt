@@ -8,6 +8,7 @@ use Rattle.runs.specs.Journal.{journal_of}
 use Rattle.runs.specs.Links.{links_of}
 use Rattle.runs.specs.Pair.{IsRun, given_of, plan_of}
 use Rattle.runs.specs.Run.{Given, Plan, Run, after_turn, and_then, run_from, run_of, setup_at}
+use Rattle.pair_world.specs.declared.links.TheConstants.{LINKS}
 use Rattle.pair_world.specs.declared.stops.Stop.{Stop}
 use Rattle.pair_world.specs.declared.stops.Stop.TheVariants.{Unseen, Memory}
 use Rattle.pair_world.specs.Faults.{IsRunFault, fault_of}
@@ -21,18 +22,16 @@ use Rattle.pair_world.specs.Turns.{HasPlans, PairIsUpTo}
 
 nothing_opened : (handle : ℕ) → number_in first_known handle ≡ 0
 nothing_opened zero = refl
-nothing_opened (suc zero) = refl
-nothing_opened (suc (suc zero)) = refl
-nothing_opened (suc (suc (suc handle))) = refl
+nothing_opened (suc handle) = refl
 
 knows_none : (station : ℕ) → KnowsLinks station (links_of []) first_known
 unfolding links_of
 knows_none station = record { last_is = refl; size = refl; by_handle_are = λ handle below. nothing_opened handle }
 
-first_keeps : (given : Given) (station : ℕ) (state : StationState) → (setup_at given station).links ≡ 3
+first_keeps : (given : Given) (station : ℕ) (state : StationState) → (setup_at given station).links ≡ LINKS
     → IsFirst (setup_at given station) (given.station_of station).stream state → Keeps given station [] state
-first_keeps given station state three first = record {
-  handles = three;
+first_keeps given station state own first = record {
+  handles = own;
   knows = first.knows;
   unfed_are = first.unfed_are;
   links_are = subst (KnowsLinks station (links_of [])) (sym first.links_are) (knows_none station);

@@ -6,8 +6,8 @@ use Rattle.ble_base.specs.declared.notes.Note.{Note}
 use Rattle.journal.specs.declared.entries.Entry.{Entry}
 use Rattle.journal.specs.declared.entries.Entry.TheVariants.{Turn}
 use Rattle.radio_replay.specs.Script.{Turn as ScriptTurn}
-use Rattle.one_side.specs.Facts.{Setup}
-use Rattle.one_side.specs.Radio.{Use, use_of}
+use Rattle.one_side.specs.Facts.{Setup, Use}
+use Rattle.one_side.specs.Packets.{use_of}
 use Rattle.one_side.specs.Side.{facts_of}
 use Rattle.one_side.specs.Step.{Step, TurnBegins, TurnEnds}
 use Rattle.controller.specs.Knowing.{Knows}
@@ -147,9 +147,9 @@ pub both_begun : NamesItsLinks → (given : Given) (slot number : ℕ) (plan : S
     → Calls (TurnBegins number a_on) a called_a new_a log first_log notes_a (with_entries (entries_noted A called_a.links notes_a) log)
     → Calls (TurnBegins number b_on) b called_b new_b first_log new_log notes_b (with_entries (entries_noted B called_b.links notes_b) first_log)
     → ((setup : Setup) (past : List Step) → Knows setup a.held past
-    → wanted_a ≡ use_of setup (facts_of setup (past ++ TurnBegins number a_on ∷ [])))
+    → wanted_a ≡ use_of (facts_of setup (past ++ TurnBegins number a_on ∷ [])))
     → ((setup : Setup) (past : List Step) → Knows setup b.held past
-    → wanted_b ≡ use_of setup (facts_of setup (past ++ TurnBegins number b_on ∷ [])))
+    → wanted_b ≡ use_of (facts_of setup (past ++ TurnBegins number b_on ∷ [])))
     → InPhase given slot new_a new_b new_log wanted_a wanted_b 0 (after_begins given slot (plan_of plan) given.stations history)
 both_begun names given slot number plan a_on b_on history a called_a new_a b called_b new_b log first_log new_log notes_a notes_b wanted_a wanted_b fed number_is a_is b_is call_a call_b wants_a wants_b =
     subst (InPhase given slot new_a new_b new_log wanted_a wanted_b 0)

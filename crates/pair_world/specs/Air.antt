@@ -8,9 +8,9 @@ use Rattle.ble_base.specs.Side.{other_side}
 use Rattle.journal.specs.declared.entries.Entry.TheVariants.{Air}
 use Rattle.radio_replay.specs.declared.fates.Fate.{Fate}
 use Rattle.radio_replay.specs.Damage.{damaged_packet}
-use Rattle.one_side.specs.Facts.{Setup}
+use Rattle.one_side.specs.Facts.{Setup, Use}
+use Rattle.one_side.specs.Packets.{channel_listened, use_of}
 use Rattle.one_side.specs.Step.{Step}
-use Rattle.one_side.specs.Radio.{Use, channel_listened, use_of}
 use Rattle.one_side.specs.Side.{facts_of}
 use Rattle.runs.specs.History.{Event, is_good, turns_begun, packets_on_air, fates_used, packet_received}
 use Rattle.runs.specs.Journal.{mark_of}
@@ -27,8 +27,8 @@ use Rattle.pair_world.specs.Wishes.{heard_of}
 -- the verdict of a listener on a packet that is on the air with this fate
 abbrev pub verdict_by : Fate → Setup → List Step → ℕ → List ℕ → Verdict
 verdict_by fate setup past channel octets =
-    verdict_where (reaches fate channel (channel_listened (use_of setup (facts_of setup past))))
-    setup (facts_of setup past) (damaged_packet fate octets)
+    verdict_where (reaches fate channel (channel_listened (use_of (facts_of setup past)))) (facts_of setup past)
+    (damaged_packet fate octets)
 
 -- the packet is changed, and has the verdict good
 abbrev pub goes_unseen : Fate → Verdict → List ℕ → Bool

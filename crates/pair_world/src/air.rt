@@ -6,9 +6,9 @@ ghost use Rattle.radio_replay.specs.Script.{fate_of};
 ghost use Rattle.radio_replay.specs.declared.fates.Fate.TheVariants.{Pass};
 ghost use Rattle.radio_replay.specs.Damage.{damaged_packet};
 ghost use Rattle.one_side.specs.Facts.{Setup};
+ghost use Rattle.one_side.specs.Packets.{use_of};
 ghost use Rattle.one_side.specs.Step.{Step};
 ghost use Rattle.one_side.specs.Side.{facts_of};
-ghost use Rattle.one_side.specs.Radio.{use_of};
 ghost use Rattle.controller.specs.Knowing.{Knows};
 ghost use Rattle.runs.specs.History.{Event, is_good};
 ghost use Rattle.runs.specs.Journal.{mark_of};
@@ -65,7 +65,7 @@ fn is_good(verdict: Verdict) -> bool
 /// there.
 fn judge(listener: &Station<'_>, listens: &Wish, channel: u8, octets: &[u8]) -> Verdict
     ensures { (setup : Setup) (past : List Step) → Knows setup listener.now.held past
-        → listens.now ≡ use_of setup (facts_of setup past)
+        → listens.now ≡ use_of (facts_of setup past)
         → result ≡ verdict_by Pass setup past channel octets.now }
 {
     match listens.listens_on() {
@@ -89,11 +89,11 @@ fn receive(
     requires fits { length octets.now ≤ 264 }
     ensures ok { IfOk result (λ verdict. (setup : Setup) (past : List Step)
         → Knows setup listener.now.held past
-        → listens.now ≡ use_of setup (facts_of setup past)
+        → listens.now ≡ use_of (facts_of setup past)
         → IsReceived fate.now setup past channel octets.now verdict) }
     ensures err { IfErr result (λ stop. (setup : Setup) (past : List Step)
         → Knows setup listener.now.held past
-        → listens.now ≡ use_of setup (facts_of setup past)
+        → listens.now ≡ use_of (facts_of setup past)
         → IsUnseenOr fate.now setup past channel octets.now (turn.now.packets + 1) stop) }
 {
     if let Fate::Lost = fate {
@@ -123,8 +123,7 @@ fn number_link(
     log: &mut Log,
 )
     requires links { log.old.links + 1 < 2 ^ 64 }
-    ensures linked { channel < 40 → HasLinked
-        (begins_link channel octets.now) good sender.old listener.old log.old
+    ensures linked { HasLinked (begins_link channel octets.now) good sender.old listener.old log.old
         sender.new listener.new log.new }
     ensures count { log.new.links ≤ log.old.links + 1 }
 {
@@ -157,13 +156,12 @@ fn send(
     requires fits { length octets.now ≤ 264 }
     ensures ok { IfOk result (λ good. (plan : Plan) (setup : Setup) (past : List Step)
         → slice_get turn.old.schedule.now.turns turn.old.number ≡ Some plan
-        → Knows setup listener.old.held past → listens.now ≡ use_of setup (facts_of setup past)
-        → channel < 40
+        → Knows setup listener.old.held past → listens.now ≡ use_of (facts_of setup past)
         → IsSent (fate_of plan turn.old.packets) side setup past channel octets.now good
         sender.old listener.old log.old sender.new listener.new log.new) }
     ensures err { IfErr result (λ stop. (plan : Plan) (setup : Setup) (past : List Step)
         → slice_get turn.old.schedule.now.turns turn.old.number ≡ Some plan
-        → Knows setup listener.old.held past → listens.now ≡ use_of setup (facts_of setup past)
+        → Knows setup listener.old.held past → listens.now ≡ use_of (facts_of setup past)
         → IsUnseenOr (fate_of plan turn.old.packets) setup past channel octets.now
         (turn.old.packets + 1) stop) }
     ensures same { OnErr result (log.new.entries ≡ log.old.entries) }

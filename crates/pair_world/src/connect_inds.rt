@@ -1,6 +1,7 @@
 //! Which packets begin a link.
 ghost use Rattle.std.specs.Prelude.{◌≡◌, ◌<◌};
-ghost use Rattle.runs.specs.Links.{begins_link, is_connect_ind};
+ghost use Rattle.one_side.specs.Packets.{pdu_heard};
+ghost use Rattle.runs.specs.Links.{begins_link, is_advertising, is_connect_ind};
 
 use adv_pdu::AdvPdu;
 use air_frame::{ADVERTISING_ACCESS, ADVERTISING_CRC_INIT, Heard, unframe};
@@ -27,10 +28,17 @@ fn is_connect_ind(pdu: &Option<AdvPdu>) -> bool
     }
 }
 
+/// Whether the channel is an advertising channel.
+fn is_advertising(channel: u8) -> bool
+    ensures { result ≡ is_advertising channel }
+{
+    37 <= channel && channel < 40
+}
+
 /// Whether the octets are the packet of a CONNECT_IND on this channel.
 fn has_connect_ind(channel: u8, octets: &[u8]) -> bool
     requires { channel < 40 }
-    ensures { result ≡ begins_link channel octets.now }
+    ensures { result ≡ is_connect_ind (pdu_heard channel octets.now) }
 {
     match unframe(channel, ADVERTISING_ACCESS, ADVERTISING_CRC_INIT, octets) {
         Heard::Whole(pdu) => is_connect_ind(&AdvPdu::read(pdu.as_slice())),
@@ -38,13 +46,13 @@ fn has_connect_ind(channel: u8, octets: &[u8]) -> bool
     }
 }
 
-/// Whether a packet on a channel of the air, 0 to 39, begins a link. Only packets with the length
-/// of a CONNECT_IND are looked into.
+/// Whether a packet begins a link. Only packets on an advertising channel with the length of a
+/// CONNECT_IND are looked into.
 pub(crate) fn begins_link(channel: u8, octets: &[u8]) -> bool
-    ensures { channel < 40 → result ≡ begins_link channel octets.now }
+    ensures { result ≡ begins_link channel octets.now }
 {
     air_frame::laws::packet_tells_its_pdu();
-    if channel >= 40 {
+    if !is_advertising(channel) {
         return false;
     }
     if octets.len() != CONNECT_IND_OCTETS {

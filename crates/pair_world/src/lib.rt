@@ -10,6 +10,7 @@ mod air;
 mod connect_inds;
 mod links;
 mod logs;
+mod note_entries;
 mod notes;
 mod phases;
 mod run;

@@ -1,94 +1,62 @@
 //! The notes of a station as entries.
 ghost use Rattle.std.specs.Prelude.{◌≡◌, [], ◌∷◌, IfOk, OnOk};
 ghost use Rattle.pair_world.specs.Logs.{entry_noted, entries_noted, known_after, with_entries};
-ghost use Rattle.pair_world.specs.KnownLinks.{number_in, with_note};
+ghost use Rattle.pair_world.specs.KnownLinks.{link_noted, with_note};
 
 use crate::links::LinkNumbers;
 use crate::logs::Log;
+use crate::note_entries::{
+    applied_entry, began_entry, done_entry, enter_entry, opened_entry, refused_entry, sent_entry,
+    shut_entry, took_entry, up_entry,
+};
 use ble_base::{Note, Outbox, Side};
 use journal::Entry;
 use std::alloc::AllocError;
+
+/// The number of the link of a note; 0 where it is a packet to the host.
+fn link_of(note: &Note, links: &LinkNumbers) -> u64
+    ensures { result ≡ link_noted links.now note.now }
+{
+    match note {
+        Note::Up(_) => 0,
+        Note::Opened { .. } => links.last(),
+        Note::Shut { handle, .. }
+        | Note::Sent { handle, .. }
+        | Note::Took { handle, .. }
+        | Note::Enter { handle, .. }
+        | Note::Applied { handle, .. }
+        | Note::Began { handle, .. }
+        | Note::Refused { handle, .. }
+        | Note::Done { handle, .. } => links.by_handle(*handle),
+    }
+}
 
 /// The entry of a note.
 fn entry(side: Side, note: &Note, links: &LinkNumbers, log: &Log) -> Result<Entry, AllocError>
     ensures { IfOk result (λ entry. entry ≡ entry_noted side links.now note.now) }
 {
+    let link = link_of(note, links);
     Ok(match note {
-        Note::Up(packet) => Entry::Up {
-            side,
-            octets: log.copy(packet.as_slice())?,
-        },
-        Note::Opened { handle, role, .. } => Entry::Opened {
-            side,
-            link: links.last(),
-            handle: *handle,
-            role: *role,
-        },
-        Note::Shut { handle, reason } => Entry::Shut {
-            side,
-            link: links.by_handle(*handle),
-            reason: *reason,
-        },
+        Note::Up(packet) => up_entry(side, log.copy(packet.as_slice())?),
+        Note::Opened { handle, role, .. } => opened_entry(side, link, *handle, *role),
+        Note::Shut { reason, .. } => shut_entry(side, link, *reason),
         Note::Sent {
-            handle,
             number,
             llid,
             body,
-        } => Entry::Sent {
-            side,
-            link: links.by_handle(*handle),
-            number: *number,
-            llid: *llid,
-            body: log.copy(body.as_slice())?,
-        },
+            ..
+        } => sent_entry(side, link, *number, *llid, log.copy(body.as_slice())?),
         Note::Took {
-            handle,
             number,
             llid,
             body,
-        } => Entry::Took {
-            side,
-            link: links.by_handle(*handle),
-            number: *number,
-            llid: *llid,
-            body: log.copy(body.as_slice())?,
-        },
-        Note::Enter {
-            handle,
-            event,
-            channel,
-        } => Entry::Enter {
-            side,
-            link: links.by_handle(*handle),
-            event: event.0,
-            channel: *channel,
-        },
-        Note::Applied {
-            handle,
-            number,
-            event,
-        } => Entry::Applied {
-            side,
-            link: links.by_handle(*handle),
-            number: *number,
-            event: event.0,
-        },
-        Note::Began { handle, kind } => Entry::Began {
-            side,
-            link: links.by_handle(*handle),
-            kind: *kind,
-        },
-        Note::Refused { handle, kind, code } => Entry::Refused {
-            side,
-            link: links.by_handle(*handle),
-            kind: *kind,
-            code: *code,
-        },
-        Note::Done { handle, kind } => Entry::Done {
-            side,
-            link: links.by_handle(*handle),
-            kind: *kind,
-        },
+            ..
+        } => took_entry(side, link, *number, *llid, log.copy(body.as_slice())?),
+        Note::Enter { event, channel, .. } => enter_entry(side, link, *event, *channel),
+        Note::Applied { number, event, .. } => applied_entry(side, link, *number, *event),
+        Note::Began { kind, .. } => began_entry(side, link, *kind),
+        Note::Refused { kind, code, .. } => refused_entry(side, link, *kind, *code),
+        Note::Done { kind, .. } => done_entry(side, link, *kind),
     })
 }
 

@@ -5,8 +5,7 @@ ghost use Rattle.std.specs.Option.{option_copied};
 ghost use Rattle.one_side.specs.Step.{Step, HostOctet, TurnBegins, PacketHeard, NothingHeard};
 ghost use Rattle.one_side.specs.Step.{TurnEnds};
 ghost use Rattle.one_side.specs.Facts.{Setup, setup_of};
-ghost use Rattle.one_side.specs.Heard.{verdict_of};
-ghost use Rattle.one_side.specs.Radio.{use_of};
+ghost use Rattle.one_side.specs.Packets.{verdict_of, use_of};
 ghost use Rattle.one_side.specs.Side.{facts_of};
 ghost use Rattle.controller.specs.Knowing.{Knows};
 ghost use Rattle.runs.specs.History.{Event};
@@ -51,7 +50,7 @@ impl<'s> Station<'s> {
     /// The error is out of memory.
     pub(crate) fn start(alloc: Global, config: Config, stream: &'s [u8]) -> Result<Self, AllocError>
         requires { 1 ≤ length config.words.items }
-        ensures { IfOk result (IsFirst (setup_of config 3 8 8) stream.now) }
+        ensures { IfOk result (IsFirst (setup_of config 1 8 8) stream.now) }
     {
         Ok(Station {
             controller: Controller::start(alloc, config)?,
@@ -63,7 +62,7 @@ impl<'s> Station<'s> {
     /// What becomes of octets on the air that reach it.
     pub(crate) fn judge(&self, octets: &[u8]) -> Verdict
         ensures { (setup : Setup) (past : List Step) → Knows setup self.now.held past
-            → result ≡ verdict_of setup (facts_of setup past) octets.now }
+            → result ≡ verdict_of (facts_of setup past) octets.now }
     {
         self.controller.judge(octets)
     }
@@ -200,7 +199,7 @@ impl<'s> Station<'s> {
             → HasStepped setup past (TurnBegins slot.0 radio_on) self.old self.new out.new.items }
         ensures wants { (setup : Setup) (past : List Step) → Knows setup self.old.held past
             → wanted.new
-            ≡ use_of setup (facts_of setup (past ++ TurnBegins slot.0 radio_on ∷ [])) }
+            ≡ use_of (facts_of setup (past ++ TurnBegins slot.0 radio_on ∷ [])) }
     {
         wanted.set(self.controller.begin_turn(slot, radio_on, out));
     }
@@ -211,7 +210,7 @@ impl<'s> Station<'s> {
         ensures took { (setup : Setup) (past : List Step) → Knows setup self.old.held past
             → HasStepped setup past NothingHeard self.old self.new out.new.items }
         ensures wants { (setup : Setup) (past : List Step) → Knows setup self.old.held past
-            → wanted.new ≡ use_of setup (facts_of setup (past ++ NothingHeard ∷ [])) }
+            → wanted.new ≡ use_of (facts_of setup (past ++ NothingHeard ∷ [])) }
     {
         wanted.set(self.controller.unheard(out));
     }
@@ -224,7 +223,7 @@ impl<'s> Station<'s> {
             → HasStepped setup past (PacketHeard octets.now) self.old self.new out.new.items }
         ensures wants { (setup : Setup) (past : List Step) → Knows setup self.old.held past
             → wanted.new
-            ≡ use_of setup (facts_of setup (past ++ PacketHeard octets.now ∷ [])) }
+            ≡ use_of (facts_of setup (past ++ PacketHeard octets.now ∷ [])) }
     {
         wanted.set(self.controller.heard(octets, out));
     }
@@ -238,7 +237,7 @@ impl<'s> Station<'s> {
             out.new.items }
         ensures wants { (setup : Setup) (past : List Step) → Knows setup self.old.held past
             → wanted.new
-            ≡ use_of setup (facts_of setup (past ++ step_of (option_copied heard.entry) ∷ [])) }
+            ≡ use_of (facts_of setup (past ++ step_of (option_copied heard.entry) ∷ [])) }
     {
         match heard {
             None => self.hear_nothing(wanted, out),

@@ -6,12 +6,11 @@ use Rattle.ble_base.specs.declared.notes.Note.{Note}
 use Rattle.ble_base.specs.declared.notes.Note.TheVariants.{Up}
 use Rattle.journal.specs.declared.entries.Entry.{Entry}
 use Rattle.h4_frames.specs.Frames.{frames}
+use Rattle.one_side.specs.Facts.{Setup}
 use Rattle.one_side.specs.Step.{Step, HostOctet, TurnBegins, PacketHeard, NothingHeard, TurnEnds}
-use Rattle.one_side.specs.Host.{HeardNothing, host_octets}
-use Rattle.one_side.specs.Notes.{answers_of, is_event, without_le_events}
+use Rattle.one_side.specs.Host.{HeardNothing, commands_of, host_octets, opcodes_in, opcodes_of, with_answer}
+use Rattle.one_side.specs.Notes.{HadNoLink, answers_among, answers_in, answers_of, as_two_octets, is_event, one_further, without_le_events}
 use Rattle.one_side.specs.Side.{notes_of}
-use Rattle.one_side.proofs.Alone.{alone, beside, kept}
-use Rattle.one_side.proofs.ByFrames.{by_frames}
 use Rattle.runs.specs.History.{past_of}
 use Rattle.runs.specs.Run.{Given, setup_at}
 use Rattle.runs.specs.Due.{octet_in, octets_called}
@@ -40,21 +39,39 @@ packets_apart (Up packet ∷ notes) =
     one_packet (is_event 0x3E packet.items) packet.items (without_le_events notes) (without_le_packets (packets_of notes)) (packets_apart notes)
 packets_apart (other ∷ notes) = packets_apart notes
 
+answers_read : (notes : List Note) → flat_map answers_in (packets_of notes) ≡ answers_among notes
+answers_read [] = refl
+answers_read (Up packet ∷ notes) = ap (λ answers. answers_in packet.items ++ answers) (answers_read notes)
+answers_read (other ∷ notes) = answers_read notes
+
 -- the octets that a controller was called with are those that its side was fed
 called_with : (given : Given) (journal : List Entry) (side : Side) (up : IsUpToDate given journal)
     → host_octets (past_of (station_of side) up.before) ≡ fed_to_side side journal
 called_with given journal side up = octets_are (past_of (station_of side) up.before) ∙ up.taken_is side
 
-pub answered : (given : Given) (journal : List Entry) (side : Side) → IsUpToDate given journal → IsAnswered given journal side
-answered given journal side up =
+-- what a controller notes, by the laws of one
+pub record AreAnswered : Type 0 where
+  pub alone : (setup : Setup) (past : List Step) → HeardNothing past → notes_of setup past ≡ notes_of setup (map HostOctet (host_octets past))
+  pub beside : (setup : Setup) (past : List Step) → HadNoLink setup past
+      → without_le_events (notes_of setup past) ≡ without_le_events (notes_of setup (map HostOctet (host_octets past)))
+  pub by_frames : (setup : Setup) (octets : List ℕ) → notes_of setup (map HostOctet octets) ≡ answers_of setup (frames octets)
+  pub framed : (setup : Setup) (past : List Step) → opcodes_of (commands_of setup past) ≡ opcodes_in (frames (host_octets past))
+  pub in_order : (setup : Setup) (past : List Step)
+      → answers_among (notes_of setup past) ≡ map one_further (map as_two_octets (opcodes_of (with_answer (commands_of setup past))))
+
+pub answered : AreAnswered → (given : Given) (journal : List Entry) (side : Side) → IsUpToDate given journal → IsAnswered given journal side
+answered laws given journal side up =
     let setup = setup_at given (station_of side) in
     let past = past_of (station_of side) up.before in
-    let octets = ap (λ xs. packets_of (answers_of setup (frames xs))) (called_with given journal side up) in
-    let framed = ap packets_of (by_frames setup (host_octets past)) ∙ octets in
+    let octets = called_with given journal side up in
+    let framed = ap packets_of (laws.by_frames setup (host_octets past)) ∙ ap (λ xs. packets_of (answers_of setup (frames xs))) octets in
     record {
       history = up.before;
       journal_is = up.front_is;
-      alone = λ nothing. up.received_is side ∙ ap packets_of (alone setup past nothing) ∙ framed;
-      beside = ap without_le_packets (up.received_is side) ∙ sym (packets_apart (notes_of setup past))
-          ∙ ap packets_of (beside setup past) ∙ ap packets_of (kept setup (host_octets past)) ∙ framed;
+      alone = λ nothing. up.received_is side ∙ ap packets_of (laws.alone setup past nothing) ∙ framed;
+      beside = λ none. ap without_le_packets (up.received_is side) ∙ sym (packets_apart (notes_of setup past))
+          ∙ ap packets_of (laws.beside setup past none) ∙ packets_apart (notes_of setup (map HostOctet (host_octets past)))
+          ∙ ap without_le_packets framed;
+      commands_are = laws.framed setup past ∙ ap (λ xs. opcodes_in (frames xs)) octets;
+      each_once = ap (flat_map answers_in) (up.received_is side) ∙ answers_read (notes_of setup past) ∙ laws.in_order setup past;
     }

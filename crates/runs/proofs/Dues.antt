@@ -169,7 +169,7 @@ due_kept given = record {
   on_fed = λ history so_far. so_far;
   on_begin = λ slot plan done left station history are due so_far. due_call given station (TurnBegins slot (plan.radio_of station)) history refl due so_far;
   on_begun = λ history so_far. so_far;
-  on_phase = λ phases history so_far. so_far;
+  on_phase = λ phases history few so_far. so_far;
   on_silence = λ phases done left station history are none so_far. so_far;
   on_packet = λ phases plan done left station channel octets history are some due so_far.
       due_event given history (Transmitted station channel octets (hearings_of given plan.fates station channel octets history)) so_far due

@@ -15,7 +15,7 @@ use Rattle.radio_replay.specs.Damage.{damaged_packet}
 use Rattle.runs.specs.History.{Event, TurnBegan, HostFed, Called, Noted, Transmitted, Hearing, is_good}
 use Rattle.runs.specs.Links.{Links, first_links, links_after, links_of}
 use Rattle.runs.specs.Journal.{side_of, entry_of, air_entries, radio_in, entries_of, journal_from, journal_of, mark_of}
-use Rattle.one_side.specs.Radio.{Sends}
+use Rattle.one_side.specs.Facts.{Sends}
 use Rattle.runs.specs.Run.{Given, unseen_in, hearings_of, run_of, history_of}
 use Rattle.runs.specs.Due.{IsDue}
 use Rattle.runs.specs.Entries.{IsAired, IsOfEvent}

@@ -135,7 +135,7 @@ fated_kept given = record {
       let counted = call_counted given station (TurnBegins slot (plan.radio_of station)) history so_far.each so_far.fates in
       record { each = counted.each; within = tt; fates = counted.fates };
   on_begun = λ history so_far. record { each = so_far.each; within = tt; fates = so_far.fates };
-  on_phase = λ phases history so_far. record { each = so_far.each; within = tt; fates = so_far.fates };
+  on_phase = λ phases history few so_far. record { each = so_far.each; within = tt; fates = so_far.fates };
   on_silence = λ phases done left station history are none so_far. record { each = so_far.each; within = tt; fates = so_far.fates };
   on_packet = λ phases plan done left station channel octets history are some due so_far.
       let hearings = hearings_of given plan.fates station channel octets history in

@@ -203,7 +203,7 @@ fed_kept given distinct = record {
   };
   on_begin = λ slot plan done left station history are due so_far. call_fed given station (TurnBegins slot (plan.radio_of station)) history so_far;
   on_begun = λ history so_far. so_far;
-  on_phase = λ phases history so_far. so_far;
+  on_phase = λ phases history few so_far. so_far;
   on_silence = λ phases done left station history are none so_far. so_far;
   on_packet = λ phases plan done left station channel octets history are some due so_far. packet_fed given history station channel octets plan so_far;
   on_air = λ phases history so_far. so_far;

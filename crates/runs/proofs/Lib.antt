@@ -12,9 +12,12 @@ pub mod Openings
 pub mod Rounds
 pub mod OfStations
 pub mod Journals
-pub mod Stages
+pub mod Parts
 pub mod Ordered
 pub mod EntryEvents
 pub mod Fates
 pub mod UpToDate
 pub mod Answers
+pub mod LinkSteps
+pub mod Doings
+pub mod LinkEnds

@@ -48,7 +48,7 @@ of_stations_kept given = record {
   on_begin = λ slot plan done left station history are due each.
       call_of_station given station (TurnBegins slot (plan.radio_of station)) history (among given.stations done left station are) each;
   on_begun = λ history each. each;
-  on_phase = λ phases history each. each;
+  on_phase = λ phases history few each. each;
   on_silence = λ phases done left station history are none each. each;
   on_packet = λ phases plan done left station channel octets history are some due each.
       each_event (OfStations given) history (Transmitted station channel octets (hearings_of given plan.fates station channel octets history)) each

@@ -118,7 +118,7 @@ begun_kept given = record {
   on_begin = λ slot plan done left station history are due so_far.
       call_begun given station (TurnBegins slot (plan.radio_of station)) history (some_before (turns_begun history) slot due.slot_is) so_far;
   on_begun = λ history so_far. so_far;
-  on_phase = λ phases history so_far. so_far;
+  on_phase = λ phases history few so_far. so_far;
   on_silence = λ phases done left station history are none so_far. so_far;
   on_packet = λ phases plan done left station channel octets history are some due so_far.
       event_begun given history (Transmitted station channel octets (hearings_of given plan.fates station channel octets history)) refl refl some so_far;

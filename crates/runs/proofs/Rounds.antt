@@ -152,7 +152,7 @@ called_kept given distinct = record {
     each = so_far.each;
     called = λ station is turns. so_far.called station is turns ∙ ap (λ b. if b then phases_over 0 else []) is;
   };
-  on_phase = λ phases history so_far. record { each = so_far.each; called = so_far.called };
+  on_phase = λ phases history few so_far. record { each = so_far.each; called = so_far.called };
   on_silence = λ phases done left station history are none so_far. record { each = so_far.each; called = so_far.called };
   on_packet = λ phases plan done left station channel octets history are some due so_far.
       let event = Transmitted station channel octets (hearings_of given plan.fates station channel octets history) in record {

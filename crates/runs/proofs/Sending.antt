@@ -4,7 +4,7 @@ use Rattle.std.specs.Prelude.{map, take, if◌then◌else◌}
 use Rattle.std.proofs.lemmas.Bool.{eqb-true}
 use Rattle.ble_base.specs.declared.notes.Note.{Note}
 use Rattle.one_side.specs.Step.{Step, HostOctet, TurnBegins, TurnEnds}
-use Rattle.one_side.specs.Radio.{use_of}
+use Rattle.one_side.specs.Packets.{use_of}
 use Rattle.one_side.specs.Side.{facts_of, notes_after}
 use Rattle.runs.specs.History.{Event, TurnBegan, HostFed, Called, Noted, Transmitted, Hearing as Heard, one_if, past_of, steps_in, packet_received}
 use Rattle.runs.specs.Run.{Given, Stop, Stops, setup_at, facts_at, use_at, octets_left, after_call, after_octets, after_feed, hearings_of, step_of, run_of, history_of}
@@ -38,7 +38,7 @@ transmitted_more other station channel octets hearings history same is =
     transmitted_event other history (Transmitted station channel octets hearings) ∙ ap (λ b. transmitted_since other history ++ one_if b (channel, octets)) is
 
 use_with : (given : Given) (station : ℕ) (history after : List Event) → past_of station after ≡ past_of station history → use_at given station after ≡ use_at given station history
-use_with given station history after is = ap (λ past. use_of (setup_at given station) (facts_of (setup_at given station) past)) is
+use_with given station history after is = ap (λ past. use_of (facts_of (setup_at given station) past)) is
 
 -- ---- what each step keeps
 
@@ -198,7 +198,7 @@ sent_kept given distinct = record {
   on_fed = λ history so_far. record { each = so_far.each; sent = so_far.sent };
   on_begin = λ slot plan done left station history are due so_far. quiet_call given station (TurnBegins slot (plan.radio_of station)) history refl so_far;
   on_begun = λ history so_far. record { each = so_far.each; sent = so_far.sent };
-  on_phase = λ phases history so_far. record { each = so_far.each; sent = so_far.sent };
+  on_phase = λ phases history few so_far. record { each = so_far.each; sent = so_far.sent };
   on_silence = λ phases done left station history are none so_far. record {
     each = so_far.each;
     sent = λ other. silence_by given done station history (not_before given.stations done left station distinct are) none other (so_far.sent other) (other == station) refl;

@@ -9,11 +9,10 @@ use Rattle.ble_base.specs.declared.verdicts.Verdict.{Verdict}
 use Rattle.ble_base.specs.declared.verdicts.Verdict.TheVariants.{Missed, Broken, Forged, Good}
 use Rattle.radio_replay.specs.declared.fates.Fate.{Fate}
 use Rattle.radio_replay.specs.Damage.{damaged_packet}
-use Rattle.one_side.specs.Facts.{Setup, Facts}
-use Rattle.one_side.specs.Heard.{verdict_of}
-use Rattle.one_side.specs.Radio.{channel_listened}
+use Rattle.one_side.specs.Facts.{Facts}
+use Rattle.one_side.specs.Packets.{verdict_of, channel_listened}
 use Rattle.runs.specs.History.{Event, Hearing, fates_used, is_good}
-use Rattle.runs.specs.Run.{Given, Stop, Stops, setup_at, facts_at, use_at, fate_at, reaches, verdict_where, hearing_at, hearings_from, others_than, is_unseen, unseen_in, run_of}
+use Rattle.runs.specs.Run.{Given, Stop, Stops, facts_at, use_at, fate_at, reaches, verdict_where, hearing_at, hearings_from, others_than, is_unseen, unseen_in, run_of}
 use Rattle.runs.specs.OnAir.{IsUnseenStop}
 use Rattle.runs.proofs.Stations.{others_differ}
 use Rattle.runs.proofs.Walk.{Place, IsKept, IsWhole, IsStopped, ends_stopped, run_kept}
@@ -24,9 +23,9 @@ good_is Missed is = absurd cc
 good_is Broken is = absurd cc
 good_is Forged is = absurd cc
 
-good_there : (reached : Bool) (setup : Setup) (facts : Facts) (octets : List ℕ) → verdict_where reached setup facts octets ≡ Good → verdict_of setup facts octets ≡ Good
-good_there true setup facts octets is = is
-good_there false setup facts octets is = absurd cc
+good_there : (reached : Bool) (facts : Facts) (octets : List ℕ) → verdict_where reached facts octets ≡ Good → verdict_of facts octets ≡ Good
+good_there true facts octets is = is
+good_there false facts octets is = absurd cc
 
 not_same : (heard octets : List ℕ) → not (bytes_eq heard octets) ≡ true → heard ≢ octets
 not_same heard octets is same = let h : not true ≡ true = ap not (sym ((bytes_eq-Decides heard octets).1 same)) ∙ is in absurd cc
@@ -44,7 +43,7 @@ record IsOneUnseen (given : Given) (Q : ℕ → Type 0) (octets heard : List ℕ
   pub is_other : Q hearing.listener
   pub verdict_is : hearing.verdict ≡ Good
   pub heard_is : heard ≡ damaged_packet hearing.fate octets
-  pub is_judged : verdict_of (setup_at given hearing.listener) (facts_at given hearing.listener history) heard ≡ Good
+  pub is_judged : verdict_of (facts_at given hearing.listener history) heard ≡ Good
   pub differs : heard ≢ octets
 
 first_unseen : (given : Given) (Q : ℕ → Type 0) (fate : Fate) (channel : ℕ) (octets heard : List ℕ) (history : List Event) (listener : ℕ) (hearings : List Hearing)
@@ -59,8 +58,8 @@ first_unseen given Q fate channel octets heard history listener hearings q unsee
       is_other = q;
       verdict_is = good;
       heard_is = is;
-      is_judged = ap (verdict_of (setup_at given listener) (facts_at given listener history)) is
-          ∙ good_there (reaches fate channel (channel_listened (use_at given listener history))) (setup_at given listener) (facts_at given listener history) (damaged_packet fate octets) good;
+      is_judged = ap (verdict_of (facts_at given listener history)) is
+          ∙ good_there (reaches fate channel (channel_listened (use_at given listener history))) (facts_at given listener history) (damaged_packet fate octets) good;
       differs = λ same. not_same (damaged_packet fate octets) octets parts.1 (sym is ∙ same);
     }
 
@@ -107,7 +106,7 @@ any_kept given = record {
   on_fed = λ history so_far. tt;
   on_begin = λ slot plan done left station history are due so_far. tt;
   on_begun = λ history so_far. tt;
-  on_phase = λ phases history so_far. tt;
+  on_phase = λ phases history few so_far. tt;
   on_silence = λ phases done left station history are none so_far. tt;
   on_packet = λ phases plan done left station channel octets history are some due so_far. tt;
   on_air = λ phases history so_far. tt;

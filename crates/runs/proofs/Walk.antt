@@ -3,7 +3,7 @@ use Rattle.std.proofs.Common.{◌≡◌, ℕ, suc, ◌+◌, ◌-◌, ◌<◌, Bo
 use Rattle.std.specs.Prelude.{map, take, Option, Some, None, slice_get}
 use Rattle.std.proofs.lemmas.List.{length_push}
 use Rattle.one_side.specs.Step.{Step, HostOctet, TurnBegins, TurnEnds}
-use Rattle.one_side.specs.Radio.{Use, Sends, Listens, Idle}
+use Rattle.one_side.specs.Facts.{Use, Sends, Listens, Idle}
 use Rattle.one_side.specs.Side.{notes_after}
 use Rattle.runs.specs.History.{Event, TurnBegan, HostFed, Called, Noted, Transmitted, turns_begun, packets_on_air, packet_received}
 use Rattle.runs.specs.Run.{Given, Plan, Run, GoesOn, Stops, Stop, setup_at, facts_at, use_at, octets_left, and_then, after_call, after_octets, after_feed, after_feeds, after_begins, after_opening, hearings_of, unseen_in, packet_outcome, packet_with, after_packet, after_packets, step_of, after_listening, after_listenings, after_phase, after_phases, after_ends, after_turn, run_from, run_of, history_of}
@@ -66,7 +66,7 @@ pub record IsKept (given : Given) (P : Place → List Event → Type 0) : Type 0
       → IsBeginDue given history station slot (plan.radio_of station) → P (AtBegins done (station ∷ left)) history
       → P (AtBegins (done ++ station ∷ []) left) (after_call given station (TurnBegins slot (plan.radio_of station)) history)
   pub on_begun : (history : List Event) → P (AtBegins given.stations []) history → P (AfterPhases 0) history
-  pub on_phase : (phases : ℕ) (history : List Event) → P (AfterPhases phases) history → P (AtPackets phases [] given.stations) history
+  pub on_phase : (phases : ℕ) (history : List Event) → phases < 3 → P (AfterPhases phases) history → P (AtPackets phases [] given.stations) history
   pub on_silence : (phases : ℕ) (done left : List ℕ) (station : ℕ) (history : List Event) → given.stations ≡ done ++ station ∷ left
       → packet_in (use_at given station history) ≡ [] → P (AtPackets phases done (station ∷ left)) history → P (AtPackets phases (done ++ station ∷ []) left) history
   pub on_packet : (phases : ℕ) (plan : Plan) (done left : List ℕ) (station channel : ℕ) (octets : List ℕ) (history : List Event)
@@ -234,12 +234,12 @@ listenings_kept given P kept slot phases (station ∷ left) done history are sta
     })
 
 phase_kept : (given : Given) (P : Place → List Event → Type 0) → IsKept given P → (slot phases : ℕ) (plan : Plan) → slice_get given.plans slot ≡ Some plan
-    → (history : List Event) → Stands P slot (AfterPhases phases) history → Ends (after_phase given plan.fates history) (Stands P slot (AfterPhases (suc phases))) (IsStopped given P)
+    → phases < 3 → (history : List Event) → Stands P slot (AfterPhases phases) history → Ends (after_phase given plan.fates history) (Stands P slot (AfterPhases (suc phases))) (IsStopped given P)
 unfolding after_phase
-phase_kept given P kept slot phases plan at history stands =
+phase_kept given P kept slot phases plan at few history stands =
     ends_then (after_packets given plan.fates given.stations history) (λ then_on. GoesOn (after_listenings given given.stations then_on))
     (Stands P slot (AtPackets phases given.stations [])) (Stands P slot (AfterPhases (suc phases))) (IsStopped given P)
-    (packets_kept given P kept slot phases plan at given.stations [] history refl (record { begun = stands.begun; is = kept.on_phase phases history stands.is }))
+    (packets_kept given P kept slot phases plan at given.stations [] history refl (record { begun = stands.begun; is = kept.on_phase phases history few stands.is }))
     (λ then_on sent. let heard = listenings_kept given P kept slot phases given.stations [] then_on refl (record { begun = sent.begun; is = kept.on_air phases then_on sent.is }) in
     record { begun = heard.begun; is = kept.on_heard phases _ heard.is })
 
@@ -249,10 +249,10 @@ unfolding after_phases
 phases_kept given P kept slot plan at history stands =
     ends_then (after_phase given plan.fates history) (λ second. and_then (after_phase given plan.fates second) (after_phase given plan.fates))
     (Stands P slot (AfterPhases 1)) (Stands P slot (AfterPhases 3)) (IsStopped given P)
-    (phase_kept given P kept slot 0 plan at history stands)
+    (phase_kept given P kept slot 0 plan at (omega arith) history stands)
     (λ second stood. ends_then (after_phase given plan.fates second) (after_phase given plan.fates) (Stands P slot (AfterPhases 2)) (Stands P slot (AfterPhases 3)) (IsStopped given P)
-    (phase_kept given P kept slot 1 plan at second stood)
-    (phase_kept given P kept slot 2 plan at))
+    (phase_kept given P kept slot 1 plan at (omega arith) second stood)
+    (phase_kept given P kept slot 2 plan at (omega arith)))
 
 -- ---- a turn, and a run
 
@@ -334,7 +334,7 @@ stepped_kept given P stepped = record {
   on_fed = λ history is. is;
   on_begin = λ slot plan done left station history are due is. stepped.on_call station (TurnBegins slot (plan.radio_of station)) history is;
   on_begun = λ history is. is;
-  on_phase = λ phases history is. is;
+  on_phase = λ phases history few is. is;
   on_silence = λ phases done left station history are none is. is;
   on_packet = λ phases plan done left station channel octets history are some due is.
       stepped.on_event history (Transmitted station channel octets (hearings_of given plan.fates station channel octets history)) refl is;

@@ -1,7 +1,7 @@
 -- What is due in a run, given what happened before it (our choice).
 use Rattle.std.specs.Prelude.{◌≡◌, ℕ, ◌+◌, ◌-◌, ◌<◌, Bool, List, [], ◌∷◌, ◌++◌, length, take, map, flat_map, Option, Some, None, slice_get, ⊤}
 use Rattle.one_side.specs.Step.{Step, HostOctet, TurnBegins, PacketHeard, NothingHeard, TurnEnds}
-use Rattle.one_side.specs.Radio.{Use, Sends, Listens, Idle}
+use Rattle.one_side.specs.Facts.{Use, Sends, Listens, Idle}
 use Rattle.runs.specs.History.{Event, TurnBegan, HostFed, Called, Noted, Transmitted, Hearing, past_of, fed_to, turns_begun, packet_received}
 use Rattle.runs.specs.Run.{Given, Plan, use_at, octets_left, hearings_of, unseen_in}
 

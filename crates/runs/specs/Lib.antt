@@ -13,3 +13,4 @@ pub mod Readers
 pub mod Order
 pub mod Entries
 pub mod Answered
+pub mod LinkEnds

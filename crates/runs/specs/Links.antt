@@ -1,24 +1,25 @@
 -- The numbers of links: the n-th CONNECT_IND on the air begins link n, from 1 (our choice). A station knows a link by
 -- its connection handle (Core 5.2, volume 4 part E, section 5.3.1).
-use Rattle.std.specs.Prelude.{ℕ, ◌+◌, ◌==◌, ◌&&◌, ◌||◌, Bool, true, false, List, fold, Option, Some, None, if◌then◌else◌}
-use Rattle.std.specs.Option.{option_and_then}
+use Rattle.std.specs.Prelude.{ℕ, ◌+◌, nat_le, nat_lt, ◌==◌, ◌&&◌, ◌||◌, Bool, true, false, List, fold, Option, Some, None, if◌then◌else◌}
 use Rattle.ble_base.specs.declared.notes.Note.{Note}
 use Rattle.ble_base.specs.declared.notes.Note.TheVariants.{Opened}
 use Rattle.adv_pdu.specs.declared.pdu.AdvPdu.{AdvPdu}
 use Rattle.adv_pdu.specs.declared.pdu.AdvPdu.TheVariants.{Connect}
-use Rattle.adv_pdu.specs.Reading.{read_of}
-use Rattle.one_side.specs.Heard.{heard_on_channel, pdu_by}
+use Rattle.one_side.specs.Packets.{pdu_heard}
 use Rattle.runs.specs.History.{Event, TurnBegan, HostFed, Called, Noted, Transmitted, Hearing, has_received}
 
--- a packet begins a link where it is the CONNECT_IND of an advertising channel (volume 6 part B, section 2.3.3.1)
+-- the advertising channels are 37 to 39 (volume 6 part B, section 1.4.1)
+abbrev pub is_advertising : ℕ → Bool
+is_advertising channel = nat_le 37 channel && nat_lt channel 40
+
+-- a packet on one of them begins a link where its PDU is a CONNECT_IND (volume 6 part B, section 2.3.3.1)
 abbrev pub is_connect_ind : Option AdvPdu → Bool
 is_connect_ind None = false
 is_connect_ind (Some (Connect from to ch_sel fields)) = true
 is_connect_ind (Some other) = false
 
 unfoldable pub begins_link : ℕ → List ℕ → Bool
-begins_link channel octets =
-    is_connect_ind (option_and_then read_of (pdu_by (heard_on_channel channel octets)))
+begins_link channel octets = is_advertising channel && is_connect_ind (pdu_heard channel octets)
 
 pub record Links : Type 0 where
   -- how many links began

@@ -4,10 +4,10 @@ use Rattle.std.specs.List.{AllByRecursion, Contains}
 use Rattle.ble_base.specs.declared.verdicts.Verdict.TheVariants.{Good}
 use Rattle.radio_replay.specs.Damage.{damaged_packet}
 use Rattle.one_side.specs.Step.{Step, HostOctet, TurnBegins, PacketHeard, NothingHeard, TurnEnds}
-use Rattle.one_side.specs.Radio.{Sends}
-use Rattle.one_side.specs.Heard.{verdict_of}
+use Rattle.one_side.specs.Facts.{Sends}
+use Rattle.one_side.specs.Packets.{verdict_of}
 use Rattle.runs.specs.History.{Event, TurnBegan, HostFed, Called, Noted, Transmitted, Hearing, one_if, turns_begun, packets_on_air}
-use Rattle.runs.specs.Run.{Given, Plan, Stop, setup_at, facts_at, use_at, hearings_of}
+use Rattle.runs.specs.Run.{Given, Plan, Stop, facts_at, use_at, hearings_of}
 use Rattle.runs.specs.Due.{packet_in, plan_at}
 
 -- ---- nothing that is due is missing
@@ -57,6 +57,5 @@ pub record IsUnseenStop (given : Given) (history : List Event) (stop : Stop) : T
   pub is_other : hearing.listener ≢ stop.sender
   pub verdict_is : hearing.verdict ≡ Good
   pub heard_is : stop.heard ≡ damaged_packet hearing.fate stop.sent
-  pub is_good :
-      verdict_of (setup_at given hearing.listener) (facts_at given hearing.listener history) stop.heard ≡ Good
+  pub is_good : verdict_of (facts_at given hearing.listener history) stop.heard ≡ Good
   pub differs : stop.heard ≢ stop.sent

@@ -19,7 +19,7 @@ plan_of turn = record {
   fates = turn.fates;
 }
 
--- both controllers can hold three links, and eight packets of data each way
+-- both controllers can hold one link, and eight packets of data each way
 abbrev pub station_with : Setup → List ℕ → Station
 station_with setup stream = record { setup = setup; stream = stream }
 
@@ -27,7 +27,7 @@ station_with setup stream = record { setup = setup; stream = stream }
 abbrev pub given_of : List ℕ → List ℕ → Script → Given
 given_of a b script = record {
   stations = 0 ∷ 1 ∷ [];
-  station_of = one_of (station_with (setup_of script.a 3 8 8) a) (station_with (setup_of script.b 3 8 8) b);
+  station_of = one_of (station_with (setup_of script.a 1 8 8) a) (station_with (setup_of script.b 1 8 8) b);
   plans = map plan_of script.turns;
 }
 

@@ -2,7 +2,10 @@
 use Rattle.std.specs.Prelude.{ℕ, true, List, [], ◌∷◌, Option, Some, None}
 use Rattle.ble_base.specs.declared.roles.Side.TheVariants.{A, B}
 use Rattle.journal.specs.declared.entries.Entry.{Entry}
-use Rattle.journal.specs.declared.entries.Entry.TheVariants.{Turn, Fed, Up}
+use Rattle.ble_base.specs.declared.roles.Role.TheVariants.{Central, Peripheral}
+use Rattle.ble_base.specs.declared.verdicts.Verdict.TheVariants.{Good}
+use Rattle.journal.specs.declared.entries.Entry.TheVariants.{Turn, Fed, Air, Up, Opened}
+use Rattle.journal.specs.declared.entries.Mark.TheVariants.{Pass as Passed}
 use Rattle.radio_replay.specs.declared.fates.Fate.{Fate}
 use Rattle.radio_replay.specs.declared.fates.Fate.TheVariants.{Damage}
 use Rattle.one_side.specs.Rows.{setup_a, setup_b, advertising_octets, scanning_octets}
@@ -71,3 +74,41 @@ other_advertisement =
 abbrev pub stop_of : Run → Option Stop
 stop_of (GoesOn history) = None
 stop_of (Stops history stop) = Some stop
+
+-- ---- a link opens
+
+-- LE Set Advertising Enable, and LE Create Connection: 10 ms of each 10 ms, to A, an interval of 30 ms, no latency, a
+-- timeout of 720 ms
+abbrev pub enabling_octets : List ℕ
+enabling_octets = 0x01 ∷ 0x0A ∷ 0x20 ∷ 0x01 ∷ 0x01 ∷ []
+
+abbrev pub connecting_octets : List ℕ
+connecting_octets =
+    0x01 ∷ 0x0D ∷ 0x20 ∷ 0x19 ∷ 0x10 ∷ 0x00 ∷ 0x10 ∷ 0x00 ∷ 0x00 ∷ 0x00 ∷ 0x0A ∷ 0x00 ∷ 0x00 ∷ 0xEE ∷ 0xFF
+    ∷ 0xC0 ∷ 0x00 ∷ 0x18 ∷ 0x00 ∷ 0x18 ∷ 0x00 ∷ 0x00 ∷ 0x00 ∷ 0x48 ∷ 0x00 ∷ 0x00 ∷ 0x00 ∷ 0x00 ∷ 0x00 ∷ []
+
+-- A advertises as it starts, to anyone, and B initiates
+abbrev pub one_connection : Given
+one_connection = pair_with enabling_octets connecting_octets (plan_with 5 29 [] ∷ [])
+
+-- the ADV_IND of A
+abbrev pub connectable_packet : List ℕ
+connectable_packet =
+    0xD6 ∷ 0xBE ∷ 0x89 ∷ 0x8E ∷ 0xAD ∷ 0xD4 ∷ 0x5D ∷ 0xA1 ∷ 0x3D ∷ 0x49 ∷ 0x99 ∷ 0x70 ∷ 0x16 ∷ 0x39 ∷ 0x06 ∷ []
+
+-- the CONNECT_IND of B: the access address 71764129, CRCInit 000002, WinSize 1, WinOffset 0, Interval 24, Latency 0,
+-- Timeout 72, all channels, Hop 5 and SCA 0
+abbrev pub connect_packet : List ℕ
+connect_packet =
+    0xD6 ∷ 0xBE ∷ 0x89 ∷ 0x8E ∷ 0xA8 ∷ 0xF0 ∷ 0x5C ∷ 0xA1 ∷ 0x3D ∷ 0x49 ∷ 0x99 ∷ 0x70 ∷ 0x7F ∷ 0x31 ∷ 0x11
+    ∷ 0xA6 ∷ 0x69 ∷ 0xB7 ∷ 0xD1 ∷ 0xA2 ∷ 0x30 ∷ 0x98 ∷ 0xA9 ∷ 0xD0 ∷ 0x9E ∷ 0x52 ∷ 0x33 ∷ 0xD8 ∷ 0xA2 ∷ 0x98
+    ∷ 0x08 ∷ 0x24 ∷ 0x83 ∷ 0x3B ∷ 0x03 ∷ 0x8E ∷ 0x5C ∷ 0x0B ∷ 0x4A ∷ 0x6D ∷ 0xD1 ∷ 0xA5 ∷ 0x50 ∷ []
+
+abbrev pub status_answer : List ℕ
+status_answer = 0x04 ∷ 0x0F ∷ 0x04 ∷ 0x00 ∷ 0x01 ∷ 0x0D ∷ 0x20 ∷ []
+
+abbrev pub one_connection_journal : List Entry
+one_connection_journal =
+    turn_entry 0 ∷ Fed A enabling_octets ∷ Up A (answer 0x0A 0x20) ∷ Fed B connecting_octets ∷ Up B status_answer
+    ∷ Air A 37 connectable_packet Passed Good ∷ Air B 37 connect_packet Passed Good
+    ∷ Opened A 1 0 Peripheral ∷ Opened B 1 0 Central ∷ []

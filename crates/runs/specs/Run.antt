@@ -8,9 +8,8 @@ use Rattle.radio_replay.specs.declared.fates.Fate.{Fate}
 use Rattle.radio_replay.specs.declared.fates.Fate.TheVariants.{Pass, Lost, Damage}
 use Rattle.radio_replay.specs.Damage.{damaged_packet}
 use Rattle.one_side.specs.Step.{Step, HostOctet, TurnBegins, PacketHeard, NothingHeard, TurnEnds}
-use Rattle.one_side.specs.Facts.{Setup, Facts}
-use Rattle.one_side.specs.Radio.{Use, Sends, Listens, Idle, channel_listened, use_of}
-use Rattle.one_side.specs.Heard.{verdict_of}
+use Rattle.one_side.specs.Facts.{Setup, Facts, Use, Sends, Listens, Idle}
+use Rattle.one_side.specs.Packets.{channel_listened, use_of, verdict_of}
 use Rattle.one_side.specs.Side.{facts_of, notes_after}
 use Rattle.runs.specs.History.{Event, TurnBegan, HostFed, Called, Noted, Transmitted, Hearing, past_of, fed_to, turns_begun, packets_on_air, fates_used, is_good, packet_received}
 
@@ -63,7 +62,7 @@ abbrev pub facts_at : Given → ℕ → List Event → Facts
 facts_at given station history = facts_of (setup_at given station) (past_of station history)
 
 abbrev pub use_at : Given → ℕ → List Event → Use
-use_at given station history = use_of (setup_at given station) (facts_at given station history)
+use_at given station history = use_of (facts_at given station history)
 
 -- the octets of its host that are left
 abbrev pub octets_left : Given → ℕ → List Event → List ℕ
@@ -124,8 +123,8 @@ abbrev pub reaches : Fate → ℕ → Option ℕ → Bool
 reaches fate channel None = false
 reaches fate channel (Some listened) = not (is_lost fate) && (listened == channel)
 
-abbrev pub verdict_where : Bool → Setup → Facts → List ℕ → Verdict
-verdict_where reached setup facts octets = if reached then verdict_of setup facts octets else Missed
+abbrev pub verdict_where : Bool → Facts → List ℕ → Verdict
+verdict_where reached facts octets = if reached then verdict_of facts octets else Missed
 
 abbrev pub hearing_at : Given → Fate → ℕ → List ℕ → List Event → ℕ → Hearing
 hearing_at given fate channel octets history listener = record {
@@ -133,7 +132,7 @@ hearing_at given fate channel octets history listener = record {
   fate = fate;
   verdict =
       verdict_where (reaches fate channel (channel_listened (use_at given listener history)))
-      (setup_at given listener) (facts_at given listener history) (damaged_packet fate octets);
+      (facts_at given listener history) (damaged_packet fate octets);
 }
 
 -- each listener has the next fate of the turn, from this number on

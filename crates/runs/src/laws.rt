@@ -175,9 +175,10 @@ pub fn a_turn_leaves_nothing_over()
         (journal_of (history_of (run_of (given_of a b script)))) }
 {}
 
-/// The entries of the journal of a pair are in order: a turn begins, its sides are fed, A before B,
-/// each with the notes of its controller after it, and then packets are on the air, with notes of
-/// A before notes of B. No side is fed after a packet of the turn.
+/// The entries of the journal of a pair are in order, turn after turn. In each, A is fed and its
+/// controller notes, and then B; the controllers of A and B note as they begin the turn; in each of
+/// three phases A transmits, and B, and then both note; and both note as they end the turn. No side
+/// is fed after a packet of the turn.
 pub fn entries_are_in_order()
     ensures order { (a b : List ℕ) (script : Script)
         → IsInOrder (journal_of (history_of (run_of (given_of a b script)))) }

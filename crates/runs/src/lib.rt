@@ -4,6 +4,7 @@
 
 mod hosts;
 mod laws;
+mod links;
 mod rows;
 
 pub use crate::hosts::a_host_is_answered_in_order;
@@ -14,4 +15,5 @@ pub use crate::laws::{
     entries_are_in_order, feeding_follows_the_schedule, notes_are_those_of_the_calls,
     turns_follow_the_schedule, unseen_damage_stops_a_run,
 };
+pub use crate::links::each_link_has_its_connect_ind;
 pub use crate::rows::{worked_damage, worked_runs};

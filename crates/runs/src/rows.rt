@@ -10,7 +10,7 @@ ghost use Rattle.one_side.specs.Rows.{advertisement_ending};
 ghost use Rattle.runs.specs.Run.{history_of, run_of};
 ghost use Rattle.runs.specs.Journal.{journal_of};
 ghost use Rattle.runs.specs.Rows.{advertisement_opening, first_reset, first_reset_journal};
-ghost use Rattle.runs.specs.Rows.{one_advertisement, report};
+ghost use Rattle.runs.specs.Rows.{one_advertisement, one_connection, one_connection_journal, report};
 ghost use Rattle.runs.specs.Rows.{damage_at, other_advertisement, stop_of, unseen_pattern};
 
 /// The journals of three runs: a first HCI_Reset; one advertisement that is reported; and one that
@@ -42,4 +42,10 @@ pub fn worked_damage()
         }) }
     ensures journal { journal_of (history_of (run_of
         (one_advertisement (damage_at 11 unseen_pattern ∷ [])))) ≡ advertisement_opening [] }
+{}
+
+/// The journal of a run of one turn in which a link opens: A advertises, B initiates and answers
+/// the advertisement by a CONNECT_IND, and both open the link.
+pub fn worked_connection()
+    ensures { journal_of (history_of (run_of one_connection)) ≡ one_connection_journal }
 {}

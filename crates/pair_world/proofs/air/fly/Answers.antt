@@ -1,11 +1,8 @@
 -- Proof of `air::fly`.
-use Rattle.std.proofs.Common.{sym, ◌∙◌}
 use Rattle.ble_base.specs.Side.{other_side}
-use Rattle.one_side.specs.Side.{facts_of}
 use Rattle.runs.specs.History.{past_of}
 use Rattle.runs.specs.Run.{setup_at}
 use Rattle.pair_world.specs.Stations.{number_of}
-use Rattle.pair_world.proofs.Channels.{channel_below}
 use Rattle.pair_world.proofs.Flying.{flies, flies_not, flight_stops}
 use Rattle.pair_world.proofs.Outcomes.{if_err_two, if_ok_two}
 use Rattle.pair_world.proofs.air.fly.Goals as goal
@@ -19,9 +16,7 @@ returns-in-Some-clause-ok c =
     flies given plan.fates c.args.turn.now.number history side c.args.sender.now c.args.listener.now c.send.new.sender c.send.new.listener
     c.args.log.now c.send.new.log c.args.wanted.now c.args.listens.now c.in-Some.channel c.in-Some.octets.now
     c.args.turn.now.packets c.send.new.turn.packets good air wants
-    (sent plan (setup_at given other) (past_of other history) there air.keeps_listener.knows air.wants_listener
-    (channel_below (setup_at given (number_of side)) (facts_of (setup_at given (number_of side)) (past_of (number_of side) history))
-    c.in-Some.channel c.in-Some.octets.now (sym wants ∙ air.wants_sender)))
+    (sent plan (setup_at given other) (past_of other history) there air.keeps_listener.knows air.wants_listener)
     count)
     c.send.ensures.ok c.send.ensures.count
 

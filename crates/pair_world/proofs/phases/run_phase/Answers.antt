@@ -10,7 +10,7 @@ returns-clause-ok c = λ given plan history there phase.
     let received = c.in_ok-received.received in
     let wanted = c.args.wanted.now in
     phase_done given plan.fates history _ _ (c.in_ok-received.ensures.ok given plan history there phase) (λ after heard.
-    both_listened c.notes_name_links_of_the_controller.ensures.handles given c.args.turn.now.number after
+    both_listened c.notes_name_links_of_the_controller.ensures.step given c.args.turn.now.number after
     c.transmit.new.pair.a c.listen.new.self c.write_notes.new.self c.transmit.new.pair.b c.listen-2.new.self c.write_notes-2.new.self
     c.transmit.new.log c.write_notes.new.log c.write_notes-2.new.log c.listen.new.out.items c.listen-2.new.out.items c.listen.new.wanted c.listen-2.new.wanted
     c.transmit.new.turn.packets (heard_of received.a wanted.b) (heard_of received.b wanted.a) heard

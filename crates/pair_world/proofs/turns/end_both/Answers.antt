@@ -6,7 +6,7 @@ use Rattle.pair_world.proofs.turns.end_both.Goals as goal
 pub returns-clause-ok : goal.returns-clause-ok
 returns-clause-ok c =
     on_ok_two c.write_notes-2.result _ _ _ (λ log_is written_is given turns history up.
-    both_ended c.notes_name_links_of_the_controller.ensures.handles given turns history
+    both_ended c.notes_name_links_of_the_controller.ensures.step given turns history
     c.args.pair.now.a c.end.new.self c.write_notes.new.self c.args.pair.now.b c.end-2.new.self c.write_notes-2.new.self
     c.args.log.now c.write_notes.new.log c.write_notes-2.new.log c.end.new.out.items c.end-2.new.out.items up
     (record { took = c.end.ensures; log_is = c.in_ok-write_notes.ensures.log; written_is = c.in_ok-write_notes.ensures.links })

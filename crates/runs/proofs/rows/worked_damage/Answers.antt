@@ -10,8 +10,7 @@ use Rattle.frame_bits.specs.Whitening.{mask_of, next_mask, whitening_bit, whiten
 use Rattle.air_frame.specs.Hearing.{heard_in}
 use Rattle.adv_pdu.specs.Header.{kept_bits}
 use Rattle.adv_pdu.specs.Reading.{read_of}
-use Rattle.one_side.specs.Radio.{activity_of, advertisement_on, use_of}
-use Rattle.one_side.specs.Heard.{advertisement_heard, verdict_of}
+use Rattle.one_side.specs.Packets.{pdu_heard, use_of, verdict_of}
 use Rattle.one_side.specs.Side.{facts_of, result_of}
 use Rattle.runs.specs.History.{fates_used, packet_received, packets_on_air, turns_begun}
 use Rattle.runs.specs.Links.{begins_link}
@@ -20,5 +19,5 @@ use Rattle.runs.specs.Journal.{journal_of}
 use Rattle.runs.proofs.rows.worked_damage.Goals as goal
 
 pub returns : goal.returns
-unfolding facts_of result_of frames little_endian command_of layout_of layouts view_after status_of activity_of use_of fates_used packet_received packets_on_air turns_begun after_opening after_phase after_phases after_turn run_of journal_of advertisement_on verdict_of advertisement_heard heard_in read_of kept_bits crc crc_octets crc_of_bits remainder mask_of next_mask whitening_bit whitening_of begins_link
+unfolding facts_of result_of frames little_endian command_of layout_of layouts view_after status_of use_of fates_used packet_received packets_on_air turns_begun after_opening after_phase after_phases after_turn run_of journal_of verdict_of pdu_heard heard_in read_of kept_bits crc crc_octets crc_of_bits remainder mask_of next_mask whitening_bit whitening_of begins_link
 returns c = record { broken = refl; stop = refl; journal = refl }
