@@ -23,3 +23,4 @@ pub mod Sent
 pub mod LeftOn
 pub mod Lengths
 pub mod Requests
+pub mod OpenPlaces
