@@ -24,3 +24,4 @@ pub mod LeftOn
 pub mod Lengths
 pub mod Requests
 pub mod OpenPlaces
+pub mod Room
