@@ -25,3 +25,4 @@ pub mod Lengths
 pub mod Requests
 pub mod OpenPlaces
 pub mod Room
+pub mod FreeHandles

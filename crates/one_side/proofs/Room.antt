@@ -90,7 +90,7 @@ same_advertising : (on : Bool) (one other : View) → other.advertising ≡ one.
 same_advertising true one other same = same
 same_advertising false one other same = refl
 
-knows_after : (setup : Setup) (view : View) (slot : ℕ) (command : Command) (advertising : Advertising) → status_of view command ≡ 0
+pub knows_after : (setup : Setup) (view : View) (slot : ℕ) (command : Command) (advertising : Advertising) → status_of view command ≡ 0
     → KnowsAdvertising view.advertising advertising
     → KnowsAdvertising (view_after view command).advertising (advertising_after setup view slot command advertising)
 unfolding view_after
@@ -116,7 +116,7 @@ same_initiating : (on : Bool) (one other : View) → other.initiating ≡ one.in
 same_initiating true one other same = same
 same_initiating false one other same = refl
 
-initiates_after : (setup : Setup) (view : View) (slot : ℕ) (command : Command) (initiator : Option InitiatorFacts)
+pub initiates_after : (setup : Setup) (view : View) (slot : ℕ) (command : Command) (initiator : Option InitiatorFacts)
     → is_some view.initiating ≡ is_some initiator
     → is_some (view_after view command).initiating ≡ is_some (initiator_after setup view slot command initiator)
 unfolding view_after
@@ -134,7 +134,7 @@ same_limit : (on : Bool) (one other : View) → other.limit ≡ one.limit → (c
 same_limit true one other same = same
 same_limit false one other same = refl
 
-limit_after : (view : View) (command : Command) → (view_after view command).limit ≡ view.limit
+pub limit_after : (view : View) (command : Command) → (view_after view command).limit ≡ view.limit
 unfolding view_after
 limit_after view (HostCompleted counts) = same_limit view.flow.on view (record view { links = after_counts view.links counts.items }) refl
 limit_after view other = refl
@@ -203,7 +203,7 @@ room_same initiates opened same advertising other limit least is also too room =
     subst (λ (of : ViewAdvertising). same + count_if (may_connect of) + 1 ≤ least) (sym also)
     (let enough = room so in omega (arith, enough, is, too))
 
-room_after : (setup : Setup) (view : View) (slot : ℕ) (command : Command) (initiator : Option InitiatorFacts) → status_of view command ≡ 0
+pub room_after : (setup : Setup) (view : View) (slot : ℕ) (command : Command) (initiator : Option InitiatorFacts) → status_of view command ≡ 0
     → is_some view.initiating ≡ is_some initiator
     → HasRoom (is_some initiator) (many (opens view.links)) view.advertising view.limit
     → HasRoom (is_some (initiator_after setup view slot command initiator)) (many (opens (view_after view command).links))
