@@ -205,7 +205,7 @@ doing_known setup doing facts known = record {
   room = known.room;
 }
 
-begin_central : (doing : Doing) → MayBegin doing → MakesCentral doing
+pub begin_central : (doing : Doing) → MayBegin doing → MakesCentral doing
 begin_central (Connects channel link) may = absurd may
 begin_central (Advertises channel) may = tt
 begin_central other may = tt
@@ -308,11 +308,11 @@ Both setup facts = IsKnown setup facts × MakesCentral facts.turn.doing
 in_step : (setup : Setup) (facts : Facts) → HaveOwnHandles setup facts → Both setup facts → IsInStep setup facts
 in_step setup facts own both = record { own = own; known = both.0; central = both.1 }
 
-asks_central : (asks : Bool) (channel : ℕ) (pdu : AdvPdu) → MakesCentral (asks_if asks channel pdu)
+pub asks_central : (asks : Bool) (channel : ℕ) (pdu : AdvPdu) → MakesCentral (asks_if asks channel pdu)
 asks_central true channel pdu = tt
 asks_central false channel pdu = tt
 
-reply_central : (replies : Bool) (handle : ℕ) → MakesCentral (reply_if replies handle)
+pub reply_central : (replies : Bool) (handle : ℕ) → MakesCentral (reply_if replies handle)
 reply_central true handle = tt
 reply_central false handle = tt
 
@@ -346,18 +346,22 @@ passes_in_step setup facts step =
       central_listens = λ handle doing. in_step setup _ (own.central_listens handle doing) (doing_known setup (CentralListens handle) facts known, tt);
       sent = λ channel link doing.
           in_step setup _ (own.sent channel link doing)
-          (opening_passes (Both setup) link facts
-          (doing_known setup Rests (facts_opening link facts)
-          (opened_known setup link facts (subst (IsNew facts.links) doing step.own.new).0 known
-          (central_room link.role facts.initiator _ facts.view.advertising facts.view.limit (subst MakesCentral doing step.central))), tt));
+          (opening_passes (Both setup) link facts (
+            doing_known setup Rests (facts_opening link facts)
+                (opened_known setup link facts (subst (IsNew facts.links) doing step.own.new).0 known
+                (central_room link.role facts.initiator _ facts.view.advertising facts.view.limit (subst MakesCentral doing step.central))),
+            tt,
+          ));
       responds = λ channel on doing is_on. in_step setup _ (own.responds channel on doing is_on) (doing_known setup (Responds channel) facts known, tt);
       taken = λ channel octets pdu on fields handle is_on hears takes free.
           let link = link_taken on.params.own pdu fields handle in
           in_step setup _ (own.taken channel octets pdu on fields handle is_on hears takes free)
-          (opening_passes (Both setup) link facts
-          (doing_known setup Rests (facts_opening link facts)
-          (opened_known setup link facts (free_is_new facts.links handle free).0 known
-          (peripheral_room setup handle facts _ known (taken_connectable setup facts on pdu fields known is_on takes))), tt));
+          (opening_passes (Both setup) link facts (
+            doing_known setup Rests (facts_opening link facts)
+                (opened_known setup link facts (free_is_new facts.links handle free).0 known
+                (peripheral_room setup handle facts _ known (taken_connectable setup facts on pdu fields known is_on takes))),
+            tt,
+          ));
       scanned = λ channel octets pdu on doing is_on hears.
           let asks = true && does_ask (scan_answer on.params facts.view.accepted on.recent pdu) in
           let after = scanner_after on facts.view.accepted pdu in
@@ -375,9 +379,11 @@ passes_in_step setup facts step =
       received = λ handle octets.
           let replies = replies_in (link_at handle facts.links) octets in
           let change = link_after (PacketReceived facts.turn.slot octets) in
-          in_step setup _ (own.received handle octets)
-          (doing_known setup (reply_if replies handle) (link_received handle octets facts)
-          (links_known setup facts (link_received handle octets facts).links (changed_opens change handle facts.links) known), reply_central replies handle);
+          in_step setup _ (own.received handle octets) (
+            doing_known setup (reply_if replies handle) (link_received handle octets facts)
+                (links_known setup facts (link_received handle octets facts).links (changed_opens change handle facts.links) known),
+            reply_central replies handle,
+          );
     }
 
 octet_known : (setup : Setup) (octet : ℕ) (facts : Facts) → IsKnown setup facts → IsKnown setup (with_octet octet facts)

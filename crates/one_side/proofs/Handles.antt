@@ -239,3 +239,12 @@ pub own_handles : (setup : Setup) (past : List Step) → HaveOwnHandles setup (f
 own_handles setup past =
     always setup (HaveOwnHandles setup) (HaveOwnHandles setup) (handles_kept setup)
     (record { many = count_at_first setup.links None; handles = none_have 0 setup.links; new = tt }) past
+
+-- the handle of a link that is to be opened
+pub new_handle : (setup : Setup) (past : List Step) (channel : ℕ) (link : LinkSetup)
+    → (facts_of setup past).turn.doing ≡ Connects channel link
+    → (link.handle < setup.links) × (link_at link.handle (facts_of setup past).links ≡ None)
+new_handle setup past channel link is =
+    let own = own_handles setup past in
+    let new = subst (IsNew (facts_of setup past).links) is own.new in
+    (subst (λ n. link.handle < n) own.many new.0, new.1)

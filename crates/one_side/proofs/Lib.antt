@@ -26,3 +26,5 @@ pub mod Requests
 pub mod OpenPlaces
 pub mod Room
 pub mod FreeHandles
+pub mod Addresses
+pub mod Answering

@@ -1,13 +1,14 @@
 //! Laws of one controller. The bodies only call the laws that they rest on: the contracts are the
 //! laws.
 ghost use Rattle.std.specs.Prelude.{◌≡◌, ◌≢◌, ◌↔◌, ◌<◌, ◌≤◌, ◌+◌, ◌^◌, ◌⊎◌, ℕ, Bool, true, false};
-ghost use Rattle.std.specs.Prelude.{if◌then◌else◌};
+ghost use Rattle.std.specs.Prelude.{if◌then◌else◌, is_some, None, IsSome};
 ghost use Rattle.std.specs.Prelude.{All, List, [], ◌∷◌, ◌++◌, Some, length, map};
 ghost use Rattle.ble_base.specs.Bits.{has_bit};
 ghost use Rattle.ble_base.specs.declared.notes.Note.TheVariants.{Up};
 ghost use Rattle.ble_base.specs.declared.verdicts.Verdict.TheVariants.{Good};
 ghost use Rattle.adv_pdu.specs.declared.pdu.AdvPdu.{AdvPdu};
 ghost use Rattle.adv_pdu.specs.Pdu.{IsPdu};
+ghost use Rattle.adv_pdu.specs.Ranges.{is_in_range};
 ghost use Rattle.h4_frames.specs.Frames.{frames};
 ghost use Rattle.h4_frames.specs.declared.packet.HostPacket.TheVariants.{Acl};
 ghost use Rattle.h4_frames.specs.declared.packet.HostPacket.TheVariants.{Command as HostCommand};
@@ -22,14 +23,22 @@ ghost use Rattle.hci_evt.specs.declared.event.Event.{Event};
 ghost use Rattle.hci_evt.specs.declared.event.Event.TheVariants.{HardwareError};
 ghost use Rattle.host_view.specs.Unbuilt.{status_of};
 ghost use Rattle.host_view.specs.View.{View};
+ghost use Rattle.host_view.specs.declared.view.TheConstants.{MOST_LINKS};
 ghost use Rattle.advertise.specs.Advertising.{AdvertiserFacts};
+ghost use Rattle.one_end.specs.declared.setup.LinkSetup.{LinkSetup};
+ghost use Rattle.open_links.specs.OpenLinks.{free_from, link_at};
+ghost use Rattle.scan_init.specs.Access.{nth_access};
+ghost use Rattle.scan_init.specs.Initiating.{InitiatorFacts};
 ghost use Rattle.scan_init.specs.Windows.{slots_of};
+ghost use Rattle.one_side.specs.declared.doing.Doing.TheVariants.{Connects, Initiates};
 ghost use Rattle.one_side.specs.Step.{Step, HostOctet};
 ghost use Rattle.one_side.specs.Facts.{Setup, Facts, Sends};
 ghost use Rattle.one_side.specs.Answers.{AreOneAnswer, HasNoAnswer, IsAnswerTo, answer_to};
 ghost use Rattle.one_side.specs.Answers.{complete_answer, next_word};
 ghost use Rattle.one_side.specs.Commands.{facts_commanded};
+ghost use Rattle.one_side.specs.Connecting.{SendsEach};
 ghost use Rattle.one_side.specs.Events.{notes_of_events};
+ghost use Rattle.one_side.specs.Heard.{answers_by_connecting, fields_sent, link_to};
 ghost use Rattle.one_side.specs.Packets.{advertising_packet, pdu_heard, verdict_advertising};
 ghost use Rattle.one_side.specs.Side.{facts_after, facts_of, notes_after, notes_fed};
 ghost use Rattle.one_side.specs.Side.{notes_of, result_of};
@@ -158,6 +167,36 @@ pub fn what_is_sent_is_a_pdu()
     ensures { (setup : Setup) (past : List Step) (channel : ℕ) (octets : List ℕ)
         → length setup.public ≡ 6 → (facts_of setup past).wanted ≡ Sends channel octets
         → IsAdvertisingPacket channel octets ⊎ IsLinkPacket (facts_of setup past) channel octets }
+{}
+
+/// A link is opened under a handle of the controller that no open link has. An initiator answers
+/// each device that it is to connect to: the fields of its CONNECT_IND are in range; a handle is
+/// free, if the controller holds no more links than the view of its host has places for; and there
+/// is an access address, if each CONNECT_IND that was to be sent before was sent in the next phase.
+pub fn a_controller_opens_links_as_it_may()
+    ensures new { (setup : Setup) (past : List Step) (channel : ℕ) (link : LinkSetup)
+        → (facts_of setup past).turn.doing ≡ Connects channel link
+        → (link.handle < setup.links)
+        × (link_at link.handle (facts_of setup past).links ≡ None) }
+    ensures in_range { (setup : Setup) (past : List Step) (on : InitiatorFacts) (access : ℕ)
+        → (facts_of setup past).initiator ≡ Some on
+        → is_in_range (fields_sent setup on access (facts_of setup past)) ≡ true }
+    ensures handle { (setup : Setup) (past : List Step) (on : InitiatorFacts)
+        → setup.links ≤ MOST_LINKS → (facts_of setup past).initiator ≡ Some on
+        → IsSome (free_from 0 (facts_of setup past).links) }
+    ensures known { (setup : Setup) (past : List Step)
+        → (facts_of setup past).view.has_address
+        ≡ is_some (nth_access setup.cursor (facts_of setup past).connections) }
+    ensures address { (setup : Setup) (past : List Step) (on : InitiatorFacts) (channel : ℕ)
+        → SendsEach setup past → (facts_of setup past).initiator ≡ Some on
+        → (facts_of setup past).turn.doing ≡ Initiates channel
+        → is_some (nth_access setup.cursor (facts_of setup past).connections) ≡ true }
+    ensures answers { (setup : Setup) (past : List Step) (on : InitiatorFacts) (channel : ℕ)
+        (pdu : AdvPdu) → setup.links ≤ MOST_LINKS → SendsEach setup past
+        → (facts_of setup past).initiator ≡ Some on
+        → (facts_of setup past).turn.doing ≡ Initiates channel
+        → answers_by_connecting on pdu (facts_of setup past) ≡ true
+        → IsSome (link_to setup on pdu (facts_of setup past)) }
 {}
 
 /// An advertiser that is left on in a controller with no link, with the radio on, is in an event in
