@@ -367,23 +367,6 @@ wanted_octet octet facts Idle is = tt
 
 -- ---- each part of a turn
 
-opened_random : (role : Role) (view : View) → (stopped_by role view).random ≡ view.random
-opened_random Central view = refl
-opened_random Peripheral view = refl
-
-noted_random : (view : View) (link : LinkSetup) → (view_noted view (note_opened link)).random ≡ view.random
-unfolding view_noted
-noted_random view link = opened_random link.role view
-
-shut_random : (view : View) (handle reason : ℕ) → (view_noted view (note_shut handle reason)).random ≡ view.random
-unfolding view_noted
-shut_random view handle reason = refl
-
-ended_random : (view : View) (ended : List LinkEnded) → (view_shut view ended).random ≡ view.random
-ended_random view [] = refl
-ended_random view (one ∷ ended) =
-    ended_random (view_noted view (note_shut one.handle one.reason.0)) ended ∙ shut_random view one.handle one.reason.0
-
 stopped_advertiser : (role : Role) (on : Option AdvertiserFacts) → AdvertiserFits on → AdvertiserFits (advertiser_stopped role on)
 stopped_advertiser Central on fits = fits
 stopped_advertiser Peripheral on fits = tt
@@ -394,7 +377,7 @@ stopped_initiator Peripheral on fits = fits
 
 opened_can : (link : LinkSetup) (facts : Facts) → CanSend facts → CanSend (facts_opening link facts)
 opened_can link facts can = record {
-  random = subst SixHeld (sym (noted_random facts.view link)) can.random;
+  random = can.random;
   advertising = record {
     body = can.advertising.body;
     response = can.advertising.response;
@@ -508,7 +491,7 @@ well_kept setup six = record {
     starts = record {
       weakens = λ facts well. well.can;
       ends = λ slot facts can. record {
-        random = subst SixHeld (sym (ended_random facts.view (ends_in slot facts))) can.random;
+        random = can.random;
         advertising = can.advertising;
         scanner = can.scanner;
         initiator = can.initiator;

@@ -14,3 +14,4 @@ pub mod Sent
 pub mod Intervals
 pub mod Host
 pub mod Notes
+pub mod Rows

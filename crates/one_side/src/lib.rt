@@ -4,6 +4,7 @@
 
 mod doing;
 mod laws;
+mod rows;
 
 pub use crate::doing::{Doing, Turn};
 pub use crate::laws::{
@@ -11,4 +12,7 @@ pub use crate::laws::{
     commands_are_answered_in_order, each_command_is_answered_once,
     notes_name_links_of_the_controller, past_grows, random_words_go_round,
     refused_command_changes_nothing, what_is_sent_is_a_pdu,
+};
+pub use crate::rows::{
+    worked_advertisement, worked_answers, worked_connection, worked_link, worked_rows,
 };
