@@ -3,6 +3,8 @@
 
 mod commands;
 mod faults;
+#[cfg(test)]
+mod link_tests;
 mod messages;
 mod pairs;
 #[cfg(test)]

@@ -34,7 +34,7 @@ const UNSEEN: &str = "unseen damage: turn 0 packet 1 sent d6be898e8fd45da13d4999
     heard d6be898e8fd45da13d49997138fedb\n";
 
 /// The words of `pair` with the three files that are held.
-const PAIR: &str = "pair a.bin b.bin schedule";
+pub(crate) const PAIR: &str = "pair a.bin b.bin schedule";
 
 /// The commands with parameters that start something.
 const STARTS: [u16; 7] = [0x0406, 0x041D, 0x200D, 0x2013, 0x2016, 0x2019, 0x2032];
@@ -47,14 +47,14 @@ const COMPLETES: [u16; 23] = [
 
 /// What the program did.
 #[derive(Drop)]
-struct Ending {
-    status: u8,
-    out: MemSink,
-    err: MemSink,
+pub(crate) struct Ending {
+    pub(crate) status: u8,
+    pub(crate) out: MemSink,
+    pub(crate) err: MemSink,
 }
 
 /// The three files, with these turn lines in the schedule.
-fn files_of(alloc: Global, a: &[u8], b: &[u8], turns: &str) -> Result<MemFiles, AllocError> {
+pub(crate) fn files_of(alloc: Global, a: &[u8], b: &[u8], turns: &str) -> Result<MemFiles, AllocError> {
     let schedule = format!(in alloc; "{SIDES}{turns}")?;
     let mut files = MemFiles::new(alloc);
     files.hold("a.bin", a)?;
@@ -64,7 +64,7 @@ fn files_of(alloc: Global, a: &[u8], b: &[u8], turns: &str) -> Result<MemFiles, 
 }
 
 /// Calls the program with these words, over empty sinks. The first write of the journal may fail.
-fn run(
+pub(crate) fn run(
     alloc: Global,
     words: &str,
     files: &mut MemFiles,
@@ -146,7 +146,7 @@ fn commands_are_answered(rt: HostRuntime) -> Result<(), Fail> {
             "t ++ a4\n",
             "turn 0 ++\nin a 01091000\nup a 040e0a010910000a0000eeffc0\n",
         ),
-        // Advertising of types 0 and 2 is not turned on; off is 0, and 2 is no value.
+        // Parameters are refused while advertising is on; off is 0, and 2 is no value.
         (
             b"\x01\x0a\x20\x01\x01\
             \x01\x06\x20\x0f\x00\x08\x00\x08\x02\x00\x00\x00\x00\x00\x00\x00\x00\x07\x00\
@@ -159,9 +159,9 @@ fn commands_are_answered(rt: HostRuntime) -> Result<(), Fail> {
             "turn 0 ++
 in a 010a2001010106200f000800080200000000000000000700010a200101\
 010a200100010a2001020106200f000800080300000000000000000700
-up a 040e04010a2011
-up a 040e0401062000
-up a 040e04010a2011
+up a 040e04010a2000
+up a 040e040106200c
+up a 040e04010a2000
 up a 040e04010a2000
 up a 040e04010a2012
 up a 040e0401062000

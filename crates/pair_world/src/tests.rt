@@ -51,11 +51,21 @@ fn text_of(alloc: Global, journal: &Journal) -> Result<String, AllocError> {
     Ok(text)
 }
 
-/// The run in which A advertises and B scans, by these turn lines.
-fn run(alloc: Global, turns: &str) -> Result<Result<Journal, RunFault>, Fail> {
+/// The run of these hosts by these turn lines.
+fn run_hosts(
+    alloc: Global,
+    a: &[u8],
+    b: &[u8],
+    turns: &str,
+) -> Result<Result<Journal, RunFault>, Fail> {
     let text = format!(in alloc; "{SIDES}{turns}")?;
     let schedule = Schedule::read(alloc, text.as_bytes())?;
-    Ok(run_pair(alloc, &ADVERTISES, &SCANS, &schedule))
+    Ok(run_pair(alloc, a, b, &schedule))
+}
+
+/// The run in which A advertises and B scans, by these turn lines.
+fn run(alloc: Global, turns: &str) -> Result<Result<Journal, RunFault>, Fail> {
+    run_hosts(alloc, &ADVERTISES, &SCANS, turns)
 }
 
 #[test]
@@ -102,6 +112,52 @@ fn damage_that_fits_the_crc_ends_the_run(rt: HostRuntime) -> Result<(), Fail> {
     assert_eq!(rt; sent.as_slice(), SENT.as_slice());
     assert_eq!(rt; heard.as_slice(), HEARD.as_slice());
     let want = format!(in alloc; "turn 0 ++\n{FED}")?;
+    assert_eq!(rt; text_of(alloc, &journal)?.as_str(), want.as_str());
+    Ok(())
+}
+
+/// Turns advertising on, to anyone, on all channels.
+const ENABLES: [u8; 5] = [0x01, 0x0a, 0x20, 0x01, 0x01];
+
+/// Connects to A, with an interval of 30 ms and a timeout of 720 ms.
+const CONNECTS: [u8; 29] = [
+    0x01, 0x0d, 0x20, 0x19, 0x10, 0x00, 0x10, 0x00, 0x00, 0x00, 0x0a, 0x00, 0x00, 0xee, 0xff, 0xc0,
+    0x00, 0x18, 0x00, 0x18, 0x00, 0x00, 0x00, 0x48, 0x00, 0x00, 0x00, 0x00, 0x00,
+];
+
+/// The packet of the CONNECT_IND. It and the packets below were worked out by the rules of the
+/// standard for CRC, whitening and channel selection algorithm #2. The access address is 71764129,
+/// and CRCInit is 000002.
+const CONNECT_IND: &str =
+    "d6be898ea8f05ca13d4999707f3111a669b7d1a23098a9d09e5233d8a2980824833b038e5c0b4a6dd1a550";
+
+/// The journal of a link up to its CONNECT_IND.
+const BEFORE_LINK: &str = "turn 0 ++
+in a 010a200101
+up a 040e04010a2000
+in b 010d20191000100000000a0000eeffc000180018000000480000000000
+up b 040f0400010d20
+air a 37 d6be898eadd45da13d499970163906 . good
+";
+
+/// And from there to its first event, which is on data channel 25.
+const WITH_LINK: &str = "open a 1 0 peripheral
+open b 1 0 central
+turn 1 ++
+turn 2 ++
+enter a 1 0 25
+enter b 1 0 25
+air b 25 2941767150fadee550 . good
+air a 25 2941767154fa0de350 . good
+";
+
+#[test]
+fn a_link_opens_and_has_its_first_event(rt: HostRuntime) -> Result<(), Fail> {
+    let alloc = rt.alloc();
+    let Ok(journal) = run_hosts(alloc, &ENABLES, &CONNECTS, "t ++ a5 b29\nt ++\nt ++\n")? else {
+        return Err(Fail::from("no whole run"));
+    };
+    let want = format!(in alloc; "{BEFORE_LINK}air b 37 {CONNECT_IND} . good\n{WITH_LINK}")?;
     assert_eq!(rt; text_of(alloc, &journal)?.as_str(), want.as_str());
     Ok(())
 }

@@ -13,10 +13,10 @@ use Rattle.one_side.specs.Notes.{HadNoLink, answers_among, answers_in, answers_o
 use Rattle.one_side.specs.Side.{notes_of}
 use Rattle.runs.specs.History.{past_of}
 use Rattle.runs.specs.Run.{Given, setup_at}
-use Rattle.runs.specs.Due.{octet_in, octets_called}
-use Rattle.runs.specs.Readers.{fed_to_side, packets_of, packets_to_host, station_of}
+use Rattle.runs.specs.Due.{octet_in}
+use Rattle.runs.specs.Readers.{fed_to_side, packets_of, station_of}
 use Rattle.runs.specs.Entries.{IsUpToDate}
-use Rattle.runs.specs.Answered.{IsAnswered, answers_to, without_le_packets}
+use Rattle.runs.specs.Answered.{IsAnswered, without_le_packets}
 
 octets_are : (past : List Step) → host_octets past ≡ flat_map octet_in past
 octets_are [] = refl

@@ -10,7 +10,7 @@ use Rattle.one_side.specs.declared.doing.Doing.TheVariants.{Advertises, AwaitsRe
 use Rattle.one_side.specs.Step.{Step}
 use Rattle.one_side.specs.Facts.{Setup, Facts, Use, Sends, Listens}
 use Rattle.one_side.specs.Heard.{asks_if, link_received, link_taken, replies_in, reply_if, scanner_after, with_scanner}
-use Rattle.one_side.specs.Packets.{advertising_packet, facts_doing, use_for}
+use Rattle.one_side.specs.Packets.{advertising_packet, facts_doing}
 use Rattle.one_side.specs.Outcome.{facts_passed}
 use Rattle.one_side.specs.Side.{facts_of}
 use Rattle.open_links.specs.OpenLinks.{link_at}

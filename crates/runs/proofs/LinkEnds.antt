@@ -1,14 +1,12 @@
 -- Each end of an open link comes from a CONNECT_IND on the air.
-use Rattle.std.proofs.Common.{◌≡◌, ◌≢◌, ℕ, zero, suc, ◌+◌, ◌<◌, ◌≤◌, ◌==◌, ◌&&◌, ◌||◌, Bool, true, false, not, List, [], ◌∷◌, ◌++◌, length, refl, sym, ap, subst, ◌∙◌, append-nil, append_assoc, arith}
-use Rattle.std.specs.Prelude.{map, take, Option, Some, None, nat_le, nat_lt, if◌then◌else◌}
+use Rattle.std.proofs.Common.{◌≡◌, ◌≢◌, ℕ, zero, suc, ◌+◌, ◌==◌, ◌&&◌, ◌||◌, Bool, true, false, not, List, [], ◌∷◌, ◌++◌, length, refl, sym, ap, subst, ◌∙◌, append-nil, append_assoc, arith}
+use Rattle.std.specs.Prelude.{map, take, Option, Some, None, if◌then◌else◌}
 use Rattle.std.specs.List.{AllByRecursion}
 use Rattle.std.proofs.lemmas.Bool.{and_parts, eqb-true, eqb-false, le-leb, lt-ltb}
 use Rattle.ble_base.specs.declared.addresses.Address.{Address}
-use Rattle.ble_base.specs.declared.roles.Role.{Role}
-use Rattle.ble_base.specs.declared.roles.Role.TheVariants.{Central, Peripheral}
 use Rattle.ble_base.specs.declared.notes.Note.{Note}
 use Rattle.adv_pdu.specs.declared.pdu.AdvPdu.{AdvPdu}
-use Rattle.adv_pdu.specs.declared.pdu.AdvPdu.TheVariants.{Ind, Direct, Nonconn, ScanReq, ScanRsp, Connect, ScanInd}
+use Rattle.adv_pdu.specs.declared.pdu.AdvPdu.TheVariants.{ScanReq, Connect}
 use Rattle.adv_pdu.specs.declared.pdu.ConnectFields.{ConnectFields}
 use Rattle.adv_pdu.specs.Pdu.{IsPdu}
 use Rattle.advertise.specs.declared.answers.AdvAnswer.TheVariants.{Ignore, Respond, Connect as Takes}
@@ -22,23 +20,23 @@ use Rattle.radio_replay.specs.declared.fates.Fate.{Fate}
 use Rattle.radio_replay.specs.Script.{Script}
 use Rattle.one_side.specs.declared.doing.Doing.{Doing}
 use Rattle.one_side.specs.declared.doing.Doing.TheVariants.{AwaitsRequest, Connects}
-use Rattle.one_side.specs.Step.{Step, HostOctet, TurnBegins, PacketHeard, NothingHeard, TurnEnds}
-use Rattle.one_side.specs.Facts.{Setup, Facts, Use, Sends, Listens, Idle}
+use Rattle.one_side.specs.Step.{Step, HostOctet, TurnBegins, PacketHeard, TurnEnds}
+use Rattle.one_side.specs.Facts.{Facts, Use, Sends, Listens, Idle}
 use Rattle.one_side.specs.Heard.{link_taken}
-use Rattle.one_side.specs.Packets.{advertising_packet, channel_listened, pdu_heard, use_of, verdict_of}
-use Rattle.one_side.specs.Side.{facts_after, facts_of, notes_after}
+use Rattle.one_side.specs.Packets.{advertising_packet, channel_listened, pdu_heard, use_of}
+use Rattle.one_side.specs.Side.{facts_of, notes_after}
 use Rattle.one_side.proofs.Always.{IsAdvertisingChannel}
 use Rattle.one_side.proofs.Pasts.{facts_more}
 use Rattle.one_side.proofs.Sent.{DoingFits, can_be_done}
 use Rattle.runs.specs.History.{Event, TurnBegan, HostFed, Called, Noted, Transmitted, Hearing as Heard, fates_used, has_received, is_good, packet_received, past_of, received_after, steps_in, turns_begun}
 use Rattle.runs.specs.Links.{is_advertising}
-use Rattle.runs.specs.Run.{Given, Stop, setup_at, facts_at, use_at, octets_left, after_call, after_octets, after_feed, fate_at, hearing_at, hearings_from, hearings_of, others_than, reaches, is_lost, step_of, verdict_where, run_of, history_of}
+use Rattle.runs.specs.Run.{Given, setup_at, facts_at, use_at, octets_left, after_call, after_octets, after_feed, fate_at, hearing_at, hearings_from, hearings_of, others_than, reaches, is_lost, step_of, verdict_where, run_of, history_of}
 use Rattle.runs.specs.Pair.{given_of}
 use Rattle.runs.specs.Due.{Each, packet_in}
 use Rattle.runs.specs.Feeding.{AreDistinct}
 use Rattle.runs.specs.LinkEnds.{ConnectInd, HasConnectInd, HaveAddresses, IsAtEnd}
 use Rattle.runs.specs.OnAir.{ends_phase}
-use Rattle.runs.proofs.Calls.{with_notes, flat_nothing, fold_called, fold_event, past_other, past_own, same_station, turns_called, turns_same}
+use Rattle.runs.proofs.Calls.{with_notes, flat_nothing, fold_called, fold_event, past_other, past_own, turns_called, turns_same}
 use Rattle.runs.proofs.Places.{each_append, each_at, each_event}
 use Rattle.runs.proofs.Stations.{is_in, among, in_more_other, in_more_same, not_before, others_differ}
 use Rattle.runs.proofs.Walk.{Place, NoTurn, AtFeeds, AtBegins, AfterPhases, AtPackets, AtListening, AtEnds, IsKept, IsWhole, IsStopped, ends_with, run_kept}

@@ -1,10 +1,8 @@
 -- The links of a controller after a step, and the slot of its turn.
-use Rattle.std.proofs.Common.{◌≡◌, ℕ, zero, suc, ◌+◌, ◌==◌, Bool, true, false, Option, Some, None, List, [], ◌∷◌, replicate, map, refl, sym, ap, subst, ◌∙◌}
-use Rattle.std.specs.Prelude.{⊤, if◌then◌else◌, ◌&&◌}
+use Rattle.std.proofs.Common.{◌≡◌, ℕ, zero, suc, ◌+◌, ◌==◌, Bool, true, false, Option, Some, None, List, [], ◌∷◌, replicate, refl, sym, ap, subst, ◌∙◌}
+use Rattle.std.specs.Prelude.{⊤, if◌then◌else◌}
 use Rattle.std.specs.Option.{option_map}
 use Rattle.ble_base.specs.declared.addresses.Address.{Address}
-use Rattle.ble_base.specs.declared.roles.Role.{Role}
-use Rattle.ble_base.specs.declared.roles.Role.TheVariants.{Central, Peripheral}
 use Rattle.adv_pdu.specs.declared.pdu.AdvPdu.{AdvPdu}
 use Rattle.adv_pdu.specs.declared.pdu.ConnectFields.{ConnectFields}
 use Rattle.advertise.specs.declared.answers.AdvAnswer.{AdvAnswer}
@@ -28,16 +26,16 @@ use Rattle.scan_init.specs.Reports.{ScannerFacts}
 use Rattle.slot_plan.specs.declared.Activity.{Activity}
 use Rattle.slot_plan.specs.declared.Activity.TheVariants.{Link, Advertise, Scan, Initiate}
 use Rattle.slot_plan.specs.Holding.{is_held_in, winner_of}
-use Rattle.open_links.specs.OpenLinks.{Links, OpenLink, free_from, link_after, link_at, link_from, link_served, with_change, with_change_from, with_link, without_links}
+use Rattle.open_links.specs.OpenLinks.{Links, OpenLink, free_from, link_after, link_from, link_served, with_change, with_change_from, with_link, without_links}
 use Rattle.open_links.specs.Turns.{is_anchor, entered_if, links_entered, links_staying, reason_in, staying_by}
 use Rattle.one_side.specs.declared.doing.Doing.{Doing}
-use Rattle.one_side.specs.declared.doing.Doing.TheVariants.{Advertises, AwaitsRequest, Responds, Scans, Requests, AwaitsResponse, Initiates, Connects, CentralSends, CentralListens, PeripheralListens, PeripheralSends, Rests}
+use Rattle.one_side.specs.declared.doing.Doing.TheVariants.{Advertises, AwaitsRequest, Scans, Requests, AwaitsResponse, Initiates, Connects, CentralSends, CentralListens, PeripheralListens, PeripheralSends, Rests}
 use Rattle.one_side.specs.Step.{Step, HostOctet, TurnBegins, PacketHeard, NothingHeard, TurnEnds}
 use Rattle.one_side.specs.Facts.{Setup, Facts}
 use Rattle.one_side.specs.Commands.{facts_commanded, facts_known, links_after}
 use Rattle.one_side.specs.Heard.{advertiser_answers, advertiser_heard, connects, heard, if_pdu, initiator_heard, link_heard, link_taken, link_to, opens, scanner_heard, taken_if, taken_under, unheard}
 use Rattle.one_side.specs.Links.{facts_ending}
-use Rattle.one_side.specs.Outcome.{Outcome, facts_passed, goes_on}
+use Rattle.one_side.specs.Outcome.{Outcome, facts_passed}
 use Rattle.one_side.specs.Packets.{links_sending, pdu_heard}
 use Rattle.one_side.specs.Radio.{facts_entering, outcome_begun, plan_in, served, radio_served, turn_begins, winner_served}
 use Rattle.one_side.specs.Side.{facts_after, facts_fed, result_of}

@@ -3,16 +3,16 @@ use Rattle.std.proofs.Common.{◌≡◌, ℕ, zero, suc, ◌<◌, List, [], ◌�
 use Rattle.std.specs.Prelude.{drop, map, take, Some}
 use Rattle.std.specs.List.{IsDistinct}
 use Rattle.radio_replay.specs.Script.{Script}
-use Rattle.one_side.specs.Step.{Step, HostOctet, TurnBegins, TurnEnds}
+use Rattle.one_side.specs.Step.{Step, TurnBegins, TurnEnds}
 use Rattle.runs.specs.History.{Event, TurnBegan, Transmitted, packet_received}
 use Rattle.runs.specs.Links.{links_of}
 use Rattle.runs.specs.Journal.{side_of, radio_in, entries_of, journal_of}
-use Rattle.runs.specs.Run.{Given, Stop, octets_left, after_call, after_feed, after_listening, hearings_of, step_of, run_of, history_of}
+use Rattle.runs.specs.Run.{Given, octets_left, after_call, after_feed, hearings_of, step_of, run_of, history_of}
 use Rattle.runs.specs.Pair.{given_of}
 use Rattle.runs.specs.Feeding.{AreDistinct}
 use Rattle.runs.specs.Order.{IsInOrder, Part, Feeding, Sending, Noting, turn_parts}
 use Rattle.runs.proofs.Walk.{Place, NoTurn, AtFeeds, AtBegins, AfterPhases, AtPackets, AtListening, AtEnds, IsKept, IsWhole, IsStopped, ends_with, run_kept}
-use Rattle.runs.proofs.Parts.{Adds, AddsNotes, IsInTurn, call_adds, feed_adds, journal_event, notes_part, packet_part, turn_begins, turn_goes_on, turn_stops}
+use Rattle.runs.proofs.Parts.{Adds, IsInTurn, call_adds, feed_adds, journal_event, notes_part, packet_part, turn_begins, turn_goes_on, turn_stops}
 
 -- ---- the parts of a turn that are done
 

@@ -1,10 +1,10 @@
 -- Small runs of two controllers, A and B, as worked examples set them up.
-use Rattle.std.specs.Prelude.{ℕ, true, List, [], ◌∷◌, Option, Some, None}
+use Rattle.std.specs.Prelude.{ℕ, true, List, [], ◌∷◌, ◌++◌, Option, Some, None}
 use Rattle.ble_base.specs.declared.roles.Side.TheVariants.{A, B}
 use Rattle.journal.specs.declared.entries.Entry.{Entry}
 use Rattle.ble_base.specs.declared.roles.Role.TheVariants.{Central, Peripheral}
 use Rattle.ble_base.specs.declared.verdicts.Verdict.TheVariants.{Good}
-use Rattle.journal.specs.declared.entries.Entry.TheVariants.{Turn, Fed, Air, Up, Opened}
+use Rattle.journal.specs.declared.entries.Entry.TheVariants.{Turn, Fed, Air, Up, Opened, Enter}
 use Rattle.journal.specs.declared.entries.Mark.TheVariants.{Pass as Passed}
 use Rattle.radio_replay.specs.declared.fates.Fate.{Fate}
 use Rattle.radio_replay.specs.declared.fates.Fate.TheVariants.{Damage}
@@ -112,3 +112,19 @@ one_connection_journal =
     turn_entry 0 ∷ Fed A enabling_octets ∷ Up A (answer 0x0A 0x20) ∷ Fed B connecting_octets ∷ Up B status_answer
     ∷ Air A 37 connectable_packet Passed Good ∷ Air B 37 connect_packet Passed Good
     ∷ Opened A 1 0 Peripheral ∷ Opened B 1 0 Central ∷ []
+
+-- the same in three turns, the last of which has the first event of the link
+abbrev pub one_event : Given
+one_event = pair_with enabling_octets connecting_octets (plan_with 5 29 [] ∷ plan_with 0 0 [] ∷ plan_with 0 0 [] ∷ [])
+
+-- the empty PDUs of B and of A on data channel 25, with the access address of the link and its CRCInit
+abbrev pub first_packet : List ℕ
+first_packet = 0x29 ∷ 0x41 ∷ 0x76 ∷ 0x71 ∷ 0x50 ∷ 0xFA ∷ 0xDE ∷ 0xE5 ∷ 0x50 ∷ []
+
+abbrev pub first_reply : List ℕ
+first_reply = 0x29 ∷ 0x41 ∷ 0x76 ∷ 0x71 ∷ 0x54 ∷ 0xFA ∷ 0x0D ∷ 0xE3 ∷ 0x50 ∷ []
+
+abbrev pub one_event_journal : List Entry
+one_event_journal =
+    one_connection_journal ++ turn_entry 1 ∷ turn_entry 2 ∷ Enter A 1 0 25 ∷ Enter B 1 0 25
+    ∷ Air B 25 first_packet Passed Good ∷ Air A 25 first_reply Passed Good ∷ []

@@ -10,7 +10,8 @@ ghost use Rattle.one_side.specs.Rows.{advertisement_ending};
 ghost use Rattle.runs.specs.Run.{history_of, run_of};
 ghost use Rattle.runs.specs.Journal.{journal_of};
 ghost use Rattle.runs.specs.Rows.{advertisement_opening, first_reset, first_reset_journal};
-ghost use Rattle.runs.specs.Rows.{one_advertisement, one_connection, one_connection_journal, report};
+ghost use Rattle.runs.specs.Rows.{one_advertisement, one_connection, one_connection_journal};
+ghost use Rattle.runs.specs.Rows.{one_event, one_event_journal, report};
 ghost use Rattle.runs.specs.Rows.{damage_at, other_advertisement, stop_of, unseen_pattern};
 
 /// The journals of three runs: a first HCI_Reset; one advertisement that is reported; and one that
@@ -44,8 +45,10 @@ pub fn worked_damage()
         (one_advertisement (damage_at 11 unseen_pattern ∷ [])))) ≡ advertisement_opening [] }
 {}
 
-/// The journal of a run of one turn in which a link opens: A advertises, B initiates and answers
-/// the advertisement by a CONNECT_IND, and both open the link.
+/// The journals of two runs in which a link opens. In one turn A advertises, B initiates and
+/// answers the advertisement by a CONNECT_IND, and both open the link; two turns later is its first
+/// event, in which both send an empty PDU.
 pub fn worked_connection()
-    ensures { journal_of (history_of (run_of one_connection)) ≡ one_connection_journal }
+    ensures opens { journal_of (history_of (run_of one_connection)) ≡ one_connection_journal }
+    ensures event { journal_of (history_of (run_of one_event)) ≡ one_event_journal }
 {}
