@@ -42,7 +42,7 @@ def main():
         event = (linked - seldom) / (1 / INTERVAL - 1 / LONG_INTERVAL)
         between = linked - event / INTERVAL
         print(f"An idle turn: {still:,.0f} instructions")
-        print(f"A turn of a link with an interval of {INTERVAL}: {linked:,.0f}, {linked / still:.2f} times an idle turn")
+        print(f"A turn of a link, interval {INTERVAL}: {linked:,.0f}, {linked / still:.2f} times an idle turn")
         print(f"  between events: {between:,.0f}, {between / still:.2f} times")
         print(f"  more in the turn of an event: {event:,.0f}, {event / still:.2f} times")
         _, idle_memory, idle_text = run(program, folder, idle(100_000))

@@ -1,4 +1,4 @@
-"""Runs `ble pair` on loads of host octets, of the radio and of a link, whole and halved, and prints figures and ratios."""
+"""Runs `ble pair` on loads of hosts, of the radio and of a link, whole and halved, and prints figures and ratios."""
 import os
 import subprocess
 import sys
