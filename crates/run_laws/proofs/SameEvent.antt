@@ -1,14 +1,12 @@
 -- Two ends of one link come from one event of the history.
-use Rattle.std.proofs.Common.{◌≡◌, ◌≢◌, ℕ, suc, ◌+◌, Bool, true, List, [], ◌∷◌, ◌++◌, refl, sym, ap, subst, ◌∙◌, arith}
-use Rattle.std.specs.Prelude.{Option, Some, None}
+use Rattle.std.proofs.Common.{◌≡◌, ◌≢◌, ℕ, ◌+◌, Bool, List, [], ◌∷◌, ◌++◌, sym, ap, subst, ◌∙◌, arith}
+use Rattle.std.specs.Prelude.{Some}
 use Rattle.ble_base.specs.declared.addresses.Address.{Address}
-use Rattle.ble_base.specs.declared.roles.Role.{Role}
-use Rattle.ble_base.specs.declared.roles.Role.TheVariants.{Central, Peripheral}
 use Rattle.adv_pdu.specs.declared.pdu.AdvPdu.TheVariants.{Connect}
 use Rattle.adv_pdu.specs.declared.pdu.ConnectFields.{ConnectFields}
 use Rattle.one_end.specs.Setup.{Setup}
 use Rattle.one_side.specs.Packets.{pdu_heard}
-use Rattle.runs.specs.History.{Event, Transmitted, Hearing, turns_begun}
+use Rattle.runs.specs.History.{Event, turns_begun}
 use Rattle.runs.specs.LinkEnds.{ConnectInd, HasConnectInd, IsAtEnd}
 use Rattle.run_laws.specs.Ends.{AreEnds, HaveOneConnectInd, OpenEnd}
 
