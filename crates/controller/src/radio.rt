@@ -80,9 +80,7 @@ impl<const L: usize, const T: usize, const R: usize> Controller<L, T, R> {
             Doing::CentralListens { handle } | Doing::PeripheralListens { handle } => {
                 self.listen_on(handle)
             }
-            Doing::Advertises { channel } => {
-                send_pdu(channel, self.advertising.advertisement())
-            }
+            Doing::Advertises { channel } => { send_pdu(channel, self.advertising.advertisement()) }
             Doing::Responds { channel } => send_pdu(channel, self.advertising.response()),
             Doing::Requests {
                 channel,
