@@ -19,7 +19,7 @@ pub record AreAgreed (one other : Acknowledgement) : Type 0 where
   pub one_last : one.last ≡ empty_pdu
   pub other_last : other.last ≡ empty_pdu
 
-exchange : (one other : Acknowledgement) → AreAgreed one other → AreAgreed other one
+pub exchange : (one other : Acknowledgement) → AreAgreed one other → AreAgreed other one
 exchange one other agreed =
     record { step = exchanged (end_of one) (end_of other) agreed.step; one_last = agreed.other_last; other_last = agreed.one_last }
 
@@ -28,7 +28,7 @@ last_sent true ack last = refl
 last_sent false ack last = last
 
 -- one end sends
-sends : (one other : Acknowledgement) → AreAgreed one other → AreAgreed (after_sending empty_pdu one) other
+pub sends : (one other : Acknowledgement) → AreAgreed one other → AreAgreed (after_sending empty_pdu one) other
 sends one other agreed =
     record {
       step = sent (end_of one) (end_of other) empty_pdu agreed.step;
@@ -41,7 +41,7 @@ abbrev plain_packet : Packet Pdu
 plain_packet = record { next = empty_pdu; llid = 1; md = false; length = 0; arrives = true; room = true }
 
 -- what the other end holds when it received the packet of this one
-heard : (whole : IsHeardWhole) (from to : Setup) (slot : ℕ) (sender facts : Facts) → AreOneLink from to
+pub heard : (whole : IsHeardWhole) (from to : Setup) (slot : ℕ) (sender facts : Facts) → AreOneLink from to
     → sender.event.channel ≡ facts.event.channel
     → (facts_after to facts (PacketReceived slot (packet_sent from sender))).acknowledgement
     ≡ after_receiving (header_sent sender) empty_pdu facts.acknowledgement
@@ -49,7 +49,7 @@ heard whole from to slot sender facts one channel =
     ap (λ pdu. (facts_received slot pdu facts).acknowledgement) (heard_good whole from to sender facts one channel)
     ∙ (λ i. after_receiving (header_read sender i) (pdu_read sender i) facts.acknowledgement)
 
-receives : (one other : Acknowledgement) (sender : Facts) → one ≡ sender.acknowledgement → AreAgreed one other → IsOut (end_of one)
+pub receives : (one other : Acknowledgement) (sender : Facts) → one ≡ sender.acknowledgement → AreAgreed one other → IsOut (end_of one)
     → AreAgreed one (after_receiving (header_sent sender) empty_pdu other)
 receives one other sender same agreed is_out =
     let at_ends : AreInStep (end_of one) (end_after_receiving (end_of other) (header_from (end_of one) plain_packet) one.last true) =

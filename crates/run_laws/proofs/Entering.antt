@@ -35,9 +35,9 @@ use Rattle.runs.specs.Run.{Given, facts_at, run_of, setup_at, history_of}
 use Rattle.runs.proofs.LinkEnds.{AreTaken}
 use Rattle.runs.proofs.Stations.{is_in}
 use Rattle.run_laws.specs.Ends.{HaveOneConnectInd}
-use Rattle.run_laws.proofs.OpenSteps.{EachOpen, IsKeptOpen, MayOpen, begin_open, end_open, none_open, octet_open, open_has, phase_open}
+use Rattle.run_laws.proofs.OpenSteps.{EachOpen, IsKeptOpen, MayOpen, begin_open, end_open, none_open, octet_open, open_has, phase_open, IsKeptServed}
 use Rattle.run_laws.proofs.TurnPlaces.{Between, IsTurned, Stage, Within, stands_in_run, turned}
-use Rattle.run_laws.proofs.TurnSteps.{FitsFirst, initiates, pending, MakesWell, begins_begun, begins_make, begins_may, begins_slot, octet_turn, phase_makes, phase_turn}
+use Rattle.run_laws.proofs.TurnSteps.{FitsChannel, FitsFirst, IsListening, begins_listening, may_fit, phase_fits, phase_listens, initiates, pending, MakesWell, begins_begun, begins_make, begins_may, begins_slot, octet_turn, phase_makes, phase_turn}
 
 -- ---- a link that is taken has its fields in range
 
@@ -70,6 +70,8 @@ pub record IsInTurn (setup : Setup) (stage : Stage) (begun : ℕ) (facts : Facts
   pub slot_is : SlotIs stage begun facts.turn.slot
   pub does : DoesAt stage facts.turn.doing
   pub makes : MakesWell setup facts.connections facts.turn.doing
+  pub listens : IsListening facts facts.turn.doing
+  pub fits : FitsChannel facts.turn.doing
 
 first_does : (phases : ℕ) (before after : Doing) → DoesAt (Within phases) before → initiates after ≡ false
     → (initiates before ≡ false → pending after ≡ 0) → DoesAt (Within (suc phases)) after
@@ -80,10 +82,13 @@ first_does (suc (suc phases)) before after does later last = (later, last does.0
 pub turn_kept : (setup : Setup) → IsTurned setup (IsInTurn setup)
 turn_kept setup = record {
   feeds = λ begun octet facts in_turn.
-      let same = octet_turn setup facts octet in record {
+      let same = octet_turn setup facts octet in
+      let rests = ap (λ (turn : Turn). turn.doing) same.turn ∙ in_turn.does in record {
+        listens = subst (IsListening (facts_after setup facts (HostOctet octet))) (sym rests) tt;
+        fits = subst FitsChannel (sym rests) tt;
         begun_is = ap (λ (turn : Turn). turn.begun) same.turn ∙ in_turn.begun_is;
         slot_is = tt;
-        does = ap (λ (turn : Turn). turn.doing) same.turn ∙ in_turn.does;
+        does = rests;
         makes = subst (λ n. MakesWell setup n (facts_after setup facts (HostOctet octet)).turn.doing) (sym same.connections)
             (subst (λ (turn : Turn). MakesWell setup facts.connections turn.doing) (sym same.turn) in_turn.makes);
       };
@@ -92,6 +97,8 @@ turn_kept setup = record {
     slot_is = ap (λ n. n + 1) (begins_slot setup begun on facts);
     does = begins_may setup begun on facts in_turn.begun_is;
     makes = begins_make setup begun on facts in_turn.begun_is;
+    listens = begins_listening setup begun on facts;
+    fits = may_fit _ (begins_may setup begun on facts in_turn.begun_is);
   };
   passes = λ phases begun received facts in_turn.
       let passed = phase_turn setup facts received in record {
@@ -99,12 +106,14 @@ turn_kept setup = record {
         slot_is = ap (λ n. n + 1) passed.slot ∙ in_turn.slot_is;
         does = first_does phases facts.turn.doing _ in_turn.does passed.later passed.last;
         makes = phase_makes setup facts received;
+        listens = phase_listens setup facts received;
+        fits = phase_fits setup facts received in_turn.fits;
       };
-  ends = λ begun facts in_turn. record { begun_is = in_turn.begun_is; slot_is = tt; does = refl; makes = tt };
+  ends = λ begun facts in_turn. record { begun_is = in_turn.begun_is; slot_is = tt; does = refl; makes = tt; listens = tt; fits = tt };
 }
 
 pub turn_first : (setup : Setup) → IsInTurn setup Between 0 (first_facts setup)
-turn_first setup = record { begun_is = refl; slot_is = tt; does = refl; makes = tt }
+turn_first setup = record { begun_is = refl; slot_is = tt; does = refl; makes = tt; listens = tt; fits = tt }
 
 -- ---- a link from call to call
 
@@ -130,11 +139,16 @@ other_step slot link step none entering = record {
   earlier = entering.earlier;
 }
 
-entering_open : (slot : ℕ) → IsKeptOpen (IsEntering slot)
-entering_open slot = record {
+entering_served : (slot : ℕ) → IsKeptServed (IsEntering slot)
+entering_served slot = record {
   served = λ now link entering.
       record { on_time = same_on_time slot link (link_served now link) refl refl entering.on_time; some = entering.some; earlier = entering.earlier };
   sent = λ now link entering. other_step slot link (PacketSent now) (fold-append count_entry 0 link.past (PacketSent now ∷ [])) entering;
+}
+
+entering_open : (slot : ℕ) → IsKeptOpen (IsEntering slot)
+entering_open slot = record {
+  serving = entering_served slot;
   received = λ now octets link entering.
       other_step slot link (PacketReceived now octets) (fold-append count_entry 0 link.past (PacketReceived now octets ∷ [])) entering;
 }
@@ -180,7 +194,7 @@ entering_kept taken setup = record {
   };
   begins = λ begun on facts are. record {
     in_turn = (turn_kept setup).begins begun on facts are.in_turn;
-    each = begin_open (IsEntering begun) (IsEntering (begun + 1)) (entering_open (begun + 1)) setup begun on facts (entered_next begun) are.each;
+    each = begin_open (IsEntering begun) (IsEntering (begun + 1)) (entering_served (begun + 1)) setup begun on facts (entered_next begun) are.each;
   };
   passes = λ phases begun received facts are. record {
     in_turn = (turn_kept setup).passes phases begun received facts are.in_turn;
@@ -188,7 +202,7 @@ entering_kept taken setup = record {
   };
   ends = λ begun facts are. record {
     in_turn = (turn_kept setup).ends begun facts are.in_turn;
-    each = end_open (IsEntering begun) (entering_open begun) setup facts are.each;
+    each = end_open (IsEntering begun) (entering_served begun) setup facts are.each;
   };
 }
 

@@ -8,3 +8,6 @@ pub mod BetweenTurns
 pub mod SentPackets
 pub mod ConnectInds
 pub mod DistinctAccess
+pub mod Hearings
+pub mod ByCalls
+pub mod ChSel

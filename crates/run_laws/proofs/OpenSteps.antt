@@ -79,10 +79,14 @@ enter_open P Q slot [] more each = tt
 enter_open P Q slot (None ∷ links) more each = (tt, enter_open P Q slot links more each.1)
 enter_open P Q slot (Some link ∷ links) more each = (more link each.0, enter_open P Q slot links more each.1)
 
--- what gets the radio, sends and receives keeps the fact
-pub record IsKeptOpen (P : OpenLink → Type 0) : Type 0 where
+-- what gets the radio and sends keeps the fact
+pub record IsKeptServed (P : OpenLink → Type 0) : Type 0 where
   pub served : (slot : ℕ) (link : OpenLink) → P link → P (link_served slot link)
   pub sent : (slot : ℕ) (link : OpenLink) → P link → P (link_after (PacketSent slot) link)
+
+-- and what receives
+pub record IsKeptOpen (P : OpenLink → Type 0) : Type 0 where
+  pub serving : IsKeptServed P
   pub received : (slot : ℕ) (octets : List ℕ) (link : OpenLink) → P link → P (link_after (PacketReceived slot octets) link)
 
 module _ (P : OpenLink → Type 0) where
@@ -145,7 +149,7 @@ module _ (P : OpenLink → Type 0) where
   pub octet_open : (setup : Setup) (facts : Facts) (octet : ℕ) → EachOpen P facts.links → EachOpen P (facts_after setup facts (HostOctet octet)).links
   octet_open setup facts octet each = fed_open setup facts (result_of facts.octets octet) each
 
-  module _ (kept : IsKeptOpen P) where
+  module _ (kept : IsKeptServed P) where
     wins : (slot : ℕ) (activity : Activity) (links : Links) → EachOpen P links → EachOpen P (links_won slot activity links)
     wins slot (Link handle) links each = changed handle (link_served slot) links (kept.served slot) each
     wins slot Advertise links each = each
@@ -179,8 +183,9 @@ module _ (P : OpenLink → Type 0) where
     pub end_open : (setup : Setup) (facts : Facts) → EachOpen P facts.links → EachOpen P (facts_after setup facts TurnEnds).links
     end_open setup facts each = sends facts.turn.slot Rests facts.links each
 
-    -- ---- a phase
+  -- ---- a phase
 
+  module _ (kept : IsKeptOpen P) where
     -- a link that is opened in it has the fact
     pub record MayOpen (facts : Facts) : Type 0 where
       pub made : (channel : ℕ) (link : LinkSetup) → facts.turn.doing ≡ Connects channel link → P (new_link (record { link = link; opened = facts.turn.slot }))
@@ -192,10 +197,10 @@ module _ (P : OpenLink → Type 0) where
         → EachOpen P (facts_passed (opens link facts)).links
     opens_open link facts has each =
         opening_passes (λ after. EachOpen P after.links) link facts
-        (sends facts.turn.slot Rests _ (opened (record { link = link; opened = facts.turn.slot }) facts.links has each))
+        (sends kept.serving facts.turn.slot Rests _ (opened (record { link = link; opened = facts.turn.slot }) facts.links has each))
 
     asks_open : (asks : Bool) (slot channel : ℕ) (pdu : AdvPdu) (links : Links) → EachOpen P links → EachOpen P (links_sending slot (asks_if asks channel pdu) links)
-    asks_open asks slot channel pdu links each = sends slot (asks_if asks channel pdu) links each
+    asks_open asks slot channel pdu links each = sends kept.serving slot (asks_if asks channel pdu) links each
 
     outcomes_open : (setup : Setup) (facts : Facts) → MayOpen facts → EachOpen P facts.links → EachOutcome setup facts (λ outcome. EachOpen P (facts_passed outcome).links)
     outcomes_open setup facts may each = record {
@@ -213,7 +218,7 @@ module _ (P : OpenLink → Type 0) where
           asks_open (false && does_ask (scan_answer on.params facts.view.accepted on.recent pdu)) facts.turn.slot channel pdu facts.links each;
       connects = λ channel octets pdu on access handle doing is_on hears answers next free in_range. each;
       received = λ handle octets.
-          sends facts.turn.slot (reply_if (replies_in (link_at handle facts.links) octets) handle) _
+          sends kept.serving facts.turn.slot (reply_if (replies_in (link_at handle facts.links) octets) handle) _
           (changed handle (link_after (PacketReceived facts.turn.slot octets)) facts.links (kept.received facts.turn.slot octets) each);
     }
 
@@ -223,7 +228,7 @@ module _ (P : OpenLink → Type 0) where
     phase_open setup facts (Some octets) may each = heard_is setup facts _ (outcomes_open setup facts may each) facts.turn.doing octets refl
 
 -- a turn begins: what is kept of the links that stay, and what holds of each as it enters its event
-pub begin_open : (P Q : OpenLink → Type 0) → IsKeptOpen Q → (setup : Setup) (slot : ℕ) (on : Bool) (facts : Facts)
+pub begin_open : (P Q : OpenLink → Type 0) → IsKeptServed Q → (setup : Setup) (slot : ℕ) (on : Bool) (facts : Facts)
     → ((link : OpenLink) → P link → Q (link_entered slot link)) → EachOpen P facts.links → EachOpen Q (facts_after setup facts (TurnBegins slot on)).links
 begin_open P Q kept setup slot on facts enters each =
     let begun = turn_begins slot (facts_ending slot facts) in

@@ -1,5 +1,5 @@
 -- The turn of a controller after each call on it: its slot, what is done next, and how many access addresses were taken.
-use Rattle.std.proofs.Common.{◌≡◌, ℕ, zero, suc, ◌+◌, Bool, true, false, Option, Some, None, List, refl, sym, ap, ◌∙◌, arith}
+use Rattle.std.proofs.Common.{◌≡◌, ℕ, zero, suc, ◌+◌, Bool, true, false, Option, Some, None, List, refl, sym, ap, ◌∙◌, arith, subst}
 use Rattle.std.specs.Prelude.{⊤, ◌&&◌, ◌==◌}
 use Rattle.adv_pdu.specs.declared.pdu.AdvPdu.{AdvPdu}
 use Rattle.adv_pdu.specs.Ranges.{is_in_range}
@@ -18,18 +18,18 @@ use Rattle.slot_plan.specs.declared.Activity.{Activity}
 use Rattle.slot_plan.specs.Holding.{is_held_in, winner_of}
 use Rattle.open_links.specs.OpenLinks.{link_at}
 use Rattle.one_side.specs.declared.doing.Doing.{Doing}
-use Rattle.one_side.specs.declared.doing.Doing.TheVariants.{Advertises, AwaitsRequest, Responds, AwaitsResponse, Initiates, Connects, CentralListens, Rests}
+use Rattle.one_side.specs.declared.doing.Doing.TheVariants.{Advertises, AwaitsRequest, Responds, AwaitsResponse, Initiates, Connects, CentralListens, Rests, PeripheralListens, Scans}
 use Rattle.one_side.specs.declared.doing.Turn.{Turn}
 use Rattle.one_side.specs.Step.{HostOctet, TurnBegins}
-use Rattle.one_side.specs.Facts.{Setup, Facts}
+use Rattle.one_side.specs.Facts.{Setup, Facts, Listens}
 use Rattle.one_side.specs.Commands.{facts_commanded, facts_known}
-use Rattle.one_side.specs.Heard.{access_found, asks_if, link_received, link_taken, opens, replies_in, reply_if, scanner_after, with_scanner}
+use Rattle.one_side.specs.Heard.{access_found, asks_if, link_received, link_taken, opens, replies_in, reply_if, scanner_after, with_scanner, unheard, heard}
 use Rattle.one_side.specs.Links.{facts_ending}
 use Rattle.one_side.specs.Outcome.{facts_passed}
-use Rattle.one_side.specs.Packets.{facts_doing}
-use Rattle.one_side.specs.Radio.{facts_entering, plan_in, radio_served, served, turn_begins, winner_served}
+use Rattle.one_side.specs.Packets.{facts_doing, listens_on}
+use Rattle.one_side.specs.Radio.{facts_entering, plan_in, radio_served, served, turn_begins, winner_served, outcome_begun}
 use Rattle.one_side.specs.Side.{facts_after, facts_fed, result_of}
-use Rattle.one_side.proofs.Always.{IsKeptAtStarts, MayBegin, facts_opening, opening_passes, start_keeps, winning_is}
+use Rattle.one_side.proofs.Always.{IsKeptAtStarts, MayBegin, facts_opening, opening_passes, start_keeps, winning_is, IsAdvertisingChannel}
 use Rattle.one_side.proofs.Phases.{EachOutcome, heard_is, unheard_is}
 use Rattle.runs.specs.Run.{step_of}
 
@@ -262,3 +262,73 @@ phase_makes setup facts (Some octets) = heard_is setup facts _ (passes_making se
 pub begins_make : (setup : Setup) (slot : ℕ) (on : Bool) (facts : Facts) → facts.turn.begun ≡ slot
     → MakesWell setup (facts_after setup facts (TurnBegins slot on)).connections (facts_after setup facts (TurnBegins slot on)).turn.doing
 begins_make setup slot on facts is = begin_makes setup _ _ (begins_may setup slot on facts is)
+
+-- ---- what it listens for
+
+abbrev pub IsListening : Facts → Doing → Type 0
+IsListening facts (AwaitsRequest channel) = facts.wanted ≡ Listens channel
+IsListening facts (Initiates channel) = facts.wanted ≡ Listens channel
+IsListening facts (CentralListens handle) = facts.wanted ≡ listens_on (link_at handle facts.links)
+IsListening facts (PeripheralListens handle) = facts.wanted ≡ listens_on (link_at handle facts.links)
+IsListening facts other = ⊤
+
+doing_listens : (doing : Doing) (facts : Facts) → IsListening (facts_doing doing facts) doing
+doing_listens (AwaitsRequest channel) facts = refl
+doing_listens (Initiates channel) facts = refl
+doing_listens (CentralListens handle) facts = refl
+doing_listens (PeripheralListens handle) facts = refl
+doing_listens (Advertises channel) facts = tt
+doing_listens other facts = tt
+
+pub begins_listening : (setup : Setup) (slot : ℕ) (on : Bool) (facts : Facts)
+    → IsListening (facts_after setup facts (TurnBegins slot on)) (facts_after setup facts (TurnBegins slot on)).turn.doing
+begins_listening setup slot on facts = doing_listens (outcome_begun slot on facts).next (outcome_begun slot on facts).facts
+
+pub phase_listens : (setup : Setup) (facts : Facts) (received : Option (List ℕ))
+    → IsListening (facts_after setup facts (step_of received)) (facts_after setup facts (step_of received)).turn.doing
+phase_listens setup facts None = doing_listens (unheard facts.turn.doing facts).next (unheard facts.turn.doing facts).facts
+phase_listens setup facts (Some octets) = doing_listens (heard setup facts.turn.doing octets facts).next (heard setup facts.turn.doing octets facts).facts
+
+-- ---- on which channel
+
+abbrev pub FitsChannel : Doing → Type 0
+FitsChannel (Advertises channel) = IsAdvertisingChannel channel
+FitsChannel (AwaitsRequest channel) = IsAdvertisingChannel channel
+FitsChannel (Initiates channel) = IsAdvertisingChannel channel
+FitsChannel other = ⊤
+
+pub may_fit : (doing : Doing) → MayBegin doing → FitsChannel doing
+may_fit (Advertises channel) may = may
+may_fit (Initiates channel) may = may
+may_fit (AwaitsRequest channel) may = absurd may
+may_fit (Scans channel) may = tt
+may_fit other may = tt
+
+asks_fit : (asks : Bool) (channel : ℕ) (pdu : AdvPdu) → FitsChannel (asks_if asks channel pdu)
+asks_fit true channel pdu = tt
+asks_fit false channel pdu = tt
+
+reply_fits : (replies : Bool) (handle : ℕ) → FitsChannel (reply_if replies handle)
+reply_fits true handle = tt
+reply_fits false handle = tt
+
+passes_fitting : (setup : Setup) (facts : Facts) → FitsChannel facts.turn.doing → EachOutcome setup facts (λ outcome. FitsChannel (facts_passed outcome).turn.doing)
+passes_fitting setup facts fits = record {
+  rests = tt;
+  awaits_request = λ channel doing. subst FitsChannel doing fits;
+  awaits_response = λ channel advertiser doing. tt;
+  central_listens = λ handle doing. tt;
+  sent = λ channel link doing. tt;
+  responds = λ channel on doing is_on. tt;
+  taken = λ channel octets pdu on fields handle is_on hears takes free. tt;
+  scanned = λ channel octets pdu on doing is_on hears.
+      asks_fit (true && does_ask (scan_answer on.params facts.view.accepted on.recent pdu)) channel pdu;
+  answered = λ channel octets pdu on doing is_on hears.
+      asks_fit (false && does_ask (scan_answer on.params facts.view.accepted on.recent pdu)) channel pdu;
+  connects = λ channel octets pdu on access handle doing is_on hears answers next free in_range. tt;
+  received = λ handle octets. reply_fits (replies_in (link_at handle facts.links) octets) handle;
+}
+
+pub phase_fits : (setup : Setup) (facts : Facts) (received : Option (List ℕ)) → FitsChannel facts.turn.doing → FitsChannel (facts_after setup facts (step_of received)).turn.doing
+phase_fits setup facts None fits = unheard_is setup facts _ (passes_fitting setup facts fits) facts.turn.doing refl
+phase_fits setup facts (Some octets) fits = heard_is setup facts _ (passes_fitting setup facts fits) facts.turn.doing octets refl

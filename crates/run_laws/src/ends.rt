@@ -1,12 +1,16 @@
 //! Both ends of one link in each run of a pair. The bodies only call the laws that they rest on:
 //! the contracts are the laws.
-ghost use Rattle.std.specs.Prelude.{◌≡◌, ◌≢◌, ◌++◌, ◌∷◌, ℕ, Bool, List, Some};
+ghost use Rattle.std.specs.Prelude.{◌≡◌, ◌≢◌, ◌++◌, ◌∷◌, ℕ, Bool, List, Some, length};
 ghost use Rattle.std.specs.List.{Contains};
-ghost use Rattle.one_end.specs.Events.{entries_in};
-ghost use Rattle.open_links.specs.OpenLinks.{OpenLink, link_at};
+ghost use Rattle.one_end.specs.Events.{IsInEvent, entries_in};
+ghost use Rattle.one_end.specs.Pair.{AreInOneEvent, AreOneLink};
+ghost use Rattle.open_links.specs.OpenLinks.{OpenLink, facts_in, link_at};
 ghost use Rattle.open_links.specs.Slots.{IsOnTime};
+ghost use Rattle.radio_replay.specs.Script.{Script};
 ghost use Rattle.runs.specs.Feeding.{AreDistinct};
 ghost use Rattle.runs.specs.History.{Event, TurnBegan, turns_begun};
+ghost use Rattle.runs.specs.LinkEnds.{HaveAddresses};
+ghost use Rattle.runs.specs.Pair.{given_of};
 ghost use Rattle.runs.specs.Run.{Given, GoesOn, facts_at, history_of, run_of};
 ghost use Rattle.run_laws.specs.Ends.{AreEnds, HaveOneConnectInd, IsOpen, OpenEnd};
 
@@ -48,4 +52,35 @@ pub fn each_end_enters_its_events()
         → (facts_at given station history).turn.begun ≡ turns_begun history }
 {
     advertise::laws::connections_are_taken();
+}
+
+/// At any time of a run, both open ends of one link have one CONNECT_IND, its slot, and one algorithm
+/// for the channels. So where they have entered the same number of events they are in one event:
+/// with one anchor, one set of parameters and one channel. Each is in the event of its CONNECT_IND
+/// with that number (Core 5.2, volume 6 part B, sections 4.5.1, 4.5.3 and 4.5.8).
+pub fn ends_of_one_link_agree()
+    ensures one_link { (given : Given) (before rest : List Event) (central peripheral : OpenEnd)
+        → AreDistinct given.stations → HaveAddresses given
+        → Contains given.stations central.station → Contains given.stations peripheral.station
+        → history_of (run_of given) ≡ before ++ rest → AreEnds before central peripheral
+        → IsOpen given before central → IsOpen given before peripheral
+        → AreOneLink central.link.setup peripheral.link.setup }
+    ensures one_event { (one other : OpenLink) → AreOneLink one.setup other.setup
+        → entries_in one.past ≡ entries_in other.past
+        → AreInOneEvent (facts_in one) (facts_in other) }
+    ensures by_number { (link : OpenLink)
+        → IsInEvent link.setup (entries_in link.past) (facts_in link) }
+    ensures pair { (a b : List ℕ) (script : Script) (before rest : List Event)
+        (central peripheral : OpenEnd)
+        → length script.a.public ≡ 6 → length script.b.public ≡ 6
+        → Contains (given_of a b script).stations central.station
+        → Contains (given_of a b script).stations peripheral.station
+        → history_of (run_of (given_of a b script)) ≡ before ++ rest
+        → AreEnds before central peripheral → IsOpen (given_of a b script) before central
+        → IsOpen (given_of a b script) before peripheral
+        → AreOneLink central.link.setup peripheral.link.setup }
+{
+    one_side::a_pdu_is_understood();
+    one_end::ends_agree_in_each_event();
+    one_end::events_follow_the_connect_ind();
 }

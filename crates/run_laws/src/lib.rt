@@ -5,4 +5,6 @@ mod access;
 mod ends;
 
 pub use crate::access::access_addresses_are_taken_in_order;
-pub use crate::ends::{each_end_enters_its_events, ends_of_one_link_have_one_connect_ind};
+pub use crate::ends::{
+    each_end_enters_its_events, ends_of_one_link_agree, ends_of_one_link_have_one_connect_ind,
+};

@@ -245,7 +245,7 @@ called_same given other station step history differs =
       turns = turns_called station step notes history;
     }
 
-received_event : (other : ℕ) (history : List Event) (event : Event) → packet_received other (history ++ event ∷ []) ≡ received_after other (packet_received other history) event
+pub received_event : (other : ℕ) (history : List Event) (event : Event) → packet_received other (history ++ event ∷ []) ≡ received_after other (packet_received other history) event
 unfolding packet_received
 received_event other history event = fold_event (received_after other) None history event
 
@@ -254,7 +254,7 @@ received_called : (other station : ℕ) (step : Step) (notes : List Note) (histo
 unfolding packet_received
 received_called other station step notes history = fold_called (received_after other) None station step notes history (λ before note. refl)
 
-received_by : (given : Given) (other station : ℕ) (step : Step) (history : List Event) (same : Bool) → (other == station) ≡ same
+pub received_by : (given : Given) (other station : ℕ) (step : Step) (history : List Event) (same : Bool) → (other == station) ≡ same
     → packet_received other (after_call given station step history) ≡ (if same then None else packet_received other history)
 received_by given other station step history same is =
     received_called other station step (notes_after (setup_at given station) (facts_at given station history) step) history
@@ -272,9 +272,9 @@ reached_where true facts octets is = refl
 reached_where false facts octets is = absurd cc
 
 -- a station that received a packet is not its sender, and listened on its channel
-record IsListener (given : Given) (history : List Event) (sender station channel : ℕ) : Type 0 where
-  differs : (station == sender) ≡ false
-  listens : use_at given station history ≡ Listens channel
+pub record IsListener (given : Given) (history : List Event) (sender station channel : ℕ) : Type 0 where
+  pub differs : (station == sender) ≡ false
+  pub listens : use_at given station history ≡ Listens channel
 
 heard_by : (given : Given) (fate : Fate) (channel : ℕ) (octets : List ℕ) (history : List Event) (sender listener station : ℕ) (same good : Bool) (rest : Bool)
     → (station == listener) ≡ same → is_good (hearing_at given fate channel octets history listener).verdict ≡ good → (listener == sender) ≡ false
@@ -299,7 +299,7 @@ listener_from given fates number channel octets history sender station (listener
     (has_received station (hearings_from given fates (number + 1) channel octets history listeners)) refl refl all.0
     (listener_from given fates (number + 1) channel octets history sender station listeners all.1) received
 
-is_listener : (given : Given) (fates : List Fate) (channel : ℕ) (octets : List ℕ) (history : List Event) (sender station : ℕ)
+pub is_listener : (given : Given) (fates : List Fate) (channel : ℕ) (octets : List ℕ) (history : List Event) (sender station : ℕ)
     → has_received station (hearings_of given fates sender channel octets history) ≡ true → IsListener given history sender station channel
 is_listener given fates channel octets history sender station received =
     listener_from given fates (fates_used history) channel octets history sender station (others_than sender given.stations)

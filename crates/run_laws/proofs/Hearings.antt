@@ -1,0 +1,318 @@
+-- What each station of a run hears in a phase: a packet that another one wants to send in it.
+use Rattle.std.proofs.Common.{◌≡◌, ℕ, zero, suc, ◌+◌, ◌<◌, ◌==◌, ◌⊎◌, inl, inr, Bool, true, false, Option, Some, None, List, [], ◌∷◌, ◌++◌, refl, sym, ap, subst, ◌∙◌, append_assoc}
+use Rattle.std.specs.Prelude.{⊤, map, take, if◌then◌else◌}
+use Rattle.std.proofs.lemmas.Bool.{eqb-true, eqb-false}
+use Rattle.ble_base.specs.declared.notes.Note.{Note}
+use Rattle.adv_pdu.specs.declared.pdu.AdvPdu.{AdvPdu}
+use Rattle.adv_pdu.specs.Pdu.{IsPdu}
+use Rattle.one_end.specs.Packets.{packet_sent}
+use Rattle.one_end.specs.Step.{PacketSent}
+use Rattle.open_links.specs.OpenLinks.{OpenLink, facts_in, link_after, link_at}
+use Rattle.one_side.specs.declared.doing.Doing.{Doing}
+use Rattle.one_side.specs.declared.doing.Doing.TheVariants.{Advertises, CentralSends, PeripheralSends}
+use Rattle.one_side.specs.Step.{Step, HostOctet, TurnBegins, PacketHeard, NothingHeard, TurnEnds}
+use Rattle.one_side.specs.Facts.{Setup, Facts, Use, Sends, Listens, Idle}
+use Rattle.one_side.specs.Heard.{unheard}
+use Rattle.one_side.specs.Outcome.{facts_passed}
+use Rattle.one_side.specs.Packets.{advertising_packet, use_of}
+use Rattle.one_side.specs.Sent.{SendsOn}
+use Rattle.one_side.specs.Side.{facts_after, facts_of, notes_after}
+use Rattle.one_side.proofs.Always.{IsAdvertisingChannel}
+use Rattle.one_side.proofs.Pasts.{facts_more}
+use Rattle.radio_replay.specs.declared.fates.Fate.{Fate}
+use Rattle.runs.specs.Due.{packet_in}
+use Rattle.runs.specs.Feeding.{AreDistinct}
+use Rattle.runs.specs.History.{Event, TurnBegan, HostFed, Called, Noted, Transmitted, Hearing, has_received, past_of, packet_received, received_after, turns_begun}
+use Rattle.runs.specs.LinkEnds.{HaveAddresses}
+use Rattle.runs.specs.Run.{Given, setup_at, facts_at, use_at, octets_left, after_call, after_octets, after_feed, hearings_of, step_of}
+use Rattle.runs.proofs.Calls.{past_other, past_own}
+use Rattle.runs.proofs.LinkEnds.{IsListener, is_listener, received_by, received_event}
+use Rattle.runs.proofs.Stations.{is_in, among, in_more_other, in_more_same, not_before}
+use Rattle.runs.proofs.Walk.{Place, NoTurn, AtFeeds, AtBegins, AfterPhases, AtPackets, AtListening, AtEnds, IsKept}
+use Rattle.run_laws.proofs.SentPackets.{HasChSel, IsLinkSent, IsPduSent, IsUseSent, use_is_sent}
+use Rattle.run_laws.proofs.TurnPlaces.{AllStand, event_past, stands_at, stands_kept}
+
+-- ---- what is on the air
+
+pub record IsPduOnAir (channel : ℕ) (octets : List ℕ) : Type 0 where
+  pub pdu : AdvPdu
+  pub is_pdu : IsPdu pdu
+  pub packet : octets ≡ advertising_packet channel pdu
+  pub on_channel : IsAdvertisingChannel channel
+  pub ch_sel : HasChSel pdu
+
+-- the packet of a link that is open at its sender, to which nothing happened after that
+pub record IsLinkOnAir (facts : Facts) (channel : ℕ) (octets : List ℕ) : Type 0 where
+  pub handle : ℕ
+  pub slot : ℕ
+  pub link : OpenLink
+  pub is_open : link_at handle facts.links ≡ Some (link_after (PacketSent slot) link)
+  pub packet : octets ≡ packet_sent link.setup (facts_in link)
+  pub channel_is : channel ≡ (facts_in link).event.channel
+
+abbrev pub IsOnAir : Facts → ℕ → List ℕ → Type 0
+IsOnAir facts channel octets = IsPduOnAir channel octets ⊎ IsLinkOnAir facts channel octets
+
+pub on_air : (facts : Facts) (channel : ℕ) (octets : List ℕ) → IsUseSent facts (Sends channel octets) → IsOnAir facts channel octets
+on_air facts channel octets (inl sent) =
+    inl (record { pdu = sent.pdu; is_pdu = sent.is_pdu; packet = sent.packet; on_channel = sent.on_channel; ch_sel = sent.ch_sel })
+on_air facts channel octets (inr sent) =
+    inr (record { handle = sent.handle; slot = facts.turn.slot; link = sent.link; is_open = sent.is_open; packet = sent.packet; channel_is = sent.channel_is })
+
+-- as the sender takes that it heard nothing, its links stay as they are
+sender_links : (facts : Facts) (handle : ℕ) (doing : Doing) → SendsOn handle doing → (facts_passed (unheard doing facts)).links ≡ facts.links
+sender_links facts handle (CentralSends other) sends = refl
+sender_links facts handle (PeripheralSends other) sends = refl
+sender_links facts handle (Advertises channel) sends = absurd sends
+sender_links facts handle other sends = absurd sends
+
+still_on_air : (setup : Setup) (facts : Facts) (channel : ℕ) (octets : List ℕ) → IsUseSent facts (Sends channel octets)
+    → IsOnAir (facts_after setup facts NothingHeard) channel octets
+still_on_air setup facts channel octets (inl sent) =
+    inl (record { pdu = sent.pdu; is_pdu = sent.is_pdu; packet = sent.packet; on_channel = sent.on_channel; ch_sel = sent.ch_sel })
+still_on_air setup facts channel octets (inr sent) =
+    inr (record {
+      handle = sent.handle;
+      slot = facts.turn.slot;
+      link = sent.link;
+      is_open = ap (link_at sent.handle) (sender_links facts sent.handle facts.turn.doing sent.sends) ∙ sent.is_open;
+      packet = sent.packet;
+      channel_is = sent.channel_is;
+    })
+
+-- ---- what is heard
+
+-- before the sender takes what it heard in the phase, it wants to send the packet
+abbrev pub OnAirIf : Bool → Given → List Event → ℕ → ℕ → List ℕ → Type 0
+OnAirIf true given history sender channel octets = IsOnAir (facts_at given sender history) channel octets
+OnAirIf false given history sender channel octets = use_at given sender history ≡ Sends channel octets
+
+pub record IsHeard (given : Given) (called : List ℕ) (history : List Event) (station : ℕ) (octets : List ℕ) : Type 0 where
+  pub sender : ℕ
+  pub channel : ℕ
+  pub is_one : is_in sender given.stations ≡ true
+  pub differs : (station == sender) ≡ false
+  pub listens : use_at given station history ≡ Listens channel
+  pub sent : OnAirIf (is_in sender called) given history sender channel octets
+
+abbrev pub Hears : Given → List ℕ → List Event → ℕ → Type 0
+Hears given called history station = (octets : List ℕ) → packet_received station history ≡ Some octets → IsHeard given called history station octets
+
+abbrev HearsIf : Bool → Given → List ℕ → List Event → ℕ → Type 0
+HearsIf true given called history station = packet_received station history ≡ None
+HearsIf false given called history station = Hears given called history station
+
+abbrev pub HearsAt : Given → Place → List Event → ℕ → Type 0
+HearsAt given (AtPackets phases done left) history station = Hears given [] history station
+HearsAt given (AtListening phases done left) history station = HearsIf (is_in station done) given done history station
+HearsAt given place history station = packet_received station history ≡ None
+
+pub record AreHearing (given : Given) (place : Place) (history : List Event) : Type 0 where
+  pub stand : AllStand given place history
+  pub hears : (station : ℕ) → is_in station given.stations ≡ true → HearsAt given place history station
+
+-- ---- steps
+
+none_by : (given : Given) (station : ℕ) (step : Step) (history : List Event) (other : ℕ) (same : Bool) → (other == station) ≡ same
+    → packet_received other history ≡ None → packet_received other (after_call given station step history) ≡ None
+none_by given station step history other true is none = received_by given other station step history true is
+none_by given station step history other false is none = received_by given other station step history false is ∙ none
+
+none_called : (given : Given) (station : ℕ) (step : Step) (history : List Event) (other : ℕ) → packet_received other history ≡ None
+    → packet_received other (after_call given station step history) ≡ None
+none_called given station step history other none = none_by given station step history other (other == station) refl none
+
+octets_none : (given : Given) (station : ℕ) (octets : List ℕ) (history : List Event) (other : ℕ) → packet_received other history ≡ None
+    → packet_received other (after_octets given station octets history) ≡ None
+octets_none given station [] history other none = none
+octets_none given station (octet ∷ octets) history other none =
+    octets_none given station octets (after_call given station (HostOctet octet) history) other (none_called given station (HostOctet octet) history other none)
+
+feed_none : (given : Given) (station : ℕ) (octets : List ℕ) (history : List Event) (other : ℕ) → packet_received other history ≡ None
+    → packet_received other (after_feed given station octets history) ≡ None
+feed_none given station [] history other none = none
+feed_none given station (octet ∷ octets) history other none =
+    octets_none given station (octet ∷ octets) (history ++ HostFed station (octet ∷ octets) ∷ []) other
+    (received_event other history (HostFed station (octet ∷ octets)) ∙ none)
+
+hears_nothing : (given : Given) (called : List ℕ) (history : List Event) (station : ℕ) → packet_received station history ≡ None → Hears given called history station
+hears_nothing given called history station none = λ octets is. absurd (let h : None ≡ Some octets = sym none ∙ is in absurd cc)
+
+use_same : (given : Given) (station : ℕ) (history after : List Event) → past_of station after ≡ past_of station history → use_at given station after ≡ use_at given station history
+use_same given station history after same = ap (λ past. use_of (facts_of (setup_at given station) past)) same
+
+facts_same : (given : Given) (station : ℕ) (history after : List Event) → past_of station after ≡ past_of station history → facts_at given station after ≡ facts_at given station history
+facts_same given station history after same = ap (facts_of (setup_at given station)) same
+
+on_air_same : (called : Bool) (given : Given) (history after : List Event) (sender channel : ℕ) (octets : List ℕ) → past_of sender after ≡ past_of sender history
+    → OnAirIf called given history sender channel octets → OnAirIf called given after sender channel octets
+on_air_same true given history after sender channel octets same sent =
+    subst (λ (facts : Facts). IsOnAir facts channel octets) (sym (facts_same given sender history after same)) sent
+on_air_same false given history after sender channel octets same sent = use_same given sender history after same ∙ sent
+
+-- a packet on the air
+packet_heard : (given : Given) (fates : List Fate) (station channel : ℕ) (octets : List ℕ) (history : List Event) (other : ℕ) → is_in station given.stations ≡ true
+    → use_at given station history ≡ Sends channel octets → (received : Bool) → has_received other (hearings_of given fates station channel octets history) ≡ received
+    → Hears given [] history other → Hears given [] (history ++ Transmitted station channel octets (hearings_of given fates station channel octets history) ∷ []) other
+packet_heard given fates station channel octets history other is_one wanted true is hears = λ sent same.
+    let hearings = hearings_of given fates station channel octets history in
+    let event = Transmitted station channel octets hearings in
+    let after = history ++ event ∷ [] in
+    let listener = is_listener given fates channel octets history station other is in
+    let told : Some octets ≡ Some sent = sym (received_event other history event ∙ ap (λ b. if b then Some octets else packet_received other history) is) ∙ same in
+    let equal : octets ≡ sent = cc in record {
+      sender = station;
+      channel = channel;
+      is_one = is_one;
+      differs = listener.differs;
+      listens = use_same given other history after (event_past other history event refl) ∙ listener.listens;
+      sent = use_same given station history after (event_past station history event refl) ∙ wanted ∙ ap (Sends channel) equal;
+    }
+packet_heard given fates station channel octets history other is_one wanted false is hears = λ sent same.
+    let hearings = hearings_of given fates station channel octets history in
+    let event = Transmitted station channel octets hearings in
+    let after = history ++ event ∷ [] in
+    let heard = hears sent (sym (received_event other history event ∙ ap (λ b. if b then Some octets else packet_received other history) is) ∙ same) in record {
+      sender = heard.sender;
+      channel = heard.channel;
+      is_one = heard.is_one;
+      differs = heard.differs;
+      listens = use_same given other history after (event_past other history event refl) ∙ heard.listens;
+      sent = use_same given heard.sender history after (event_past heard.sender history event refl) ∙ heard.sent;
+    }
+
+pub wanted_is : (given : Given) (station : ℕ) (history : List Event) → (facts_at given station history).wanted ≡ use_at given station history
+unfolding use_of
+wanted_is given station history = refl
+
+-- a station that sends hears nothing
+sends_deaf : (given : Given) (called : List ℕ) (history : List Event) (station channel : ℕ) (octets : List ℕ) → Hears given called history station
+    → use_at given station history ≡ Sends channel octets → (received : Option (List ℕ)) → packet_received station history ≡ received → received ≡ None
+sends_deaf given called history station channel octets hears wanted None is = refl
+sends_deaf given called history station channel octets hears wanted (Some heard) is =
+    let h : Sends channel octets ≡ Listens (hears heard is).channel = sym wanted ∙ (hears heard is).listens in absurd cc
+
+pub use_sent_at : (given : Given) → HaveAddresses given → (place : Place) (history : List Event) → AllStand given place history → (station : ℕ) → is_in station given.stations ≡ true
+    → (channel : ℕ) (octets : List ℕ) → use_at given station history ≡ Sends channel octets → IsUseSent (facts_at given station history) (Sends channel octets)
+use_sent_at given six place history stand station is channel octets wanted =
+    subst (IsUseSent (facts_at given station history)) (wanted_is given station history ∙ wanted)
+    (use_is_sent (setup_at given station) (past_of station history) (stands_at place station (turns_begun history)) (six station) (stand station is))
+
+pub own_facts : (given : Given) (station : ℕ) (step : Step) (history : List Event)
+    → facts_at given station (after_call given station step history) ≡ facts_after (setup_at given station) (facts_at given station history) step
+own_facts given station step history =
+    let setup = setup_at given station in
+    ap (facts_of setup) (past_own station step (notes_after setup (facts_at given station history) step) history) ∙ facts_more setup (past_of station history) step
+
+pub other_facts : (given : Given) (station : ℕ) (step : Step) (history : List Event) (other : ℕ) → (other == station) ≡ false
+    → facts_at given other (after_call given station step history) ≡ facts_at given other history
+other_facts given station step history other differs =
+    ap (facts_of (setup_at given other)) (past_other other station step (notes_after (setup_at given station) (facts_at given station history) step) history differs)
+
+-- the sender takes what it heard, or another station does
+sender_by : (given : Given) (done : List ℕ) (station : ℕ) (history : List Event) (sender channel : ℕ) (octets : List ℕ) → is_in station done ≡ false
+    → (use_at given station history ≡ Sends channel octets → IsUseSent (facts_at given station history) (Sends channel octets)) → Hears given done history station
+    → (same : Bool) → (sender == station) ≡ same → OnAirIf (is_in sender done) given history sender channel octets
+    → OnAirIf (is_in sender (done ++ station ∷ [])) given (after_call given station (step_of (packet_received station history)) history) sender channel octets
+sender_by given done station history sender channel octets out uses hears true is sent =
+    let one = eqb-true sender station is in
+    let received = packet_received station history in
+    let after = after_call given station (step_of received) history in
+    let wanted : use_at given station history ≡ Sends channel octets =
+    subst (λ b. OnAirIf b given history station channel octets) out (subst (λ n. OnAirIf (is_in n done) given history n channel octets) one sent) in
+    let deaf = sends_deaf given done history station channel octets hears wanted received refl in
+    let own : facts_at given station after ≡ facts_after (setup_at given station) (facts_at given station history) NothingHeard =
+    own_facts given station (step_of received) history ∙ ap (λ may. facts_after (setup_at given station) (facts_at given station history) (step_of may)) deaf in
+    subst (λ b. OnAirIf b given after sender channel octets) (sym (in_more_same sender station done is))
+    (subst (λ n. IsOnAir (facts_at given n after) channel octets) (sym one)
+    (subst (λ (facts : Facts). IsOnAir facts channel octets) (sym own)
+    (still_on_air (setup_at given station) (facts_at given station history) channel octets (uses wanted))))
+sender_by given done station history sender channel octets out uses hears false is sent =
+    let step = step_of (packet_received station history) in
+    subst (λ b. OnAirIf b given (after_call given station step history) sender channel octets) (sym (in_more_other sender station done is))
+    (on_air_same (is_in sender done) given history (after_call given station step history) sender channel octets
+    (past_other sender station step (notes_after (setup_at given station) (facts_at given station history) step) history is) sent)
+
+listener_if : (given : Given) (done : List ℕ) (station : ℕ) (history : List Event) (other : ℕ) → is_in station done ≡ false
+    → ((channel : ℕ) (octets : List ℕ) → use_at given station history ≡ Sends channel octets → IsUseSent (facts_at given station history) (Sends channel octets))
+    → Hears given done history station → (other == station) ≡ false → (listened : Bool) → HearsIf listened given done history other
+    → HearsIf listened given (done ++ station ∷ []) (after_call given station (step_of (packet_received station history)) history) other
+listener_if given done station history other out uses hears differs true none =
+    none_called given station (step_of (packet_received station history)) history other none
+listener_if given done station history other out uses hears differs false has = λ octets is.
+    let step = step_of (packet_received station history) in
+    let after = after_call given station step history in
+    let heard = has octets (sym (received_by given other station step history false differs) ∙ is) in record {
+      sender = heard.sender;
+      channel = heard.channel;
+      is_one = heard.is_one;
+      differs = heard.differs;
+      listens = use_same given other history after (past_other other station step (notes_after (setup_at given station) (facts_at given station history) step) history differs) ∙ heard.listens;
+      sent = sender_by given done station history heard.sender heard.channel octets out (uses heard.channel octets) hears (heard.sender == station) refl heard.sent;
+    }
+
+listener_by : (given : Given) (done : List ℕ) (station : ℕ) (history : List Event) (other : ℕ) → is_in station done ≡ false
+    → ((channel : ℕ) (octets : List ℕ) → use_at given station history ≡ Sends channel octets → IsUseSent (facts_at given station history) (Sends channel octets))
+    → Hears given done history station → (same : Bool) → (other == station) ≡ same → HearsIf (is_in other done) given done history other
+    → HearsIf (is_in other (done ++ station ∷ [])) given (done ++ station ∷ []) (after_call given station (step_of (packet_received station history)) history) other
+listener_by given done station history other out uses hears true is has =
+    let step = step_of (packet_received station history) in
+    subst (λ b. HearsIf b given (done ++ station ∷ []) (after_call given station step history) other) (sym (in_more_same other station done is))
+    (received_by given other station step history true is)
+listener_by given done station history other out uses hears false is has =
+    subst (λ b. HearsIf b given (done ++ station ∷ []) (after_call given station (step_of (packet_received station history)) history) other)
+    (sym (in_more_other other station done is))
+    (listener_if given done station history other out uses hears is (is_in other done) has)
+
+-- what a station hears whose turn it is to take it
+pub own_hears : (given : Given) (phases : ℕ) (done left : List ℕ) (station : ℕ) (history : List Event) → AreDistinct given.stations → given.stations ≡ done ++ station ∷ left
+    → AreHearing given (AtListening phases done (station ∷ left)) history → Hears given done history station
+own_hears given phases done left station history distinct are hearing =
+    subst (λ b. HearsIf b given done history station) (not_before given.stations done left station distinct are)
+    (hearing.hears station (among given.stations done left station are))
+
+pub hearing_kept : (given : Given) → HaveAddresses given → AreDistinct given.stations → IsKept given (AreHearing given)
+hearing_kept given six distinct = let kept = stands_kept given distinct in record {
+  on_turn = λ slot plan history begun at hearing. record {
+    stand = kept.on_turn slot plan history begun at hearing.stand;
+    hears = λ station is. received_event station history (TurnBegan slot (map plan.radio_of given.stations)) ∙ hearing.hears station is;
+  };
+  on_feed = λ plan done left station history are some now hearing. record {
+    stand = kept.on_feed plan done left station history are some now hearing.stand;
+    hears = λ other is. feed_none given station (take (plan.feed_of station) (octets_left given station history)) history other (hearing.hears other is);
+  };
+  on_fed = λ history hearing. record { stand = kept.on_fed history hearing.stand; hears = hearing.hears };
+  on_begin = λ slot plan done left station history are due hearing. record {
+    stand = kept.on_begin slot plan done left station history are due hearing.stand;
+    hears = λ other is. none_called given station (TurnBegins slot (plan.radio_of station)) history other (hearing.hears other is);
+  };
+  on_begun = λ history hearing. record { stand = kept.on_begun history hearing.stand; hears = hearing.hears };
+  on_phase = λ phases history few hearing. record {
+    stand = kept.on_phase phases history few hearing.stand;
+    hears = λ station is. hears_nothing given [] history station (hearing.hears station is);
+  };
+  on_silence = λ phases done left station history are none hearing.
+      record { stand = kept.on_silence phases done left station history are none hearing.stand; hears = hearing.hears };
+  on_packet = λ phases plan done left station channel octets history are some due hearing. record {
+    stand = kept.on_packet phases plan done left station channel octets history are some due hearing.stand;
+    hears = λ other is. packet_heard given plan.fates station channel octets history other (among given.stations done left station are) due.is_wanted
+        (has_received other (hearings_of given plan.fates station channel octets history)) refl (hearing.hears other is);
+  };
+  on_air = λ phases history hearing. record { stand = kept.on_air phases history hearing.stand; hears = hearing.hears };
+  on_hearing = λ phases done left station history are some hearing. record {
+    stand = kept.on_hearing phases done left station history are some hearing.stand;
+    hears = λ other is. listener_by given done station history other (not_before given.stations done left station distinct are)
+        (use_sent_at given six (AtListening phases done (station ∷ left)) history hearing.stand station (among given.stations done left station are))
+        (own_hears given phases done left station history distinct are hearing) (other == station) refl (hearing.hears other is);
+  };
+  on_heard = λ phases history hearing. record {
+    stand = kept.on_heard phases history hearing.stand;
+    hears = λ station is. subst (λ b. HearsIf b given given.stations history station) is (hearing.hears station is);
+  };
+  on_phases = λ history hearing. record { stand = kept.on_phases history hearing.stand; hears = hearing.hears };
+  on_end = λ done left station history are some hearing. record {
+    stand = kept.on_end done left station history are some hearing.stand;
+    hears = λ other is. none_called given station TurnEnds history other (hearing.hears other is);
+  };
+  on_ended = λ history hearing. record { stand = kept.on_ended history hearing.stand; hears = hearing.hears };
+}

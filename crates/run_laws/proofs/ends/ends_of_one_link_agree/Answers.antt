@@ -1,0 +1,24 @@
+-- Proof of `ends::ends_of_one_link_agree`.
+use Rattle.runs.specs.Pair.{given_of}
+use Rattle.runs.proofs.LinkEnds.{pair_addresses}
+use Rattle.runs.proofs.Ordered.{pair_distinct}
+use Rattle.runs.proofs.Stations.{contains_in}
+use Rattle.run_laws.proofs.ChSel.{one_link}
+use Rattle.run_laws.proofs.ends.ends_of_one_link_agree.Goals as goal
+
+pub returns-clause-one_link : goal.returns-clause-one_link
+returns-clause-one_link c = λ given before rest central peripheral distinct six is is_too at ends is_open is_open_too.
+    one_link c.a_pdu_is_understood.ensures.says given before rest central peripheral distinct six (contains_in given.stations central.station is)
+    (contains_in given.stations peripheral.station is_too) at ends is_open is_open_too
+
+pub returns-clause-one_event : goal.returns-clause-one_event
+returns-clause-one_event c = λ one other link same. c.ends_agree_in_each_event.ensures one.setup other.setup one.past other.past link same
+
+pub returns-clause-by_number : goal.returns-clause-by_number
+returns-clause-by_number c = λ link. c.events_follow_the_connect_ind.ensures link.setup link.past
+
+pub returns-clause-pair : goal.returns-clause-pair
+returns-clause-pair c = λ a b script before rest central peripheral six six_too is is_too at ends is_open is_open_too.
+    let given = given_of a b script in
+    one_link c.a_pdu_is_understood.ensures.says given before rest central peripheral (pair_distinct a b script) (pair_addresses a b script six six_too)
+    (contains_in given.stations central.station is) (contains_in given.stations peripheral.station is_too) at ends is_open is_open_too
