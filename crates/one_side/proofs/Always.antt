@@ -1,5 +1,5 @@
 -- A fact of what a controller holds is true at any time if each kind of change keeps it.
-use Rattle.std.proofs.Common.{◌≡◌, ℕ, ◌+◌, ◌-◌, ◌/◌, ◌%◌, ◌≤◌, ◌<◌, ◌==◌, Bool, true, false, Option, Some, None, List, [], ◌∷◌, inl, inr, cond, refl, sym, subst, ◌∙◌, arith}
+use Rattle.std.proofs.Common.{◌≡◌, ℕ, ◌+◌, ◌-◌, ◌/◌, ◌%◌, ◌≤◌, ◌==◌, Bool, true, false, Option, Some, None, List, [], ◌∷◌, inl, inr, cond, refl, sym, subst, ◌∙◌, arith}
 use Rattle.std.specs.Prelude.{fold, nat_lt, slice_set, ⊤}
 use Rattle.std.proofs.lemmas.Bool.Decides.{eqb_tells, nat_tests}
 use Rattle.ble_base.specs.Bits.{has_bit}
@@ -20,7 +20,7 @@ use Rattle.host_view.specs.Noted.{opened_link, stopped_by, view_noted}
 use Rattle.host_view.specs.Unbuilt.{status_of}
 use Rattle.scan_init.specs.Initiating.{InitiatorFacts}
 use Rattle.scan_init.specs.Reports.{ScannerFacts}
-use Rattle.scan_init.specs.Windows.{scan_channel, slots_of}
+use Rattle.scan_init.specs.Windows.{slots_of}
 use Rattle.slot_plan.specs.declared.Activity.{Activity}
 use Rattle.slot_plan.specs.declared.Activity.TheVariants.{Link, Advertise, Scan, Initiate}
 use Rattle.slot_plan.specs.Holding.{is_held_in, winner_of}
@@ -28,14 +28,14 @@ use Rattle.one_end.specs.declared.setup.LinkSetup.{LinkSetup}
 use Rattle.one_end.specs.Times.{span_of}
 use Rattle.open_links.specs.declared.ended.LinkEnded.{LinkEnded}
 use Rattle.open_links.specs.OpenLinks.{Links, OpenLink, facts_in, link_at, link_served, with_change, with_link}
-use Rattle.open_links.specs.Turns.{links_entered, links_staying}
+use Rattle.open_links.specs.Turns.{links_staying}
 use Rattle.one_side.specs.declared.doing.Doing.{Doing}
 use Rattle.one_side.specs.declared.doing.Doing.TheVariants.{Advertises, Scans, Initiates, CentralSends, PeripheralListens, Rests}
 use Rattle.one_side.specs.Step.{Step, HostOctet, TurnBegins, PacketHeard, NothingHeard, TurnEnds}
 use Rattle.one_side.specs.Facts.{Setup, Facts, Radio, first_facts, free_radio}
 use Rattle.one_side.specs.Commands.{facts_accepted, facts_commanded, facts_known}
 use Rattle.one_side.specs.Heard.{opens}
-use Rattle.one_side.specs.Links.{ends_in, facts_ending, facts_opened, facts_shut, note_opened, note_shut, radio_without, stopped}
+use Rattle.one_side.specs.Links.{ends_in, facts_ending, facts_opened, facts_shut, note_opened, radio_without, stopped}
 use Rattle.one_side.specs.Outcome.{facts_passed}
 use Rattle.one_side.specs.Packets.{facts_doing}
 use Rattle.one_side.specs.Radio.{advertises_at, advertises_on, doing_held, doing_won, exchange_begins, exchange_if, facts_entering, facts_won, first_exchange, initiates_on, initiator_channel, outcome_begun, plan_in, radio_held, radio_served, scanner_channel, scans_on, second_exchange, served, served_if_on, slots_since, turn_begins, winner_served}

@@ -1,5 +1,5 @@
 -- An initiator makes a link with each device that it is to connect to.
-use Rattle.std.proofs.Common.{◌≡◌, ℕ, ◌≤◌, Bool, true, false, Option, Some, None, List, refl, ap, sym, subst, ◌∙◌, rules}
+use Rattle.std.proofs.Common.{◌≡◌, ℕ, ◌≤◌, Bool, true, false, Option, Some, None, List, rules}
 use Rattle.std.specs.Prelude.{is_some, IsSome}
 use Rattle.adv_pdu.specs.declared.pdu.AdvPdu.{AdvPdu}
 use Rattle.adv_pdu.specs.Ranges.{is_in_range}
@@ -13,7 +13,7 @@ use Rattle.one_side.specs.Facts.{Setup, Facts}
 use Rattle.one_side.specs.Connecting.{SendsEach}
 use Rattle.one_side.specs.Heard.{access_found, answers_by_connecting, fields_sent, link_if, link_to, link_under, link_wanted, link_with}
 use Rattle.one_side.specs.Side.{facts_of}
-use Rattle.one_side.proofs.Addresses.{initiators_have_addresses}
+use Rattle.one_side.proofs.AccessAddresses.{initiators_have_addresses}
 use Rattle.one_side.proofs.FreeHandles.{initiators_have_handles}
 use Rattle.one_side.proofs.Requests.{asks_in_range}
 

@@ -1,14 +1,13 @@
 -- While a controller initiates it has a free handle.
-use Rattle.std.proofs.Common.{◌≡◌, ℕ, zero, suc, ◌+◌, ◌-◌, ◌<◌, ◌≤◌, Bool, true, false, Option, Some, None, List, [], ◌∷◌, ◌++◌, length, replicate, map, cond, refl, ap, sym, subst, ◌∙◌, append_assoc, length-append, inl, inr, arith, rules}
+use Rattle.std.proofs.Common.{◌≡◌, ℕ, zero, suc, ◌+◌, ◌-◌, ◌<◌, ◌≤◌, Bool, true, false, Option, Some, None, List, [], ◌∷◌, ◌++◌, length, replicate, cond, refl, ap, sym, subst, ◌∙◌, inl, inr, arith, rules}
 use Rattle.std.specs.Prelude.{is_some, slice_set, ◌&&◌, ⊤, ◌⊎◌, IsSome}
-use Rattle.std.specs.Option.{option_map}
 use Rattle.std.proofs.Math.ListN.{set}
 use Rattle.std.proofs.lemmas.List.{length-map, map-set, set-append_left}
 use Rattle.ble_base.specs.declared.roles.Role.{Role}
 use Rattle.ble_base.specs.declared.roles.Role.TheVariants.{Central, Peripheral}
 use Rattle.ble_base.specs.declared.addresses.Address.{Address}
 use Rattle.adv_pdu.specs.declared.pdu.AdvPdu.{AdvPdu}
-use Rattle.adv_pdu.specs.declared.pdu.AdvPdu.TheVariants.{Ind, Direct, Nonconn, ScanReq, ScanRsp, Connect, ScanInd}
+use Rattle.adv_pdu.specs.declared.pdu.AdvPdu.TheVariants.{ScanReq, Connect}
 use Rattle.adv_pdu.specs.declared.pdu.ConnectFields.{ConnectFields}
 use Rattle.hci_cmd.specs.declared.command.Command.{Command}
 use Rattle.hci_cmd.specs.declared.command.Command.TheVariants.{Reset}
@@ -18,7 +17,6 @@ use Rattle.host_view.specs.View.{View, no_links}
 use Rattle.host_view.specs.Changes.{view_after}
 use Rattle.host_view.specs.Refusals.{count_if, is_connectable}
 use Rattle.host_view.specs.Unbuilt.{status_of}
-use Rattle.advertise.specs.declared.answers.AdvAnswer.{AdvAnswer}
 use Rattle.advertise.specs.declared.answers.AdvAnswer.TheVariants.{Ignore, Respond, Connect as Takes}
 use Rattle.advertise.specs.declared.params.AdvParams.{AdvParams}
 use Rattle.advertise.specs.Advertising.{AdvertiserFacts}
@@ -29,19 +27,18 @@ use Rattle.scan_init.specs.Reports.{ScannerFacts, does_ask, scan_answer}
 use Rattle.slot_plan.specs.declared.Activity.{Activity}
 use Rattle.slot_plan.specs.declared.Activity.TheVariants.{Link, Advertise, Scan, Initiate}
 use Rattle.one_end.specs.declared.setup.LinkSetup.{LinkSetup}
-use Rattle.one_end.specs.Setup.{Setup as EndSetup}
 use Rattle.one_end.specs.Step.{PacketReceived}
 use Rattle.open_links.specs.declared.ended.LinkEnded.{LinkEnded}
 use Rattle.open_links.specs.OpenLinks.{Links, OpenLink, free_from, link_after, link_at, new_link, with_link}
-use Rattle.open_links.specs.Turns.{link_entered, links_staying}
+use Rattle.open_links.specs.Turns.{link_entered}
 use Rattle.one_side.specs.declared.doing.Doing.{Doing}
-use Rattle.one_side.specs.declared.doing.Doing.TheVariants.{Advertises, AwaitsRequest, Responds, Scans, Requests, AwaitsResponse, Initiates, Connects, CentralSends, CentralListens, PeripheralListens, PeripheralSends, Rests}
+use Rattle.one_side.specs.declared.doing.Doing.TheVariants.{Advertises, AwaitsRequest, Responds, AwaitsResponse, Connects, CentralListens, Rests}
 use Rattle.one_side.specs.Step.{Step}
-use Rattle.one_side.specs.Facts.{Setup, Facts, Advertising, first_facts}
+use Rattle.one_side.specs.Facts.{Setup, Facts, first_facts}
 use Rattle.one_side.specs.Commands.{facts_accepted, links_after}
-use Rattle.one_side.specs.Heard.{asks_if, facts_connecting, fields_sent, link_made, link_received, link_taken, opens as opening, replies_in, reply_if, scanner_after, with_scanner}
+use Rattle.one_side.specs.Heard.{asks_if, facts_connecting, fields_sent, link_made, link_received, link_taken, replies_in, reply_if, scanner_after, with_scanner}
 use Rattle.one_side.specs.Links.{ends_in}
-use Rattle.one_side.specs.Outcome.{Outcome, facts_passed}
+use Rattle.one_side.specs.Outcome.{facts_passed}
 use Rattle.one_side.specs.Packets.{facts_doing}
 use Rattle.one_side.specs.Radio.{facts_entering, served_if_on, turn_begins}
 use Rattle.one_side.specs.Side.{facts_of, with_octet}

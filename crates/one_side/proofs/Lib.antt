@@ -26,5 +26,5 @@ pub mod Requests
 pub mod OpenPlaces
 pub mod Room
 pub mod FreeHandles
-pub mod Addresses
+pub mod AccessAddresses
 pub mod Answering

@@ -1,7 +1,7 @@
 -- Which handles have open links, to the controller and in the view of its host.
-use Rattle.std.proofs.Common.{◌≡◌, ℕ, zero, suc, ◌+◌, ◌-◌, ◌<◌, ◌≤◌, ◌==◌, Bool, true, false, Option, Some, None, List, [], ◌∷◌, ◌++◌, length, replicate, map, get_or, cond, refl, ap, sym, subst, ◌∙◌, append_assoc, length-append, arith}
-use Rattle.std.specs.Prelude.{count_by, fold, is_some, slice_set, if◌then◌else◌}
-use Rattle.std.specs.Option.{option_and_then, option_map}
+use Rattle.std.proofs.Common.{◌≡◌, ℕ, zero, suc, ◌+◌, ◌≤◌, ◌==◌, Bool, true, false, Option, Some, None, List, [], ◌∷◌, ◌++◌, length, replicate, map, cond, refl, ap, sym, subst, ◌∙◌, append_assoc, length-append, arith}
+use Rattle.std.specs.Prelude.{count_by, is_some, slice_set, if◌then◌else◌}
+use Rattle.std.specs.Option.{option_map}
 use Rattle.std.proofs.Math.ListN.{set}
 use Rattle.std.proofs.Math.Seq.{map-set_same, set-append_seam}
 use Rattle.std.proofs.lemmas.Bool.{eq-eqb}
@@ -17,9 +17,8 @@ use Rattle.host_view.specs.Links.{link_in}
 use Rattle.one_end.specs.Step.{PacketSent}
 use Rattle.slot_plan.specs.declared.Activity.{Activity}
 use Rattle.slot_plan.specs.declared.Activity.TheVariants.{Link, Advertise, Scan, Initiate}
-use Rattle.open_links.specs.declared.ended.LinkEnded.{LinkEnded}
 use Rattle.open_links.specs.OpenLinks.{Links, OpenLink, free_from, link_after, link_served, with_change, with_change_from, without_links}
-use Rattle.open_links.specs.Turns.{end_by, ends_from, links_staying, place_staying, reason_in, staying_by}
+use Rattle.open_links.specs.Turns.{end_by, ends_from, links_staying, reason_in, staying_by}
 use Rattle.one_side.specs.declared.doing.Doing.{Doing}
 use Rattle.one_side.specs.declared.doing.Doing.TheVariants.{Advertises, CentralSends, PeripheralSends}
 use Rattle.one_side.specs.Packets.{links_sending}

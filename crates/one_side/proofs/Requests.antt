@@ -1,5 +1,5 @@
 -- The fields of each CONNECT_IND that an initiator may send are in range.
-use Rattle.std.proofs.Common.{◌≡◌, ℕ, ◌+◌, ◌%◌, ◌≤◌, ◌==◌, Bool, true, false, Option, Some, None, List, [], ◌∷◌, cond, refl, sym, subst, ◌∙◌, arith}
+use Rattle.std.proofs.Common.{◌≡◌, ℕ, ◌+◌, ◌%◌, ◌≤◌, Bool, true, false, Option, Some, None, List, cond, refl, sym, subst, arith}
 use Rattle.std.specs.Prelude.{⊤}
 use Rattle.ble_base.specs.ChannelMap.{IsMap}
 use Rattle.ble_base.specs.declared.roles.Role.{Role}
@@ -13,19 +13,15 @@ use Rattle.hci_cmd.specs.declared.command.Command.TheVariants.{HostCompleted, Re
 use Rattle.host_view.specs.View.{View}
 use Rattle.host_view.specs.Changes.{view_after}
 use Rattle.host_view.specs.InRange.{IsLinkRequest}
-use Rattle.host_view.specs.Noted.{stopped_by, view_noted}
 use Rattle.host_view.specs.Unbuilt.{status_of}
 use Rattle.host_view.proofs.TakenCommands.{connection_parameters, takes_map}
 use Rattle.scan_init.specs.Initiating.{InitiatorFacts}
-use Rattle.one_end.specs.declared.setup.LinkSetup.{LinkSetup}
-use Rattle.open_links.specs.declared.ended.LinkEnded.{LinkEnded}
 use Rattle.one_side.specs.Step.{Step}
 use Rattle.one_side.specs.Facts.{Setup, Facts}
 use Rattle.one_side.specs.Commands.{initiator_after}
 use Rattle.one_side.specs.Heard.{fields_sent, link_taken}
-use Rattle.one_side.specs.Links.{ends_in, note_opened, note_shut}
 use Rattle.one_side.specs.Side.{facts_of}
-use Rattle.one_side.proofs.Always.{IsKept, always, initiator_stopped, opening_passes, view_shut}
+use Rattle.one_side.proofs.Always.{IsKept, always, initiator_stopped, opening_passes}
 use Rattle.one_side.proofs.LinkFields.{test_of_range}
 
 abbrev IsRequest : ConnectFields → Type 0

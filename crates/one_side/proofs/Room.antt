@@ -1,22 +1,12 @@
--- While a controller initiates it has a free handle: the view of its host counts the links that are open and those that
+-- What accepted commands leave of the room for links, as the view of the host counts those that are open and those that
 -- may be opened.
-use Rattle.std.proofs.Common.{◌≡◌, ℕ, zero, suc, ◌+◌, ◌-◌, ◌<◌, ◌≤◌, ◌==◌, ◌||◌, Bool, true, false, Option, Some, None, List, [], ◌∷◌, ◌++◌, length, replicate, map, cond, refl, ap, sym, subst, ◌∙◌, arith}
-use Rattle.std.specs.Prelude.{count_by, is_some, is_none, nat_le, nat_lt, not, slice_set, ◌&&◌, ⊤, IsSome}
-use Rattle.std.specs.Option.{option_map}
-use Rattle.std.proofs.Math.ListN.{set}
+use Rattle.std.proofs.Common.{◌≡◌, ℕ, ◌+◌, ◌<◌, ◌≤◌, ◌==◌, Bool, true, false, Option, Some, None, List, cond, refl, ap, sym, subst, ◌∙◌, arith}
+use Rattle.std.specs.Prelude.{count_by, is_some, is_none, nat_le, nat_lt, not, ◌&&◌, ⊤}
 use Rattle.std.proofs.lemmas.Bool.Decides.{nat_tests}
-use Rattle.std.proofs.lemmas.List.{length-map, map-set, set-append_left}
-use Rattle.ble_base.specs.declared.roles.Role.{Role}
-use Rattle.ble_base.specs.declared.roles.Role.TheVariants.{Central, Peripheral}
 use Rattle.ble_base.specs.declared.addresses.Address.{Address}
-use Rattle.hci_cmd.specs.declared.command.HandleCount.{HandleCount}
 use Rattle.hci_cmd.specs.declared.command.Command.{Command}
 use Rattle.hci_cmd.specs.declared.command.Command.TheVariants.{HostCompleted, Reset, LeSetAdvParams, LeSetAdvEnable, LeCreateConnection, LeCreateCancel}
-use Rattle.adv_pdu.specs.declared.pdu.AdvPdu.{AdvPdu}
-use Rattle.adv_pdu.specs.declared.pdu.AdvPdu.TheVariants.{Ind, Direct, Nonconn, ScanReq, ScanRsp, Connect, ScanInd}
-use Rattle.adv_pdu.specs.declared.pdu.ConnectFields.{ConnectFields}
 use Rattle.host_view.specs.declared.view.Advertising.{Advertising as ViewAdvertising}
-use Rattle.host_view.specs.declared.links.Link.{Link as ViewLink}
 use Rattle.host_view.specs.View.{View}
 use Rattle.host_view.specs.Changes.{after_counts, view_after}
 use Rattle.host_view.specs.Refusals.{count_if, is_connectable, is_full, is_generated}
@@ -24,23 +14,13 @@ use Rattle.host_view.specs.Status.{advertising_on_rows, if_turned_on}
 use Rattle.host_view.specs.Refusals.{first_refusal}
 use Rattle.host_view.specs.Unbuilt.{status_of}
 use Rattle.host_view.proofs.TakenCommands.{connection_has_room}
-use Rattle.advertise.specs.declared.answers.AdvAnswer.TheVariants.{Ignore, Respond, Connect as Takes}
 use Rattle.advertise.specs.declared.params.AdvParams.{AdvParams}
 use Rattle.advertise.specs.Advertising.{AdvertiserFacts}
-use Rattle.advertise.specs.Answers.{advertiser_answer, is_scan_answered}
-use Rattle.advertise.proofs.Takings.{taken_connection}
 use Rattle.scan_init.specs.Initiating.{InitiatorFacts}
-use Rattle.slot_plan.specs.declared.Activity.{Activity}
-use Rattle.slot_plan.specs.declared.Activity.TheVariants.{Link, Advertise, Scan, Initiate}
-use Rattle.one_end.specs.declared.setup.LinkSetup.{LinkSetup}
-use Rattle.open_links.specs.declared.ended.LinkEnded.{LinkEnded}
-use Rattle.open_links.specs.OpenLinks.{Links, OpenLink}
-use Rattle.one_side.specs.Facts.{Setup, Facts, Advertising}
-use Rattle.one_side.specs.Commands.{advertiser_enabled, advertising_after, initiator_after, links_after, own_address}
-use Rattle.one_side.specs.Radio.{served_if_on}
+use Rattle.one_side.specs.Facts.{Setup, Advertising}
+use Rattle.one_side.specs.Commands.{advertiser_enabled, advertising_after, initiator_after, own_address}
 use Rattle.one_side.proofs.Accepted.{row_passes, set_while_off, table_accepts}
-use Rattle.one_side.proofs.Always.{advertiser_stopped, advertiser_won, advertising_noted, initiating_noted, initiator_stopped, links_shut}
-use Rattle.one_side.proofs.OpenPlaces.{is_reset, many, many_opened, many_shut, count_many, opens, reset_opens, view_opens}
+use Rattle.one_side.proofs.OpenPlaces.{many, count_many, opens, view_opens}
 
 -- ---- what the view tells
 

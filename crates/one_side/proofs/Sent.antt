@@ -1,8 +1,7 @@
 -- What a controller sends is the packet of a PDU on an advertising channel, or that of a link on a data channel.
-use Rattle.std.proofs.Common.{◌≡◌, ℕ, suc, ◌+◌, ◌<◌, ◌≤◌, ◌==◌, Bool, true, false, Option, Some, None, inl, inr, List, [], ◌∷◌, cond, length, take, refl, sym, ap, subst, ◌∙◌, arith}
-use Rattle.std.specs.Prelude.{nat_lt, ◌&&◌, ⊤, ◌⊎◌, IfSome}
+use Rattle.std.proofs.Common.{◌≡◌, ℕ, ◌+◌, ◌≤◌, ◌==◌, Bool, true, false, Option, Some, None, inl, inr, List, [], ◌∷◌, cond, length, refl, sym, ap, subst, ◌∙◌, arith}
+use Rattle.std.specs.Prelude.{◌&&◌, ⊤, ◌⊎◌, IfSome}
 use Rattle.std.specs.Option.{option_map}
-use Rattle.std.proofs.lemmas.Bool.Decides.{nat_tests}
 use Rattle.std.proofs.lemmas.List.{length-take}
 use Rattle.ble_base.specs.declared.addresses.Address.{Address}
 use Rattle.ble_base.specs.declared.roles.Role.{Role}
@@ -11,37 +10,33 @@ use Rattle.adv_pdu.specs.declared.pdu.AdvPdu.{AdvPdu}
 use Rattle.adv_pdu.specs.declared.pdu.AdvPdu.TheVariants.{Ind, Direct, Nonconn, ScanReq, ScanRsp, Connect, ScanInd}
 use Rattle.adv_pdu.specs.Pdu.{IsPdu, sender_of}
 use Rattle.hci_cmd.specs.declared.command.Command.{Command}
-use Rattle.hci_cmd.specs.declared.command.Command.TheVariants.{HostCompleted, Reset, LeSetRandomAddress, LeSetAdvParams, LeSetAdvData, LeSetScanResponse, LeSetAdvEnable, LeSetScanParams, LeSetScanEnable, LeCreateConnection, LeCreateCancel}
+use Rattle.hci_cmd.specs.declared.command.Command.TheVariants.{HostCompleted, Reset, LeSetRandomAddress, LeSetAdvParams, LeSetAdvData, LeSetScanResponse, LeSetAdvEnable, LeSetScanEnable, LeCreateConnection, LeCreateCancel}
 use Rattle.host_view.specs.View.{View}
 use Rattle.host_view.specs.Changes.{view_after}
-use Rattle.host_view.specs.Noted.{opened_link, stopped_by, view_noted}
-use Rattle.host_view.specs.Unbuilt.{or_unbuilt, status_of}
+use Rattle.host_view.specs.Unbuilt.{status_of}
 use Rattle.advertise.specs.declared.params.AdvParams.{AdvParams}
 use Rattle.advertise.specs.Advertising.{AdvertiserFacts, advertisement}
 use Rattle.scan_init.specs.declared.scanner.ScanParams.{ScanParams}
 use Rattle.scan_init.specs.Initiating.{InitiatorFacts}
 use Rattle.scan_init.specs.Reports.{ScannerFacts, does_ask, scan_answer}
 use Rattle.one_end.specs.declared.setup.LinkSetup.{LinkSetup}
-use Rattle.one_end.specs.Packets.{packet_sent}
 use Rattle.one_end.specs.Step.{PacketSent}
 use Rattle.slot_plan.specs.declared.Activity.{Activity}
 use Rattle.slot_plan.specs.declared.Activity.TheVariants.{Link, Advertise, Scan, Initiate}
-use Rattle.open_links.specs.declared.ended.LinkEnded.{LinkEnded}
-use Rattle.open_links.specs.OpenLinks.{Links, OpenLink, facts_in, link_after, link_at, link_from, with_change, without_links}
+use Rattle.open_links.specs.OpenLinks.{Links, OpenLink, link_after, link_at, link_from, with_change, without_links}
 use Rattle.open_links.proofs.Handles.{changed_is}
 use Rattle.one_side.specs.declared.doing.Doing.{Doing}
 use Rattle.one_side.specs.declared.doing.Doing.TheVariants.{Advertises, AwaitsRequest, Responds, Scans, Requests, AwaitsResponse, Initiates, Connects, CentralSends, CentralListens, PeripheralListens, PeripheralSends, Rests}
 use Rattle.one_side.specs.Step.{Step}
-use Rattle.one_side.specs.Facts.{Setup, Facts, Advertising, Scanning, Use, Sends, Listens, Idle, first_facts}
+use Rattle.one_side.specs.Facts.{Setup, Facts, Advertising, Scanning, Use, Sends, Listens, Idle}
 use Rattle.one_side.specs.Commands.{advertiser_enabled, advertiser_turned_on, advertising_after, facts_accepted, initiator_after, links_after, own_address, random_or_public, scanner_enabled, scanner_turned_on, scanning_after}
 use Rattle.one_side.specs.Heard.{asks_if, facts_connecting, fields_sent, link_made, link_received, link_taken, opens, replies_in, reply_if, scanner_after, with_scanner}
-use Rattle.one_side.specs.Links.{ends_in, note_opened, note_shut}
-use Rattle.one_side.specs.Outcome.{Outcome, facts_passed}
-use Rattle.one_side.specs.Packets.{advertisement_sent, advertising_packet, connect_sent, facts_doing, listens_on, request_sent, response_sent, sends_on, sends_pdu, use_for}
+use Rattle.one_side.specs.Outcome.{facts_passed}
+use Rattle.one_side.specs.Packets.{advertisement_sent, connect_sent, facts_doing, listens_on, request_sent, response_sent, sends_on, sends_pdu, use_for}
 use Rattle.one_side.specs.Radio.{served_if_on}
 use Rattle.one_side.specs.Side.{facts_of, with_octet}
-use Rattle.one_side.specs.Sent.{IsAdvertisingPacket, IsLinkPacket, SendsOn}
-use Rattle.one_side.proofs.Always.{IsAdvertisingChannel, IsKept, MayBegin, advertiser_stopped, advertiser_won, always, facts_opening, initiator_stopped, opening_passes, view_shut}
+use Rattle.one_side.specs.Sent.{IsAdvertisingPacket, IsLinkPacket}
+use Rattle.one_side.proofs.Always.{IsAdvertisingChannel, IsKept, MayBegin, advertiser_stopped, advertiser_won, always, facts_opening, initiator_stopped, opening_passes}
 use Rattle.one_side.proofs.DataChannels.{link_channel}
 use Rattle.one_side.proofs.LinkFields.{connection_fits}
 use Rattle.one_side.proofs.Phases.{EachOutcome}
@@ -50,34 +45,34 @@ use Rattle.one_side.proofs.SixOctets.{SixOf, six_heard, six_known}
 
 -- ---- what it needs to send
 
-abbrev SixHeld : Option (List ℕ) → Type 0
+abbrev pub SixHeld : Option (List ℕ) → Type 0
 SixHeld None = ⊤
 SixHeld (Some address) = length address ≡ 6
 
-abbrev AdvertiserFits : Option AdvertiserFacts → Type 0
+abbrev pub AdvertiserFits : Option AdvertiserFacts → Type 0
 AdvertiserFits None = ⊤
 AdvertiserFits (Some on) = (length on.params.own.octets ≡ 6) × (length on.params.target.octets ≡ 6)
 
-abbrev ScannerFits : Option ScannerFacts → Type 0
+abbrev pub ScannerFits : Option ScannerFacts → Type 0
 ScannerFits None = ⊤
 ScannerFits (Some on) = length on.params.own.octets ≡ 6
 
-abbrev InitiatorFits : Option InitiatorFacts → Type 0
+abbrev pub InitiatorFits : Option InitiatorFacts → Type 0
 InitiatorFits None = ⊤
 InitiatorFits (Some on) = (length on.params.own.octets ≡ 6) × (on.params.link.sca ≡ 0)
 
-record AdvertisingFits (advertising : Advertising) : Type 0 where
-  body : length advertising.data_octets ≤ 31
-  response : length advertising.response_octets ≤ 31
-  target : length advertising.params.target.octets ≡ 6
-  on_fits : AdvertiserFits advertising.on
+pub record AdvertisingFits (advertising : Advertising) : Type 0 where
+  pub body : length advertising.data_octets ≤ 31
+  pub response : length advertising.response_octets ≤ 31
+  pub target : length advertising.params.target.octets ≡ 6
+  pub on_fits : AdvertiserFits advertising.on
 
 -- addresses have six octets, and data 31 at most
-record CanSend (facts : Facts) : Type 0 where
-  random : SixHeld facts.view.random
-  advertising : AdvertisingFits facts.advertising
-  scanner : ScannerFits facts.scanning.on
-  initiator : InitiatorFits facts.initiator
+pub record CanSend (facts : Facts) : Type 0 where
+  pub random : SixHeld facts.view.random
+  pub advertising : AdvertisingFits facts.advertising
+  pub scanner : ScannerFits facts.scanning.on
+  pub initiator : InitiatorFits facts.initiator
 
 -- what it is to do can be done
 abbrev pub DoingFits : Doing → Type 0
@@ -101,15 +96,15 @@ begin_fits Rests may = tt
 begin_fits other may = absurd may
 
 -- and what it wants to send is a packet
-abbrev IsWanted : Facts → Use → Type 0
+abbrev pub IsWanted : Facts → Use → Type 0
 IsWanted facts (Sends channel octets) = IsAdvertisingPacket channel octets ⊎ IsLinkPacket facts channel octets
 IsWanted facts (Listens channel) = ⊤
 IsWanted facts Idle = ⊤
 
-record SendsWell (facts : Facts) : Type 0 where
-  can : CanSend facts
-  does : DoingFits facts.turn.doing
-  wanted : IsWanted facts facts.wanted
+pub record SendsWell (facts : Facts) : Type 0 where
+  pub can : CanSend facts
+  pub does : DoingFits facts.turn.doing
+  pub wanted : IsWanted facts facts.wanted
 
 -- ---- PDUs
 
@@ -138,21 +133,21 @@ advertisement_fits : (params : AdvParams) (body : List ℕ) → length params.ow
 advertisement_fits params body six six_too short =
     advertisement_by (params.kind == 0) (params.kind == 2) (params.kind == 4) params.own params.target body six six_too short
 
-abbrev SomePdu : Option AdvPdu → Type 0
+abbrev pub SomePdu : Option AdvPdu → Type 0
 SomePdu None = ⊤
 SomePdu (Some pdu) = IsPdu pdu
 
-advertisement_is : (advertising : Advertising) (on : Option AdvertiserFacts) → AdvertisingFits advertising → AdvertiserFits on
+pub advertisement_is : (advertising : Advertising) (on : Option AdvertiserFacts) → AdvertisingFits advertising → AdvertiserFits on
     → SomePdu (option_map (λ on. advertisement on.params advertising.data_octets) on)
 advertisement_is advertising None fits on_fits = tt
 advertisement_is advertising (Some on) fits on_fits = advertisement_fits on.params advertising.data_octets on_fits.0 on_fits.1 fits.body
 
-response_is : (advertising : Advertising) (on : Option AdvertiserFacts) → AdvertisingFits advertising → AdvertiserFits on
+pub response_is : (advertising : Advertising) (on : Option AdvertiserFacts) → AdvertisingFits advertising → AdvertiserFits on
     → SomePdu (option_map (λ on. ScanRsp on.params.own (record { items = advertising.response_octets })) on)
 response_is advertising None fits on_fits = tt
 response_is advertising (Some on) fits on_fits = (body_fits on.params.own advertising.response_octets on_fits.0 fits.response).3
 
-request_is : (advertiser : Address) (on : Option ScannerFacts) → length advertiser.octets ≡ 6 → ScannerFits on
+pub request_is : (advertiser : Address) (on : Option ScannerFacts) → length advertiser.octets ≡ 6 → ScannerFits on
     → SomePdu (option_map (λ on. ScanReq on.params.own advertiser) on)
 request_is advertiser None six fits = tt
 request_is advertiser (Some on) six fits = record { fits = (fits, (six, tt)); room = tt; bits = tt }
@@ -462,7 +457,7 @@ passes_well setup facts well = record {
       (reply_fits (replies_in (link_at handle facts.links) octets) handle);
 }
 
-well_kept : (setup : Setup) → length setup.public ≡ 6 → IsKept setup CanSend SendsWell
+pub well_kept : (setup : Setup) → length setup.public ≡ 6 → IsKept setup CanSend SendsWell
 well_kept setup six = record {
   accepted = λ facts opcode octets command is accepted well.
       let of = six_known opcode octets command is in
@@ -525,7 +520,7 @@ well_kept setup six = record {
   };
 }
 
-sends_well : (setup : Setup) → length setup.public ≡ 6 → (past : List Step) → SendsWell (facts_of setup past)
+pub sends_well : (setup : Setup) → length setup.public ≡ 6 → (past : List Step) → SendsWell (facts_of setup past)
 sends_well setup six past =
     always setup CanSend SendsWell (well_kept setup six) (record {
       can = record {

@@ -3,6 +3,7 @@
 ghost use Rattle.std.specs.Prelude.{◌≡◌, ◌≢◌, ◌↔◌, ◌<◌, ◌≤◌, ◌+◌, ◌^◌, ◌⊎◌, ℕ, Bool, true, false};
 ghost use Rattle.std.specs.Prelude.{if◌then◌else◌, is_some, None, IsSome};
 ghost use Rattle.std.specs.Prelude.{All, List, [], ◌∷◌, ◌++◌, Some, length, map};
+ghost use Rattle.std.specs.List.{list_any};
 ghost use Rattle.ble_base.specs.Bits.{has_bit};
 ghost use Rattle.ble_base.specs.declared.notes.Note.TheVariants.{Up};
 ghost use Rattle.ble_base.specs.declared.verdicts.Verdict.TheVariants.{Good};
@@ -30,6 +31,7 @@ ghost use Rattle.open_links.specs.OpenLinks.{free_from, link_at};
 ghost use Rattle.scan_init.specs.Access.{nth_access};
 ghost use Rattle.scan_init.specs.Initiating.{InitiatorFacts};
 ghost use Rattle.scan_init.specs.Windows.{slots_of};
+ghost use Rattle.slot_plan.specs.Holding.{is_held_in};
 ghost use Rattle.one_side.specs.declared.doing.Doing.TheVariants.{Connects, Initiates};
 ghost use Rattle.one_side.specs.Step.{Step, HostOctet};
 ghost use Rattle.one_side.specs.Facts.{Setup, Facts, Sends};
@@ -44,7 +46,7 @@ ghost use Rattle.one_side.specs.Side.{facts_after, facts_of, notes_after, notes_
 ghost use Rattle.one_side.specs.Side.{notes_of, result_of};
 ghost use Rattle.one_side.specs.Sent.{IsAdvertisingPacket, IsLinkPacket};
 ghost use Rattle.one_side.specs.Intervals.{IsLeftOn, doing_at, doing_between, facts_in_turn};
-ghost use Rattle.one_side.specs.Intervals.{place_within};
+ghost use Rattle.one_side.specs.Intervals.{place_within, turns_from};
 ghost use Rattle.one_side.specs.Host.{HeardNothing, commands_accepted, commands_of, host_octets};
 ghost use Rattle.one_side.specs.Host.{is_answered, le_rand_count, opcodes_in, opcodes_of};
 ghost use Rattle.one_side.specs.Host.{with_answer};
@@ -95,8 +97,8 @@ pub fn commands_are_answered_in_order()
 {}
 
 /// A host is answered as if no turn came between its octets, packet by packet. While nothing was
-/// heard it receives nothing else; after that, while no link was opened and none was to be made, LE
-/// events may come between the answers. ACL data has no answer, and a loss of synchronisation is
+/// heard the controller notes nothing else; after that, while no link was opened and none was to be
+/// made, it notes LE events besides. ACL data has no answer, and a loss of synchronisation is
 /// reported as Hardware Error 01 exactly where bit 15 of the mask is set.
 pub fn a_host_is_answered_whatever_the_turns()
     ensures alone { (setup : Setup) (past : List Step) → HeardNothing past
@@ -169,10 +171,11 @@ pub fn what_is_sent_is_a_pdu()
         → IsAdvertisingPacket channel octets ⊎ IsLinkPacket (facts_of setup past) channel octets }
 {}
 
-/// A link is opened under a handle of the controller that no open link has. An initiator answers
-/// each device that it is to connect to: the fields of its CONNECT_IND are in range; a handle is
-/// free, if the controller holds no more links than the view of its host has places for; and there
-/// is an access address, if each CONNECT_IND that was to be sent before was sent in the next phase.
+/// A CONNECT_IND that is to be sent makes a link under a handle of the controller that no open link
+/// has. An initiator answers each device that it is to connect to and has no link with yet: the
+/// fields of its CONNECT_IND are in range; a handle is free, if the controller can hold no more
+/// links than the view of its host has places for; and there is an access address, if each
+/// CONNECT_IND that was to be sent was sent in the next phase. The view knows whether there is one.
 pub fn a_controller_opens_links_as_it_may()
     ensures new { (setup : Setup) (past : List Step) (channel : ℕ) (link : LinkSetup)
         → (facts_of setup past).turn.doing ≡ Connects channel link
@@ -202,14 +205,19 @@ pub fn a_controller_opens_links_as_it_may()
 /// An advertiser that is left on in a controller with no link, with the radio on, is in an event in
 /// the first three slots of each interval and in no others. In these it transmits on the channels
 /// that it uses and is idle on the others; between events the scanner has the radio in its windows,
-/// or else the initiator in its own. An interval that a host may set has 16 slots or more, and so
-/// has the interval of an advertiser at any time.
+/// or else the initiator in its own. One that is on, with an event due and the radio free, is left
+/// on where nothing happens between turns. An interval that a host may set has 16 slots or more,
+/// and so has the interval of an advertiser at any time.
 pub fn an_advertiser_keeps_its_interval()
     ensures slots { (start : ℕ) (advertiser : AdvertiserFacts) (turns : ℕ → Facts)
         → IsLeftOn start advertiser turns → 3 ≤ slots_of advertiser.params.interval → (n : ℕ)
         → (facts_in_turn (start + n) (turns n)).turn.doing
         ≡ doing_at (doing_between (start + n) (turns n)) advertiser.params.channels
         (place_within (slots_of advertiser.params.interval) n) }
+    ensures left_alone { (start : ℕ) (advertiser : AdvertiserFacts) (facts : Facts)
+        → list_any is_some facts.links ≡ false → facts.advertising.on ≡ Some advertiser
+        → advertiser.due ≤ start → is_held_in facts.radio.hold start ≡ false
+        → IsLeftOn start advertiser (turns_from start facts) }
     ensures may_be_set { (view : View) (min max kind own peer_kind : ℕ) (peer : List ℕ)
         (channels policy : ℕ)
         → status_of view (LeSetAdvParams min max kind own peer_kind peer channels policy) ≡ 0

@@ -102,7 +102,8 @@ pub fn worked_connection()
 pub fn worked_link()
     ensures central { notes_after setup_a (facts_of setup_a central_linked) (TurnBegins 2 true)
         ≡ Enter 0 (record { 0 = 0 }) 25 ∷ [] }
-    ensures peripheral { notes_after setup_b (facts_of setup_b peripheral_linked) (TurnBegins 2 true)
+    ensures peripheral { notes_after setup_b (facts_of setup_b peripheral_linked)
+        (TurnBegins 2 true)
         ≡ Enter 0 (record { 0 = 0 }) 25 ∷ [] }
     ensures sends { use_of (facts_of setup_a (central_linked ++ TurnBegins 2 true ∷ []))
         ≡ Sends 25 first_packet }

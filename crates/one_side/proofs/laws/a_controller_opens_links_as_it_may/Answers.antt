@@ -1,5 +1,5 @@
 -- Proof of `laws::a_controller_opens_links_as_it_may`.
-use Rattle.one_side.proofs.Addresses.{initiators_have_addresses, knows_address}
+use Rattle.one_side.proofs.AccessAddresses.{initiators_have_addresses, knows_address}
 use Rattle.one_side.proofs.Answering.{link_is_made}
 use Rattle.one_side.proofs.FreeHandles.{initiators_have_handles}
 use Rattle.one_side.proofs.Handles.{new_handle}

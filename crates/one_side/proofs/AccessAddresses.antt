@@ -1,6 +1,6 @@
 -- While a controller initiates there is an access address for its next link.
-use Rattle.std.proofs.Common.{◌≡◌, ℕ, zero, suc, ◌+◌, ◌-◌, ◌*◌, ◌%◌, ◌^◌, ◌<◌, ◌≤◌, ◌==◌, Bool, true, false, Option, Some, None, inl, inr, List, [], ◌∷◌, cond, refl, ap, sym, subst, ◌∙◌, arith}
-use Rattle.std.specs.Prelude.{fold, is_some, ◌&&◌, option_and_then, ⊤, ◌⊎◌}
+use Rattle.std.proofs.Common.{◌≡◌, ℕ, zero, suc, ◌+◌, ◌-◌, ◌%◌, ◌^◌, ◌<◌, ◌==◌, Bool, true, false, Option, Some, None, List, [], ◌∷◌, cond, refl, ap, sym, subst, ◌∙◌, arith}
+use Rattle.std.specs.Prelude.{fold, is_some, ◌&&◌, option_and_then, ⊤}
 use Rattle.h4_frames.specs.declared.packet.HostPacket.TheVariants.{Command as HostCommand, Acl}
 use Rattle.h4_frames.specs.declared.packet.Fed.{Fed}
 use Rattle.h4_frames.specs.declared.packet.Fed.TheVariants.{More, Packet, LostSync}
@@ -17,12 +17,11 @@ use Rattle.scan_init.specs.Access.{access_at, bit_count, is_valid_access, next_a
 use Rattle.scan_init.specs.Initiating.{InitiatorFacts}
 use Rattle.scan_init.specs.Reports.{does_ask, scan_answer}
 use Rattle.open_links.specs.OpenLinks.{link_at}
-use Rattle.adv_pdu.specs.declared.pdu.AdvPdu.{AdvPdu}
 use Rattle.std.proofs.lemmas.Bool.{eqb-true}
 use Rattle.scan_init.proofs.Numbers.{none_passed}
 use Rattle.one_end.specs.declared.setup.LinkSetup.{LinkSetup}
 use Rattle.ble_base.specs.declared.roles.Role.{Role}
-use Rattle.ble_base.specs.declared.roles.Role.TheVariants.{Central, Peripheral}
+use Rattle.ble_base.specs.declared.roles.Role.TheVariants.{Central}
 use Rattle.one_side.specs.declared.doing.Doing.{Doing}
 use Rattle.one_side.specs.declared.doing.Doing.TheVariants.{Advertises, AwaitsRequest, AwaitsResponse, Responds, Initiates, Connects, CentralListens, Rests}
 use Rattle.one_side.specs.Step.{Step, HostOctet, TurnBegins, PacketHeard, NothingHeard, TurnEnds}

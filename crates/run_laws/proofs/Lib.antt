@@ -1,0 +1,10 @@
+-- The lemmas of this crate.
+pub mod SameEvent
+pub mod TurnPlaces
+pub mod OpenSteps
+pub mod TurnSteps
+pub mod Entering
+pub mod BetweenTurns
+pub mod SentPackets
+pub mod ConnectInds
+pub mod DistinctAccess

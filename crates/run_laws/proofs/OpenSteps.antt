@@ -1,0 +1,232 @@
+-- The open links of a controller after each call on it.
+use Rattle.std.proofs.Common.{◌≡◌, ℕ, zero, suc, ◌+◌, ◌==◌, Bool, true, false, Option, Some, None, List, [], ◌∷◌, replicate, refl, sym, subst}
+use Rattle.std.specs.Prelude.{⊤, if◌then◌else◌, ◌&&◌}
+use Rattle.std.specs.Option.{option_map}
+use Rattle.adv_pdu.specs.declared.pdu.AdvPdu.{AdvPdu}
+use Rattle.adv_pdu.specs.declared.pdu.ConnectFields.{ConnectFields}
+use Rattle.advertise.specs.declared.answers.AdvAnswer.TheVariants.{Connect as Takes}
+use Rattle.advertise.specs.Advertising.{AdvertiserFacts}
+use Rattle.advertise.specs.Answers.{advertiser_answer}
+use Rattle.h4_frames.specs.declared.packet.HostPacket.TheVariants.{Command as HostCommand, Acl}
+use Rattle.h4_frames.specs.declared.packet.Fed.{Fed}
+use Rattle.h4_frames.specs.declared.packet.Fed.TheVariants.{More, Packet, LostSync}
+use Rattle.hci_cmd.specs.declared.command.Command.{Command}
+use Rattle.hci_cmd.specs.declared.command.Command.TheVariants.{Reset}
+use Rattle.hci_cmd.specs.declared.command.CmdRead.{CmdRead}
+use Rattle.hci_cmd.specs.declared.command.CmdRead.TheVariants.{Known, UnknownOpcode, BadLength}
+use Rattle.hci_cmd.specs.Command.{command_of}
+use Rattle.host_view.specs.Unbuilt.{status_of}
+use Rattle.one_end.specs.Setup.{Setup as EndSetup}
+use Rattle.one_end.specs.Step.{PacketSent, PacketReceived}
+use Rattle.one_end.specs.declared.setup.LinkSetup.{LinkSetup}
+use Rattle.slot_plan.specs.declared.Activity.{Activity}
+use Rattle.slot_plan.specs.declared.Activity.TheVariants.{Link, Advertise, Scan, Initiate}
+use Rattle.slot_plan.specs.Holding.{is_held_in, winner_of}
+use Rattle.open_links.specs.OpenLinks.{Links, OpenLink, link_after, link_at, link_from, link_served, new_link, with_change, with_change_from, with_link, without_links}
+use Rattle.open_links.specs.Turns.{link_entered, links_entered, links_staying, reason_in, staying_by}
+use Rattle.scan_init.specs.Reports.{does_ask, scan_answer}
+use Rattle.one_side.specs.declared.doing.Doing.{Doing}
+use Rattle.one_side.specs.declared.doing.Doing.TheVariants.{Advertises, Connects, CentralSends, PeripheralSends, Rests}
+use Rattle.one_side.specs.Step.{HostOctet, TurnBegins, TurnEnds}
+use Rattle.one_side.specs.Facts.{Setup, Facts}
+use Rattle.one_side.specs.Commands.{facts_commanded, facts_known, links_after}
+use Rattle.one_side.specs.Heard.{asks_if, link_taken, opens, replies_in, reply_if}
+use Rattle.one_side.specs.Links.{facts_ending}
+use Rattle.one_side.specs.Outcome.{Outcome, facts_passed}
+use Rattle.one_side.specs.Packets.{links_sending}
+use Rattle.one_side.specs.Radio.{facts_entering, outcome_begun, plan_in, served, radio_served, turn_begins, winner_served}
+use Rattle.one_side.specs.Side.{facts_after, facts_fed, result_of}
+use Rattle.one_side.proofs.Always.{ending_is, links_won, opening_passes, winning_is}
+use Rattle.one_side.proofs.Phases.{EachOutcome, heard_is, unheard_is}
+use Rattle.runs.specs.Run.{step_of}
+
+-- ---- a fact of each open link
+
+abbrev pub AtOpen : (OpenLink → Type 0) → Option OpenLink → Type 0
+AtOpen P None = ⊤
+AtOpen P (Some link) = P link
+
+abbrev pub EachOpen : (OpenLink → Type 0) → Links → Type 0
+EachOpen P [] = ⊤
+EachOpen P (place ∷ links) = AtOpen P place × EachOpen P links
+
+pub open_has : (P : OpenLink → Type 0) (first handle : ℕ) (links : Links) (link : OpenLink) → EachOpen P links → link_from first handle links ≡ Some link → P link
+open_has P first handle [] link each is = absurd cc
+open_has P first handle (place ∷ links) link each is = at (first == handle) is (open_has P (first + 1) handle links link each.1)
+  where
+    here : (one : Option OpenLink) → AtOpen P one → one ≡ Some link → P link
+    here None has same = absurd cc
+    here (Some other) has same = let equal : other ≡ link = cc in subst P equal has
+
+    at : (test : Bool) → (if test then place else link_from (first + 1) handle links) ≡ Some link
+        → (link_from (first + 1) handle links ≡ Some link → P link) → P link
+    at true found rest = here place each.0 found
+    at false found rest = rest found
+
+pub open_more : (P Q : OpenLink → Type 0) (links : Links) → ((link : OpenLink) → P link → Q link) → EachOpen P links → EachOpen Q links
+open_more P Q [] more each = tt
+open_more P Q (None ∷ links) more each = (tt, open_more P Q links more each.1)
+open_more P Q (Some link ∷ links) more each = (more link each.0, open_more P Q links more each.1)
+
+pub none_open : (P : OpenLink → Type 0) (many : ℕ) → EachOpen P (replicate many None)
+none_open P zero = tt
+none_open P (suc many) = (tt, none_open P many)
+
+-- the links that enter their events
+pub enter_open : (P Q : OpenLink → Type 0) (slot : ℕ) (links : Links) → ((link : OpenLink) → P link → Q (link_entered slot link)) → EachOpen P links
+    → EachOpen Q (links_entered slot links)
+enter_open P Q slot [] more each = tt
+enter_open P Q slot (None ∷ links) more each = (tt, enter_open P Q slot links more each.1)
+enter_open P Q slot (Some link ∷ links) more each = (more link each.0, enter_open P Q slot links more each.1)
+
+-- what gets the radio, sends and receives keeps the fact
+pub record IsKeptOpen (P : OpenLink → Type 0) : Type 0 where
+  pub served : (slot : ℕ) (link : OpenLink) → P link → P (link_served slot link)
+  pub sent : (slot : ℕ) (link : OpenLink) → P link → P (link_after (PacketSent slot) link)
+  pub received : (slot : ℕ) (octets : List ℕ) (link : OpenLink) → P link → P (link_after (PacketReceived slot octets) link)
+
+module _ (P : OpenLink → Type 0) where
+  changed_from : (first handle : ℕ) (change : Option OpenLink → Option OpenLink) (links : Links)
+      → ((place : Option OpenLink) → AtOpen P place → AtOpen P (change place)) → EachOpen P links → EachOpen P (with_change_from first handle change links)
+  changed_from first handle change [] keeps each = tt
+  changed_from first handle change (place ∷ links) keeps each = at (first == handle) (changed_from (first + 1) handle change links keeps each.1)
+    where
+      at : (test : Bool) → EachOpen P (with_change_from (first + 1) handle change links)
+          → EachOpen P (if test then change place ∷ links else place ∷ with_change_from (first + 1) handle change links)
+      at true rest = (keeps place each.0, each.1)
+      at false rest = (each.0, rest)
+
+  pub changed : (handle : ℕ) (change : OpenLink → OpenLink) (links : Links) → ((link : OpenLink) → P link → P (change link))
+      → EachOpen P links → EachOpen P (with_change handle change links)
+  changed handle change links more each = changed_from 0 handle (option_map change) links keeps each
+    where
+      keeps : (place : Option OpenLink) → AtOpen P place → AtOpen P (option_map change place)
+      keeps None has = tt
+      keeps (Some link) has = more link has
+
+  pub opened : (end : EndSetup) (links : Links) → P (new_link end) → EachOpen P links → EachOpen P (with_link end links)
+  opened end links has each = changed_from 0 end.link.handle _ links (λ place before. has) each
+
+  stays : (slot : ℕ) (links : Links) → EachOpen P links → EachOpen P (links_staying slot links)
+  stays slot [] each = tt
+  stays slot (None ∷ links) each = (tt, stays slot links each.1)
+  stays slot (Some link ∷ links) each = (by (reason_in slot link), stays slot links each.1)
+    where
+      by : (reason : Option ℕ) → AtOpen P (staying_by reason link)
+      by None = each.0
+      by (Some reason) = tt
+
+  resets : (links : Links) → EachOpen P (without_links links)
+  resets [] = tt
+  resets (place ∷ links) = (tt, resets links)
+
+  -- ---- an octet of the host
+
+  command_open : (command : Command) (links : Links) → EachOpen P links → EachOpen P (links_after command links)
+  command_open Reset links each = resets links
+  command_open other links each = each
+
+  known_open : (accepted : Bool) (setup : Setup) (command : Command) (facts : Facts) → EachOpen P facts.links
+      → EachOpen P (facts_known accepted setup facts command).links
+  known_open true setup command facts each = command_open command facts.links each
+  known_open false setup command facts each = each
+
+  read_open : (setup : Setup) (facts : Facts) (read : CmdRead) → EachOpen P facts.links → EachOpen P (facts_commanded setup facts read).links
+  read_open setup facts (Known command) each = known_open (status_of facts.view command == 0) setup command facts each
+  read_open setup facts UnknownOpcode each = each
+  read_open setup facts BadLength each = each
+
+  fed_open : (setup : Setup) (facts : Facts) (fed : Fed) → EachOpen P facts.links → EachOpen P (facts_fed setup facts fed).links
+  fed_open setup facts (Packet (HostCommand opcode body)) each = read_open setup facts (command_of opcode body.items) each
+  fed_open setup facts (Packet (Acl handle start count body)) each = each
+  fed_open setup facts LostSync each = each
+  fed_open setup facts More each = each
+
+  pub octet_open : (setup : Setup) (facts : Facts) (octet : ℕ) → EachOpen P facts.links → EachOpen P (facts_after setup facts (HostOctet octet)).links
+  octet_open setup facts octet each = fed_open setup facts (result_of facts.octets octet) each
+
+  module _ (kept : IsKeptOpen P) where
+    wins : (slot : ℕ) (activity : Activity) (links : Links) → EachOpen P links → EachOpen P (links_won slot activity links)
+    wins slot (Link handle) links each = changed handle (link_served slot) links (kept.served slot) each
+    wins slot Advertise links each = each
+    wins slot Scan links each = each
+    wins slot Initiate links each = each
+
+    pub sends : (slot : ℕ) (doing : Doing) (links : Links) → EachOpen P links → EachOpen P (links_sending slot doing links)
+    sends slot (CentralSends handle) links each = changed handle (link_after (PacketSent slot)) links (kept.sent slot) each
+    sends slot (PeripheralSends handle) links each = changed handle (link_after (PacketSent slot)) links (kept.sent slot) each
+    sends slot (Advertises channel) links each = each
+    sends slot other links each = each
+
+    -- ---- a turn begins, and ends
+
+    won_open : (slot : ℕ) (winner : Option Activity) (facts : Facts) → EachOpen P facts.links → EachOpen P (winner_served slot winner facts).facts.links
+    won_open slot None facts each = each
+    won_open slot (Some activity) facts each =
+        subst (λ won. EachOpen P won.links) (sym (winning_is slot activity facts)) (wins slot activity facts.links each)
+
+    radio_open : (held : Bool) (slot : ℕ) (winner : Option Activity) (facts : Facts) → EachOpen P facts.links → EachOpen P (radio_served held slot winner facts).facts.links
+    radio_open true slot winner facts each = each
+    radio_open false slot winner facts each = won_open slot winner facts each
+
+    served_open : (on : Bool) (slot : ℕ) (winner : Option Activity) (facts : Facts) → EachOpen P facts.links → EachOpen P (served on slot winner facts).facts.links
+    served_open false slot winner facts each = each
+    served_open true slot winner facts each = radio_open (is_held_in facts.radio.hold slot) slot winner facts each
+
+    passed_open : (outcome : Outcome) → EachOpen P outcome.facts.links → EachOpen P (facts_passed outcome).links
+    passed_open outcome each = sends outcome.facts.turn.slot outcome.next outcome.facts.links each
+
+    pub end_open : (setup : Setup) (facts : Facts) → EachOpen P facts.links → EachOpen P (facts_after setup facts TurnEnds).links
+    end_open setup facts each = sends facts.turn.slot Rests facts.links each
+
+    -- ---- a phase
+
+    -- a link that is opened in it has the fact
+    pub record MayOpen (facts : Facts) : Type 0 where
+      pub made : (channel : ℕ) (link : LinkSetup) → facts.turn.doing ≡ Connects channel link → P (new_link (record { link = link; opened = facts.turn.slot }))
+      pub taken : (pdu : AdvPdu) (on : AdvertiserFacts) (fields : ConnectFields) (handle : ℕ)
+          → advertiser_answer on.params facts.view.accepted pdu ≡ Takes fields
+          → P (new_link (record { link = link_taken on.params.own pdu fields handle; opened = facts.turn.slot }))
+
+    opens_open : (link : LinkSetup) (facts : Facts) → P (new_link (record { link = link; opened = facts.turn.slot })) → EachOpen P facts.links
+        → EachOpen P (facts_passed (opens link facts)).links
+    opens_open link facts has each =
+        opening_passes (λ after. EachOpen P after.links) link facts
+        (sends facts.turn.slot Rests _ (opened (record { link = link; opened = facts.turn.slot }) facts.links has each))
+
+    asks_open : (asks : Bool) (slot channel : ℕ) (pdu : AdvPdu) (links : Links) → EachOpen P links → EachOpen P (links_sending slot (asks_if asks channel pdu) links)
+    asks_open asks slot channel pdu links each = sends slot (asks_if asks channel pdu) links each
+
+    outcomes_open : (setup : Setup) (facts : Facts) → MayOpen facts → EachOpen P facts.links → EachOutcome setup facts (λ outcome. EachOpen P (facts_passed outcome).links)
+    outcomes_open setup facts may each = record {
+      rests = each;
+      awaits_request = λ channel doing. each;
+      awaits_response = λ channel advertiser doing. each;
+      central_listens = λ handle doing. each;
+      sent = λ channel link doing. opens_open link facts (may.made channel link doing) each;
+      responds = λ channel on doing is_on. each;
+      taken = λ channel octets pdu on fields handle is_on hears takes free.
+          opens_open (link_taken on.params.own pdu fields handle) facts (may.taken pdu on fields handle takes) each;
+      scanned = λ channel octets pdu on doing is_on hears.
+          asks_open (true && does_ask (scan_answer on.params facts.view.accepted on.recent pdu)) facts.turn.slot channel pdu facts.links each;
+      answered = λ channel octets pdu on doing is_on hears.
+          asks_open (false && does_ask (scan_answer on.params facts.view.accepted on.recent pdu)) facts.turn.slot channel pdu facts.links each;
+      connects = λ channel octets pdu on access handle doing is_on hears answers next free in_range. each;
+      received = λ handle octets.
+          sends facts.turn.slot (reply_if (replies_in (link_at handle facts.links) octets) handle) _
+          (changed handle (link_after (PacketReceived facts.turn.slot octets)) facts.links (kept.received facts.turn.slot octets) each);
+    }
+
+    pub phase_open : (setup : Setup) (facts : Facts) (received : Option (List ℕ)) → MayOpen facts → EachOpen P facts.links
+        → EachOpen P (facts_after setup facts (step_of received)).links
+    phase_open setup facts None may each = unheard_is setup facts _ (outcomes_open setup facts may each) facts.turn.doing refl
+    phase_open setup facts (Some octets) may each = heard_is setup facts _ (outcomes_open setup facts may each) facts.turn.doing octets refl
+
+-- a turn begins: what is kept of the links that stay, and what holds of each as it enters its event
+pub begin_open : (P Q : OpenLink → Type 0) → IsKeptOpen Q → (setup : Setup) (slot : ℕ) (on : Bool) (facts : Facts)
+    → ((link : OpenLink) → P link → Q (link_entered slot link)) → EachOpen P facts.links → EachOpen Q (facts_after setup facts (TurnBegins slot on)).links
+begin_open P Q kept setup slot on facts enters each =
+    let begun = turn_begins slot (facts_ending slot facts) in
+    let stayed : EachOpen P begun.links = subst (λ ended. EachOpen P ended.links) (sym (ending_is slot facts)) (stays P slot facts.links each) in
+    passed_open Q kept (outcome_begun slot on facts)
+    (served_open Q kept on slot (winner_of (plan_in slot begun) slot) (facts_entering slot begun) (enter_open P Q slot begun.links enters stayed))

@@ -1,0 +1,8 @@
+//! Laws over both ends of a link in every run of a pair of controllers. None of them names code.
+#![tactic(auto)]
+
+mod access;
+mod ends;
+
+pub use crate::access::access_addresses_are_taken_in_order;
+pub use crate::ends::{each_end_enters_its_events, ends_of_one_link_have_one_connect_ind};
