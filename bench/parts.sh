@@ -1,5 +1,5 @@
 #!/usr/bin/env bash
-# Measures the parts that the program does not call yet, at the whole load and at half of it.
+# Measures parts on their own, those that the program does not call yet among them, at the whole load and at half of it.
 # Needs the toolchain and python3. The program that it measures is parts.txt, built in a folder of its own.
 set -e
 cd "$(dirname "$0")/.."

@@ -1,4 +1,4 @@
-"""Runs `ble pair` on loads of host octets and of the radio, whole and halved, and prints figures and ratios."""
+"""Runs `ble pair` on loads of hosts, of the radio and of a link, whole and halved, and prints figures and ratios."""
 import os
 import subprocess
 import sys
@@ -16,6 +16,10 @@ ON = bytes.fromhex("010a200101")
 OFF_AND_ON = bytes.fromhex("010a200100") + ON
 # LE events let through, and scanning turned on: 18 octets.
 SCANS = bytes.fromhex("01010c08ffffffffff1f0020" "010c20020100")
+
+# LE Create Connection to device B: a timeout of 32 s, no latency; 29 octets, with the interval in slots twice.
+CREATE = "010d2019" "6000" "6000" "00" "00" "0b0000eeffc0" "00" "%s" "%s" "0000" "800c" "0000" "0000"
+INTERVAL = 24
 
 # Runs a program and writes its status, its seconds and its peak memory in octets. It is small itself, because the memory
 # that a process takes before it becomes the program counts as the program's.
@@ -70,6 +74,19 @@ def idle(turns):
     return Load(b"", b"", b"run %d\n" % turns, turns, 0)
 
 
+def link_of(interval, turns):
+    """A link on which nothing but empty PDUs goes, with one exchange in each interval, from turn 2 on."""
+    words = interval.to_bytes(2, "little").hex()
+    a = bytes.fromhex(CREATE % (words, words))
+    packets = 2 + 2 * len(range(2, turns, interval))
+    return Load(a, ON, b"t ++ a%d b%d\nrun %d\n" % (len(a), len(ON), turns - 1), turns, packets)
+
+
+def link(turns):
+    """A link with an interval of 24 slots."""
+    return link_of(INTERVAL, turns)
+
+
 def long_lines(octets):
     """A schedule of turn lines with fates, of this many octets."""
     line = b"t ++ . x e0:00\n"
@@ -116,6 +133,7 @@ def main():
             ("On air in each turn, by turns", on_air, 100_000),
             ("Advertising and scanning, by turns", advertising, 100_000),
             ("Idle turns, by turns", idle, 100_000),
+            ("A link with empty PDUs, by turns", link, 100_000),
             ("Turn lines with fates, by octets of the schedule", long_lines, 1_048_576),
         ):
             half = run(program, folder, make(whole // 2))
@@ -127,4 +145,5 @@ def main():
             print(f"  peak memory: {memory:,} octets, {memory / text:.2f} times the text of the journal")
 
 
-main()
+if __name__ == "__main__":
+    main()

@@ -1,5 +1,5 @@
 #!/usr/bin/env bash
-# Measures `ble pair` over host octets and the radio: speed, and peak memory against the text of the journal.
+# Measures `ble pair` over host octets, the radio and a link: speed, and peak memory against the text of the journal.
 # Needs the toolchain and python3.
 cd "$(dirname "$0")/.." || exit 1
 (cd crates/ble && rt run -- pair data/a.bin data/b.bin data/schedule) >/dev/null 2>&1 || {

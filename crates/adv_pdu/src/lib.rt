@@ -3,6 +3,7 @@
 #![tactic(auto)]
 
 mod header;
+mod parts;
 mod pdu;
 mod ranges;
 mod reading;

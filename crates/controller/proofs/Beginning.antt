@@ -1,5 +1,5 @@
 -- The beginning of a turn, from its parts.
-use Rattle.std.proofs.Common.{◌≡◌, ℕ, Bool, List, ◌++◌, Option, sym, ap, ◌∙◌, subst, append_assoc}
+use Rattle.std.proofs.Common.{◌≡◌, ℕ, Bool, List, ◌++◌, Option, ap, ◌∙◌, subst, append_assoc}
 use Rattle.ble_base.specs.declared.notes.Note.{Note}
 use Rattle.slot_plan.specs.declared.Activity.{Activity}
 use Rattle.slot_plan.specs.Holding.{winner_of}
@@ -7,7 +7,6 @@ use Rattle.open_links.specs.Turns.{notes_entering}
 use Rattle.one_side.specs.declared.doing.Doing.{Doing}
 use Rattle.one_side.specs.Facts.{Setup, Facts}
 use Rattle.one_side.specs.Links.{facts_ending, notes_ending}
-use Rattle.one_side.specs.Outcome.{Outcome}
 use Rattle.one_side.specs.Radio.{facts_entering, outcome_begun, plan_in, served, turn_begins}
 use Rattle.controller.specs.Held.{Held}
 use Rattle.controller.specs.Knowing.{IsAt, Passes}

@@ -1,6 +1,6 @@
 -- An initiator that connects, and an advertiser that takes a CONNECT_IND.
 use Rattle.std.proofs.Common.{◌≡◌, ℕ, suc, ◌+◌, ◌%◌, ◌==◌, Bool, true, false, List, length, refl, ap, sym, subst, ◌∙◌, arith, if◌then◌else◌}
-use Rattle.std.specs.Prelude.{Option, Some, None, is_some}
+use Rattle.std.specs.Prelude.{Option, Some, is_some}
 use Rattle.std.proofs.Math.Nat.{mod-add-mod}
 use Rattle.ble_base.specs.declared.addresses.Address.{Address}
 use Rattle.adv_pdu.specs.declared.pdu.AdvPdu.{AdvPdu}
@@ -13,7 +13,6 @@ use Rattle.advertise.specs.declared.params.AdvParams.{AdvParams}
 use Rattle.advertise.specs.Advertising.{advertisement}
 use Rattle.advertise.specs.Answers.{advertiser_answer, is_connect_taken, is_scan_answered}
 use Rattle.advertise.proofs.Takings.{taken_connection}
-use Rattle.host_view.specs.View.{View}
 use Rattle.ble_base.specs.declared.notes.Note.{Note}
 use Rattle.one_end.specs.declared.setup.LinkSetup.{LinkSetup}
 use Rattle.scan_init.specs.Access.{nth_access}

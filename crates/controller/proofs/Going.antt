@@ -1,8 +1,7 @@
 -- A controller that knows its past, after a step.
-use Rattle.std.proofs.Common.{◌≡◌, ℕ, ◌+◌, Bool, List, [], ◌∷◌, ◌++◌, length, drop, refl, ap, sym, ◌∙◌, subst}
+use Rattle.std.proofs.Common.{◌≡◌, ℕ, ◌+◌, List, [], ◌∷◌, ◌++◌, length, drop, refl, ap, sym, ◌∙◌, subst}
 use Rattle.std.proofs.lemmas.List.{drop_at}
 use Rattle.ble_base.specs.declared.notes.Note.{Note}
-use Rattle.ble_base.specs.declared.verdicts.Verdict.{Verdict}
 use Rattle.h4_frames.specs.declared.packet.Fed.{Fed}
 use Rattle.h4_frames.specs.declared.packet.Fed.TheVariants.{More, Packet, LostSync}
 use Rattle.h4_frames.specs.declared.stage.Stage.{Stage}
@@ -12,7 +11,7 @@ use Rattle.one_side.specs.declared.doing.Doing.{Doing}
 use Rattle.one_side.specs.Step.{Step, HostOctet}
 use Rattle.one_side.specs.Facts.{Setup, Facts, Use}
 use Rattle.one_side.specs.Outcome.{Outcome, facts_passed}
-use Rattle.one_side.specs.Packets.{facts_doing, use_for, use_of, verdict_of}
+use Rattle.one_side.specs.Packets.{facts_doing, use_for, use_of}
 use Rattle.one_side.specs.Side.{facts_after, facts_fed, facts_of, first_result, notes_after, notes_fed, result_of, with_octet}
 use Rattle.one_side.proofs.Feds.{fed_octets, turn_octets}
 use Rattle.one_side.proofs.Pasts.{facts_more}

@@ -1,13 +1,12 @@
 -- Links that are shut, by what is held.
 use Rattle.std.proofs.Common.{◌≡◌, ℕ, List, [], ◌∷◌, refl, ap, ◌∙◌}
 use Rattle.std.specs.Prelude.{fold}
-use Rattle.h4_frames.specs.declared.stage.Stage.{Stage}
 use Rattle.host_view.specs.Noted.{view_noted}
 use Rattle.host_view.specs.View.{View}
 use Rattle.open_links.specs.Knowing.{Knows as KnowsLinks}
 use Rattle.open_links.specs.declared.ended.LinkEnded.{LinkEnded}
 use Rattle.open_links.specs.Turns.{links_staying}
-use Rattle.one_side.specs.Facts.{Setup, Facts, Radio}
+use Rattle.one_side.specs.Facts.{Setup, Facts}
 use Rattle.one_side.specs.Links.{ends_in, facts_ending, facts_shut, note_shut, radio_without}
 use Rattle.controller.specs.Held.{Held}
 use Rattle.controller.specs.Knowing.{IsAt}

@@ -8,7 +8,6 @@ use Rattle.one_side.specs.declared.doing.Doing.{Doing}
 use Rattle.one_side.specs.Step.{Step}
 use Rattle.one_side.specs.Facts.{Setup, Facts, Use, Sends, Listens, Idle as Unused}
 use Rattle.one_side.specs.Outcome.{Outcome}
-use Rattle.one_side.specs.Packets.{use_for}
 use Rattle.one_side.specs.Side.{facts_of, notes_after}
 use Rattle.controller.specs.declared.intents.Intent.{Intent}
 use Rattle.controller.specs.declared.intents.Intent.TheVariants.{Send, Listen, Idle}

@@ -1,20 +1,25 @@
 //! Advertising, turn by turn, as worked out by hand.
+use crate::Intent;
 use crate::tests::{
-    ADVERTISE, ADVERTISEMENTS, PARAMETERS, PUBLIC_A, Small, begin, channel_of, command, started,
-    turn,
+    ADVERTISE, ADVERTISEMENTS, CONNECTABLE_B, PARAMETERS, PUBLIC_A, PUBLIC_B, REQUEST_TO_B,
+    RESPONSE_OF_B, Small, begin, channel_of, command, phase, sends, started, turn,
 };
-use crate::{Intent, packets};
-use arrayvec::ArrayVec;
-use ble_base::Address;
+use ble_base::Outbox;
 use std::process::Abort;
 
 const STOP_ADVERTISING: [u8; 5] = [0x01, 0x0A, 0x20, 0x01, 0x00];
 
-fn sends(rt: &impl Abort, channel: u8, packet: &[u8]) -> Intent {
-    let mut octets = ArrayVec::new();
-    assert!(rt; octets.try_extend_from_slice(packet).is_ok());
-    Intent::Send { channel, octets }
-}
+/// ADV_NONCONN_IND from the random address C60504030201 with the data 02 01 06, on channel 37.
+const UNDER_A_RANDOM_ADDRESS: [u8; 18] = [
+    0xD6, 0xBE, 0x89, 0x8E, 0xCF, 0xDB, 0x56, 0xA3, 0x3E, 0xA3, 0x63, 0x76, 0x77, 0x30, 0x17, 0xD7,
+    0x41, 0xB5,
+];
+
+/// ADV_DIRECT_IND from the second device to the first one on channel 37, with ChSel 1.
+const DIRECTED_TO_A: [u8; 21] = [
+    0xD6, 0xBE, 0x89, 0x8E, 0xAC, 0xDE, 0x5C, 0xA1, 0x3D, 0x49, 0x99, 0x70, 0x7F, 0x31, 0x11, 0xA6,
+    0x69, 0xB7, 0x07, 0x30, 0x45,
+];
 
 /// In this slot it advertises on this channel, or not at all.
 fn advertises(rt: &impl Abort, controller: &mut Small, slot: u32, channel: Option<u8>) {
@@ -108,17 +113,53 @@ fn advertises_data_under_a_random_address(rt: HostRuntime) {
     ];
     command(&rt, &mut controller, &content, 0x00);
     command(&rt, &mut controller, &ADVERTISE, 0x00);
-    let mut body = ArrayVec::new();
-    assert!(rt; body.try_extend_from_slice(&[2, 1, 6]).is_ok());
-    let from = Address {
-        random: true,
-        octets: [0x01, 0x02, 0x03, 0x04, 0x05, 0xC6],
-    };
-    let packet = packets::advertisement(37, from, body);
     assert_eq!(rt;
         begin(&mut controller, 0),
-        sends(&rt, 37, packet.as_slice())
+        sends(&rt, 37, &UNDER_A_RANDOM_ADDRESS)
     );
+}
+
+/// Without parameters of the host it is connectable and scannable. It answers one request in its
+/// slot, with the scan response data.
+#[test]
+fn answers_a_scan_request(rt: HostRuntime) {
+    let mut controller = started(&rt, rt.alloc(), PUBLIC_B, &[2]);
+    let mut content = [0x00; 36];
+    content[..8].copy_from_slice(&[0x01, 0x09, 0x20, 0x20, 0x03, 0x02, 0x01, 0x06]);
+    command(&rt, &mut controller, &content, 0x00);
+    command(&rt, &mut controller, &ADVERTISE, 0x00);
+    assert_eq!(rt; begin(&mut controller, 0), sends(&rt, 37, &CONNECTABLE_B));
+    assert_eq!(rt;
+        phase(&rt, &mut controller, None),
+        Intent::Listen { channel: 37 }
+    );
+    assert_eq!(rt;
+        phase(&rt, &mut controller, Some(&REQUEST_TO_B)),
+        sends(&rt, 37, &RESPONSE_OF_B)
+    );
+    assert_eq!(rt; phase(&rt, &mut controller, None), Intent::Idle);
+    controller.end_turn(&mut Outbox::new());
+}
+
+/// Directed advertising names its target, and answers no SCAN_REQ.
+#[test]
+fn advertises_to_one_device(rt: HostRuntime) {
+    let mut controller = started(&rt, rt.alloc(), PUBLIC_B, &[2]);
+    let mut parameters = PARAMETERS;
+    parameters[8] = 0x04;
+    parameters[11..17].copy_from_slice(&PUBLIC_A);
+    command(&rt, &mut controller, &parameters, 0x00);
+    command(&rt, &mut controller, &ADVERTISE, 0x00);
+    assert_eq!(rt; begin(&mut controller, 0), sends(&rt, 37, &DIRECTED_TO_A));
+    assert_eq!(rt;
+        phase(&rt, &mut controller, None),
+        Intent::Listen { channel: 37 }
+    );
+    assert_eq!(rt;
+        phase(&rt, &mut controller, Some(&REQUEST_TO_B)),
+        Intent::Idle
+    );
+    controller.end_turn(&mut Outbox::new());
 }
 
 #[test]

@@ -7,7 +7,7 @@ use std::process::Abort;
 use std::test::Fail;
 
 /// Commands that return a status alone: opcode, parameters and status.
-const COMPLETED: [(u16, &[u8], u8); 18] = [
+const COMPLETED: [(u16, &[u8], u8); 20] = [
     (0x0C01, &[0xFF; 8], 0x00),
     (0x0C03, &[], 0x00),
     (0x2001, &[0x1F, 0, 0, 0, 0, 0, 0, 0], 0x00),
@@ -20,7 +20,9 @@ const COMPLETED: [(u16, &[u8], u8); 18] = [
     (0x2008, &[0; 32], 0x00),
     (0x2009, &[32; 32], 0x12),
     (0x200A, &[0], 0x00),
+    (0x200A, &[1], 0x00),
     (0x200B, &[0, 0x10, 0, 0x10, 0, 0, 0], 0x00),
+    (0x200B, &[1, 0x10, 0, 0x10, 0, 0, 0], 0x00),
     (0x200C, &[0, 0], 0x00),
     (0x200E, &[], 0x0C),
     (0x2010, &[], 0x00),
@@ -34,13 +36,20 @@ const COMPLETED: [(u16, &[u8], u8); 18] = [
 
 /// Commands that have a Command Status, with it: those that start something, and those that this
 /// controller does not know.
-const STARTED: [(u16, &[u8], u8); 12] = [
+const STARTED: [(u16, &[u8], u8); 13] = [
     (0x0406, &[0, 0, 0x13], 0x02),
     (0x041D, &[0, 0], 0x02),
     (
         0x200D,
         &[
             0x10, 0, 0x10, 0, 0, 0, 1, 2, 3, 4, 5, 6, 0, 6, 0, 6, 0, 0, 0, 10, 0, 0, 0, 0, 0,
+        ],
+        0x00,
+    ),
+    (
+        0x200D,
+        &[
+            0x10, 0, 0x10, 0, 0, 0, 1, 2, 3, 4, 5, 6, 2, 6, 0, 6, 0, 0, 0, 10, 0, 0, 0, 0, 0,
         ],
         0x11,
     ),

@@ -53,7 +53,6 @@ fn refuses_by_the_table(rt: HostRuntime) {
         command(&rt, &mut controller, &octets, status);
     }
     command(&rt, &mut controller, &[0x01, 0x0A, 0x20, 0x01, 0x02], 0x12);
-    command(&rt, &mut controller, &ADVERTISE, 0x11);
     command(
         &rt,
         &mut controller,
@@ -66,9 +65,10 @@ fn refuses_by_the_table(rt: HostRuntime) {
         &[0x01, 0x0C, 0x20, 0x02, 0x01, 0x02],
         0x12,
     );
-    command(&rt, &mut controller, &PARAMETERS, 0x00);
     command(&rt, &mut controller, &ADVERTISE, 0x00);
     command(&rt, &mut controller, &PARAMETERS, 0x0C);
+    command(&rt, &mut controller, &RESET, 0x00);
+    command(&rt, &mut controller, &PARAMETERS, 0x00);
 }
 
 /// Two octets of the parameters are changed: the first condition that holds gives the status. The

@@ -190,7 +190,9 @@ impl<const L: usize, const T: usize, const R: usize> Controller<L, T, R> {
                 interval,
                 window,
                 ..
-            } => self.scanning.set_parameters(*kind == ACTIVE, *interval, *window),
+            } => self
+                .scanning
+                .set_parameters(*kind == ACTIVE, *interval, *window),
             Command::LeSetScanEnable { value, duplicates } => {
                 let own = self.own_address(self.view.scanning().own);
                 let listed = self.view.scanning().policy == LISTED;

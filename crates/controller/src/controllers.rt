@@ -186,7 +186,7 @@ impl<const L: usize, const T: usize, const R: usize> Controller<L, T, R> {
         ensures goes { (setup : Setup) (past : List Step) → Knows setup self.old past
             → Goes setup self.new past TurnEnds out.new.items }
     {
-        self.prepare(Doing::Rests);
+        self.rest();
     }
 
     /// Nothing holds the radio.

@@ -14,10 +14,14 @@ mod advertising_tests;
 mod answer_tests;
 mod answers;
 #[cfg(test)]
+mod channel_tests;
+#[cfg(test)]
 mod command_tests;
 mod commands;
 mod controllers;
 mod intents;
+#[cfg(test)]
+mod link_tests;
 mod masks;
 mod opening;
 mod packets;

@@ -3,7 +3,7 @@ ghost use Rattle.std.specs.Prelude.{◌≡◌, ◌≤◌, ◌<◌, ◌^◌, ℕ,
 ghost use Rattle.std.specs.Option.{option_and_then, option_to_list};
 ghost use Rattle.arrayvec.specs.ArrayVec.{array_vec_len};
 ghost use Rattle.ble_base.specs.declared.notes.Note.{Note};
-ghost use Rattle.adv_pdu.specs.Pdu.{FitsBits, body_of, ch_sel_of, sender_of};
+ghost use Rattle.adv_pdu.specs.Pdu.{FitsBits, body_of, sender_of};
 ghost use Rattle.adv_pdu.specs.Ranges.{IsInRange};
 ghost use Rattle.scan_init.specs.Reports.{does_ask};
 ghost use Rattle.open_links.specs.Knowing.{Knows as KnowsLinks};
@@ -45,33 +45,6 @@ const NO_RSSI: u8 = 0x7F;
 /// 4.5.10).
 const MOST_RECEIVED: u16 = 251;
 
-/// The sender of a PDU.
-fn sender(pdu: &AdvPdu) -> Address
-    ensures { result ≡ sender_of pdu.now }
-{
-    match pdu {
-        AdvPdu::Ind { from, .. }
-        | AdvPdu::Direct { from, .. }
-        | AdvPdu::Nonconn { from, .. }
-        | AdvPdu::ScanReq { from, .. }
-        | AdvPdu::ScanRsp { from, .. }
-        | AdvPdu::Connect { from, .. }
-        | AdvPdu::ScanInd { from, .. } => *from,
-    }
-}
-
-/// ChSel of a PDU, false where the type has none.
-fn ch_sel(pdu: &AdvPdu) -> bool
-    ensures { result ≡ ch_sel_of pdu.now }
-{
-    match pdu {
-        AdvPdu::Ind { ch_sel, .. }
-        | AdvPdu::Direct { ch_sel, .. }
-        | AdvPdu::Connect { ch_sel, .. } => *ch_sel,
-        _ => false,
-    }
-}
-
 /// The advertising or scan response data of a PDU.
 fn octets_reported(pdu: &AdvPdu) -> ArrayVec<u8, MOST_DATA>
     ensures { result.items ≡ octets_reported (body_of pdu.now) }
@@ -91,7 +64,7 @@ fn octets_reported(pdu: &AdvPdu) -> ArrayVec<u8, MOST_DATA>
 fn report_event(pdu: &AdvPdu, kind: ReportKind) -> Event
     ensures { result ≡ report_event pdu.now kind }
 {
-    let from = sender(pdu);
+    let from = pdu.sender();
     Event::AdvertisingReport {
         kind: kind.event_type(),
         address_kind: address_kind(&from),
@@ -134,7 +107,7 @@ fn asks_if(asks: bool, channel: u8, pdu: &AdvPdu) -> Doing
     if asks {
         Doing::Requests {
             channel,
-            advertiser: sender(pdu),
+            advertiser: pdu.sender(),
         }
     } else {
         Doing::Rests
@@ -191,9 +164,9 @@ impl<const L: usize, const T: usize, const R: usize> Controller<L, T, R> {
                 role: Role::Peripheral,
                 handle,
                 own,
-                peer: sender(pdu),
+                peer: pdu.sender(),
                 fields,
-                two: ch_sel(pdu),
+                two: pdu.ch_sel(),
                 max_rx: MOST_RECEIVED,
             };
             self.open(link, out);
@@ -246,7 +219,7 @@ impl<const L: usize, const T: usize, const R: usize> Controller<L, T, R> {
         ensures can { CanDo L result }
         ensures framer { self.new.framer ≡ self.old.framer }
     {
-        let is_new = self.is_new_between(&own, &sender(pdu));
+        let is_new = self.is_new_between(&own, &pdu.sender());
         self.take_if(is_new, own, pdu, fields, out)
     }
 
@@ -331,7 +304,7 @@ impl<const L: usize, const T: usize, const R: usize> Controller<L, T, R> {
             → result ≡ answers_by_connecting on.now pdu.now facts }
     {
         on.accepts(pdu, self.view.accept_list())
-            && self.is_new_between(&on.params().own, &sender(pdu))
+            && self.is_new_between(&on.params().own, &pdu.sender())
     }
 
     /// The fields of the CONNECT_IND of an initiator with this access address.
@@ -378,9 +351,9 @@ impl<const L: usize, const T: usize, const R: usize> Controller<L, T, R> {
             role: Role::Central,
             handle,
             own: on.params().own,
-            peer: sender(pdu),
+            peer: pdu.sender(),
             fields,
-            two: ch_sel(pdu),
+            two: pdu.ch_sel(),
             max_rx: MOST_RECEIVED,
         })
     }

@@ -4,6 +4,7 @@ ghost use Rattle.adv_pdu.specs.Pdu.{FitsBits};
 ghost use Rattle.open_links.specs.Knowing.{Knows as KnowsLinks};
 ghost use Rattle.open_links.specs.OpenLinks.{Links, link_after, link_at, with_change};
 ghost use Rattle.one_end.specs.Step.{PacketSent};
+ghost use Rattle.one_side.specs.declared.doing.Doing.TheVariants.{Rests};
 ghost use Rattle.one_side.specs.Facts.{Setup, Facts};
 ghost use Rattle.one_side.specs.Packets.{advertisement_sent, facts_doing, links_sending, listens_on};
 ghost use Rattle.one_side.specs.Packets.{request_sent, response_sent, sends_on, use_for};
@@ -79,9 +80,7 @@ impl<const L: usize, const T: usize, const R: usize> Controller<L, T, R> {
             Doing::CentralListens { handle } | Doing::PeripheralListens { handle } => {
                 self.listen_on(handle)
             }
-            Doing::Advertises { channel } => {
-                send_pdu(channel, self.advertising.advertisement())
-            }
+            Doing::Advertises { channel } => { send_pdu(channel, self.advertising.advertisement()) }
             Doing::Responds { channel } => send_pdu(channel, self.advertising.response()),
             Doing::Requests {
                 channel,
@@ -101,8 +100,34 @@ impl<const L: usize, const T: usize, const R: usize> Controller<L, T, R> {
         self.turn.doing = doing;
     }
 
+    /// It does nothing in the phase that comes next.
+    pub(crate) fn rest(&mut self)
+        ensures at { (has : Setup) (facts : Facts) → IsAt has self.old facts
+            → IsAt has self.new (facts_doing Rests facts) }
+        ensures framer { self.new.framer ≡ self.old.framer }
+    {
+        self.set_doing(Doing::Rests);
+    }
+
     /// It does this in the phase that comes next. It gives what it wants of the radio for that.
     pub(crate) fn prepare(&mut self, doing: Doing) -> Intent
+        requires { CanDo L doing }
+        ensures at { (has : Setup) (facts : Facts) → IsAt has self.old facts
+            → IsAt has self.new (facts_doing doing facts) }
+        ensures wanted { (has : Setup) (facts : Facts) → IsAt has self.old facts
+            → use_wanted result ≡ use_for facts doing }
+        ensures framer { self.new.framer ≡ self.old.framer }
+    {
+        if let Doing::Rests = doing {
+            self.rest();
+            return Intent::Idle;
+        }
+        self.prepare_radio(doing)
+    }
+
+    /// The same where it uses the radio. Most phases are idle, so this is kept out of their code.
+    #[inline(never)]
+    fn prepare_radio(&mut self, doing: Doing) -> Intent
         requires { CanDo L doing }
         ensures at { (has : Setup) (facts : Facts) → IsAt has self.old facts
             → IsAt has self.new (facts_doing doing facts) }

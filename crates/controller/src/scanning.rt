@@ -66,14 +66,7 @@ impl Scanning {
 
     /// Turns it on, where it is off, or off. One that is turned on has this own address, may filter
     /// by the accept list and filter duplicates, and begins in this slot.
-    pub(crate) fn enable(
-        &mut self,
-        value: u8,
-        own: Address,
-        listed: bool,
-        once: bool,
-        slot: SlotNo,
-    )
+    pub(crate) fn enable(&mut self, value: u8, own: Address, listed: bool, once: bool, slot: SlotNo)
         ensures { self.new ≡ record self.old {
           on = scanner_enabled (scanner_turned_on own listed once slot.0 self.old)
               value self.old.on;

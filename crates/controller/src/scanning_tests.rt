@@ -1,11 +1,15 @@
 //! Scanning, turn by turn, and what it reports, as worked out by hand.
+ghost use Rattle.std.specs.Prelude.{◌<◌};
+
+use crate::Intent;
 use crate::tests::{
-    ADVERTISEMENTS, PUBLIC_A, PUBLIC_B, RESET, Small, begin, channel_of, command, rest, started,
-    turn, up,
+    ADVERTISEMENTS, CONNECTABLE_B, MASK, PUBLIC_A, PUBLIC_B, REQUEST_TO_B, RESET, RESPONSE_OF_B,
+    Small, begin, channel_of, command, phase, rest, sends, started, turn, up,
 };
-use crate::{Intent, packets};
+use adv_pdu::AdvPdu;
+use air_frame::{ADVERTISING_ACCESS, ADVERTISING_CRC_INIT, build};
 use arrayvec::ArrayVec;
-use ble_base::{Address, Outbox, Verdict};
+use ble_base::{AIR_PACKET_OCTETS, Address, Outbox, Verdict};
 use std::process::Abort;
 
 /// ADV_DIRECT_IND from the device with the first address to that with the second, on channel 37.
@@ -58,9 +62,19 @@ const SCAN_ONCE: [u8; 6] = [0x01, 0x0C, 0x20, 0x02, 0x01, 0x01];
 
 const STOP_SCANNING: [u8; 6] = [0x01, 0x0C, 0x20, 0x02, 0x00, 0x00];
 
-/// Set Event Mask, with the bit of the LE events.
-const MASK: [u8; 12] = [
-    0x01, 0x01, 0x0C, 0x08, 0xFF, 0xFF, 0xFF, 0xFF, 0xFF, 0x1F, 0x00, 0x20,
+/// LE Set Scan Parameters: active, 10 ms in every 10 ms, the public address, no filter.
+const ACTIVE: [u8; 11] = [
+    0x01, 0x0B, 0x20, 0x07, 0x01, 0x10, 0x00, 0x10, 0x00, 0x00, 0x00,
+];
+
+/// The reports of the ADV_IND of the second device, and of its SCAN_RSP with the data 02 01 06.
+const REPORT_OF_B: [u8; 15] = [
+    0x04, 0x3E, 0x0C, 0x02, 0x01, 0x00, 0x00, 0x0B, 0x00, 0x00, 0xEE, 0xFF, 0xC0, 0x00, 0x7F,
+];
+
+const RESPONSE_REPORT: [u8; 18] = [
+    0x04, 0x3E, 0x0F, 0x02, 0x01, 0x04, 0x00, 0x0B, 0x00, 0x00, 0xEE, 0xFF, 0xC0, 0x03, 0x02, 0x01,
+    0x06, 0x7F,
 ];
 
 /// In this slot it scans on this channel.
@@ -91,6 +105,25 @@ fn hearing(
     rest(controller);
 }
 
+/// ADV_NONCONN_IND from this address, without data.
+fn advertisement(channel: u8, octets: [u8; 6]) -> ArrayVec<u8, AIR_PACKET_OCTETS>
+    requires { channel < 40 }
+{
+    let pdu = AdvPdu::Nonconn {
+        from: Address {
+            random: false,
+            octets,
+        },
+        body: ArrayVec::new(),
+    };
+    build(
+        channel,
+        ADVERTISING_ACCESS,
+        ADVERTISING_CRC_INIT,
+        pdu.write().as_slice(),
+    )
+}
+
 /// A turn in which an advertisement of another device is heard, whose address begins with this
 /// octet.
 fn hearing_from(rt: &impl Abort, controller: &mut Small, slot: u32, device: u8, is_reported: bool) {
@@ -101,12 +134,7 @@ fn hearing_from(rt: &impl Abort, controller: &mut Small, slot: u32, device: u8, 
     let mut out = Outbox::new();
     let channel = channel_of(begin(controller, slot)).unwrap_or(0);
     assert!(rt; (37..40).contains(&channel), "in {slot}");
-    let from = Address {
-        random: false,
-        octets: public,
-    };
-    let packet = packets::advertisement(channel, from, ArrayVec::new());
-    controller.heard(packet.as_slice(), &mut out);
+    controller.heard(advertisement(channel, public).as_slice(), &mut out);
     assert_eq!(rt;
         out.as_slice().first(),
         is_reported.then(|| up(rt, &report)).as_ref(),
@@ -208,4 +236,28 @@ fn a_scanner_begins_anew(rt: HostRuntime) {
             scans(&rt, &mut scanner, slot, channel);
         }
     }
+}
+
+/// A scanner that is active asks for the scan response in the same slot, and reports that too.
+#[test]
+fn asks_for_a_scan_response(rt: HostRuntime) {
+    let mut controller = started(&rt, rt.alloc(), PUBLIC_A, &[1]);
+    command(&rt, &mut controller, &MASK, 0x00);
+    command(&rt, &mut controller, &ACTIVE, 0x00);
+    command(&rt, &mut controller, &SCAN, 0x00);
+    assert_eq!(rt; begin(&mut controller, 0), Intent::Listen { channel: 37 });
+    let mut out = Outbox::new();
+    assert_eq!(rt;
+        controller.heard(&CONNECTABLE_B, &mut out),
+        sends(&rt, 37, &REQUEST_TO_B)
+    );
+    assert_eq!(rt; out.as_slice(), [up(&rt, &REPORT_OF_B)].as_slice());
+    assert_eq!(rt;
+        phase(&rt, &mut controller, None),
+        Intent::Listen { channel: 37 }
+    );
+    let mut out = Outbox::new();
+    assert_eq!(rt; controller.heard(&RESPONSE_OF_B, &mut out), Intent::Idle);
+    assert_eq!(rt; out.as_slice(), [up(&rt, &RESPONSE_REPORT)].as_slice());
+    controller.end_turn(&mut Outbox::new());
 }

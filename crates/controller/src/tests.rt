@@ -1,4 +1,6 @@
 //! What the tests of this crate share: controllers, hosts and turns.
+ghost use Rattle.std.specs.Prelude.{◌≤◌, length};
+
 use super::*;
 use arrayvec::ArrayVec;
 use ble_base::{Config, Note, Outbox, SlotNo};
@@ -37,17 +39,45 @@ pub(crate) const ADVERTISE: [u8; 5] = [0x01, 0x0A, 0x20, 0x01, 0x01];
 
 pub(crate) const RESET: [u8; 4] = [0x01, 0x03, 0x0C, 0x00];
 
-/// A controller with this public address, which draws these random words.
-pub(crate) fn started(rt: &impl Abort, alloc: Global, public: [u8; 6], draws: &[u64]) -> Small {
+/// Set Event Mask, with the bit of the LE events.
+pub(crate) const MASK: [u8; 12] = [
+    0x01, 0x01, 0x0C, 0x08, 0xFF, 0xFF, 0xFF, 0xFF, 0xFF, 0x1F, 0x00, 0x20,
+];
+
+/// ADV_IND of the second device on channel 37, with ChSel 1 and no data.
+pub(crate) const CONNECTABLE_B: [u8; 15] = [
+    0xD6, 0xBE, 0x89, 0x8E, 0xAD, 0xD4, 0x5C, 0xA1, 0x3D, 0x49, 0x99, 0x70, 0xED, 0xE4, 0x27,
+];
+
+/// SCAN_REQ of the first device to the second one on channel 37.
+pub(crate) const REQUEST_TO_B: [u8; 21] = [
+    0xD6, 0xBE, 0x89, 0x8E, 0x8E, 0xDE, 0x5D, 0xA1, 0x3D, 0x49, 0x99, 0x70, 0x7E, 0x31, 0x11, 0xA6,
+    0x69, 0xB7, 0x4C, 0x8A, 0xB4,
+];
+
+/// SCAN_RSP of the second device on channel 37, with the data 02 01 06.
+pub(crate) const RESPONSE_OF_B: [u8; 18] = [
+    0xD6, 0xBE, 0x89, 0x8E, 0x89, 0xDB, 0x5C, 0xA1, 0x3D, 0x49, 0x99, 0x70, 0x77, 0x30, 0x17, 0x81,
+    0x30, 0xF9,
+];
+
+/// The settings of a device with this public address, which draws these random words.
+pub(crate) fn settings(rt: &impl Abort, public: [u8; 6], draws: &[u64]) -> Config
+    ensures { 1 ≤ length result.words.items }
+{
     let mut words = ArrayVec::new();
     assert!(rt; words.try_extend_from_slice(draws).is_ok());
     assert!(rt; words.len() >= 1);
-    let config = Config {
+    Config {
         public,
         cursor: 0x7176_4129,
         words,
-    };
-    Small::start(alloc, config).expect(rt, "memory")
+    }
+}
+
+/// A controller with this public address, which draws these random words.
+pub(crate) fn started(rt: &impl Abort, alloc: Global, public: [u8; 6], draws: &[u64]) -> Small {
+    Small::start(alloc, settings(rt, public, draws)).expect(rt, "memory")
 }
 
 pub(crate) fn up(rt: &impl Abort, packet: &[u8]) -> Note {
@@ -65,7 +95,12 @@ pub(crate) fn complete(command: &[u8], status: u8) -> [u8; 7] {
 }
 
 /// The octets of a host call for these packets, in order.
-pub(crate) fn give(rt: &impl Abort, controller: &mut Small, octets: &[u8], packets: &[&[u8]]) {
+pub(crate) fn give<const L: usize>(
+    rt: &impl Abort,
+    controller: &mut Controller<L, 8, 8>,
+    octets: &[u8],
+    packets: &[&[u8]],
+) {
     let mut rest = packets.iter();
     for octet in octets {
         let mut out = Outbox::new();
@@ -79,7 +114,12 @@ pub(crate) fn give(rt: &impl Abort, controller: &mut Small, octets: &[u8], packe
 }
 
 /// The command is answered with this status.
-pub(crate) fn command(rt: &impl Abort, controller: &mut Small, octets: &[u8], status: u8) {
+pub(crate) fn command<const L: usize>(
+    rt: &impl Abort,
+    controller: &mut Controller<L, 8, 8>,
+    octets: &[u8],
+    status: u8,
+) {
     give(
         rt,
         controller,
@@ -89,14 +129,14 @@ pub(crate) fn command(rt: &impl Abort, controller: &mut Small, octets: &[u8], st
 }
 
 /// The two phases that are left of a turn, in which nothing is heard, and its end.
-pub(crate) fn rest(controller: &mut Small) {
+pub(crate) fn rest<const L: usize>(controller: &mut Controller<L, 8, 8>) {
     controller.unheard(&mut Outbox::new());
     controller.unheard(&mut Outbox::new());
     controller.end_turn(&mut Outbox::new());
 }
 
 /// A turn begins in this slot, and the radio is on.
-pub(crate) fn begin(controller: &mut Small, slot: u32) -> Intent {
+pub(crate) fn begin<const L: usize>(controller: &mut Controller<L, 8, 8>, slot: u32) -> Intent {
     controller.begin_turn(SlotNo(u64::from(slot)), true, &mut Outbox::new())
 }
 
@@ -114,4 +154,26 @@ pub(crate) fn channel_of(intent: Intent) -> Option<u8> {
         Intent::Listen { channel } => Some(channel),
         _ => None,
     }
+}
+
+/// It sends this packet on this channel.
+pub(crate) fn sends(rt: &impl Abort, channel: u8, packet: &[u8]) -> Intent {
+    let mut octets = ArrayVec::new();
+    assert!(rt; octets.try_extend_from_slice(packet).is_ok());
+    Intent::Send { channel, octets }
+}
+
+/// A phase in which this packet is heard, or nothing. It notes nothing.
+pub(crate) fn phase<const L: usize>(
+    rt: &impl Abort,
+    controller: &mut Controller<L, 8, 8>,
+    heard: Option<&[u8]>,
+) -> Intent {
+    let mut out = Outbox::new();
+    let intent = match heard {
+        Some(octets) => controller.heard(octets, &mut out),
+        None => controller.unheard(&mut out),
+    };
+    assert!(rt; out.is_empty());
+    intent
 }

@@ -1,12 +1,11 @@
 -- Controllers with the same view and links that drew as many words answer a host alike.
-use Rattle.std.proofs.Common.{◌≡◌, ℕ, ◌+◌, ◌==◌, Bool, true, false, List, [], ◌∷◌, ◌++◌, cond, refl, ap, sym, ◌∙◌, subst}
+use Rattle.std.proofs.Common.{◌≡◌, ℕ, ◌==◌, Bool, true, false, List, [], ◌∷◌, ◌++◌, cond, refl, ap, sym, ◌∙◌, subst}
 use Rattle.std.specs.Prelude.{◌||◌}
-use Rattle.ble_base.specs.declared.notes.Note.{Note}
 use Rattle.h4_frames.specs.declared.packet.HostPacket.TheVariants.{Command as HostCommand, Acl}
 use Rattle.h4_frames.specs.declared.packet.Fed.{Fed}
 use Rattle.h4_frames.specs.declared.packet.Fed.TheVariants.{More, Packet, LostSync}
 use Rattle.hci_cmd.specs.declared.command.Command.{Command}
-use Rattle.hci_cmd.specs.declared.command.Command.TheVariants.{HostCompleted, Reset, LeRand, LeReadChannelMap, LeCreateCancel}
+use Rattle.hci_cmd.specs.declared.command.Command.TheVariants.{HostCompleted, Reset, LeRand, LeCreateCancel}
 use Rattle.hci_cmd.specs.declared.command.CmdRead.{CmdRead}
 use Rattle.hci_cmd.specs.declared.command.CmdRead.TheVariants.{Known, UnknownOpcode, BadLength}
 use Rattle.hci_cmd.specs.Command.{command_of}
@@ -15,10 +14,9 @@ use Rattle.host_view.specs.View.{View}
 use Rattle.host_view.specs.Changes.{view_after}
 use Rattle.host_view.specs.Unbuilt.{status_of}
 use Rattle.open_links.specs.OpenLinks.{Links}
-use Rattle.one_side.specs.Step.{Step, HostOctet}
 use Rattle.one_side.specs.Facts.{Setup, Facts, first_facts}
-use Rattle.one_side.specs.Answers.{accepted_answer, answer_to, answer_with, complete_answer, has_status_answer, refused_fields, returned, status_answer}
-use Rattle.one_side.specs.Commands.{drawn_after, events_caused, facts_accepted, facts_commanded, facts_known, links_after, notes_before, notes_commanded, notes_known}
+use Rattle.one_side.specs.Answers.{accepted_answer, answer_with, complete_answer, has_status_answer, refused_fields, returned, status_answer}
+use Rattle.one_side.specs.Commands.{drawn_after, events_caused, facts_commanded, facts_known, links_after, notes_before, notes_commanded, notes_known}
 use Rattle.one_side.specs.Events.{notes_of_events}
 use Rattle.one_side.specs.Side.{facts_fed, notes_fed}
 

@@ -1,6 +1,6 @@
 -- A host is answered as if no turn came between its octets, while nothing is heard; and beside LE events, while the
 -- controller has no link.
-use Rattle.std.proofs.Common.{◌≡◌, ℕ, zero, suc, ◌+◌, ◌≤◌, ◌==◌, Bool, true, false, Option, Some, None, List, [], ◌∷◌, ◌++◌, map, cond, refl, ap, sym, ◌∙◌, subst, arith}
+use Rattle.std.proofs.Common.{◌≡◌, ℕ, ◌≤◌, ◌==◌, Bool, true, false, Option, Some, None, List, [], ◌∷◌, ◌++◌, map, cond, refl, ap, sym, ◌∙◌, subst, arith}
 use Rattle.std.specs.Prelude.{◌||◌, ◌&&◌, not, fold, flat_map}
 use Rattle.std.specs.List.{list_any}
 use Rattle.std.proofs.lemmas.List.Elements.{filter-append}
@@ -20,7 +20,6 @@ use Rattle.host_view.specs.View.{View}
 use Rattle.host_view.specs.Unbuilt.{status_of}
 use Rattle.adv_pdu.specs.declared.pdu.AdvPdu.{AdvPdu}
 use Rattle.scan_init.specs.declared.reports.ReportKind.{ReportKind}
-use Rattle.scan_init.specs.declared.scanner.ScanAnswer.{ScanAnswer}
 use Rattle.scan_init.specs.Reports.{ScannerFacts, does_ask, kind_of, scan_answer}
 use Rattle.one_end.specs.Step.{PacketReceived}
 use Rattle.open_links.specs.OpenLinks.{link_after, link_at}
@@ -30,15 +29,14 @@ use Rattle.one_side.specs.Step.{Step, HostOctet, TurnBegins, PacketHeard, Nothin
 use Rattle.one_side.specs.Facts.{Setup, Facts, first_facts}
 use Rattle.one_side.specs.Commands.{facts_commanded, facts_known}
 use Rattle.one_side.specs.Events.{notes_of_events, passes}
-use Rattle.one_side.specs.Heard.{asks_if, does_report, events_reported, link_received, link_taken, opens, replies_in, reply_if, report_event, report_events, scanner_after, unheard, with_scanner}
-use Rattle.one_side.specs.Links.{facts_ending, notes_ended, notes_ending}
+use Rattle.one_side.specs.Heard.{asks_if, does_report, link_received, link_taken, replies_in, reply_if, report_event, report_events, scanner_after, unheard, with_scanner}
+use Rattle.one_side.specs.Links.{facts_ending, notes_ended}
 use Rattle.one_side.specs.Outcome.{Outcome, facts_passed}
-use Rattle.one_side.specs.Packets.{facts_doing}
 use Rattle.one_side.specs.Side.{facts_after, facts_fed, facts_of, notes_after, notes_fed, notes_from, notes_of, result_of}
 use Rattle.one_side.specs.Host.{HeardNothing, host_octets}
 use Rattle.one_side.specs.Notes.{HadNoLink, is_le_note, is_opening, without_le_events}
 use Rattle.one_side.proofs.Alike.{Alike, fed_alike, notes_alike}
-use Rattle.one_side.proofs.Always.{IsInTurn, IsKept, ending_is, holds_from, opening_passes, start_keeps}
+use Rattle.one_side.proofs.Always.{IsKept, ending_is, holds_from, opening_passes, start_keeps}
 use Rattle.one_side.proofs.Feds.{more_octets}
 use Rattle.one_side.proofs.NoLinks.{AreNone, IsLike, MakesNone, command_none, doing_like, first_none, none_changed, none_end, none_enter, none_stay, start_like}
 use Rattle.one_side.proofs.Phases.{EachOutcome, heard_is, unheard_is}

@@ -1,6 +1,6 @@
 -- A fact of what a controller holds is true at any time if each kind of change keeps it.
-use Rattle.std.proofs.Common.{◌≡◌, ℕ, ◌+◌, ◌-◌, ◌/◌, ◌%◌, ◌≤◌, ◌<◌, ◌==◌, Bool, true, false, Option, Some, None, List, [], ◌∷◌, inl, inr, cond, refl, sym, subst, ◌∙◌, arith}
-use Rattle.std.specs.Prelude.{fold, nat_lt, ⊤}
+use Rattle.std.proofs.Common.{◌≡◌, ℕ, ◌+◌, ◌-◌, ◌/◌, ◌%◌, ◌≤◌, ◌==◌, Bool, true, false, Option, Some, None, List, [], ◌∷◌, inl, inr, cond, refl, sym, subst, ◌∙◌, arith}
+use Rattle.std.specs.Prelude.{fold, nat_lt, slice_set, ⊤}
 use Rattle.std.proofs.lemmas.Bool.Decides.{eqb_tells, nat_tests}
 use Rattle.ble_base.specs.Bits.{has_bit}
 use Rattle.ble_base.specs.declared.roles.Role.{Role}
@@ -14,11 +14,13 @@ use Rattle.hci_cmd.specs.declared.command.CmdRead.TheVariants.{Known, UnknownOpc
 use Rattle.hci_cmd.specs.Command.{command_of}
 use Rattle.advertise.specs.Advertising.{AdvertiserFacts, event_channel}
 use Rattle.host_view.specs.View.{View}
-use Rattle.host_view.specs.Noted.{view_noted}
+use Rattle.host_view.specs.declared.links.Link.{Link as ViewLink}
+use Rattle.host_view.specs.declared.view.Advertising.{Advertising as ViewAdvertising}
+use Rattle.host_view.specs.Noted.{opened_link, stopped_by, view_noted}
 use Rattle.host_view.specs.Unbuilt.{status_of}
 use Rattle.scan_init.specs.Initiating.{InitiatorFacts}
 use Rattle.scan_init.specs.Reports.{ScannerFacts}
-use Rattle.scan_init.specs.Windows.{scan_channel, slots_of}
+use Rattle.scan_init.specs.Windows.{slots_of}
 use Rattle.slot_plan.specs.declared.Activity.{Activity}
 use Rattle.slot_plan.specs.declared.Activity.TheVariants.{Link, Advertise, Scan, Initiate}
 use Rattle.slot_plan.specs.Holding.{is_held_in, winner_of}
@@ -26,14 +28,14 @@ use Rattle.one_end.specs.declared.setup.LinkSetup.{LinkSetup}
 use Rattle.one_end.specs.Times.{span_of}
 use Rattle.open_links.specs.declared.ended.LinkEnded.{LinkEnded}
 use Rattle.open_links.specs.OpenLinks.{Links, OpenLink, facts_in, link_at, link_served, with_change, with_link}
-use Rattle.open_links.specs.Turns.{links_entered, links_staying}
+use Rattle.open_links.specs.Turns.{links_staying}
 use Rattle.one_side.specs.declared.doing.Doing.{Doing}
 use Rattle.one_side.specs.declared.doing.Doing.TheVariants.{Advertises, Scans, Initiates, CentralSends, PeripheralListens, Rests}
 use Rattle.one_side.specs.Step.{Step, HostOctet, TurnBegins, PacketHeard, NothingHeard, TurnEnds}
 use Rattle.one_side.specs.Facts.{Setup, Facts, Radio, first_facts, free_radio}
 use Rattle.one_side.specs.Commands.{facts_accepted, facts_commanded, facts_known}
 use Rattle.one_side.specs.Heard.{opens}
-use Rattle.one_side.specs.Links.{ends_in, facts_ending, facts_opened, facts_shut, note_opened, note_shut, radio_without, stopped}
+use Rattle.one_side.specs.Links.{ends_in, facts_ending, facts_opened, facts_shut, note_opened, radio_without, stopped}
 use Rattle.one_side.specs.Outcome.{facts_passed}
 use Rattle.one_side.specs.Packets.{facts_doing}
 use Rattle.one_side.specs.Radio.{advertises_at, advertises_on, doing_held, doing_won, exchange_begins, exchange_if, facts_entering, facts_won, first_exchange, initiates_on, initiator_channel, outcome_begun, plan_in, radio_held, radio_served, scanner_channel, scans_on, second_exchange, served, served_if_on, slots_since, turn_begins, winner_served}
@@ -43,9 +45,12 @@ use Rattle.one_side.proofs.Phases.{EachOutcome, heard_is, unheard_is}
 -- ---- links that end
 
 -- the view and the radio after these links ended
+abbrev pub links_shut : List (Option ViewLink) → List LinkEnded → List (Option ViewLink)
+links_shut links [] = links
+links_shut links (one ∷ ended) = links_shut (slice_set links one.handle None) ended
+
 abbrev pub view_shut : View → List LinkEnded → View
-view_shut view [] = view
-view_shut view (one ∷ ended) = view_shut (view_noted view (note_shut one.handle one.reason.0)) ended
+view_shut view ended = record view { links = links_shut view.links ended }
 
 abbrev pub radio_shut : Radio → List LinkEnded → Radio
 radio_shut radio [] = radio
@@ -60,6 +65,7 @@ facts_ended slot facts = record facts {
 
 shut_is : (facts : Facts) (ended : List LinkEnded)
     → fold facts_shut facts ended ≡ record facts { view = view_shut facts.view ended; radio = radio_shut facts.radio ended }
+unfolding view_noted
 shut_is facts [] = refl
 shut_is facts (one ∷ ended) = shut_is (facts_shut facts one) ended
 
@@ -113,9 +119,34 @@ abbrev pub radio_stopped : Role → Radio → Radio
 radio_stopped Central radio = radio
 radio_stopped Peripheral radio = free_radio
 
+abbrev pub advertising_noted : Role → ViewAdvertising → ViewAdvertising
+advertising_noted Central advertising = advertising
+advertising_noted Peripheral advertising = record advertising { on = false }
+
+abbrev pub initiating_noted : Role → Option ℕ → Option ℕ
+initiating_noted Central initiating = None
+initiating_noted Peripheral initiating = initiating
+
+abbrev pub view_opened : LinkSetup → View → View
+view_opened link view = record view {
+  advertising = advertising_noted link.role view.advertising;
+  initiating = initiating_noted link.role view.initiating;
+  links = slice_set view.links link.handle (Some (opened_link link.role link.own link.peer));
+}
+
+view_stopped : (role : Role) (view : View) → stopped_by role view
+    ≡ record view { advertising = advertising_noted role view.advertising; initiating = initiating_noted role view.initiating }
+view_stopped Central view = refl
+view_stopped Peripheral view = refl
+
+opened_view : (link : LinkSetup) (view : View) → view_noted view (note_opened link) ≡ view_opened link view
+unfolding view_noted
+opened_view link view =
+    λ i. record (view_stopped link.role view i) { links = slice_set view.links link.handle (Some (opened_link link.role link.own link.peer)) }
+
 abbrev pub facts_opening : LinkSetup → Facts → Facts
 facts_opening link facts = record facts {
-  view = view_noted facts.view (note_opened link);
+  view = view_opened link facts.view;
   links = with_link (record { link = link; opened = facts.turn.slot }) facts.links;
   radio = radio_stopped link.role facts.radio;
   advertising = record facts.advertising { on = advertiser_stopped link.role facts.advertising.on };
@@ -131,10 +162,12 @@ stopped_is Central facts = refl
 stopped_is Peripheral facts = refl
 
 pub opening_is : (link : LinkSetup) (facts : Facts) → facts_opened link facts ≡ facts_opening link facts
-opening_is link facts = stopped_is link.role (record facts {
-  view = view_noted facts.view (note_opened link);
-  links = with_link (record { link = link; opened = facts.turn.slot }) facts.links;
-})
+opening_is link facts =
+    stopped_is link.role (record facts {
+      view = view_noted facts.view (note_opened link);
+      links = with_link (record { link = link; opened = facts.turn.slot }) facts.links;
+    })
+    ∙ (λ i. record (facts_opening link facts) { view = opened_view link facts.view i })
 
 -- ---- what a turn may begin with
 

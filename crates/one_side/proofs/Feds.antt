@@ -1,5 +1,5 @@
 -- What the octets of a host complete, one after another.
-use Rattle.std.proofs.Common.{◌≡◌, ℕ, ◌+◌, ◌==◌, Bool, true, false, List, [], ◌∷◌, ◌++◌, length, cond, refl, ap, sym, ◌∙◌, subst, append-nil, append_assoc}
+use Rattle.std.proofs.Common.{◌≡◌, ℕ, ◌+◌, ◌==◌, Bool, true, false, List, [], ◌∷◌, ◌++◌, length, refl, ap, sym, ◌∙◌, subst, append-nil, append_assoc}
 use Rattle.std.specs.Prelude.{drop}
 use Rattle.std.proofs.lemmas.List.{drop_at}
 use Rattle.std.proofs.lemmas.List.Concat.{flat_map-append}
@@ -88,7 +88,8 @@ opcodes_more facts octet =
     ∙ opcodes_in-append (frames facts.octets) (frame_entry (length facts.octets + 1) (result_of facts.octets octet))
     ∙ ap (λ (rest : List ℕ). opcodes_in (frames facts.octets) ++ rest) (opcodes_entry facts (length facts.octets + 1) (result_of facts.octets octet))
 
--- nor does a turn
+-- ---- nor does a turn
+
 abbrev Has : List ℕ → Facts → Type 0
 Has octets facts = facts.octets ≡ octets
 

@@ -1,36 +1,30 @@
 -- The links of a controller: as many places as it can hold links, each link under its own handle, and a new one under a
 -- free handle.
-use Rattle.std.proofs.Common.{◌≡◌, ℕ, zero, suc, ◌+◌, ◌<◌, ◌≤◌, ◌==◌, Bool, true, false, Option, Some, None, List, [], ◌∷◌, length, replicate, map, cond, refl, ap, sym, subst, ◌∙◌, arith}
+use Rattle.std.proofs.Common.{◌≡◌, ℕ, ◌+◌, ◌<◌, ◌==◌, Bool, true, false, Option, Some, None, List, [], ◌∷◌, length, map, refl, ap, sym, subst, ◌∙◌, arith}
 use Rattle.std.specs.Prelude.{⊤, ◌&&◌, if◌then◌else◌}
 use Rattle.std.specs.Option.{option_map}
 use Rattle.hci_cmd.specs.declared.command.Command.{Command}
 use Rattle.hci_cmd.specs.declared.command.Command.TheVariants.{Reset}
-use Rattle.ble_base.specs.declared.roles.Role.{Role}
-use Rattle.ble_base.specs.declared.roles.Role.TheVariants.{Central, Peripheral}
 use Rattle.adv_pdu.specs.declared.pdu.AdvPdu.{AdvPdu}
 use Rattle.adv_pdu.specs.Pdu.{sender_of}
-use Rattle.host_view.specs.Noted.{view_noted}
 use Rattle.scan_init.specs.Reports.{does_ask, scan_answer}
 use Rattle.one_end.specs.declared.setup.LinkSetup.{LinkSetup}
 use Rattle.one_end.specs.Setup.{Setup as EndSetup}
 use Rattle.one_end.specs.Step.{PacketSent, PacketReceived}
 use Rattle.slot_plan.specs.declared.Activity.{Activity}
 use Rattle.slot_plan.specs.declared.Activity.TheVariants.{Link, Advertise, Scan, Initiate}
-use Rattle.open_links.specs.OpenLinks.{Links, OpenLink, HaveHandles, IsFreeHandle, free_from, new_link, link_after, link_at, link_from, link_served, with_change, with_change_from, with_link, without_links}
+use Rattle.open_links.specs.OpenLinks.{Links, OpenLink, HaveHandles, IsFreeHandle, free_from, link_after, link_at, link_from, link_served, with_change, with_change_from, without_links}
 use Rattle.open_links.specs.Turns.{link_entered, links_entered, links_staying, place_staying}
 use Rattle.open_links.proofs.Counts.{count_at_first, count_changing, count_ending, count_entering, count_opening, count_resetting}
 use Rattle.open_links.proofs.Ends.{enter_with_handles, stay_with_handles, stays_where_not_due}
 use Rattle.open_links.proofs.Handles.{changed_have, free_is, none_have, opened_has}
 use Rattle.one_side.specs.declared.doing.Doing.{Doing}
 use Rattle.one_side.specs.declared.doing.Doing.TheVariants.{Advertises, AwaitsRequest, Responds, Requests, AwaitsResponse, Connects, CentralSends, CentralListens, PeripheralSends, Rests}
-use Rattle.one_side.specs.declared.doing.Turn.{Turn}
 use Rattle.one_side.specs.Step.{Step}
-use Rattle.one_side.specs.Facts.{Setup, Facts, first_facts}
+use Rattle.one_side.specs.Facts.{Setup, Facts}
 use Rattle.one_side.specs.Commands.{links_after}
 use Rattle.one_side.specs.Heard.{asks_if, facts_connecting, fields_sent, link_made, link_received, link_taken, opens, replies_in, reply_if, scanner_after, with_scanner}
-use Rattle.one_side.specs.Links.{note_opened, stopped}
 use Rattle.one_side.specs.Packets.{facts_doing, links_sending}
-use Rattle.one_side.specs.Radio.{facts_won}
 use Rattle.one_side.specs.Outcome.{facts_passed}
 use Rattle.one_side.specs.Side.{facts_of}
 use Rattle.one_side.proofs.Always.{IsKept, MayBegin, always, links_won, opening_passes}
@@ -239,3 +233,12 @@ pub own_handles : (setup : Setup) (past : List Step) → HaveOwnHandles setup (f
 own_handles setup past =
     always setup (HaveOwnHandles setup) (HaveOwnHandles setup) (handles_kept setup)
     (record { many = count_at_first setup.links None; handles = none_have 0 setup.links; new = tt }) past
+
+-- the handle of a link that is to be opened
+pub new_handle : (setup : Setup) (past : List Step) (channel : ℕ) (link : LinkSetup)
+    → (facts_of setup past).turn.doing ≡ Connects channel link
+    → (link.handle < setup.links) × (link_at link.handle (facts_of setup past).links ≡ None)
+new_handle setup past channel link is =
+    let own = own_handles setup past in
+    let new = subst (IsNew (facts_of setup past).links) is own.new in
+    (subst (λ n. link.handle < n) own.many new.0, new.1)

@@ -1,28 +1,27 @@
 -- An advertiser that is left on begins an event in each interval.
-use Rattle.std.proofs.Common.{◌≡◌, ℕ, zero, suc, ◌+◌, ◌-◌, ◌<◌, ◌≤◌, ◌%◌, true, false, Bool, Option, Some, None, List, [], ◌∷◌, ◌++◌, inl, inr, cond, refl, ap, sym, subst, ◌∙◌, arith}
-use Rattle.std.specs.Prelude.{nat_le, nat_lt, ◌&&◌, ◌||◌, is_some, if◌then◌else◌}
+use Rattle.std.proofs.Common.{◌≡◌, ℕ, zero, suc, ◌+◌, ◌-◌, ◌<◌, ◌≤◌, ◌%◌, true, false, Bool, Option, Some, None, [], ◌∷◌, ◌++◌, inl, inr, cond, refl, ap, sym, subst, ◌∙◌, arith}
+use Rattle.std.specs.Prelude.{nat_le, nat_lt, ◌&&◌, is_some}
 use Rattle.std.specs.List.{list_any}
 use Rattle.std.specs.Option.{option_map}
 use Rattle.std.proofs.Math.Nat.{suc-mod, mod-eq_of_lt, mod-lt, mod-le, mod_self, zero-mod}
 use Rattle.std.proofs.lemmas.Bool.{cases_lt, le-leb, lt-ltb}
 use Rattle.std.proofs.lemmas.Bool.Decides.{nat_tests}
-use Rattle.advertise.specs.Advertising.{AdvertiserFacts, event_channel}
+use Rattle.advertise.specs.Advertising.{AdvertiserFacts}
 use Rattle.scan_init.specs.Windows.{slots_of}
 use Rattle.slot_plan.specs.declared.Activity.{Activity}
 use Rattle.slot_plan.specs.declared.Activity.TheVariants.{Advertise, Scan, Initiate}
 use Rattle.slot_plan.specs.Holding.{is_held_in, winner_of}
 use Rattle.slot_plan.specs.Winner.{first_activity}
-use Rattle.open_links.specs.OpenLinks.{Links, OpenLink}
-use Rattle.open_links.specs.Turns.{link_entered, links_entered, wants_from}
+use Rattle.open_links.specs.OpenLinks.{Links}
+use Rattle.open_links.specs.Turns.{link_entered, wants_from}
 use Rattle.one_side.specs.declared.doing.Doing.{Doing}
-use Rattle.one_side.specs.declared.doing.Doing.TheVariants.{Rests}
 use Rattle.one_side.specs.Facts.{Facts, Radio}
-use Rattle.one_side.specs.Links.{ends_in, facts_ending}
+use Rattle.one_side.specs.Links.{facts_ending}
 use Rattle.one_side.specs.Outcome.{facts_passed}
-use Rattle.one_side.specs.Radio.{advertiser_served, advertiser_wants, advertises_at, advertises_on, doing_held, facts_entering, initiates_on, initiator_channel, outcome_begun, plan_in, radio_held, radio_served, scanner_channel, scans_on, served, served_if_on, slots_since, turn_begins, want_if, wants_in}
-use Rattle.one_side.specs.Intervals.{IsLeftOn, doing_at, doing_between, facts_in_turn, place_within, scans_or}
-use Rattle.one_side.proofs.Always.{ending_is, view_shut, radio_shut}
-use Rattle.one_side.proofs.NoLinks.{AreNone, none_end, none_map, none_stay}
+use Rattle.one_side.specs.Radio.{advertiser_served, advertiser_wants, advertises_at, doing_held, facts_entering, initiates_on, initiator_channel, plan_in, radio_held, radio_served, scanner_channel, scans_on, served, served_if_on, turn_begins, want_if, wants_in}
+use Rattle.one_side.specs.Intervals.{IsLeftOn, doing_at, doing_between, facts_in_turn, place_within, scans_or, turns_from}
+use Rattle.one_side.proofs.Always.{IsKeptAtStarts, ending_is, view_shut, radio_shut, start_keeps}
+use Rattle.one_side.proofs.NoLinks.{AreNone, none_end, none_map, none_sent, none_stay, none_won}
 
 -- ---- places in an interval
 
@@ -312,3 +311,40 @@ pub keeps_interval : (start : ℕ) (advertiser : AdvertiserFacts) (turns : ℕ �
     → (facts_in_turn (start + n) (turns n)).turn.doing
     ≡ doing_at (doing_between (start + n) (turns n)) advertiser.params.channels (place_within (slots_of advertiser.params.interval) n)
 keeps_interval start advertiser turns is long n = (each_turn start advertiser turns is long n).doing_is
+
+-- ---- turns with nothing between them
+
+nothing_open : (links : Links) → AreNone links → list_any is_some links ≡ false
+nothing_open [] none = refl
+nothing_open (None ∷ links) none = nothing_open links none
+nothing_open (Some link ∷ links) none = absurd none
+
+abbrev HasNone : Facts → Type 0
+HasNone facts = AreNone facts.links
+
+none_kept : IsKeptAtStarts HasNone HasNone
+none_kept = record {
+  weakens = λ facts none. none;
+  ends = λ slot facts none. subst AreNone (sym (none_stay slot facts.links none)) none;
+  begins = λ slot facts none. none;
+  enters = λ slot facts none. subst AreNone (sym (none_map (option_map (link_entered slot)) refl facts.links none)) none;
+  wins = λ slot activity facts none. subst AreNone (sym (none_won slot activity facts.links none)) none;
+  does = λ doing facts may none. subst AreNone (sym (none_sent facts.turn.slot doing facts.links none)) none;
+}
+
+turns_none : (start : ℕ) (facts : Facts) (n : ℕ) → HasNone facts → HasNone (turns_from start facts n)
+turns_none start facts zero none = none
+turns_none start facts (suc n) none =
+    start_keeps HasNone HasNone none_kept (start + n) true (turns_from start facts n) (turns_none start facts n none)
+
+pub left_alone : (start : ℕ) (advertiser : AdvertiserFacts) (facts : Facts) → list_any is_some facts.links ≡ false
+    → facts.advertising.on ≡ Some advertiser → advertiser.due ≤ start → is_held_in facts.radio.hold start ≡ false
+    → IsLeftOn start advertiser (turns_from start facts)
+left_alone start advertiser facts none on due free = record {
+  no_link = λ n. nothing_open (turns_from start facts n).links (turns_none start facts n (no_links facts.links none));
+  first = on;
+  due = due;
+  free = free;
+  stays_on = λ n. refl;
+  radio_stays = λ n. refl;
+}

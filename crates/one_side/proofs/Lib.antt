@@ -22,3 +22,9 @@ pub mod Accepted
 pub mod Sent
 pub mod LeftOn
 pub mod Lengths
+pub mod Requests
+pub mod OpenPlaces
+pub mod Room
+pub mod FreeHandles
+pub mod AccessAddresses
+pub mod Answering

@@ -1,6 +1,6 @@
 -- The fields of a CONNECT_IND: that they are in range is tested, and then they fit their bits.
-use Rattle.std.proofs.Common.{◌≡◌, ℕ, ◌+◌, ◌-◌, ◌*◌, ◌%◌, ◌^◌, ◌<◌, ◌≤◌, Bool, true, false, Option, Some, None, List, length, refl, sym, subst, arith}
-use Rattle.std.specs.Prelude.{nat_le, nat_lt, ◌&&◌, ⊤, IfSome}
+use Rattle.std.proofs.Common.{◌≡◌, ℕ, ◌+◌, ◌-◌, ◌*◌, ◌%◌, ◌^◌, ◌<◌, true, Option, Some, None, length, refl, sym, subst, arith}
+use Rattle.std.specs.Prelude.{nat_le, nat_lt, IfSome}
 use Rattle.std.proofs.lemmas.Bool.{and_parts, leb-true, le-leb, lt-ltb, ltb-true}
 use Rattle.ble_base.specs.ChannelMap.{used_channels}
 use Rattle.ble_base.specs.declared.addresses.Address.{Address}

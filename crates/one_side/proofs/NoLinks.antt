@@ -1,23 +1,21 @@
 -- A controller that has no link and is about to make none, as its turns go on.
-use Rattle.std.proofs.Common.{◌≡◌, ℕ, zero, suc, ◌+◌, ◌==◌, Bool, true, false, Option, Some, None, List, [], ◌∷◌, ◌++◌, length, replicate, map, cond, refl, ap, sym, ◌∙◌, subst}
-use Rattle.std.specs.Prelude.{⊤, flat_map, if◌then◌else◌}
+use Rattle.std.proofs.Common.{◌≡◌, ℕ, zero, suc, ◌+◌, ◌==◌, Bool, true, false, Option, Some, None, [], ◌∷◌, replicate, map, refl, ap, sym, ◌∙◌, subst}
+use Rattle.std.specs.Prelude.{⊤, if◌then◌else◌}
 use Rattle.std.specs.Option.{option_map}
 use Rattle.hci_cmd.specs.declared.command.Command.{Command}
 use Rattle.hci_cmd.specs.declared.command.Command.TheVariants.{Reset}
 use Rattle.one_end.specs.Step.{PacketSent}
 use Rattle.slot_plan.specs.declared.Activity.{Activity}
 use Rattle.slot_plan.specs.declared.Activity.TheVariants.{Link, Advertise, Scan, Initiate}
-use Rattle.open_links.specs.declared.ended.LinkEnded.{LinkEnded}
-use Rattle.open_links.specs.OpenLinks.{Links, OpenLink, link_after, link_from, link_served, with_change, with_change_from, without_links}
-use Rattle.open_links.specs.Turns.{ends_from, link_entered, links_entered, links_staying, notes_entering, place_staying}
+use Rattle.open_links.specs.OpenLinks.{Links, OpenLink, link_after, link_served, with_change, with_change_from, without_links}
+use Rattle.open_links.specs.Turns.{ends_from, link_entered, links_staying, notes_entering, place_staying}
 use Rattle.one_side.specs.declared.doing.Doing.{Doing}
 use Rattle.one_side.specs.declared.doing.Doing.TheVariants.{Advertises, Connects, CentralSends, PeripheralSends}
 use Rattle.one_side.specs.Facts.{Facts}
 use Rattle.one_side.specs.Commands.{links_after}
-use Rattle.one_side.specs.Links.{notes_ended}
 use Rattle.one_side.specs.Packets.{facts_doing, links_sending}
 use Rattle.one_side.proofs.Alike.{Alike}
-use Rattle.one_side.proofs.Always.{IsKeptAtStarts, MayBegin, links_won, radio_shut, view_shut}
+use Rattle.one_side.proofs.Always.{IsKeptAtStarts, MayBegin, links_won, view_shut}
 
 -- ---- no link
 
@@ -67,13 +65,13 @@ none_enter slot (Some link ∷ links) none = absurd none
 pub none_stay : (slot : ℕ) (links : Links) → AreNone links → links_staying slot links ≡ links
 none_stay slot links none = none_map (place_staying slot) refl links none
 
-none_won : (slot : ℕ) (activity : Activity) (links : Links) → AreNone links → links_won slot activity links ≡ links
+pub none_won : (slot : ℕ) (activity : Activity) (links : Links) → AreNone links → links_won slot activity links ≡ links
 none_won slot (Link handle) links none = none_change (option_map (link_served slot)) refl 0 handle links none
 none_won slot Advertise links none = refl
 none_won slot Scan links none = refl
 none_won slot Initiate links none = refl
 
-none_sent : (slot : ℕ) (doing : Doing) (links : Links) → AreNone links → links_sending slot doing links ≡ links
+pub none_sent : (slot : ℕ) (doing : Doing) (links : Links) → AreNone links → links_sending slot doing links ≡ links
 none_sent slot (CentralSends handle) links none = none_change (option_map (link_after (PacketSent slot))) refl 0 handle links none
 none_sent slot (PeripheralSends handle) links none = none_change (option_map (link_after (PacketSent slot))) refl 0 handle links none
 none_sent slot (Advertises channel) links none = refl

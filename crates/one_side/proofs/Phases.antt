@@ -13,7 +13,7 @@ use Rattle.scan_init.specs.Initiating.{InitiatorFacts}
 use Rattle.scan_init.specs.Reports.{ScannerFacts}
 use Rattle.open_links.specs.OpenLinks.{free_from}
 use Rattle.one_side.specs.declared.doing.Doing.{Doing}
-use Rattle.one_side.specs.declared.doing.Doing.TheVariants.{Advertises, AwaitsRequest, Responds, Scans, Requests, AwaitsResponse, Initiates, Connects, CentralSends, CentralListens, PeripheralListens, PeripheralSends, Rests}
+use Rattle.one_side.specs.declared.doing.Doing.TheVariants.{Advertises, AwaitsRequest, Responds, Scans, Requests, AwaitsResponse, Initiates, Connects, CentralSends, CentralListens, PeripheralListens, Rests}
 use Rattle.one_side.specs.Facts.{Setup, Facts}
 use Rattle.one_side.specs.Heard.{advertiser_answers, advertiser_heard, answers_by_connecting, connects as makes, facts_connecting, fields_sent, heard, if_pdu, initiator_heard, link_heard, link_if, link_made, link_taken, link_under, link_wanted, link_with, next_access_of, opens, scanner_heard, taken_if, taken_under, unheard}
 use Rattle.one_side.specs.Outcome.{Outcome, goes_on}

@@ -1,8 +1,7 @@
 -- What a controller sends is the packet of a PDU on an advertising channel, or that of a link on a data channel.
-use Rattle.std.proofs.Common.{◌≡◌, ℕ, suc, ◌+◌, ◌<◌, ◌≤◌, ◌==◌, Bool, true, false, Option, Some, None, inl, inr, List, [], ◌∷◌, cond, length, take, refl, sym, ap, subst, ◌∙◌, arith}
-use Rattle.std.specs.Prelude.{nat_lt, ◌&&◌, ⊤, ◌⊎◌, IfSome}
+use Rattle.std.proofs.Common.{◌≡◌, ℕ, ◌+◌, ◌≤◌, ◌==◌, Bool, true, false, Option, Some, None, inl, inr, List, [], ◌∷◌, cond, length, refl, sym, ap, subst, ◌∙◌, arith}
+use Rattle.std.specs.Prelude.{◌&&◌, ⊤, ◌⊎◌, IfSome}
 use Rattle.std.specs.Option.{option_map}
-use Rattle.std.proofs.lemmas.Bool.Decides.{nat_tests}
 use Rattle.std.proofs.lemmas.List.{length-take}
 use Rattle.ble_base.specs.declared.addresses.Address.{Address}
 use Rattle.ble_base.specs.declared.roles.Role.{Role}
@@ -11,37 +10,33 @@ use Rattle.adv_pdu.specs.declared.pdu.AdvPdu.{AdvPdu}
 use Rattle.adv_pdu.specs.declared.pdu.AdvPdu.TheVariants.{Ind, Direct, Nonconn, ScanReq, ScanRsp, Connect, ScanInd}
 use Rattle.adv_pdu.specs.Pdu.{IsPdu, sender_of}
 use Rattle.hci_cmd.specs.declared.command.Command.{Command}
-use Rattle.hci_cmd.specs.declared.command.Command.TheVariants.{HostCompleted, Reset, LeSetRandomAddress, LeSetAdvParams, LeSetAdvData, LeSetScanResponse, LeSetAdvEnable, LeSetScanParams, LeSetScanEnable, LeCreateConnection, LeCreateCancel}
+use Rattle.hci_cmd.specs.declared.command.Command.TheVariants.{HostCompleted, Reset, LeSetRandomAddress, LeSetAdvParams, LeSetAdvData, LeSetScanResponse, LeSetAdvEnable, LeSetScanEnable, LeCreateConnection, LeCreateCancel}
 use Rattle.host_view.specs.View.{View}
 use Rattle.host_view.specs.Changes.{view_after}
-use Rattle.host_view.specs.Noted.{opened_link, stopped_by, view_noted}
-use Rattle.host_view.specs.Unbuilt.{or_unbuilt, status_of}
+use Rattle.host_view.specs.Unbuilt.{status_of}
 use Rattle.advertise.specs.declared.params.AdvParams.{AdvParams}
 use Rattle.advertise.specs.Advertising.{AdvertiserFacts, advertisement}
 use Rattle.scan_init.specs.declared.scanner.ScanParams.{ScanParams}
 use Rattle.scan_init.specs.Initiating.{InitiatorFacts}
 use Rattle.scan_init.specs.Reports.{ScannerFacts, does_ask, scan_answer}
 use Rattle.one_end.specs.declared.setup.LinkSetup.{LinkSetup}
-use Rattle.one_end.specs.Packets.{packet_sent}
 use Rattle.one_end.specs.Step.{PacketSent}
 use Rattle.slot_plan.specs.declared.Activity.{Activity}
 use Rattle.slot_plan.specs.declared.Activity.TheVariants.{Link, Advertise, Scan, Initiate}
-use Rattle.open_links.specs.declared.ended.LinkEnded.{LinkEnded}
-use Rattle.open_links.specs.OpenLinks.{Links, OpenLink, facts_in, link_after, link_at, link_from, with_change, without_links}
+use Rattle.open_links.specs.OpenLinks.{Links, OpenLink, link_after, link_at, link_from, with_change, without_links}
 use Rattle.open_links.proofs.Handles.{changed_is}
 use Rattle.one_side.specs.declared.doing.Doing.{Doing}
 use Rattle.one_side.specs.declared.doing.Doing.TheVariants.{Advertises, AwaitsRequest, Responds, Scans, Requests, AwaitsResponse, Initiates, Connects, CentralSends, CentralListens, PeripheralListens, PeripheralSends, Rests}
 use Rattle.one_side.specs.Step.{Step}
-use Rattle.one_side.specs.Facts.{Setup, Facts, Advertising, Scanning, Use, Sends, Listens, Idle, first_facts}
+use Rattle.one_side.specs.Facts.{Setup, Facts, Advertising, Scanning, Use, Sends, Listens, Idle}
 use Rattle.one_side.specs.Commands.{advertiser_enabled, advertiser_turned_on, advertising_after, facts_accepted, initiator_after, links_after, own_address, random_or_public, scanner_enabled, scanner_turned_on, scanning_after}
 use Rattle.one_side.specs.Heard.{asks_if, facts_connecting, fields_sent, link_made, link_received, link_taken, opens, replies_in, reply_if, scanner_after, with_scanner}
-use Rattle.one_side.specs.Links.{ends_in, note_opened, note_shut}
-use Rattle.one_side.specs.Outcome.{Outcome, facts_passed}
-use Rattle.one_side.specs.Packets.{advertisement_sent, advertising_packet, connect_sent, facts_doing, listens_on, request_sent, response_sent, sends_on, sends_pdu, use_for}
+use Rattle.one_side.specs.Outcome.{facts_passed}
+use Rattle.one_side.specs.Packets.{advertisement_sent, connect_sent, facts_doing, listens_on, request_sent, response_sent, sends_on, sends_pdu, use_for}
 use Rattle.one_side.specs.Radio.{served_if_on}
 use Rattle.one_side.specs.Side.{facts_of, with_octet}
-use Rattle.one_side.specs.Sent.{IsAdvertisingPacket, IsLinkPacket, SendsOn}
-use Rattle.one_side.proofs.Always.{IsAdvertisingChannel, IsKept, MayBegin, advertiser_stopped, advertiser_won, always, facts_opening, initiator_stopped, opening_passes, view_shut}
+use Rattle.one_side.specs.Sent.{IsAdvertisingPacket, IsLinkPacket}
+use Rattle.one_side.proofs.Always.{IsAdvertisingChannel, IsKept, MayBegin, advertiser_stopped, advertiser_won, always, facts_opening, initiator_stopped, opening_passes}
 use Rattle.one_side.proofs.DataChannels.{link_channel}
 use Rattle.one_side.proofs.LinkFields.{connection_fits}
 use Rattle.one_side.proofs.Phases.{EachOutcome}
@@ -367,23 +362,6 @@ wanted_octet octet facts Idle is = tt
 
 -- ---- each part of a turn
 
-opened_random : (role : Role) (view : View) → (stopped_by role view).random ≡ view.random
-opened_random Central view = refl
-opened_random Peripheral view = refl
-
-noted_random : (view : View) (link : LinkSetup) → (view_noted view (note_opened link)).random ≡ view.random
-unfolding view_noted
-noted_random view link = opened_random link.role view
-
-shut_random : (view : View) (handle reason : ℕ) → (view_noted view (note_shut handle reason)).random ≡ view.random
-unfolding view_noted
-shut_random view handle reason = refl
-
-ended_random : (view : View) (ended : List LinkEnded) → (view_shut view ended).random ≡ view.random
-ended_random view [] = refl
-ended_random view (one ∷ ended) =
-    ended_random (view_noted view (note_shut one.handle one.reason.0)) ended ∙ shut_random view one.handle one.reason.0
-
 stopped_advertiser : (role : Role) (on : Option AdvertiserFacts) → AdvertiserFits on → AdvertiserFits (advertiser_stopped role on)
 stopped_advertiser Central on fits = fits
 stopped_advertiser Peripheral on fits = tt
@@ -394,7 +372,7 @@ stopped_initiator Peripheral on fits = fits
 
 opened_can : (link : LinkSetup) (facts : Facts) → CanSend facts → CanSend (facts_opening link facts)
 opened_can link facts can = record {
-  random = subst SixHeld (sym (noted_random facts.view link)) can.random;
+  random = can.random;
   advertising = record {
     body = can.advertising.body;
     response = can.advertising.response;
@@ -508,7 +486,7 @@ well_kept setup six = record {
     starts = record {
       weakens = λ facts well. well.can;
       ends = λ slot facts can. record {
-        random = subst SixHeld (sym (ended_random facts.view (ends_in slot facts))) can.random;
+        random = can.random;
         advertising = can.advertising;
         scanner = can.scanner;
         initiator = can.initiator;

@@ -1,6 +1,6 @@
 -- What is noted in turns, note by note: links that are opened, enter events and are shut, and events for the host.
 use Rattle.std.proofs.Common.{◌≡◌, ℕ, ◌+◌, ◌<◌, ◌≤◌, Bool, true, false, Option, Some, None, List, [], ◌∷◌, ◌++◌, length, map, cond, refl, sym, subst, arith}
-use Rattle.std.specs.Prelude.{All, ⊤, filter, flat_map}
+use Rattle.std.specs.Prelude.{All, ⊤, flat_map}
 use Rattle.std.proofs.lemmas.List.Elements.{All-append, All-cons, All-nil}
 use Rattle.ble_base.specs.declared.notes.Note.{Note}
 use Rattle.ble_base.specs.declared.notes.Note.TheVariants.{Up, Applied, Enter}
@@ -22,8 +22,7 @@ use Rattle.one_side.specs.Step.{Step, HostOctet, TurnBegins, PacketHeard, Nothin
 use Rattle.one_side.specs.Facts.{Setup, Facts}
 use Rattle.one_side.specs.Events.{notes_of_events, passes}
 use Rattle.one_side.specs.Heard.{does_report, events_reported, link_taken, report_event, report_events}
-use Rattle.one_side.specs.Links.{connection_complete, events_opened, facts_ending, note_opened, note_shut, notes_ended, notes_ending, notes_opened, wants_enhanced}
-use Rattle.one_side.specs.Outcome.{Outcome}
+use Rattle.one_side.specs.Links.{connection_complete, facts_ending, note_opened, note_shut, notes_ended, notes_ending, notes_opened, wants_enhanced}
 use Rattle.one_side.specs.Side.{notes_after}
 use Rattle.one_side.proofs.Always.{IsInTurn, ending_is}
 use Rattle.one_side.proofs.Handles.{HaveOwnHandles, IsNew, free_is_new, staying_opens}

@@ -1,5 +1,5 @@
 -- A PDU on an advertising channel is heard as it was sent.
-use Rattle.std.proofs.Common.{◌≡◌, ℕ, ◌+◌, ◌≤◌, ◌==◌, ◌||◌, Bool, true, false, Some, List, [], ◌∷◌, length, slice_index, ◌↔◌, cond, refl, ap, ◌∙◌, arith}
+use Rattle.std.proofs.Common.{◌≡◌, ℕ, ◌+◌, ◌≤◌, ◌==◌, ◌||◌, Bool, true, false, Some, List, ◌∷◌, length, slice_index, ◌↔◌, cond, ap, ◌∙◌, arith}
 use Rattle.std.specs.Prelude.{◌&&◌, nat_le}
 use Rattle.std.specs.Option.{option_and_then}
 use Rattle.std.proofs.lemmas.Bool.Decides.{nat_tests}
@@ -8,7 +8,7 @@ use Rattle.wire_fields.specs.Field.{spelled}
 use Rattle.adv_pdu.specs.declared.pdu.AdvPdu.{AdvPdu}
 use Rattle.adv_pdu.specs.Pdu.{ch_sel_of, payload_of, rx_add_of, tx_add_of, type_of, written, IsPdu as IsAdvPdu}
 use Rattle.adv_pdu.specs.Header.{header_octet}
-use Rattle.adv_pdu.specs.Reading.{is_payload_length, read_of}
+use Rattle.adv_pdu.specs.Reading.{read_of}
 use Rattle.adv_pdu.proofs.Rows.{has_length}
 use Rattle.adv_pdu.proofs.Values.{written_is_read}
 use Rattle.air_frame.specs.declared.Heard.{Heard}

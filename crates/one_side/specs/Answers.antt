@@ -9,7 +9,7 @@ use Rattle.hci_cmd.specs.declared.command.CmdRead.TheVariants.{Known, UnknownOpc
 use Rattle.hci_evt.specs.declared.event.Event.{Event}
 use Rattle.hci_evt.specs.declared.event.Event.TheVariants.{CommandComplete, CommandStatus}
 use Rattle.host_view.specs.Unbuilt.{status_of}
-use Rattle.open_links.specs.OpenLinks.{Links, OpenLink, facts_in, link_at}
+use Rattle.open_links.specs.OpenLinks.{OpenLink, facts_in, link_at}
 use Rattle.one_side.specs.Facts.{Setup, Facts}
 
 -- the commands that start something: Disconnect, Read Remote Version, LE Create Connection, LE Connection Update, LE

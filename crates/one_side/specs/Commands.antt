@@ -16,7 +16,6 @@ use Rattle.host_view.specs.Unbuilt.{status_of}
 use Rattle.advertise.specs.declared.params.AdvParams.{AdvParams}
 use Rattle.advertise.specs.Advertising.{AdvertiserFacts}
 use Rattle.advertise.specs.Defaults.{no_address}
-use Rattle.scan_init.specs.declared.initiator.InitParams.{InitParams}
 use Rattle.scan_init.specs.Initiating.{InitiatorFacts}
 use Rattle.scan_init.specs.Reports.{ScannerFacts}
 use Rattle.slot_plan.specs.declared.Activity.{Activity}

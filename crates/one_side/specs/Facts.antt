@@ -12,7 +12,6 @@ use Rattle.slot_plan.specs.declared.Activity.{Activity}
 use Rattle.slot_plan.specs.declared.Activity.TheVariants.{Scan}
 use Rattle.slot_plan.specs.declared.plan.Hold.{Hold}
 use Rattle.open_links.specs.OpenLinks.{Links}
-use Rattle.one_side.specs.declared.doing.Doing.{Doing}
 use Rattle.one_side.specs.declared.doing.Doing.TheVariants.{Rests}
 use Rattle.one_side.specs.declared.doing.Turn.{Turn}
 

@@ -1,10 +1,7 @@
 -- What a controller makes of a phase: of a packet that it heard, or of none (Core 5.2, volume 6 part B, sections 4.4.2
 -- to 4.4.4 and 4.5, and volume 4 part E, section 7.7.65.2).
 use Rattle.std.specs.Prelude.{ℕ, ◌+◌, ◌&&◌, not, Bool, true, false, List, [], ◌∷◌, Option, Some, None, is_some, if◌then◌else◌}
-use Rattle.std.specs.Option.{option_and_then}
 use Rattle.ble_base.specs.declared.addresses.Address.{Address}
-use Rattle.ble_base.specs.declared.notes.Note.{Note}
-use Rattle.ble_base.specs.declared.roles.Role.{Role}
 use Rattle.ble_base.specs.declared.roles.Role.TheVariants.{Central, Peripheral}
 use Rattle.adv_pdu.specs.declared.pdu.AdvPdu.{AdvPdu}
 use Rattle.adv_pdu.specs.declared.pdu.ConnectFields.{ConnectFields}

@@ -1,5 +1,5 @@
 -- An advertiser that is left on (Core 5.2, volume 6 part B, section 4.4.2.2). No delay is added (our choice).
-use Rattle.std.specs.Prelude.{◌≡◌, ℕ, suc, ◌+◌, ◌≤◌, ◌%◌, nat_lt, true, false, Option, Some, None, is_some, if◌then◌else◌}
+use Rattle.std.specs.Prelude.{◌≡◌, ℕ, zero, suc, ◌+◌, ◌≤◌, ◌%◌, nat_lt, true, false, Option, Some, None, is_some, if◌then◌else◌}
 use Rattle.std.specs.List.{list_any}
 use Rattle.advertise.specs.Advertising.{AdvertiserFacts, event_channel}
 use Rattle.slot_plan.specs.Holding.{is_held_in}
@@ -28,6 +28,11 @@ pub record IsLeftOn (start : ℕ) (advertiser : AdvertiserFacts) (turns : ℕ �
   pub free : is_held_in (turns 0).radio.hold start ≡ false
   pub stays_on : (n : ℕ) → (turns (suc n)).advertising.on ≡ (facts_in_turn (start + n) (turns n)).advertising.on
   pub radio_stays : (n : ℕ) → (turns (suc n)).radio ≡ (facts_in_turn (start + n) (turns n)).radio
+
+-- the same where nothing happens between turns
+abbrev pub turns_from : ℕ → Facts → ℕ → Facts
+turns_from start facts zero = facts
+turns_from start facts (suc n) = facts_in_turn (start + n) (turns_from start facts n)
 
 -- between events: the scanner listens in its windows, and else the initiator in its own
 abbrev pub scans_or : Option ℕ → Option ℕ → Doing

@@ -12,5 +12,7 @@ pub mod Heard
 pub mod Side
 pub mod Sent
 pub mod Intervals
+pub mod Connecting
 pub mod Host
 pub mod Notes
+pub mod Rows

@@ -1,8 +1,6 @@
 -- Links that are opened and shut, and what the host receives of that (Core 5.2, volume 4 part E, sections 7.7.5,
 -- 7.7.65.1, 7.7.65.10 and 7.7.65.20).
-use Rattle.std.specs.Prelude.{ℕ, ◌==◌, ◌&&◌, not, Bool, true, false, List, [], ◌∷◌, ◌++◌, map, flat_map, fold, replicate, Option, Some, None, if◌then◌else◌}
-use Rattle.std.specs.List.{list_any}
-use Rattle.std.specs.Option.{option_and_then}
+use Rattle.std.specs.Prelude.{ℕ, ◌==◌, Bool, true, false, List, [], ◌∷◌, map, flat_map, fold, replicate, None, if◌then◌else◌}
 use Rattle.ble_base.specs.Bits.{has_bit}
 use Rattle.ble_base.specs.declared.addresses.Address.{Address}
 use Rattle.ble_base.specs.declared.notes.Note.{Note}
@@ -17,7 +15,7 @@ use Rattle.one_end.specs.declared.setup.LinkSetup.{LinkSetup}
 use Rattle.slot_plan.specs.declared.Activity.{Activity}
 use Rattle.slot_plan.specs.declared.Activity.TheVariants.{Link, Advertise, Scan, Initiate}
 use Rattle.open_links.specs.declared.ended.LinkEnded.{LinkEnded}
-use Rattle.open_links.specs.OpenLinks.{Links, handles_from, with_link, without_links}
+use Rattle.open_links.specs.OpenLinks.{handles_from, with_link}
 use Rattle.open_links.specs.Turns.{ends_from, links_staying}
 use Rattle.one_side.specs.Events.{notes_of_events}
 use Rattle.one_side.specs.Facts.{Facts, Radio, free_radio}

@@ -1,6 +1,6 @@
 -- What a controller sends, and what it hears: the packets of the advertising channels, and those of links (Core 5.2,
 -- volume 6 part B, sections 2.1 to 2.4).
-use Rattle.std.specs.Prelude.{ℕ, true, false, List, Option, Some, None, if◌then◌else◌}
+use Rattle.std.specs.Prelude.{ℕ, true, List, Option, Some, None}
 use Rattle.std.specs.Option.{option_and_then, option_map}
 use Rattle.ble_base.specs.declared.addresses.Address.{Address}
 use Rattle.ble_base.specs.declared.verdicts.Verdict.{Verdict}
@@ -9,7 +9,7 @@ use Rattle.adv_pdu.specs.declared.pdu.AdvPdu.{AdvPdu}
 use Rattle.adv_pdu.specs.declared.pdu.AdvPdu.TheVariants.{ScanReq, ScanRsp, Connect}
 use Rattle.adv_pdu.specs.Pdu.{written}
 use Rattle.adv_pdu.specs.Reading.{read_of}
-use Rattle.advertise.specs.Advertising.{AdvertiserFacts, advertisement}
+use Rattle.advertise.specs.Advertising.{advertisement}
 use Rattle.air_frame.specs.declared.Heard.{Heard}
 use Rattle.air_frame.specs.declared.Heard.TheVariants.{NotOurs, Broken as Faulty, Whole}
 use Rattle.air_frame.specs.declared.advertising.TheConstants.{ADVERTISING_ACCESS, ADVERTISING_CRC_INIT}
@@ -18,7 +18,6 @@ use Rattle.air_frame.specs.Packet.{on_air}
 use Rattle.one_end.specs.declared.setup.LinkSetup.{LinkSetup}
 use Rattle.one_end.specs.Packets.{packet_sent, verdict_of as verdict_of_end}
 use Rattle.one_end.specs.Step.{PacketSent}
-use Rattle.scan_init.specs.Reports.{ScannerFacts}
 use Rattle.open_links.specs.OpenLinks.{Links, OpenLink, facts_in, link_after, link_at, with_change}
 use Rattle.one_side.specs.declared.doing.Doing.{Doing}
 use Rattle.one_side.specs.declared.doing.Doing.TheVariants.{Advertises, AwaitsRequest, Responds, Scans, Requests, AwaitsResponse, Initiates, Connects, CentralSends, CentralListens, PeripheralListens, PeripheralSends, Rests}

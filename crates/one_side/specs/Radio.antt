@@ -14,11 +14,11 @@ use Rattle.slot_plan.specs.declared.Activity.TheVariants.{Link, Advertise, Scan,
 use Rattle.slot_plan.specs.declared.Want.{Want}
 use Rattle.slot_plan.specs.declared.plan.Hold.{Hold}
 use Rattle.slot_plan.specs.Holding.{PlanFacts, is_held_in, winner_of}
-use Rattle.open_links.specs.OpenLinks.{Links, OpenLink, facts_in, link_at, link_served, with_change}
+use Rattle.open_links.specs.OpenLinks.{OpenLink, facts_in, link_at, link_served, with_change}
 use Rattle.open_links.specs.Turns.{links_entered, notes_entering, wants_from}
 use Rattle.one_side.specs.declared.doing.Doing.{Doing}
 use Rattle.one_side.specs.declared.doing.Doing.TheVariants.{Advertises, Scans, Initiates, CentralSends, PeripheralListens, Rests}
-use Rattle.one_side.specs.Facts.{Facts, Radio, Advertising}
+use Rattle.one_side.specs.Facts.{Facts, Radio}
 use Rattle.one_side.specs.Links.{facts_ending, notes_ending}
 use Rattle.one_side.specs.Outcome.{Outcome, goes_on}
 

@@ -1,5 +1,5 @@
 -- Octets that a controller sends (Core 5.2, volume 6 part B, sections 2.1 to 2.4).
-use Rattle.std.specs.Prelude.{◌≡◌, ℕ, ◌≤◌, ◌<◌, List, Option, IfSome}
+use Rattle.std.specs.Prelude.{◌≡◌, ℕ, ◌≤◌, ◌<◌, List, IfSome}
 use Rattle.adv_pdu.specs.declared.pdu.AdvPdu.{AdvPdu}
 use Rattle.adv_pdu.specs.Pdu.{IsPdu}
 use Rattle.one_end.specs.Packets.{packet_sent}

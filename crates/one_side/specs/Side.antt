@@ -1,5 +1,5 @@
 -- A controller by what happens to it: what it holds, and what it notes (our choice).
-use Rattle.std.specs.Prelude.{ℕ, ◌+◌, Bool, List, [], ◌∷◌, ◌++◌, length, fold, drop}
+use Rattle.std.specs.Prelude.{ℕ, List, [], ◌∷◌, ◌++◌, length, fold, drop}
 use Rattle.ble_base.specs.declared.notes.Note.{Note}
 use Rattle.h4_frames.specs.declared.packet.HostPacket.TheVariants.{Command, Acl}
 use Rattle.h4_frames.specs.declared.packet.Fed.{Fed}

@@ -1,13 +1,15 @@
 //! Laws of one controller. The bodies only call the laws that they rest on: the contracts are the
 //! laws.
 ghost use Rattle.std.specs.Prelude.{◌≡◌, ◌≢◌, ◌↔◌, ◌<◌, ◌≤◌, ◌+◌, ◌^◌, ◌⊎◌, ℕ, Bool, true, false};
-ghost use Rattle.std.specs.Prelude.{if◌then◌else◌};
+ghost use Rattle.std.specs.Prelude.{if◌then◌else◌, is_some, None, IsSome};
 ghost use Rattle.std.specs.Prelude.{All, List, [], ◌∷◌, ◌++◌, Some, length, map};
+ghost use Rattle.std.specs.List.{list_any};
 ghost use Rattle.ble_base.specs.Bits.{has_bit};
 ghost use Rattle.ble_base.specs.declared.notes.Note.TheVariants.{Up};
 ghost use Rattle.ble_base.specs.declared.verdicts.Verdict.TheVariants.{Good};
 ghost use Rattle.adv_pdu.specs.declared.pdu.AdvPdu.{AdvPdu};
 ghost use Rattle.adv_pdu.specs.Pdu.{IsPdu};
+ghost use Rattle.adv_pdu.specs.Ranges.{is_in_range};
 ghost use Rattle.h4_frames.specs.Frames.{frames};
 ghost use Rattle.h4_frames.specs.declared.packet.HostPacket.TheVariants.{Acl};
 ghost use Rattle.h4_frames.specs.declared.packet.HostPacket.TheVariants.{Command as HostCommand};
@@ -22,20 +24,29 @@ ghost use Rattle.hci_evt.specs.declared.event.Event.{Event};
 ghost use Rattle.hci_evt.specs.declared.event.Event.TheVariants.{HardwareError};
 ghost use Rattle.host_view.specs.Unbuilt.{status_of};
 ghost use Rattle.host_view.specs.View.{View};
+ghost use Rattle.host_view.specs.declared.view.TheConstants.{MOST_LINKS};
 ghost use Rattle.advertise.specs.Advertising.{AdvertiserFacts};
+ghost use Rattle.one_end.specs.declared.setup.LinkSetup.{LinkSetup};
+ghost use Rattle.open_links.specs.OpenLinks.{free_from, link_at};
+ghost use Rattle.scan_init.specs.Access.{nth_access};
+ghost use Rattle.scan_init.specs.Initiating.{InitiatorFacts};
 ghost use Rattle.scan_init.specs.Windows.{slots_of};
+ghost use Rattle.slot_plan.specs.Holding.{is_held_in};
+ghost use Rattle.one_side.specs.declared.doing.Doing.TheVariants.{Connects, Initiates};
 ghost use Rattle.one_side.specs.Step.{Step, HostOctet};
 ghost use Rattle.one_side.specs.Facts.{Setup, Facts, Sends};
 ghost use Rattle.one_side.specs.Answers.{AreOneAnswer, HasNoAnswer, IsAnswerTo, answer_to};
 ghost use Rattle.one_side.specs.Answers.{complete_answer, next_word};
 ghost use Rattle.one_side.specs.Commands.{facts_commanded};
+ghost use Rattle.one_side.specs.Connecting.{SendsEach};
 ghost use Rattle.one_side.specs.Events.{notes_of_events};
+ghost use Rattle.one_side.specs.Heard.{answers_by_connecting, fields_sent, link_to};
 ghost use Rattle.one_side.specs.Packets.{advertising_packet, pdu_heard, verdict_advertising};
 ghost use Rattle.one_side.specs.Side.{facts_after, facts_of, notes_after, notes_fed};
 ghost use Rattle.one_side.specs.Side.{notes_of, result_of};
 ghost use Rattle.one_side.specs.Sent.{IsAdvertisingPacket, IsLinkPacket};
 ghost use Rattle.one_side.specs.Intervals.{IsLeftOn, doing_at, doing_between, facts_in_turn};
-ghost use Rattle.one_side.specs.Intervals.{place_within};
+ghost use Rattle.one_side.specs.Intervals.{place_within, turns_from};
 ghost use Rattle.one_side.specs.Host.{HeardNothing, commands_accepted, commands_of, host_octets};
 ghost use Rattle.one_side.specs.Host.{is_answered, le_rand_count, opcodes_in, opcodes_of};
 ghost use Rattle.one_side.specs.Host.{with_answer};
@@ -86,8 +97,8 @@ pub fn commands_are_answered_in_order()
 {}
 
 /// A host is answered as if no turn came between its octets, packet by packet. While nothing was
-/// heard it receives nothing else; after that, while no link was opened and none was to be made, LE
-/// events may come between the answers. ACL data has no answer, and a loss of synchronisation is
+/// heard the controller notes nothing else; after that, while no link was opened and none was to be
+/// made, it notes LE events besides. ACL data has no answer, and a loss of synchronisation is
 /// reported as Hardware Error 01 exactly where bit 15 of the mask is set.
 pub fn a_host_is_answered_whatever_the_turns()
     ensures alone { (setup : Setup) (past : List Step) → HeardNothing past
@@ -160,17 +171,53 @@ pub fn what_is_sent_is_a_pdu()
         → IsAdvertisingPacket channel octets ⊎ IsLinkPacket (facts_of setup past) channel octets }
 {}
 
+/// A CONNECT_IND that is to be sent makes a link under a handle of the controller that no open link
+/// has. An initiator answers each device that it is to connect to and has no link with yet: the
+/// fields of its CONNECT_IND are in range; a handle is free, if the controller can hold no more
+/// links than the view of its host has places for; and there is an access address, if each
+/// CONNECT_IND that was to be sent was sent in the next phase. The view knows whether there is one.
+pub fn a_controller_opens_links_as_it_may()
+    ensures new { (setup : Setup) (past : List Step) (channel : ℕ) (link : LinkSetup)
+        → (facts_of setup past).turn.doing ≡ Connects channel link
+        → (link.handle < setup.links)
+        × (link_at link.handle (facts_of setup past).links ≡ None) }
+    ensures in_range { (setup : Setup) (past : List Step) (on : InitiatorFacts) (access : ℕ)
+        → (facts_of setup past).initiator ≡ Some on
+        → is_in_range (fields_sent setup on access (facts_of setup past)) ≡ true }
+    ensures handle { (setup : Setup) (past : List Step) (on : InitiatorFacts)
+        → setup.links ≤ MOST_LINKS → (facts_of setup past).initiator ≡ Some on
+        → IsSome (free_from 0 (facts_of setup past).links) }
+    ensures known { (setup : Setup) (past : List Step)
+        → (facts_of setup past).view.has_address
+        ≡ is_some (nth_access setup.cursor (facts_of setup past).connections) }
+    ensures address { (setup : Setup) (past : List Step) (on : InitiatorFacts) (channel : ℕ)
+        → SendsEach setup past → (facts_of setup past).initiator ≡ Some on
+        → (facts_of setup past).turn.doing ≡ Initiates channel
+        → is_some (nth_access setup.cursor (facts_of setup past).connections) ≡ true }
+    ensures answers { (setup : Setup) (past : List Step) (on : InitiatorFacts) (channel : ℕ)
+        (pdu : AdvPdu) → setup.links ≤ MOST_LINKS → SendsEach setup past
+        → (facts_of setup past).initiator ≡ Some on
+        → (facts_of setup past).turn.doing ≡ Initiates channel
+        → answers_by_connecting on pdu (facts_of setup past) ≡ true
+        → IsSome (link_to setup on pdu (facts_of setup past)) }
+{}
+
 /// An advertiser that is left on in a controller with no link, with the radio on, is in an event in
 /// the first three slots of each interval and in no others. In these it transmits on the channels
 /// that it uses and is idle on the others; between events the scanner has the radio in its windows,
-/// or else the initiator in its own. An interval that a host may set has 16 slots or more, and so
-/// has the interval of an advertiser at any time.
+/// or else the initiator in its own. One that is on, with an event due and the radio free, is left
+/// on where nothing happens between turns. An interval that a host may set has 16 slots or more,
+/// and so has the interval of an advertiser at any time.
 pub fn an_advertiser_keeps_its_interval()
     ensures slots { (start : ℕ) (advertiser : AdvertiserFacts) (turns : ℕ → Facts)
         → IsLeftOn start advertiser turns → 3 ≤ slots_of advertiser.params.interval → (n : ℕ)
         → (facts_in_turn (start + n) (turns n)).turn.doing
         ≡ doing_at (doing_between (start + n) (turns n)) advertiser.params.channels
         (place_within (slots_of advertiser.params.interval) n) }
+    ensures left_alone { (start : ℕ) (advertiser : AdvertiserFacts) (facts : Facts)
+        → list_any is_some facts.links ≡ false → facts.advertising.on ≡ Some advertiser
+        → advertiser.due ≤ start → is_held_in facts.radio.hold start ≡ false
+        → IsLeftOn start advertiser (turns_from start facts) }
     ensures may_be_set { (view : View) (min max kind own peer_kind : ℕ) (peer : List ℕ)
         (channels policy : ℕ)
         → status_of view (LeSetAdvParams min max kind own peer_kind peer channels policy) ≡ 0

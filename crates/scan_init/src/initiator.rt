@@ -6,7 +6,6 @@ ghost use Rattle.scan_init.specs.Windows.{scan_channel};
 
 use crate::accept_list::AcceptList;
 use crate::addresses::is_same_address;
-use crate::reports::sender;
 use crate::windows::scan_channel;
 use adv_pdu::{AdvPdu, ConnectFields};
 use ble_base::{Address, ChannelMap, SlotNo};
@@ -101,7 +100,7 @@ impl Initiator {
     pub fn accepts(&self, pdu: &AdvPdu, list: &AcceptList) -> bool
         ensures { result ≡ is_accepted self.now.params list.now pdu.now }
     {
-        is_connectable_to(&self.params.own, pdu) && is_sought(self.params.peer, list, sender(pdu))
+        is_connectable_to(&self.params.own, pdu) && is_sought(self.params.peer, list, pdu.sender())
     }
 
     /// The fields of its CONNECT_IND with this access address, this random word, and the channels

@@ -3,7 +3,6 @@ ghost use Rattle.std.specs.Prelude.{◌≡◌, ◌∷◌, [], ◌++◌, ◌&&◌
 ghost use Rattle.std.specs.List.{list_any};
 ghost use Rattle.scan_init.specs.Reports.{event_type, is_alike, is_for, is_scannable, is_taken};
 ghost use Rattle.scan_init.specs.Reports.{is_withheld, kind_of, last_16, with_report};
-ghost use Rattle.adv_pdu.specs.Pdu.{sender_of};
 
 use crate::addresses::is_same_address;
 use adv_pdu::AdvPdu;
@@ -81,21 +80,6 @@ impl Report {
     {
         self.kind.event_type() == other.kind.event_type()
             && is_same_address(&self.from, &other.from)
-    }
-}
-
-/// The address of the sender of a PDU.
-pub(crate) fn sender(pdu: &AdvPdu) -> Address
-    ensures { result ≡ sender_of pdu.now }
-{
-    match pdu {
-        AdvPdu::Ind { from, .. }
-        | AdvPdu::Direct { from, .. }
-        | AdvPdu::Nonconn { from, .. }
-        | AdvPdu::ScanReq { from, .. }
-        | AdvPdu::ScanRsp { from, .. }
-        | AdvPdu::Connect { from, .. }
-        | AdvPdu::ScanInd { from, .. } => *from,
     }
 }
 

@@ -5,9 +5,7 @@ ghost use Rattle.scan_init.specs.Reports.{reports_after, scan_answer};
 ghost use Rattle.scan_init.specs.Windows.{scan_channel};
 
 use crate::accept_list::AcceptList;
-use crate::reports::{
-    RECENT_REPORTS, Report, ReportKind, is_for, is_scannable, make_report, sender,
-};
+use crate::reports::{RECENT_REPORTS, Report, ReportKind, is_for, is_scannable, make_report};
 use crate::windows::scan_channel;
 use adv_pdu::AdvPdu;
 use arrayvec::ArrayVec;
@@ -92,7 +90,7 @@ fn pdu_report(params: &ScanParams, list: &AcceptList, pdu: &AdvPdu) -> Option<Re
     ensures { result ≡ pdu_report params.now list.now pdu.now }
 {
     let kind = ReportKind::of(pdu)?;
-    let from = sender(pdu);
+    let from = pdu.sender();
     let heard = kind.is_taken(params.active)
         && is_for(&params.own, pdu)
         && is_passed(params.listed, list, from);

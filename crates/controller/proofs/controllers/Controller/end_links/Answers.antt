@@ -1,5 +1,5 @@
 -- Proof of `controllers::Controller::end_links`.
-use Rattle.std.proofs.Common.{◌≡◌, ◌∙◌, ap}
+use Rattle.std.proofs.Common.{◌∙◌, ap}
 use Rattle.controller.specs.Held.{Held}
 use Rattle.controller.proofs.Shutting.{ending_is, shut_framer}
 use Rattle.controller.proofs.controllers.Controller.end_links.Goals as goal

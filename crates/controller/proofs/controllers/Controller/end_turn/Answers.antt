@@ -12,5 +12,5 @@ returns g c = record {
   goes = λ setup past knows.
       turn_goes setup past TurnEnds _ _ _ _ _ Rests (goes_on (facts_of setup past) Rests) tt refl refl c.requires.empty
       (record { at = at_facts setup _ past knows; notes = sym (append-nil _); doing = refl })
-      c.prepare.ensures.at c.prepare.ensures.framer knows;
+      c.rest.ensures.at c.rest.ensures.framer knows;
 }
