@@ -28,3 +28,5 @@ pub mod Room
 pub mod FreeHandles
 pub mod AccessAddresses
 pub mod Answering
+pub mod LinkNotes
+pub mod Entries

@@ -16,3 +16,4 @@ pub mod Connecting
 pub mod Host
 pub mod Notes
 pub mod Rows
+pub mod Entering

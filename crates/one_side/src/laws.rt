@@ -3,9 +3,9 @@
 ghost use Rattle.std.specs.Prelude.{◌≡◌, ◌≢◌, ◌↔◌, ◌<◌, ◌≤◌, ◌+◌, ◌^◌, ◌⊎◌, ℕ, Bool, true, false};
 ghost use Rattle.std.specs.Prelude.{if◌then◌else◌, is_some, None, IsSome};
 ghost use Rattle.std.specs.Prelude.{All, List, [], ◌∷◌, ◌++◌, Some, length, map};
-ghost use Rattle.std.specs.List.{list_any};
+ghost use Rattle.std.specs.List.{Contains, list_any};
 ghost use Rattle.ble_base.specs.Bits.{has_bit};
-ghost use Rattle.ble_base.specs.declared.notes.Note.TheVariants.{Up};
+ghost use Rattle.ble_base.specs.declared.notes.Note.TheVariants.{Enter, Up};
 ghost use Rattle.ble_base.specs.declared.verdicts.Verdict.TheVariants.{Good};
 ghost use Rattle.adv_pdu.specs.declared.pdu.AdvPdu.{AdvPdu};
 ghost use Rattle.adv_pdu.specs.Pdu.{IsPdu};
@@ -33,12 +33,13 @@ ghost use Rattle.scan_init.specs.Initiating.{InitiatorFacts};
 ghost use Rattle.scan_init.specs.Windows.{slots_of};
 ghost use Rattle.slot_plan.specs.Holding.{is_held_in};
 ghost use Rattle.one_side.specs.declared.doing.Doing.TheVariants.{Connects, Initiates};
-ghost use Rattle.one_side.specs.Step.{Step, HostOctet};
+ghost use Rattle.one_side.specs.Step.{Step, HostOctet, TurnBegins};
 ghost use Rattle.one_side.specs.Facts.{Setup, Facts, Sends};
 ghost use Rattle.one_side.specs.Answers.{AreOneAnswer, HasNoAnswer, IsAnswerTo, answer_to};
 ghost use Rattle.one_side.specs.Answers.{complete_answer, next_word};
 ghost use Rattle.one_side.specs.Commands.{facts_commanded};
 ghost use Rattle.one_side.specs.Connecting.{SendsEach};
+ghost use Rattle.one_side.specs.Entering.{IsEntered, begins_turn};
 ghost use Rattle.one_side.specs.Events.{notes_of_events};
 ghost use Rattle.one_side.specs.Heard.{answers_by_connecting, fields_sent, link_to};
 ghost use Rattle.one_side.specs.Packets.{advertising_packet, pdu_heard, verdict_advertising};
@@ -200,6 +201,23 @@ pub fn a_controller_opens_links_as_it_may()
         → (facts_of setup past).turn.doing ≡ Initiates channel
         → answers_by_connecting on pdu (facts_of setup past) ≡ true
         → IsSome (link_to setup on pdu (facts_of setup past)) }
+{}
+
+/// As a turn begins in a slot, a controller notes that a link enters an event exactly where the link
+/// does not end in that slot and the anchor of its next event is there, whether the radio is on or
+/// not; at no other time does it note so. The events of a link are numbered from 0 on, the anchor of
+/// event e is e intervals after the first one, and the channel of each event is that of its number
+/// (Core 5.2, volume 6 part B, sections 4.5.1 and 4.5.8).
+pub fn events_are_entered_at_their_anchors()
+    ensures entered { (setup : Setup) (past : List Step) (slot : ℕ) (on : Bool)
+        (handle event channel : ℕ)
+        → Contains (notes_after setup (facts_of setup past) (TurnBegins slot on))
+        (Enter handle (record { 0 = event }) channel)
+        ↔ IsEntered slot (facts_of setup past).links handle event channel }
+    ensures only_as_turns_begin { (setup : Setup) (past : List Step) (step : Step)
+        (handle event channel : ℕ)
+        → Contains (notes_after setup (facts_of setup past) step)
+        (Enter handle (record { 0 = event }) channel) → begins_turn step ≡ true }
 {}
 
 /// An advertiser that is left on in a controller with no link, with the radio on, is in an event in
