@@ -30,3 +30,4 @@ pub mod AccessAddresses
 pub mod Answering
 pub mod LinkNotes
 pub mod Entries
+pub mod Shuts

@@ -17,3 +17,4 @@ pub mod Host
 pub mod Notes
 pub mod Rows
 pub mod Entering
+pub mod Shutting
