@@ -31,3 +31,4 @@ pub mod Answering
 pub mod LinkNotes
 pub mod Entries
 pub mod Shuts
+pub mod Resets

@@ -14,7 +14,7 @@ use Rattle.hci_cmd.specs.declared.command.Command.{Command}
 use Rattle.hci_cmd.specs.declared.command.Command.TheVariants.{Reset}
 use Rattle.hci_cmd.specs.declared.command.CmdRead.{CmdRead}
 use Rattle.hci_cmd.specs.declared.command.CmdRead.TheVariants.{Known, UnknownOpcode, BadLength}
-use Rattle.hci_cmd.specs.Command.{command_of, layout_of, layouts}
+use Rattle.hci_cmd.specs.Command.{command_of}
 use Rattle.hci_evt.specs.declared.event.Event.TheVariants.{HardwareError}
 use Rattle.host_view.specs.Unbuilt.{status_of}
 use Rattle.instants.specs.Track.{next_number}
@@ -317,17 +317,3 @@ pub shuts_with_reason : (setup : Setup) (past : List Step) (step : Step) (handle
     ↔ IsShut (facts_of setup past) step handle reason
 shuts_with_reason setup past step handle reason =
     (step_shuts setup (facts_of setup past) step handle reason, shut_is_noted setup (facts_of setup past) step handle reason)
-
--- ---- a Reset is accepted at any time
-
-abbrev reset_fed : Fed
-reset_fed = Packet (HostCommand 0x0C03 (record { items = [] }))
-
-reset_accepted : (facts : Facts) → commands_accepted_in facts reset_fed ≡ Reset ∷ []
-unfolding command_of layout_of layouts status_of
-reset_accepted facts = refl
-
-pub reset_counts : (setup : Setup) (past : List Step) (octet : ℕ) → result_of (facts_of setup past).octets octet ≡ reset_fed
-    → commands_accepted_after (facts_of setup past) (HostOctet octet) ≡ Reset ∷ []
-reset_counts setup past octet is =
-    ap (λ (fed : Fed). commands_accepted_in (facts_of setup past) fed) is ∙ reset_accepted (facts_of setup past)

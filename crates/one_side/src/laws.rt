@@ -222,20 +222,20 @@ pub fn events_are_entered_at_their_anchors()
         (Enter handle (record { 0 = event }) channel) → begins_turn step ≡ true }
 {}
 
-/// A controller notes that a link is shut exactly in two cases. As a turn begins it is overdue: with
-/// 3E where it received nothing good and six intervals have passed since the CONNECT_IND, with 08
-/// where its supervision timeout has passed since the last good packet (Core 5.2, volume 6 part B,
-/// section 4.5.2). Or an octet of the host completes a Reset, 0C03, which is accepted at any time
-/// and shuts each open link with 00 (volume 4 part E, section 7.3.2).
+/// A controller notes that a link is shut exactly in two cases. As a turn begins it is overdue:
+/// with 3E where it received nothing good and six intervals have passed since the CONNECT_IND, with
+/// 08 where its supervision timeout has passed since the last good packet (Core 5.2, volume 6 part
+/// B, section 4.5.2). Or an octet of the host completes a Reset, 0C03 with no parameters, which is
+/// accepted at any time and shuts each open link with 00 (volume 4 part E, section 7.3.2).
 pub fn links_are_shut_with_their_reason()
     ensures shut { (setup : Setup) (past : List Step) (step : Step) (handle reason : ℕ)
         → Contains (notes_after setup (facts_of setup past) step)
         (Shut handle (record { 0 = reason }))
         ↔ IsShut (facts_of setup past) step handle reason }
     ensures reset { (setup : Setup) (past : List Step) (octet : ℕ)
-        → result_of (facts_of setup past).octets octet
-        ≡ Packet (HostCommand 0x0C03 (record { items = [] }))
-        → commands_accepted_after (facts_of setup past) (HostOctet octet) ≡ Reset ∷ [] }
+        → commands_accepted_after (facts_of setup past) (HostOctet octet) ≡ Reset ∷ []
+        ↔ result_of (facts_of setup past).octets octet
+        ≡ Packet (HostCommand 0x0C03 (record { items = [] })) }
 {}
 
 /// An advertiser that is left on in a controller with no link, with the radio on, is in an event in
