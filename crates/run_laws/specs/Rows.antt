@@ -1,11 +1,11 @@
 -- Both ends of the link of a small run, up to its first event.
-use Rattle.std.specs.Prelude.{ℕ, true, false, List, [], ◌∷◌, drop, take}
+use Rattle.std.specs.Prelude.{ℕ, true, false, List, [], ◌∷◌}
 use Rattle.ble_base.specs.declared.addresses.Address.{Address}
 use Rattle.ble_base.specs.declared.roles.Role.{Role}
 use Rattle.ble_base.specs.declared.roles.Role.TheVariants.{Central, Peripheral}
 use Rattle.adv_pdu.specs.declared.pdu.ConnectFields.{ConnectFields}
 use Rattle.one_end.specs.Setup.{Setup}
-use Rattle.one_end.specs.Step.{Step, EventEntered, PacketSent, PacketReceived}
+use Rattle.one_end.specs.Step.{EventEntered, PacketSent, PacketReceived}
 use Rattle.one_side.specs.Rows.{address_a, address_b}
 use Rattle.runs.specs.History.{Event}
 use Rattle.runs.specs.Rows.{first_packet, first_reply, one_event}

@@ -29,7 +29,6 @@ use Rattle.radio_replay.specs.declared.fates.Fate.TheVariants.{Pass}
 use Rattle.runs.specs.LinkEnds.{ConnectInd, HasConnectInd}
 use Rattle.runs.specs.Rows.{connect_packet}
 use Rattle.one_side.specs.Rows.{address_a, address_b}
-use Rattle.run_laws.specs.Ends.{AreEnds}
 use Rattle.run_laws.specs.Rows.{central_end, one_event_fields, one_event_history, peripheral_end, public}
 use Rattle.run_laws.proofs.rows.worked_ends.Goals as goal
 
