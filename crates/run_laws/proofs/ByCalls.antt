@@ -119,7 +119,7 @@ module _ (given : Given) (M : (ℕ → Facts) → Type 0) where
 abbrev pub StandsBy : Given → List Event → ℕ → Standing → Type 0
 StandsBy given history station at = IsInTurn (setup_at given station) at.stage at.begun (facts_at given station history)
 
-at_turn : (given : Given) (place : Place) (history : List Event) → AllStand given place history → (station : ℕ) → is_in station given.stations ≡ true
+pub at_turn : (given : Given) (place : Place) (history : List Event) → AllStand given place history → (station : ℕ) → is_in station given.stations ≡ true
     → StandsBy given history station (stands_at place station (turns_begun history))
 at_turn given place history stand station is =
     let setup = setup_at given station in
@@ -131,7 +131,7 @@ one_slot : (given : Given) (history : List Event) (station phases turns : ℕ) (
 one_slot given history station phases turns true stands = stands.slot_is
 one_slot given history station phases turns false stands = stands.slot_is
 
-last_turn : (turns slot : ℕ) → turns ≡ slot + 1 → turns - 1 ≡ slot
+pub last_turn : (turns slot : ℕ) → turns ≡ slot + 1 → turns - 1 ≡ slot
 last_turn turns slot is = omega (arith, is)
 
 was_sent : (given : Given) → HaveAddresses given → (phases : ℕ) (done left : List ℕ) (station : ℕ) (history : List Event) → AreDistinct given.stations

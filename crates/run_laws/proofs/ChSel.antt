@@ -1,6 +1,6 @@
 -- In a run each link has channel selection algorithm #2: ChSel is 1 in what both ends heard of each other.
 use Rattle.std.proofs.Common.{◌≡◌, ℕ, ◌<◌, ◌==◌, inl, inr, Bool, true, false, Option, Some, None, List, ◌++◌, refl, sym, ap, subst, ◌∙◌, arith}
-use Rattle.std.specs.Prelude.{⊤, if◌then◌else◌}
+use Rattle.std.specs.Prelude.{⊤}
 use Rattle.std.proofs.lemmas.Bool.{and_parts, eqb-true}
 use Rattle.ble_base.specs.declared.addresses.Address.{Address}
 use Rattle.adv_pdu.specs.declared.pdu.AdvPdu.{AdvPdu}
@@ -8,7 +8,7 @@ use Rattle.adv_pdu.specs.declared.pdu.AdvPdu.TheVariants.{Ind, Direct, ScanReq, 
 use Rattle.adv_pdu.specs.declared.pdu.ConnectFields.{ConnectFields}
 use Rattle.adv_pdu.specs.Pdu.{ch_sel_of, sender_of}
 use Rattle.adv_pdu.specs.Ranges.{is_in_range}
-use Rattle.advertise.specs.declared.answers.AdvAnswer.TheVariants.{Ignore, Respond, Connect as Takes}
+use Rattle.advertise.specs.declared.answers.AdvAnswer.TheVariants.{Connect as Takes}
 use Rattle.advertise.specs.declared.params.AdvParams.{AdvParams}
 use Rattle.advertise.specs.Answers.{advertiser_answer, is_scan_answered}
 use Rattle.one_end.specs.Setup.{Setup as EndSetup}
@@ -34,7 +34,7 @@ use Rattle.runs.proofs.LinkEnds.{IsUnderstood}
 use Rattle.runs.proofs.LinkSteps.{EachLink, MayOpen, link_has, none_linked, step_linked}
 use Rattle.runs.proofs.Stations.{is_in}
 use Rattle.run_laws.proofs.ByCalls.{IsCalled, IsKeptByCalls, WasSent, always_by_calls}
-use Rattle.run_laws.proofs.Entering.{IsInTurn}
+use Rattle.run_laws.proofs.Entering.{IsInTurn, scan_takes_none}
 use Rattle.run_laws.proofs.Hearings.{IsOnAir}
 use Rattle.run_laws.proofs.SentPackets.{HasChSel}
 use Rattle.run_laws.proofs.TurnPlaces.{Within}
@@ -71,7 +71,7 @@ may_make other may = tt
 abbrev IsWell : ℕ → List ℕ → Type 0
 IsWell channel octets = (pdu : AdvPdu) → pdu_heard channel octets ≡ Some pdu → HasChSel pdu
 
-one_channel : (one other : ℕ) → Listens one ≡ Listens other → one ≡ other
+pub one_channel : (one other : ℕ) → Listens one ≡ Listens other → one ≡ other
 one_channel one other is = cc
 
 sent_well : IsUnderstood → (facts : Facts) (channel : ℕ) (octets : List ℕ) → IsAdvertisingChannel channel → IsOnAir facts channel octets → IsWell channel octets
@@ -156,10 +156,6 @@ unheard_two (CentralSends handle) facts = tt
 unheard_two other facts = tt
 
 -- ---- an advertiser
-
-scan_takes_none : (answered : Bool) (fields : ConnectFields) (X : Type 0) → (if answered then Respond else Ignore) ≡ Takes fields → X
-scan_takes_none true fields X is = absurd cc
-scan_takes_none false fields X is = absurd cc
 
 takes_two : (params : AdvParams) (list : List Address) (pdu : AdvPdu) (fields : ConnectFields) → advertiser_answer params list pdu ≡ Takes fields → HasChSel pdu → ch_sel_of pdu ≡ true
 takes_two params list (Connect from to ch_sel said) fields takes well = well

@@ -15,28 +15,28 @@ use Rattle.one_side.specs.declared.doing.Turn.{Turn}
 use Rattle.one_side.specs.Step.{Step, HostOctet, TurnBegins, TurnEnds}
 use Rattle.one_side.specs.Facts.{Setup, Facts, Sends}
 use Rattle.one_side.specs.Heard.{access_found}
-use Rattle.one_side.specs.Packets.{advertising_packet, pdu_heard, use_of}
+use Rattle.one_side.specs.Packets.{advertising_packet, pdu_heard}
 use Rattle.one_side.specs.Sent.{SendsOn}
 use Rattle.one_side.specs.Side.{facts_after, facts_of, notes_after}
 use Rattle.one_side.proofs.DataChannels.{link_channel}
-use Rattle.one_side.proofs.Pasts.{facts_more}
 use Rattle.runs.specs.Due.{Each, packet_in}
 use Rattle.runs.specs.Feeding.{AreDistinct}
 use Rattle.runs.specs.History.{Event, TurnBegan, HostFed, Called, Noted, Transmitted, Hearing, past_of, turns_begun, packet_received}
 use Rattle.runs.specs.LinkEnds.{HaveAddresses}
 use Rattle.runs.specs.Links.{begins_link, is_advertising, is_connect_ind}
 use Rattle.runs.specs.Run.{Given, setup_at, facts_at, use_at, octets_left, after_call, after_octets, after_feed, hearings_of, step_of, run_of, history_of}
-use Rattle.runs.proofs.Calls.{with_notes, fold_called, fold_event, past_other, past_own, same_station}
+use Rattle.runs.proofs.Calls.{with_notes, fold_called, fold_event, past_other, same_station}
 use Rattle.runs.proofs.Doings.{IsWanted, always_wanted}
 use Rattle.runs.proofs.LinkEnds.{IsUnderstood}
 use Rattle.runs.proofs.Places.{each_at, each_called, each_event}
 use Rattle.runs.proofs.Stations.{is_in, among, in_more_other, in_more_same, not_before}
 use Rattle.runs.proofs.Walk.{Place, AtBegins, AtPackets, AtListening, AtEnds, IsKept, IsWhole, IsStopped, ends_with, run_kept}
 use Rattle.run_laws.specs.Access.{connects_in, connects_sent}
-use Rattle.run_laws.proofs.Entering.{IsInTurn, turn_first, turn_kept}
-use Rattle.run_laws.proofs.SentPackets.{IsUseSent, Says, use_is_sent}
-use Rattle.run_laws.proofs.TurnPlaces.{AllStand, Between, Standing, Within, at_stage, event_past, stands_at, stands_first, stands_kept, turned}
+use Rattle.run_laws.proofs.SentPackets.{IsUseSent, Says}
+use Rattle.run_laws.proofs.TurnPlaces.{AllStand, Between, Within, at_stage, event_past, stands_first, stands_kept}
 use Rattle.run_laws.proofs.TurnSteps.{IsMade, MakesWell, begins_count, begins_may, may_pending, octet_turn, pending, phase_turn}
+use Rattle.run_laws.proofs.Hearings.{own_facts, use_sent_at, wanted_is}
+use Rattle.run_laws.proofs.ByCalls.{StandsBy, at_turn, last_turn}
 
 -- ---- how many were sent
 
@@ -57,10 +57,6 @@ count_called other station step notes history =
     ∙ zero_more (fold (λ count event. count + connects_in other event) 0 history)
 
 -- ---- a packet
-
-wanted_is : (given : Given) (station : ℕ) (history : List Event) → (facts_at given station history).wanted ≡ use_at given station history
-unfolding use_of
-wanted_is given station history = refl
 
 no_channel : (channel : ℕ) (X : Type 0) → channel < 37 → is_advertising channel ≡ true → X
 no_channel channel X below is =
@@ -163,12 +159,6 @@ record AreCounted (given : Given) (place : Place) (history : List Event) : Type 
 
 -- ---- a call
 
-own_facts : (given : Given) (station : ℕ) (step : Step) (history : List Event)
-    → facts_at given station (after_call given station step history) ≡ facts_after (setup_at given station) (facts_at given station history) step
-own_facts given station step history =
-    let setup = setup_at given station in
-    ap (facts_of setup) (past_own station step (notes_after setup (facts_at given station history) step) history) ∙ facts_more setup (past_of station history) step
-
 -- from one call to the next, the same number is counted
 abbrev Leads : Setup → (Doing → ℕ) → (Doing → ℕ) → Facts → Facts → Type 0
 Leads setup before after facts next = (count : ℕ) → facts.connections ≡ count + before facts.turn.doing → next.connections ≡ count + after next.turn.doing
@@ -264,22 +254,6 @@ feed_each given station (octet ∷ octets) history each =
 
 -- ---- a packet
 
-abbrev StandsBy : Given → List Event → ℕ → Standing → Type 0
-StandsBy given history station at = IsInTurn (setup_at given station) at.stage at.begun (facts_at given station history)
-
--- where a station stands at a place
-at_turn : (given : Given) (place : Place) (history : List Event) → AllStand given place history → (station : ℕ) → is_in station given.stations ≡ true
-    → StandsBy given history station (stands_at place station (turns_begun history))
-at_turn given place history stand station is =
-    let setup = setup_at given station in
-    turned setup (IsInTurn setup) (turn_kept setup) (past_of station history) (stands_at place station (turns_begun history)) (turn_first setup) (stand station is)
-
-at_use : (given : Given) → HaveAddresses given → (place : Place) (history : List Event) → AllStand given place history → (station : ℕ) → is_in station given.stations ≡ true
-    → (channel : ℕ) (octets : List ℕ) → use_at given station history ≡ Sends channel octets → IsUseSent (facts_at given station history) (Sends channel octets)
-at_use given six place history stand station is channel octets wanted =
-    subst (IsUseSent (facts_at given station history)) (wanted_is given station history ∙ wanted)
-    (use_is_sent (setup_at given station) (past_of station history) (stands_at place station (turns_begun history)) (six station) (stand station is))
-
 packet_in_order : IsUnderstood → (given : Given) → HaveAddresses given → (place : Place) (history : List Event) → AllStand given place history → (station : ℕ)
     → is_in station given.stations ≡ true → (channel : ℕ) (octets : List ℕ) (hearings : List Hearing) → use_at given station history ≡ Sends channel octets
     → Counts pending given history station → TakenInOrder given history (Transmitted station channel octets hearings)
@@ -287,14 +261,11 @@ packet_in_order understood given six place history stand station is channel octe
     let setup = setup_at given station in
     let facts = facts_at given station history in
     has_access setup facts fields (connects_sent station history)
-    (of_link understood setup facts channel octets from to ch_sel fields (at_use given six place history stand station is channel octets wanted) on_air says)
+    (of_link understood setup facts channel octets from to ch_sel fields (use_sent_at given six place history stand station is channel octets wanted) on_air says)
     (at_turn given place history stand station is).makes counted
 
 own_count : (station channel : ℕ) (octets : List ℕ) (hearings : List Hearing) → connects_in station (Transmitted station channel octets hearings) ≡ (if begins_link channel octets then 1 else 0)
 own_count station channel octets hearings = ap (λ b. if b && begins_link channel octets then 1 else 0) (same_station station)
-
-last_turn : (turns slot : ℕ) → turns ≡ slot + 1 → turns - 1 ≡ slot
-last_turn turns slot is = omega (arith, is)
 
 none_waits : (n : ℕ) → n ≡ n + 0
 none_waits n = omega arith
@@ -409,7 +380,7 @@ counted_kept understood given six distinct = let kept = stands_kept given distin
             (packet_in_order understood given six place history counted.stand station is channel octets hearings due.is_wanted
             (subst (λ b. Counts (λ doing. if b then 0 else pending doing) given history station) out (counted.at station is)));
         at = λ other in_it. packet_by understood given done station channel octets hearings history
-            (at_use given six place history counted.stand station is channel octets due.is_wanted) out other (other == station) refl (counted.at other in_it);
+            (use_sent_at given six place history counted.stand station is channel octets due.is_wanted) out other (other == station) refl (counted.at other in_it);
       };
   on_air = λ phases history counted. record {
     stand = kept.on_air phases history counted.stand;

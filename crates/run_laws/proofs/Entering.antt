@@ -41,7 +41,7 @@ use Rattle.run_laws.proofs.TurnSteps.{FitsChannel, FitsFirst, IsListening, begin
 
 -- ---- a link that is taken has its fields in range
 
-scan_takes_none : (answered : Bool) (fields : ConnectFields) (X : Type 0) → (if answered then Respond else Ignore) ≡ Takes fields → X
+pub scan_takes_none : (answered : Bool) (fields : ConnectFields) (X : Type 0) → (if answered then Respond else Ignore) ≡ Takes fields → X
 scan_takes_none true fields X is = absurd cc
 scan_takes_none false fields X is = absurd cc
 

@@ -36,6 +36,7 @@ use Rattle.run_laws.proofs.TurnSteps.{begins_begun, begins_slot, octet_turn, pha
 use Rattle.run_laws.proofs.SameEvent.{one_connect_ind, two_stations}
 use Rattle.radio_replay.specs.Script.{Script}
 use Rattle.runs.specs.Pair.{given_of}
+use Rattle.run_laws.proofs.ChSel.{one_channel}
 
 -- there are two stations, each with one link at most
 pub record IsPair (given : Given) : Type 0 where
@@ -312,9 +313,6 @@ stations_called given station step before after called next agrees are = record 
 
 few_links : (given : Given) → IsPair given → (station : ℕ) (facts : Facts) → IsStation (setup_at given station) facts → length facts.links ≤ 1
 few_links given pair station facts is = let many = is.own.many in let few = pair.links station in omega (arith, many, few)
-
-one_channel : (one other : ℕ) → Listens one ≡ Listens other → one ≡ other
-one_channel one other is = cc
 
 one_slot : (one other turns : ℕ) → one + 1 ≡ turns → other + 1 ≡ turns → one ≡ other
 one_slot one other turns is is_too = omega (arith, is, is_too)
