@@ -14,3 +14,4 @@ pub mod ChSel
 pub mod LinkPasses
 pub mod Agreed
 pub mod InAgreement
+pub mod OneEntry

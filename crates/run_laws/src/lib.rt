@@ -4,6 +4,7 @@
 mod access;
 mod agreement;
 mod ends;
+mod entries;
 mod rows;
 
 pub use crate::access::access_addresses_are_taken_in_order;
@@ -11,4 +12,5 @@ pub use crate::agreement::ends_stay_in_agreement_in_every_run;
 pub use crate::ends::{
     each_end_enters_its_events, ends_of_one_link_agree, ends_of_one_link_have_one_connect_ind,
 };
+pub use crate::entries::both_ends_enter_an_event_in_one_slot;
 pub use crate::rows::worked_ends;
