@@ -171,8 +171,8 @@ pub(crate) fn ready(rt: &impl Abort, alloc: Global) -> Pair {
     }
 }
 
-/// In slot 0 the initiator hears ADV_IND and sends this CONNECT_IND. It opens its link in the call
-/// after that.
+/// In this slot the initiator hears ADV_IND and sends this CONNECT_IND. It opens its link in the
+/// call after that.
 fn connects<const L: usize>(
     rt: &impl Abort,
     central: &mut Controller<L, 8, 8>,
@@ -226,9 +226,7 @@ fn pauses(rt: &impl Abort, controller: &mut Small, first: u32, end: u32) {
         assert_eq!(rt; wanted, Intent::Idle, "in {slot}");
         assert!(rt; out.is_empty(), "in {slot}");
         controller.unheard(&mut out);
-        controller.unheard(&mut Outbox::new());
-        controller.unheard(&mut Outbox::new());
-        controller.end_turn(&mut Outbox::new());
+        rest(controller);
     }
 }
 

@@ -1,16 +1,16 @@
 -- The ends of a link stay in agreement.
-use Rattle.std.proofs.Common.{◌≡◌, ℕ, ◌==◌, ◌&&◌, Bool, true, false, List, [], ◌∷◌, fold, refl, ap, sym, ◌∙◌, subst, if◌then◌else◌}
-use Rattle.std.proofs.lemmas.Bool.{eqb-true}
+use Rattle.std.proofs.Common.{◌≡◌, ℕ, ◌+◌, ◌≤◌, ◌==◌, ◌&&◌, Bool, true, false, List, [], ◌∷◌, ◌++◌, fold, length, length-append, refl, ap, sym, ◌∙◌, subst, arith, if◌then◌else◌}
+use Rattle.std.proofs.lemmas.Bool.{eqb-true, eqb-false}
 use Rattle.ack_bit.specs.AckLink.{End, Packet, header_from, after_receiving as end_after_receiving}
 use Rattle.ack_bit.specs.InStep.{AreInStep, IsOut}
-use Rattle.ack_bit.proofs.Links.{begins, exchanged, sent, out, received}
+use Rattle.ack_bit.proofs.Links.{acked_count, begins, exchanged, sent, out, received, says}
 use Rattle.one_end.specs.Setup.{Setup}
 use Rattle.one_end.specs.Step.{PacketReceived}
 use Rattle.one_end.specs.Acknowledgement.{Acknowledgement, Pdu, empty_pdu, end_of, is_acked, next_sent, after_sending, after_receiving}
 use Rattle.one_end.specs.Facts.{Facts}
 use Rattle.one_end.specs.Packets.{header_sent, packet_sent}
 use Rattle.one_end.specs.End.{facts_after, facts_received}
-use Rattle.one_end.specs.Pair.{AreOneLink, Pair, Move, CentralEnters, PeripheralEnters, CentralSends, PeripheralSends, first_pair, sender_after, listener_after, pair_after, pair_of, AreInAgreement}
+use Rattle.one_end.specs.Pair.{AreOneLink, Pair, Move, CentralEnters, PeripheralEnters, CentralSends, PeripheralSends, first_pair, sender_after, receiver_after, listener_after, pair_after, pair_of, AreInAgreement}
 use Rattle.one_end.proofs.Received.{IsHeardWhole, header_read, pdu_read, heard_good, received_end}
 
 -- two ends in agreement, each of which sent nothing but empty PDUs
@@ -63,6 +63,32 @@ receives one other sender same agreed is_out =
       one_last = agreed.one_last;
       other_last = agreed.other_last;
     }
+
+-- ---- what a packet tells that is received
+
+pub tells_acked : (whole : IsHeardWhole) (from to : Setup) (slot : ℕ) (sender facts : Facts) → AreOneLink from to
+    → sender.event.channel ≡ facts.event.channel → AreInAgreement sender.acknowledgement facts.acknowledgement
+    → (receiver_after from (sender_after from slot sender) to slot facts).acknowledgement.acked ≡ length sender.acknowledgement.accepted
+tells_acked whole from to slot sender facts one channel agreed =
+    ap (λ (a : Acknowledgement). a.acked) (heard whole from to slot (sender_after from slot sender) facts one channel)
+    ∙ acked_count (end_of sender.acknowledgement) (end_of facts.acknowledgement) plain_packet empty_pdu agreed.from_b
+
+counted : (fresh : Bool) (accepted : List Pdu) (pdu : Pdu) (count : ℕ) → fresh ≡ (count == length accepted + 1)
+    → length accepted ≤ count → count ≤ length accepted + 1
+    → length (if fresh then accepted ++ pdu ∷ [] else accepted) ≡ count
+counted true accepted pdu count is low high = length-append accepted (pdu ∷ []) ∙ sym (eqb-true count (length accepted + 1) (sym is))
+counted false accepted pdu count is low high = let other = eqb-false count (length accepted + 1) (sym is) in omega (arith, other)
+
+pub tells_accepted : (whole : IsHeardWhole) (from to : Setup) (slot : ℕ) (sender facts : Facts) → AreOneLink from to
+    → sender.event.channel ≡ facts.event.channel → AreInAgreement sender.acknowledgement facts.acknowledgement
+    → length (receiver_after from (sender_after from slot sender) to slot facts).acknowledgement.accepted
+    ≡ length (sender_after from slot sender).acknowledgement.sent
+tells_accepted whole from to slot sender facts one channel agreed =
+    let ahead = (sent (end_of sender.acknowledgement) (end_of facts.acknowledgement) empty_pdu agreed).from_a.reliable in
+    ap (λ (a : Acknowledgement). length a.accepted) (heard whole from to slot (sender_after from slot sender) facts one channel)
+    ∙ counted _ facts.acknowledgement.accepted empty_pdu (length (sender_after from slot sender).acknowledgement.sent)
+    (says (end_of sender.acknowledgement) (end_of facts.acknowledgement) plain_packet agreed).fresh
+    ahead.sent_only ahead.at_most_one_ahead
 
 listens : (whole : IsHeardWhole) (from to : Setup) (slot : ℕ) (sender facts : Facts) (heard_it : Bool) → AreOneLink from to
     → (heard_it ≡ true → sender.event.channel ≡ facts.event.channel)

@@ -36,11 +36,15 @@ first_pair central peripheral =
 abbrev pub sender_after : Setup → ℕ → Facts → Facts
 sender_after setup slot facts = facts_after setup facts (PacketSent slot)
 
--- the other end after a packet of this sender; it hears a packet that is not lost on its own channel alone
+-- the other end after it received the packet of this sender
+abbrev pub receiver_after : Setup → Facts → Setup → ℕ → Facts → Facts
+receiver_after from sender to slot facts = facts_after to facts (PacketReceived slot (packet_sent from sender))
+
+-- it hears a packet that is not lost on its own channel alone
 abbrev pub listener_after : Setup → Facts → Setup → ℕ → Bool → Facts → Facts
 listener_after from sender to slot arrives facts =
     if arrives && (sender.event.channel == facts.event.channel)
-    then facts_after to facts (PacketReceived slot (packet_sent from sender))
+    then receiver_after from sender to slot facts
     else facts
 
 abbrev pub pair_after : Setup → Setup → Pair → Move → Pair

@@ -14,6 +14,7 @@ ghost use Rattle.one_end.specs.Times.{wants_of};
 ghost use Rattle.one_end.specs.End.{facts_of, facts_after};
 ghost use Rattle.one_end.specs.Events.{IsInEvent, entries_in};
 ghost use Rattle.one_end.specs.Pair.{AreInAgreement, AreInOneEvent, AreOneLink, Move, pair_of};
+ghost use Rattle.one_end.specs.Pair.{receiver_after, sender_after};
 
 /// With one more step, an end holds what that step makes of what it held.
 #[tactic(auto, unfolding(crate::specs::End::facts_of))]
@@ -72,6 +73,26 @@ pub fn ends_stay_in_agreement()
         → one.acked ≤ length other.accepted }
     ensures both_ways { (one other : Acknowledgement) → AreInAgreement one other
         → AreInAgreement other one }
+{
+    air_frame::laws::packet_tells_its_pdu();
+}
+
+/// A packet that is received tells exactly what was accepted, and no bit is needed to say it: the
+/// end that received it then takes for acknowledged as many of its PDUs as the sender accepted, and
+/// has accepted as many as the sender sent (Core 5.2, volume 6 part B, section 4.5.9).
+pub fn a_packet_tells_what_was_accepted()
+    ensures acknowledged { (from to : Setup) (slot : ℕ) (sender listener : Facts)
+        → AreOneLink from to → sender.event.channel ≡ listener.event.channel
+        → AreInAgreement sender.acknowledgement listener.acknowledgement
+        → let sent = sender_after from slot sender in
+        (receiver_after from sent to slot listener).acknowledgement.acked
+        ≡ length sent.acknowledgement.accepted }
+    ensures accepted { (from to : Setup) (slot : ℕ) (sender listener : Facts)
+        → AreOneLink from to → sender.event.channel ≡ listener.event.channel
+        → AreInAgreement sender.acknowledgement listener.acknowledgement
+        → let sent = sender_after from slot sender in
+        length (receiver_after from sent to slot listener).acknowledgement.accepted
+        ≡ length sent.acknowledgement.sent }
 {
     air_frame::laws::packet_tells_its_pdu();
 }

@@ -9,8 +9,8 @@ mod setup;
 
 pub use crate::events::{ConnectionEvent, Reception};
 pub use crate::laws::{
-    a_packet_is_understood, ends_agree_in_each_event, ends_stay_in_agreement,
-    events_follow_the_connect_ind, only_latency_skips_events, past_grows,
+    a_packet_is_understood, a_packet_tells_what_was_accepted, ends_agree_in_each_event,
+    ends_stay_in_agreement, events_follow_the_connect_ind, only_latency_skips_events, past_grows,
 };
 pub use crate::rows::{worked_events, worked_latency, worked_times};
 pub use crate::setup::LinkSetup;

@@ -28,3 +28,7 @@ pub mod Room
 pub mod FreeHandles
 pub mod AccessAddresses
 pub mod Answering
+pub mod LinkNotes
+pub mod Entries
+pub mod Shuts
+pub mod Resets

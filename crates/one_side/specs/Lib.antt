@@ -16,3 +16,5 @@ pub mod Connecting
 pub mod Host
 pub mod Notes
 pub mod Rows
+pub mod Entering
+pub mod Shutting

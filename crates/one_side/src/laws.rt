@@ -3,9 +3,9 @@
 ghost use Rattle.std.specs.Prelude.{◌≡◌, ◌≢◌, ◌↔◌, ◌<◌, ◌≤◌, ◌+◌, ◌^◌, ◌⊎◌, ℕ, Bool, true, false};
 ghost use Rattle.std.specs.Prelude.{if◌then◌else◌, is_some, None, IsSome};
 ghost use Rattle.std.specs.Prelude.{All, List, [], ◌∷◌, ◌++◌, Some, length, map};
-ghost use Rattle.std.specs.List.{list_any};
+ghost use Rattle.std.specs.List.{Contains, list_any};
 ghost use Rattle.ble_base.specs.Bits.{has_bit};
-ghost use Rattle.ble_base.specs.declared.notes.Note.TheVariants.{Up};
+ghost use Rattle.ble_base.specs.declared.notes.Note.TheVariants.{Enter, Shut, Up};
 ghost use Rattle.ble_base.specs.declared.verdicts.Verdict.TheVariants.{Good};
 ghost use Rattle.adv_pdu.specs.declared.pdu.AdvPdu.{AdvPdu};
 ghost use Rattle.adv_pdu.specs.Pdu.{IsPdu};
@@ -16,7 +16,7 @@ ghost use Rattle.h4_frames.specs.declared.packet.HostPacket.TheVariants.{Command
 ghost use Rattle.h4_frames.specs.declared.packet.Fed.TheVariants.{Packet, LostSync};
 ghost use Rattle.wire_fields.specs.Field.{little_endian};
 ghost use Rattle.hci_cmd.specs.declared.command.Command.{Command};
-ghost use Rattle.hci_cmd.specs.declared.command.Command.TheVariants.{LeRand, LeSetAdvParams};
+ghost use Rattle.hci_cmd.specs.declared.command.Command.TheVariants.{LeRand, LeSetAdvParams, Reset};
 ghost use Rattle.hci_cmd.specs.declared.command.CmdRead.{CmdRead};
 ghost use Rattle.hci_cmd.specs.declared.command.CmdRead.TheVariants.{Known};
 ghost use Rattle.hci_evt.specs.Event.{written};
@@ -33,21 +33,24 @@ ghost use Rattle.scan_init.specs.Initiating.{InitiatorFacts};
 ghost use Rattle.scan_init.specs.Windows.{slots_of};
 ghost use Rattle.slot_plan.specs.Holding.{is_held_in};
 ghost use Rattle.one_side.specs.declared.doing.Doing.TheVariants.{Connects, Initiates};
-ghost use Rattle.one_side.specs.Step.{Step, HostOctet};
+ghost use Rattle.one_side.specs.Step.{Step, HostOctet, TurnBegins};
 ghost use Rattle.one_side.specs.Facts.{Setup, Facts, Sends};
 ghost use Rattle.one_side.specs.Answers.{AreOneAnswer, HasNoAnswer, IsAnswerTo, answer_to};
 ghost use Rattle.one_side.specs.Answers.{complete_answer, next_word};
 ghost use Rattle.one_side.specs.Commands.{facts_commanded};
 ghost use Rattle.one_side.specs.Connecting.{SendsEach};
+ghost use Rattle.one_side.specs.Entering.{IsEntered, begins_turn};
 ghost use Rattle.one_side.specs.Events.{notes_of_events};
 ghost use Rattle.one_side.specs.Heard.{answers_by_connecting, fields_sent, link_to};
 ghost use Rattle.one_side.specs.Packets.{advertising_packet, pdu_heard, verdict_advertising};
+ghost use Rattle.one_side.specs.Shutting.{IsShut};
 ghost use Rattle.one_side.specs.Side.{facts_after, facts_of, notes_after, notes_fed};
 ghost use Rattle.one_side.specs.Side.{notes_of, result_of};
 ghost use Rattle.one_side.specs.Sent.{IsAdvertisingPacket, IsLinkPacket};
 ghost use Rattle.one_side.specs.Intervals.{IsLeftOn, doing_at, doing_between, facts_in_turn};
 ghost use Rattle.one_side.specs.Intervals.{place_within, turns_from};
-ghost use Rattle.one_side.specs.Host.{HeardNothing, commands_accepted, commands_of, host_octets};
+ghost use Rattle.one_side.specs.Host.{HeardNothing, commands_accepted, commands_accepted_after};
+ghost use Rattle.one_side.specs.Host.{commands_of, host_octets};
 ghost use Rattle.one_side.specs.Host.{is_answered, le_rand_count, opcodes_in, opcodes_of};
 ghost use Rattle.one_side.specs.Host.{with_answer};
 ghost use Rattle.one_side.specs.Notes.{HadNoLink, HasHandleBelow, answers_among, answers_of};
@@ -200,6 +203,39 @@ pub fn a_controller_opens_links_as_it_may()
         → (facts_of setup past).turn.doing ≡ Initiates channel
         → answers_by_connecting on pdu (facts_of setup past) ≡ true
         → IsSome (link_to setup on pdu (facts_of setup past)) }
+{}
+
+/// As a turn begins in a slot, a controller notes that a link enters an event exactly where the
+/// link does not end in that slot and the anchor of its next event is there, whether the radio is
+/// on or not; at no other time does it note so. The events of a link are numbered from 0 on, the
+/// anchor of event e is e intervals after the first one, and the channel of each event is that of
+/// its number (Core 5.2, volume 6 part B, sections 4.5.1 and 4.5.8).
+pub fn events_are_entered_at_their_anchors()
+    ensures entered { (setup : Setup) (past : List Step) (slot : ℕ) (on : Bool)
+        (handle event channel : ℕ)
+        → Contains (notes_after setup (facts_of setup past) (TurnBegins slot on))
+        (Enter handle (record { 0 = event }) channel)
+        ↔ IsEntered slot (facts_of setup past).links handle event channel }
+    ensures only_as_turns_begin { (setup : Setup) (past : List Step) (step : Step)
+        (handle event channel : ℕ)
+        → Contains (notes_after setup (facts_of setup past) step)
+        (Enter handle (record { 0 = event }) channel) → begins_turn step ≡ true }
+{}
+
+/// A controller notes that a link is shut exactly in two cases. As a turn begins it is overdue:
+/// with 3E where it received nothing good and six intervals have passed since the CONNECT_IND, with
+/// 08 where its supervision timeout has passed since the last good packet (Core 5.2, volume 6 part
+/// B, section 4.5.2). Or an octet of the host completes a Reset, 0C03 with no parameters, which is
+/// accepted at any time and shuts each open link with 00 (volume 4 part E, section 7.3.2).
+pub fn links_are_shut_with_their_reason()
+    ensures shut { (setup : Setup) (past : List Step) (step : Step) (handle reason : ℕ)
+        → Contains (notes_after setup (facts_of setup past) step)
+        (Shut handle (record { 0 = reason }))
+        ↔ IsShut (facts_of setup past) step handle reason }
+    ensures reset { (setup : Setup) (past : List Step) (octet : ℕ)
+        → commands_accepted_after (facts_of setup past) (HostOctet octet) ≡ Reset ∷ []
+        ↔ result_of (facts_of setup past).octets octet
+        ≡ Packet (HostCommand 0x0C03 (record { items = [] })) }
 {}
 
 /// An advertiser that is left on in a controller with no link, with the radio on, is in an event in
