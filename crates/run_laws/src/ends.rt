@@ -25,8 +25,8 @@ pub fn ends_of_one_link_have_one_connect_ind()
 
 /// At any time of a run, an open end has entered exactly the events whose anchors are in the turns
 /// that its controller began (Core 5.2, volume 6 part B, section 4.5.1). Both ends of one link have
-/// entered the same number of events where both controllers began the same number of turns: so it is
-/// before each turn, and at the end of a run.
+/// entered the same number of events where both controllers began the same number of turns: so it
+/// is before each turn, and at the end of a run.
 pub fn each_end_enters_its_events()
     ensures on_time { (given : Given) (before rest : List Event) (station handle : ℕ)
         (link : OpenLink) → AreDistinct given.stations → Contains given.stations station
@@ -54,10 +54,10 @@ pub fn each_end_enters_its_events()
     advertise::laws::connections_are_taken();
 }
 
-/// At any time of a run, both open ends of one link have one CONNECT_IND, its slot, and one algorithm
-/// for the channels. So where they have entered the same number of events they are in one event:
-/// with one anchor, one set of parameters and one channel. Each is in the event of its CONNECT_IND
-/// with that number (Core 5.2, volume 6 part B, sections 4.5.1, 4.5.3 and 4.5.8).
+/// At any time of a run, both open ends of one link have one CONNECT_IND, its slot, and one
+/// algorithm for the channels. So where they have entered the same number of events they are in one
+/// event: with one anchor, one set of parameters and one channel. Each is in the event of its
+/// CONNECT_IND with that number (Core 5.2, volume 6 part B, sections 4.5.1, 4.5.3 and 4.5.8).
 pub fn ends_of_one_link_agree()
     ensures one_link { (given : Given) (before rest : List Event) (central peripheral : OpenEnd)
         → AreDistinct given.stations → HaveAddresses given
