@@ -54,7 +54,12 @@ pub(crate) struct Ending {
 }
 
 /// The three files, with these turn lines in the schedule.
-pub(crate) fn files_of(alloc: Global, a: &[u8], b: &[u8], turns: &str) -> Result<MemFiles, AllocError> {
+pub(crate) fn files_of(
+    alloc: Global,
+    a: &[u8],
+    b: &[u8],
+    turns: &str,
+) -> Result<MemFiles, AllocError> {
     let schedule = format!(in alloc; "{SIDES}{turns}")?;
     let mut files = MemFiles::new(alloc);
     files.hold("a.bin", a)?;
