@@ -60,13 +60,13 @@ called_facts given station step history is = record {
 abbrev HeldBefore : Given → ((ℕ → Facts) → Type 0) → List Event → Event → Type 0
 HeldBefore given M before event = M (all_facts given before)
 
-record HoldsSoFar (given : Given) (M : (ℕ → Facts) → Type 0) (history : List Event) : Type 0 where
+pub record HoldsSoFar (given : Given) (M : (ℕ → Facts) → Type 0) (history : List Event) : Type 0 where
   each : Each (HeldBefore given M) [] history
-  last : M (all_facts given history)
+  pub last : M (all_facts given history)
 
-record Holds (given : Given) (M : (ℕ → Facts) → Type 0) (place : Place) (history : List Event) : Type 0 where
-  hearing : AreHearing given place history
-  so_far : HoldsSoFar given M history
+pub record Holds (given : Given) (M : (ℕ → Facts) → Type 0) (place : Place) (history : List Event) : Type 0 where
+  pub hearing : AreHearing given place history
+  pub so_far : HoldsSoFar given M history
 
 same_facts : (given : Given) (history : List Event) (event : Event) → ((station : ℕ) → steps_in station event ≡ []) → all_facts given (history ++ event ∷ []) ≡ all_facts given history
 same_facts given history event none = fun_ext (λ station. ap (facts_of (setup_at given station)) (event_past station history event (none station)))
@@ -154,7 +154,7 @@ was_sent given six phases done left station history distinct are hearing octets 
         on_air (facts_at given sender history) channel octets
         (use_sent_at given six (AtListening phases done (station ∷ left)) history hearing.stand sender is_one channel octets sent)
 
-holds_kept : (given : Given) (M : (ℕ → Facts) → Type 0) → IsKeptByCalls given M → HaveAddresses given → AreDistinct given.stations → IsKept given (Holds given M)
+pub holds_kept : (given : Given) (M : (ℕ → Facts) → Type 0) → IsKeptByCalls given M → HaveAddresses given → AreDistinct given.stations → IsKept given (Holds given M)
 holds_kept given M calls six distinct = let kept = hearing_kept given six distinct in record {
   on_turn = λ slot plan history begun at holds. record {
     hearing = kept.on_turn slot plan history begun at holds.hearing;
@@ -205,7 +205,7 @@ holds_kept given M calls six distinct = let kept = hearing_kept given six distin
   on_ended = λ history holds. record { hearing = kept.on_ended history holds.hearing; so_far = holds.so_far };
 }
 
-first_hears : (given : Given) (station : ℕ) → packet_received station [] ≡ None
+pub first_hears : (given : Given) (station : ℕ) → packet_received station [] ≡ None
 unfolding packet_received
 first_hears given station = refl
 

@@ -134,16 +134,16 @@ has_access setup facts fields count of makes counted =
 -- ---- at each place of a run
 
 -- it has taken as many access addresses as it sent CONNECT_INDs, and those that wait
-abbrev Counts : (Doing → ℕ) → Given → List Event → ℕ → Type 0
+abbrev pub Counts : (Doing → ℕ) → Given → List Event → ℕ → Type 0
 Counts waiting given history station =
     (facts_at given station history).connections ≡ connects_sent station history + waiting (facts_at given station history).turn.doing
 
-abbrev waiting_at : Place → ℕ → Doing → ℕ
+abbrev pub waiting_at : Place → ℕ → Doing → ℕ
 waiting_at (AtPackets phases done left) station doing = if is_in station done then 0 else pending doing
 waiting_at (AtListening phases done left) station doing = if is_in station done then pending doing else 0
 waiting_at place station doing = pending doing
 
-abbrev TakenInOrder : Given → List Event → Event → Type 0
+abbrev pub TakenInOrder : Given → List Event → Event → Type 0
 TakenInOrder given before (Transmitted station channel octets hearings) =
     (from to : Address) (ch_sel : Bool) (fields : ConnectFields) → is_advertising channel ≡ true → pdu_heard channel octets ≡ Some (Connect from to ch_sel fields)
     → access_found (nth_access (setup_at given station).cursor (connects_sent station before)) ≡ Some fields.access
@@ -152,10 +152,10 @@ TakenInOrder given before (HostFed station octets) = Unit {0}
 TakenInOrder given before (Called station step) = Unit {0}
 TakenInOrder given before (Noted station note) = Unit {0}
 
-record AreCounted (given : Given) (place : Place) (history : List Event) : Type 0 where
-  stand : AllStand given place history
-  each : Each (TakenInOrder given) [] history
-  at : (station : ℕ) → is_in station given.stations ≡ true → Counts (waiting_at place station) given history station
+pub record AreCounted (given : Given) (place : Place) (history : List Event) : Type 0 where
+  pub stand : AllStand given place history
+  pub each : Each (TakenInOrder given) [] history
+  pub at : (station : ℕ) → is_in station given.stations ≡ true → Counts (waiting_at place station) given history station
 
 -- ---- a call
 
@@ -335,7 +335,7 @@ listen_by given done station received history out other same is counted =
 
 -- ---- the run
 
-counted_kept : IsUnderstood → (given : Given) → HaveAddresses given → AreDistinct given.stations → IsKept given (AreCounted given)
+pub counted_kept : IsUnderstood → (given : Given) → HaveAddresses given → AreDistinct given.stations → IsKept given (AreCounted given)
 counted_kept understood given six distinct = let kept = stands_kept given distinct in record {
   on_turn = λ slot plan history begun at counted.
       let event = TurnBegan slot (map plan.radio_of given.stations) in record {
@@ -410,7 +410,7 @@ counted_kept understood given six distinct = let kept = stands_kept given distin
   on_ended = λ history counted. record { stand = kept.on_ended history counted.stand; each = counted.each; at = counted.at };
 }
 
-first_counts : (given : Given) (station : ℕ) → Counts pending given [] station
+pub first_counts : (given : Given) (station : ℕ) → Counts pending given [] station
 unfolding facts_of connects_sent
 first_counts given station = refl
 

@@ -46,19 +46,19 @@ pub record IsPair (given : Given) : Type 0 where
 
 -- ---- the links of one station
 
-abbrev OpenedBefore : ℕ → OpenLink → Type 0
+abbrev pub OpenedBefore : ℕ → OpenLink → Type 0
 OpenedBefore slot link = link.setup.opened < slot
 
 -- nothing happened yet to one that was opened in this slot
-abbrev IsFresh : ℕ → OpenLink → Type 0
+abbrev pub IsFresh : ℕ → OpenLink → Type 0
 IsFresh slot link = link.setup.opened ≡ slot → link.past ≡ []
 
-record IsStation (setup : Setup) (facts : Facts) : Type 0 where
-  own : HaveOwnHandles setup facts
-  earlier : EachOpen (OpenedBefore facts.turn.begun) facts.links
-  fresh : EachOpen (IsFresh facts.turn.slot) facts.links
+pub record IsStation (setup : Setup) (facts : Facts) : Type 0 where
+  pub own : HaveOwnHandles setup facts
+  pub earlier : EachOpen (OpenedBefore facts.turn.begun) facts.links
+  pub fresh : EachOpen (IsFresh facts.turn.slot) facts.links
   -- while it sends or listens on one, all were opened before
-  old : is_on_link facts.turn.doing ≡ true → EachOpen (OpenedBefore facts.turn.slot) facts.links
+  pub old : is_on_link facts.turn.doing ≡ true → EachOpen (OpenedBefore facts.turn.slot) facts.links
 
 before_served : (slot : ℕ) → IsKeptServed (OpenedBefore slot)
 before_served slot = record { served = λ now link is. is; sent = λ now link is. is }
@@ -164,7 +164,7 @@ station_passes setup facts phases turns received in_turn is =
 
 -- ---- the links of two stations
 
-abbrev AllAgree : Links → Links → Type 0
+abbrev pub AllAgree : Links → Links → Type 0
 AllAgree ones others = EachOpen (λ one. EachOpen (λ other. Agree one other) others) ones
 
 agree_back : (ones others : Links) → AllAgree ones others → AllAgree others ones
@@ -175,7 +175,7 @@ agree_back ones (Some other ∷ others) all = (
   agree_back ones others (open_more _ _ ones (λ one each. each.1) all),
 )
 
-abbrev WithAll : Links → OpenLink → Type 0
+abbrev pub WithAll : Links → OpenLink → Type 0
 WithAll others one = EachOpen (λ other. Agree one other) others
 
 all_entered : (others : Links) (slot : ℕ) (one : OpenLink) → WithAll others one → WithAll others (link_entered slot one)
@@ -269,9 +269,9 @@ passing_agree whole given others facts after received few fresh slot heard liste
 
 -- ---- each call
 
-record AreStations (given : Given) (facts : ℕ → Facts) : Type 0 where
-  each : (station : ℕ) → is_in station given.stations ≡ true → IsStation (setup_at given station) (facts station)
-  agree : (one other : ℕ) → is_in one given.stations ≡ true → is_in other given.stations ≡ true → (one == other) ≡ false
+pub record AreStations (given : Given) (facts : ℕ → Facts) : Type 0 where
+  pub each : (station : ℕ) → is_in station given.stations ≡ true → IsStation (setup_at given station) (facts station)
+  pub agree : (one other : ℕ) → is_in one given.stations ≡ true → is_in other given.stations ≡ true → (one == other) ≡ false
       → AllAgree (facts one).links (facts other).links
 
 differs_back : (one other : ℕ) → (one == other) ≡ false → (other == one) ≡ false
@@ -317,7 +317,7 @@ few_links given pair station facts is = let many = is.own.many in let few = pair
 one_slot : (one other turns : ℕ) → one + 1 ≡ turns → other + 1 ≡ turns → one ≡ other
 one_slot one other turns is is_too = omega (arith, is, is_too)
 
-agreement_kept : IsHeardWhole → (given : Given) → IsPair given → IsKeptByCalls given (AreStations given)
+pub agreement_kept : IsHeardWhole → (given : Given) → IsPair given → IsKeptByCalls given (AreStations given)
 agreement_kept whole given pair = record {
   feeds = λ station octet before after called are.
       let setup = setup_at given station in
@@ -350,7 +350,7 @@ agreement_kept whole given pair = record {
 
 -- ---- the run
 
-first_station : (setup : Setup) → IsStation setup (first_facts setup)
+pub first_station : (setup : Setup) → IsStation setup (first_facts setup)
 unfolding facts_of
 first_station setup = record {
   own = own_handles setup [];

@@ -14,3 +14,4 @@ pub mod Order
 pub mod Entries
 pub mod Answered
 pub mod LinkEnds
+pub mod Numbers

@@ -1,0 +1,7 @@
+//! Which PDUs of a link are accepted and acknowledged, from the lines of a journal, and the laws of
+//! each run of a pair about them. None of them names code.
+#![tactic(auto)]
+
+mod rows;
+
+pub use crate::rows::worked_exchange;

@@ -1,0 +1,4 @@
+-- The definitions of this crate.
+pub mod Begun
+pub mod Entered
+pub mod Rows

@@ -1,0 +1,7 @@
+//! Which link a packet of a journal is of, and the law that it is the link of the end that sent it.
+//! None of them names code.
+#![tactic(auto)]
+
+mod rows;
+
+pub use crate::rows::worked_packets;
