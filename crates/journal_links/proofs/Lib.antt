@@ -1,1 +1,4 @@
 -- The lemmas of this crate.
+pub mod LinksBegun
+pub mod Numbered
+pub mod EnterLines
