@@ -1,6 +1,6 @@
 -- The links that one station began have different access addresses, so the first one that fits a packet is the link of
 -- that packet.
-use Rattle.std.proofs.Common.{◌≡◌, ◌≢◌, ℕ, zero, suc, ◌+◌, ◌-◌, ◌^◌, ◌<◌, ◌≤◌, ◌==◌, ◌⊎◌, inl, inr, ◌&&◌, Bool, true, false, Option, Some, None, List, [], ◌∷◌, ◌++◌, take, refl, sym, ap, subst, ◌∙◌, arith}
+use Rattle.std.proofs.Common.{◌≡◌, ◌≢◌, ℕ, zero, suc, ◌+◌, ◌-◌, ◌^◌, ◌<◌, ◌≤◌, ◌==◌, ◌⊎◌, inl, inr, ◌&&◌, Bool, true, false, Option, Some, List, [], ◌∷◌, ◌++◌, take, refl, sym, ap, subst, ◌∙◌, arith}
 use Rattle.std.specs.Prelude.{⊤, IfSome, slice_get, if◌then◌else◌}
 use Rattle.std.specs.Int.{from_le_bytes, w32}
 use Rattle.std.specs.Str.{bytes_eq}
@@ -22,10 +22,9 @@ use Rattle.runs.specs.History.{Event, TurnBegan, HostFed, Called, Noted, Transmi
 use Rattle.runs.specs.Journal.{side_of}
 use Rattle.runs.specs.Links.{begins_link, is_advertising, is_connect_ind}
 use Rattle.runs.specs.Run.{Given, setup_at}
-use Rattle.runs.proofs.Calls.{fold_event}
 use Rattle.run_laws.specs.Access.{connects_in, connects_sent}
-use Rattle.run_laws.proofs.ConnectInds.{TakenInOrder}
-use Rattle.run_laws.proofs.DistinctAccess.{AreApart}
+use Rattle.run_laws.proofs.ConnectInds.{TakenInOrder, count_event}
+use Rattle.run_laws.proofs.DistinctAccess.{AreApart, found_at}
 use Rattle.journal_links.specs.Begun.{LinkBegun, begun_by}
 use Rattle.journal_packets.specs.Belonging.{first_number, fits, is_side}
 use Rattle.journal_packets.proofs.SentLinks.{IsOfTwo, link_in, links_sent}
@@ -35,15 +34,6 @@ use Rattle.journal_packets.proofs.SentLinks.{IsOfTwo, link_in, links_sent}
 -- each address is one of 32 bits
 abbrev pub AreNth : Type 0
 AreNth = (cursor number : ℕ) → IfSome (nth_access cursor number) (λ found. IsNthAccess cursor number found.0 found.1)
-
--- what is at a number
-record IsFound (may : Option (ℕ × ℕ)) (access : ℕ) : Type 0 where
-  after : ℕ
-  is : may ≡ Some (access, after)
-
-found_at : (may : Option (ℕ × ℕ)) (access : ℕ) → access_found may ≡ Some access → IsFound may access
-found_at None access is = absurd cc
-found_at (Some found) access is = let same : found.0 ≡ access = cc in record { after = found.1; is = ap (λ (n : ℕ). Some (n, found.1)) same }
 
 below_32 : (cursor travel : ℕ) → access_at cursor travel < 2 ^ 32
 below_32 cursor travel = mod-lt (cursor + travel) (omega arith)
@@ -149,10 +139,6 @@ same_test one other (inl is) (inl is_too) = subst (λ m. is_side (side_of m) (si
 same_test one other (inl is) (inr is_too) = subst (λ m. is_side (side_of m) (side_of other) ≡ (other == m)) (sym is) (subst (λ n. is_side (side_of 0) (side_of n) ≡ (n == 0)) (sym is_too) refl)
 same_test one other (inr is) (inl is_too) = subst (λ m. is_side (side_of m) (side_of other) ≡ (other == m)) (sym is) (subst (λ n. is_side (side_of 1) (side_of n) ≡ (n == 1)) (sym is_too) refl)
 same_test one other (inr is) (inr is_too) = subst (λ m. is_side (side_of m) (side_of other) ≡ (other == m)) (sym is) (subst (λ n. is_side (side_of 1) (side_of n) ≡ (n == 1)) (sym is_too) refl)
-
-count_event : (station : ℕ) (history : List Event) (event : Event) → connects_sent station (history ++ event ∷ []) ≡ connects_sent station history + connects_in station event
-unfolding connects_sent
-count_event station history event = fold_event (λ count event. count + connects_in station event) 0 history event
 
 -- a packet, by what is heard in it
 packet_ordered : (given : Given) (station sender count slot : ℕ) (rest : List LinkBegun) (same : Bool) → is_side (side_of sender) (side_of station) ≡ same

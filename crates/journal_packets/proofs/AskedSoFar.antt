@@ -1,40 +1,40 @@
 -- In every run of two stations, a peripheral sends after a packet that asked it in the same turn, and a central sends
 -- where none did.
-use Rattle.std.proofs.Common.{◌≡◌, ℕ, zero, suc, ◌<◌, ◌==◌, ◌⊎◌, ◌&&◌, ◌||◌, not, Bool, true, false, Some, None, List, [], ◌∷◌, ◌++◌, length, take, refl, sym, ap, subst, ◌∙◌, arith}
+use Rattle.std.proofs.Common.{◌≡◌, ℕ, zero, suc, ◌==◌, ◌⊎◌, ◌&&◌, ◌||◌, not, Bool, true, false, Some, None, List, [], ◌∷◌, ◌++◌, length, take, refl, sym, ap, subst, ◌∙◌}
 use Rattle.std.specs.Prelude.{⊤, map, if◌then◌else◌}
 use Rattle.std.specs.List.{IsDistinct}
-use Rattle.std.proofs.lemmas.Bool.{and_parts, eqb-true, leb-true}
+use Rattle.std.proofs.lemmas.Bool.{eqb-true}
 use Rattle.std.proofs.lemmas.Slice.Eq.{bytes_eq-Decides}
 use Rattle.open_links.specs.OpenLinks.{facts_in}
 use Rattle.one_side.specs.declared.doing.Doing.{Doing}
 use Rattle.one_side.specs.declared.doing.Doing.TheVariants.{PeripheralSends}
-use Rattle.one_side.specs.Step.{Step, HostOctet, TurnBegins, TurnEnds}
+use Rattle.one_side.specs.Step.{Step, TurnBegins, TurnEnds}
 use Rattle.one_side.specs.Facts.{Facts, Sends, Listens}
-use Rattle.one_side.specs.Packets.{use_of}
 use Rattle.one_side.specs.Side.{facts_after, facts_of, notes_after}
 use Rattle.one_side.proofs.Always.{MayBegin}
 use Rattle.one_side.proofs.DataChannels.{link_channel}
 use Rattle.radio_replay.specs.declared.fates.Fate.{Fate}
 use Rattle.runs.specs.Due.{Each}
 use Rattle.runs.specs.Feeding.{AreDistinct}
-use Rattle.runs.specs.History.{Event, TurnBegan, HostFed, Transmitted, Hearing, has_received, past_of, packet_received}
+use Rattle.runs.specs.History.{Event, TurnBegan, Transmitted, Hearing, has_received, past_of, packet_received}
 use Rattle.runs.specs.LinkEnds.{HaveAddresses}
 use Rattle.runs.specs.Links.{is_advertising}
-use Rattle.runs.specs.Run.{Given, setup_at, facts_at, use_at, octets_left, after_call, after_octets, after_feed, hearings_of, step_of}
+use Rattle.runs.specs.Run.{Given, setup_at, facts_at, use_at, octets_left, after_call, after_feed, hearings_of, step_of}
 use Rattle.runs.proofs.Calls.{past_other}
 use Rattle.runs.proofs.Journals.{two}
 use Rattle.runs.proofs.LinkEnds.{IsUnderstood, is_listener, received_by, received_event}
-use Rattle.runs.proofs.Places.{each_called, each_event}
+use Rattle.runs.proofs.Places.{each_event}
 use Rattle.runs.proofs.Stations.{is_in, among, in_more_other, in_more_same, not_before}
 use Rattle.runs.proofs.Walk.{Place, NoTurn, AtFeeds, AtBegins, AfterPhases, AtPackets, AtListening, AtEnds, IsKept}
 use Rattle.run_laws.proofs.ByCalls.{at_turn, first_hears}
-use Rattle.run_laws.proofs.ConnectInds.{AreCounted, counted_kept, first_counts}
-use Rattle.run_laws.proofs.Hearings.{AreHearing, hearing_kept, own_facts, wanted_is}
+use Rattle.run_laws.proofs.ConnectInds.{AreCounted, counted_kept, first_counts, no_advertising}
+use Rattle.run_laws.proofs.Hearings.{AreHearing, hearing_kept, own_facts, use_same, wanted_is}
 use Rattle.run_laws.proofs.TurnPlaces.{event_past, stands_first}
 use Rattle.run_laws.proofs.TurnSteps.{IsListening}
 use Rattle.journal_packets.specs.Belonging.{have_one_access}
 use Rattle.journal_packets.proofs.SentLinks.{IsOfTwo}
 use Rattle.journal_packets.proofs.Asked.{asked_called, asked_feed, asked_packet, asked_turn, asks_in, is_asked, one_hearing}
+use Rattle.journal_packets.proofs.EachEvent.{each_call, each_feed}
 use Rattle.journal_packets.proofs.Replies.{IsLeft, Replies, Silent, is_to_send, phase_left, sending_at}
 
 -- ---- at each place
@@ -92,23 +92,12 @@ of_two_stations given are station is = two station (subst (λ xs. is_in station 
 -- ---- each packet is one of two stations, and is heard once
 
 call_sent : (given : Given) (station : ℕ) (step : Step) (history : List Event) → Each IsOfTwo [] history → Each IsOfTwo [] (after_call given station step history)
-call_sent given station step history each =
-    each_called IsOfTwo station step (notes_after (setup_at given station) (facts_at given station history) step) history each tt (λ before note. tt)
-
-octets_sent : (given : Given) (station : ℕ) (octets : List ℕ) (history : List Event) → Each IsOfTwo [] history → Each IsOfTwo [] (after_octets given station octets history)
-octets_sent given station [] history each = each
-octets_sent given station (octet ∷ octets) history each =
-    octets_sent given station octets (after_call given station (HostOctet octet) history) (call_sent given station (HostOctet octet) history each)
+call_sent given = each_call given IsOfTwo (λ before station step. tt) (λ station before note. tt) (λ before station octets. tt)
 
 feed_sent : (given : Given) (station : ℕ) (octets : List ℕ) (history : List Event) → Each IsOfTwo [] history → Each IsOfTwo [] (after_feed given station octets history)
-feed_sent given station [] history each = each
-feed_sent given station (octet ∷ octets) history each =
-    octets_sent given station (octet ∷ octets) (history ++ HostFed station (octet ∷ octets) ∷ []) (each_event IsOfTwo history (HostFed station (octet ∷ octets)) each tt)
+feed_sent given = each_feed given IsOfTwo (λ before station step. tt) (λ station before note. tt) (λ before station octets. tt)
 
 -- ---- a packet
-
-use_same : (given : Given) (station : ℕ) (history after : List Event) → past_of station after ≡ past_of station history → use_at given station after ≡ use_at given station history
-use_same given station history after same = ap (λ past. use_of (facts_of (setup_at given station) past)) same
 
 doing_same : (given : Given) (station : ℕ) (history after : List Event) → past_of station after ≡ past_of station history
     → (facts_at given station after).turn.doing ≡ (facts_at given station history).turn.doing
@@ -201,14 +190,6 @@ heard_more given station step history other differs false asked_by =
     more_asked_by given history (after_call given station step history) other (called_past given station step history other differs)
     (received_by given other station step history false differs) (λ octets asked. asked_called given station step history other octets ∙ asked) asked_by
 
--- no data channel is an advertising channel
-data_channel : (channel : ℕ) → channel < 37 → is_advertising channel ≡ false
-data_channel channel below = by (is_advertising channel) refl
-  where
-    by : (on : Bool) → is_advertising channel ≡ on → on ≡ false
-    by true is = let from = leb-true 37 channel (and_parts _ _ is).0 in absurd (omega (arith, below, from))
-    by false is = refl
-
 silent_none : (doing : Doing) (handle : ℕ) (X : Type 0) → is_to_send doing ≡ false → doing ≡ PeripheralSends handle → X
 silent_none doing handle X silent is = absurd (let h : true ≡ false = sym (ap is_to_send is) ∙ silent in absurd cc)
 
@@ -232,7 +213,7 @@ own_answers given station history listens asked_by = λ handle channel octets do
     by handle channel octets (Replies reply) is wanted =
         asked_called given station (step_of (packet_received station history)) history station octets
         ∙ asked_by reply.octets (facts_in reply.link).event.channel reply.was (sym (wanted_is given station history) ∙ reply.listened)
-        (data_channel (facts_in reply.link).event.channel (link_channel reply.link)) octets
+        (no_advertising (facts_in reply.link).event.channel _ refl (link_channel reply.link)) octets
         ((bytes_eq-Decides (take 4 reply.octets) (take 4 octets)).1 (reply.begins ∙ sym (reply.answers channel octets wanted)))
 
 hear_by : (given : Given) (done : List ℕ) (station : ℕ) (history : List Event) → is_in station done ≡ false

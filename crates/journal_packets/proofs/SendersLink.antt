@@ -1,7 +1,6 @@
 -- In every run of two stations, the journal names the link on which a packet was sent.
-use Rattle.std.proofs.Common.{◌≡◌, ◌≢◌, ℕ, zero, suc, ◌+◌, ◌⊎◌, inl, inr, true, false, Option, Some, None, List, [], ◌∷◌, ◌++◌, take, refl, sym, ap, subst, ◌∙◌, arith}
+use Rattle.std.proofs.Common.{◌≡◌, ◌≢◌, ℕ, zero, suc, ◌+◌, ◌⊎◌, inl, inr, true, false, Some, None, List, [], ◌∷◌, ◌++◌, take, refl, sym, ap, subst, ◌∙◌, arith}
 use Rattle.std.specs.Prelude.{if◌then◌else◌, slice_get}
-use Rattle.std.proofs.lemmas.Bool.{le-leb, lt-ltb}
 use Rattle.ble_base.specs.Side.{other_side}
 use Rattle.ble_base.specs.declared.roles.Role.{Role}
 use Rattle.ble_base.specs.declared.roles.Role.TheVariants.{Central, Peripheral}
@@ -12,8 +11,7 @@ use Rattle.one_end.specs.Setup.{Setup as EndSetup}
 use Rattle.one_end.specs.Step.{PacketSent}
 use Rattle.open_links.specs.OpenLinks.{OpenLink, facts_in, link_after}
 use Rattle.one_side.specs.declared.doing.Doing.TheVariants.{CentralSends}
-use Rattle.one_side.specs.Facts.{Sends, Listens}
-use Rattle.one_side.proofs.Always.{IsAdvertisingChannel}
+use Rattle.one_side.specs.Facts.{Sends}
 use Rattle.runs.specs.Due.{Each}
 use Rattle.runs.specs.History.{Event, Transmitted, packet_received, turns_begun}
 use Rattle.runs.specs.Journal.{journal_of, side_of}
@@ -25,9 +23,9 @@ use Rattle.runs.proofs.Places.{each_at}
 use Rattle.runs.proofs.Stations.{among}
 use Rattle.runs.proofs.Walk.{AtPackets}
 use Rattle.run_laws.specs.Access.{connects_sent}
-use Rattle.run_laws.proofs.ConnectInds.{TakenInOrder}
+use Rattle.run_laws.proofs.ConnectInds.{TakenInOrder, on_channel}
 use Rattle.run_laws.proofs.DistinctAccess.{AreApart}
-use Rattle.run_laws.proofs.Hearings.{Hears, use_sent_at}
+use Rattle.run_laws.proofs.Hearings.{sends_deaf, use_sent_at}
 use Rattle.run_laws.proofs.SentPackets.{IsUseSent}
 use Rattle.run_laws.proofs.TurnPlaces.{Within}
 use Rattle.journal_links.specs.Begun.{links_begun}
@@ -90,24 +88,14 @@ sender_one history station number end sent has =
 
 -- ---- a packet on a data channel
 
--- a station that sends hears nothing
-deaf : (given : Given) (history : List Event) (station channel : ℕ) (octets : List ℕ) → Hears given [] history station → use_at given station history ≡ Sends channel octets
-    → (received : Option (List ℕ)) → packet_received station history ≡ received → received ≡ None
-deaf given history station channel octets hears wanted None is = refl
-deaf given history station channel octets hears wanted (Some heard) is =
-    absurd (let h : Sends channel octets ≡ Listens (hears heard is).channel = sym wanted ∙ (hears heard is).listens in absurd cc)
-
 -- nothing asked for what a central sends
 unasked : (phases handle : ℕ) (history : List Event) (station : ℕ) → IsFirst (Within phases) (CentralSends handle) → OnlyAsked phases history station
     → packet_received station history ≡ None → IsUnasked history station
 unasked zero handle history station first only none = only none
 unasked (suc phases) handle history station first only none = absurd first
 
-on_channel : (channel : ℕ) (X : Type 0) → IsAdvertisingChannel channel → is_advertising channel ≡ false → X
-on_channel channel X is off = absurd (let h : true ≡ false = sym (on is) ∙ off in absurd cc)
-  where
-    on : IsAdvertisingChannel channel → is_advertising channel ≡ true
-    on both = rw (le-leb 37 channel both.0, lt-ltb channel 40 (omega (arith, both.1))) refl
+not_both : (channel : ℕ) (X : Type 0) → is_advertising channel ≡ true → is_advertising channel ≡ false → X
+not_both channel X on off = absurd (let h : true ≡ false = sym on ∙ off in absurd cc)
 
 module _ (nth : AreNth) (apart : AreApart) (given : Given) (are_two : given.stations ≡ 0 ∷ 1 ∷ []) (six : HaveAddresses given) (phases : ℕ) (done left : List ℕ) (station : ℕ)
     (history : List Event) (are : given.stations ≡ done ++ station ∷ left) (asked : AreAsked given (AtPackets phases done (station ∷ left)) history)
@@ -126,7 +114,7 @@ module _ (nth : AreNth) (apart : AreApart) (given : Given) (are_two : given.stat
       let one = sender_one history station number link.setup asked.sent has in
       let own = at_central link.setup.link.role station link.setup has.has.sent role has.has.is_at_end in
       let at = asked.asked station (among given.stations done left station are) in
-      let none = deaf given history station channel octets (asked.hearing.hears station (among given.stations done left station are)) wanted (packet_received station history) refl in
+      let none = sends_deaf given [] history station channel octets (asked.hearing.hears station (among given.stations done left station are)) wanted (packet_received station history) refl in
       let off = unasked phases handle history station (subst (IsFirst (Within phases)) doing sending.first) at.2 none octets in
       ap (λ b. first_number (if b then other_side (side_of station) else side_of station) octets 1 (links_begun (journal_of history))) off
       ∙ ap (λ n. first_number (side_of n) octets 1 (links_begun (journal_of history))) (sym own)
@@ -142,7 +130,7 @@ module _ (nth : AreNth) (apart : AreApart) (given : Given) (are_two : given.stat
       ∙ link_is nth apart given history station number link.setup octets asked.sent asked.counted.each has begins one
 
   sent_on : is_advertising channel ≡ false → IsUseSent (facts_at given station history) (Sends channel octets) → IsOfSendersLink given history station channel octets
-  sent_on off (inl sent) = on_channel channel _ sent.on_channel off
+  sent_on off (inl sent) = not_both channel _ (on_channel channel sent.on_channel) off
   sent_on off (inr sent) =
       let is = among given.stations done left station are in
       let sending = sending_at given (AtPackets phases done (station ∷ left)) history asked.hearing.stand station is in

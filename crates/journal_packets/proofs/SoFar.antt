@@ -1,22 +1,22 @@
 -- Each packet of a run of two stations on a data channel is of the link on which it was sent.
 use Rattle.std.proofs.Common.{◌≡◌, ℕ, false, List, [], ◌∷◌, ◌++◌}
 use Rattle.std.specs.Prelude.{map, take}
-use Rattle.one_side.specs.Step.{Step, HostOctet, TurnBegins, TurnEnds}
+use Rattle.one_side.specs.Step.{Step, TurnBegins, TurnEnds}
 use Rattle.one_side.specs.Facts.{Sends}
-use Rattle.one_side.specs.Side.{notes_after}
 use Rattle.runs.specs.Due.{Each}
 use Rattle.runs.specs.History.{Event, TurnBegan, HostFed, Called, Noted, Transmitted, Hearing, packet_received}
 use Rattle.runs.specs.LinkEnds.{HaveAddresses}
 use Rattle.runs.specs.Links.{is_advertising}
-use Rattle.runs.specs.Run.{Given, setup_at, facts_at, use_at, octets_left, after_call, after_octets, after_feed, hearings_of, step_of, run_of, history_of}
+use Rattle.runs.specs.Run.{Given, use_at, octets_left, after_call, after_feed, hearings_of, step_of, run_of, history_of}
 use Rattle.runs.proofs.LinkEnds.{AreTaken, IsUnderstood}
 use Rattle.runs.proofs.Numbers.{IsNumberedSoFar, numbered_first, numbered_kept}
-use Rattle.runs.proofs.Places.{each_at, each_called, each_event}
+use Rattle.runs.proofs.Places.{each_at, each_event}
 use Rattle.runs.proofs.Walk.{Place, NoTurn, AtPackets, IsKept, IsWhole, IsStopped, ends_with, run_kept}
 use Rattle.run_laws.proofs.DistinctAccess.{AreApart}
 use Rattle.journal_packets.specs.Senders.{IsOfSendersLink}
 use Rattle.journal_packets.proofs.AccessOrder.{AreNth}
 use Rattle.journal_packets.proofs.AskedSoFar.{AreAsked, are_distinct, asked_first, asked_kept}
+use Rattle.journal_packets.proofs.EachEvent.{each_call, each_feed}
 use Rattle.journal_packets.proofs.SendersLink.{sends_on_link}
 
 -- ---- at each place
@@ -77,20 +77,10 @@ record AreOfSenders (given : Given) (place : Place) (history : List Event) : Typ
   each : Each (OfSender given) [] history
 
 call_each : (given : Given) (station : ℕ) (step : Step) (history : List Event) → Each (OfSender given) [] history → Each (OfSender given) [] (after_call given station step history)
-call_each given station step history each =
-    each_called (OfSender given) station step (notes_after (setup_at given station) (facts_at given station history) step) history each tt (λ before note. tt)
-
-octets_each : (given : Given) (station : ℕ) (octets : List ℕ) (history : List Event) → Each (OfSender given) [] history
-    → Each (OfSender given) [] (after_octets given station octets history)
-octets_each given station [] history each = each
-octets_each given station (octet ∷ octets) history each =
-    octets_each given station octets (after_call given station (HostOctet octet) history) (call_each given station (HostOctet octet) history each)
+call_each given = each_call given (OfSender given) (λ before station step. tt) (λ station before note. tt) (λ before station octets. tt)
 
 feed_each : (given : Given) (station : ℕ) (octets : List ℕ) (history : List Event) → Each (OfSender given) [] history → Each (OfSender given) [] (after_feed given station octets history)
-feed_each given station [] history each = each
-feed_each given station (octet ∷ octets) history each =
-    octets_each given station (octet ∷ octets) (history ++ HostFed station (octet ∷ octets) ∷ [])
-    (each_event (OfSender given) history (HostFed station (octet ∷ octets)) each tt)
+feed_each given = each_feed given (OfSender given) (λ before station step. tt) (λ station before note. tt) (λ before station octets. tt)
 
 senders_kept : IsUnderstood → AreTaken → AreNth → AreApart → (given : Given) → given.stations ≡ 0 ∷ 1 ∷ [] → HaveAddresses given
     → IsKept given (AreOfSenders given)

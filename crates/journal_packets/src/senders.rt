@@ -1,5 +1,5 @@
-//! The links of the packets of a journal. The body only calls the laws that it rests on: the contract
-//! is the law.
+//! The links of the packets of a journal. The body only calls the laws that it rests on: the
+//! contract is the law.
 ghost use Rattle.std.specs.Prelude.{◌≡◌, ◌++◌, ◌∷◌, ℕ, List, false, length};
 ghost use Rattle.radio_replay.specs.Script.{Script};
 ghost use Rattle.runs.specs.History.{Event, Hearing, Transmitted};
