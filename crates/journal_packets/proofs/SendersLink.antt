@@ -29,6 +29,7 @@ use Rattle.run_laws.proofs.Hearings.{sends_deaf, use_sent_at}
 use Rattle.run_laws.proofs.SentPackets.{IsUseSent}
 use Rattle.run_laws.proofs.TurnPlaces.{Within}
 use Rattle.journal_links.specs.Begun.{links_begun}
+use Rattle.journal_links.proofs.Numbered.{other_of}
 use Rattle.journal_packets.specs.Belonging.{first_number, is_side, link_of_packet}
 use Rattle.journal_packets.specs.Senders.{IsOfSendersLink}
 use Rattle.journal_packets.proofs.AccessOrder.{AreNth, first_is, sent_ordered}
@@ -41,12 +42,6 @@ use Rattle.journal_packets.proofs.SentLinks.{IsOfTwo, begun_are_sent, link_begun
 own_side : (side : Side) → is_side side side ≡ true
 own_side A = refl
 own_side B = refl
-
-two_sides : (one other : ℕ) → (one ≡ 0) ⊎ (one ≡ 1) → (other ≡ 0) ⊎ (other ≡ 1) → one ≢ other → other_side (side_of other) ≡ side_of one
-two_sides one other (inl is) (inl is_too) differ = absurd (differ (is ∙ sym is_too))
-two_sides one other (inl is) (inr is_too) differ = ap (λ n. other_side (side_of n)) is_too ∙ ap side_of (sym is)
-two_sides one other (inr is) (inl is_too) differ = ap (λ n. other_side (side_of n)) is_too ∙ ap side_of (sym is)
-two_sides one other (inr is) (inr is_too) differ = absurd (differ (is ∙ sym is_too))
 
 at_central : (role : Role) (station : ℕ) (end : EndSetup) (sent : ConnectInd) → role ≡ Central → IsAtEnd role station end sent → sent.sender ≡ station
 at_central Central station end sent is at = at.0
@@ -126,7 +121,7 @@ module _ (nth : AreNth) (apart : AreApart) (given : Given) (are_two : given.stat
       let at = asked.asked station (among given.stations done left station are) in
       let on = at.0 handle channel octets doing wanted in
       ap (λ b. first_number (if b then other_side (side_of station) else side_of station) octets 1 (links_begun (journal_of history))) on
-      ∙ ap (λ s. first_number s octets 1 (links_begun (journal_of history))) (two_sides has.has.sent.sender station one one_of_two differs)
+      ∙ ap (λ s. first_number s octets 1 (links_begun (journal_of history))) (sym (other_of has.has.sent.sender station one one_of_two differs))
       ∙ link_is nth apart given history station number link.setup octets asked.sent asked.counted.each has begins one
 
   sent_on : is_advertising channel ≡ false → IsUseSent (facts_at given station history) (Sends channel octets) → IsOfSendersLink given history station channel octets

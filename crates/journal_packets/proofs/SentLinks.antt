@@ -16,6 +16,7 @@ use Rattle.runs.specs.History.{Event, TurnBegan, HostFed, Called, Noted, Transmi
 use Rattle.runs.specs.Journal.{entries_of, entry_of, journal_from, journal_of, side_of}
 use Rattle.runs.specs.Links.{Links, begins_link, first_links, is_advertising, is_connect_ind, links_after, links_of, with_link}
 use Rattle.journal_links.specs.Begun.{LinkBegun, begun_by, links_begun, links_from}
+use Rattle.journal_links.proofs.LinksBegun.{get_next}
 
 -- a packet is one of two stations, and the other one has judged it
 pub record IsHeardOnce (station : ℕ) (hearings : List Hearing) : Type 0 where
@@ -128,10 +129,6 @@ sent_more turns (event ∷ before) events =
     ap (λ xs. link_in turns event ++ xs) (sent_more (turns + turns_in event) before events)
     ∙ sym (append_assoc (link_in turns event) (links_sent (turns + turns_in event) before) (links_sent (turns_after (turns + turns_in event) before) events))
 
-at_place : {A : Type 0} (before after : List A) (one : A) → slice_get (before ++ one ∷ after) (length before) ≡ Some one
-at_place [] after one = refl
-at_place (first ∷ before) after one = at_place before after one
-
 abbrev pub link_begun : ℕ → ℕ → ConnectFields → LinkBegun
 link_begun station turns fields = record { central = side_of station; slot = turns - 1; fields = fields }
 
@@ -153,4 +150,4 @@ sent_at before after station channel octets hearings from to ch_sel fields on sa
     ∙ ap (λ xs. slice_get xs (length (links_sent 0 before)))
     (sent_more 0 before (event ∷ after)
     ∙ ap (λ xs. links_sent 0 before ++ (xs ++ links_sent (turns + turns_in event) after)) (one_link turns station channel octets hearings from to ch_sel fields on says))
-    ∙ at_place (links_sent 0 before) (links_sent (turns + turns_in event) after) (link_begun station turns fields)
+    ∙ get_next (links_sent 0 before) (links_sent (turns + turns_in event) after) (link_begun station turns fields)
