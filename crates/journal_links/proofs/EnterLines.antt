@@ -127,11 +127,38 @@ module _ {journal : List Entry} {number station : ℕ} {end : Setup} (of : IsLin
   same_channel event two =
       channel_two end event two ∙ sym (λ i. channel_of (Two (of.fields_are i).access) event (of.fields_are i).map)
 
+  still_link : (front more : List Entry) → front ≡ journal ++ more → link_numbered number front ≡ Some of.link
+  still_link front more is = ap (link_numbered number) is ∙ number_stays number journal more of.link of.is_link
+
+  entered_in_time : (front : List Entry) (slot event channel : ℕ) → link_numbered number front ≡ Some of.link → length (turns_of front) ≡ slot + 1
+      → slot ≡ anchor_of end event → channel ≡ channel_after end (event + 1) → end.link.two ≡ true → IsEnteredInTime front number event channel
+  entered_in_time front slot event channel is_link turns at_anchor on_channel two = record {
+    link = of.link;
+    is_link = is_link;
+    in_turn = turns ∙ ap (λ n. n + 1) (at_anchor ∙ same_anchor event);
+    on_channel = on_channel ∙ same_channel event two;
+  }
+
 -- ---- a line
 
 module _ (understood : IsUnderstood) (taken : AreTaken) (a b : List ℕ) (script : Script) (six : length script.a.public ≡ 6) (six_too : length script.b.public ≡ 6) where
   abbrev given : Given
   given = given_of a b script
+
+  -- no link gets another number between the call and the note
+  number_before : (before : List Event) (station handle : ℕ) (note : Note) (call : IsNotedInCall given before station note) → IsTurn call.step
+      → (links_of before).link_of station handle ≡ (links_of call.base).link_of station handle
+  number_before before station handle note call turn =
+      ap (λ xs. (links_of xs).link_of station handle) call.before_is ∙ link_by_own station call.step call.earlier call.base handle
+      ∙ ap (λ b. if b then (links_of call.base).last_of station else (links_of call.base).link_of station handle)
+      (none_opened given station handle turn.slot turn.on call.base call.step call.earlier (note ∷ call.later) turn.is call.notes_are)
+
+  -- and no turn begins
+  turns_before : (front : List Entry) (before : List Event) (station : ℕ) (note : Note) → front ≡ journal_of before
+      → (call : IsNotedInCall given before station note) → length (turns_of front) ≡ turns_begun call.base
+  turns_before front before station note front_is call =
+      ap (λ entries. length (turns_of entries)) front_is ∙ turns_are before ∙ ap turns_begun call.before_is
+      ∙ turns_called station call.step call.earlier call.base
 
   noted_in_time : (front : List Entry) (before after : List Event) (station handle number event channel : ℕ)
       → history_of (run_of given) ≡ before ++ Noted station (EnterNote handle (record { 0 = event }) channel) ∷ after
@@ -156,23 +183,17 @@ module _ (understood : IsUnderstood) (taken : AreTaken) (a b : List ℕ) (script
       let in_it = each_at (OfStations given) (history_of (run_of given)) before after (Noted station note) (run_of_stations given) at in
       let numbered = numbered_at understood taken given base rest called distinct addresses whole refl station handle entered.link entered.is_open in
       let known = (links_of base).link_of station handle in
-      let same_number : number ≡ known =
-      number_is ∙ ap (λ xs. (links_of xs).link_of station handle) call.before_is ∙ link_by_own station step call.earlier base handle
-      ∙ ap (λ b. if b then (links_of base).last_of station else known)
-      (none_opened given station handle turn.slot turn.on base step call.earlier (note ∷ call.later) turn.is call.notes_are) in
+      let same_number = number_is ∙ number_before before station handle note call turn in
       let of = link_of_number a b script base (called ∷ rest) known station entered.link.setup whole in_it numbered in
       let two = link_two understood given base (called ∷ rest) station handle entered.link distinct addresses in_it whole entered.is_open in
       let due = subst (IsCallDue given base station) turn.is
       (each_at (IsDue given) (history_of (run_of given)) base rest called (run_due given).each whole) in
       let more = journal_from (links_of base) (called ∷ map (Noted station) call.earlier) in
-      let front_more : front ≡ journal_of base ++ more =
-      front_is ∙ ap journal_of call.before_is ∙ journal_more base (called ∷ map (Noted station) call.earlier) in record {
-        link = of.link;
-        is_link = ap (λ n. link_numbered n front) same_number ∙ ap (link_numbered known) front_more ∙ number_stays known (journal_of base) more of.link of.is_link;
-        in_turn = ap (λ entries. length (turns_of entries)) front_is ∙ turns_are before ∙ ap turns_begun call.before_is
-            ∙ turns_called station step call.earlier base ∙ due.slot_is ∙ ap (λ n. n + 1) (entered.at_anchor ∙ same_anchor of event);
-        on_channel = entered.on_its_channel ∙ same_channel of event two;
-      }
+      let front_more = front_is ∙ ap journal_of call.before_is ∙ journal_more base (called ∷ map (Noted station) call.earlier) in
+      subst (λ n. IsEnteredInTime front n event channel) (sym same_number)
+      (entered_in_time of front turn.slot event channel
+      (still_link of front more front_more)
+      (turns_before front before station note front_is call ∙ due.slot_is) entered.at_anchor entered.on_its_channel two)
 
   pub enter_in_time : (front rest : List Entry) (side : Side) (number event channel : ℕ)
       → journal_of (history_of (run_of given)) ≡ front ++ Enter side number event channel ∷ rest → IsEnteredInTime front number event channel

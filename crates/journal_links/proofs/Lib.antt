@@ -2,3 +2,4 @@
 pub mod LinksBegun
 pub mod Numbered
 pub mod EnterLines
+pub mod OpenedLines

@@ -25,12 +25,8 @@ use Rattle.runs.proofs.Parts.{journal_more}
 use Rattle.runs.proofs.Places.{each_at}
 use Rattle.runs.proofs.Stations.{is_in}
 use Rattle.journal_links.specs.Begun.{LinkBegun, begun_by, link_numbered, links_begun, links_from, with_number}
+use Rattle.journal_links.specs.Opened.{central_side}
 use Rattle.journal_links.proofs.LinksBegun.{fated_before, links_counted, links_more, number_next}
-
--- the side of the central of a link, of which a station has this end
-abbrev pub central_side : Role → ℕ → Side
-central_side Central station = side_of station
-central_side Peripheral station = other_side (side_of station)
 
 -- the link of a journal with a number, of which this is an end at a station
 pub record IsLinkOf (journal : List Entry) (number station : ℕ) (end : Setup) : Type 0 where
@@ -38,7 +34,7 @@ pub record IsLinkOf (journal : List Entry) (number station : ℕ) (end : Setup) 
   pub is_link : link_numbered number journal ≡ Some link
   pub fields_are : link.fields ≡ end.link.fields
   pub slot_is : link.slot ≡ end.opened
-  pub central_is : link.central ≡ central_side end.link.role station
+  pub central_is : link.central ≡ central_side end.link.role (side_of station)
 
 -- two stations of a pair that are not one are of two sides
 pub other_of : (one other : ℕ) → (one ≡ 0) ⊎ (one ≡ 1) → (other ≡ 0) ⊎ (other ≡ 1) → one ≢ other → side_of one ≡ other_side (side_of other)
@@ -48,7 +44,7 @@ other_of one other (inr first) (inl second) differs = ap side_of first ∙ ap (�
 other_of one other (inr first) (inr second) differs = absurd (differs (first ∙ sym second))
 
 central_by : (role : Role) (station : ℕ) (end : Setup) (sent : ConnectInd) → (station ≡ 0) ⊎ (station ≡ 1) → (sent.sender ≡ 0) ⊎ (sent.sender ≡ 1)
-    → IsAtEnd role station end sent → side_of sent.sender ≡ central_side role station
+    → IsAtEnd role station end sent → side_of sent.sender ≡ central_side role (side_of station)
 central_by Central station end sent here there at = ap side_of at.0
 central_by Peripheral station end sent here there at = other_of sent.sender station there here at.0
 

@@ -5,5 +5,8 @@
 mod lines;
 mod rows;
 
-pub use crate::lines::{both_ends_enter_an_event_in_one_turn, each_enter_line_is_at_its_anchor};
+pub use crate::lines::{
+    both_ends_enter_an_event_in_one_turn, each_enter_line_is_at_its_anchor,
+    each_opened_line_names_its_link,
+};
 pub use crate::rows::worked_links;

@@ -24,5 +24,6 @@ pub mod OpenedNotes
 pub mod LinksKnown
 pub mod Linked
 pub mod LinkEnds
+pub mod OpenedLinks
 pub mod Numbers
 pub mod CallNotes

@@ -257,10 +257,11 @@ begins : (channel : ℕ) (octets : List ℕ) (from to : Address) (ch_sel : Bool)
 unfolding begins_link
 begins channel octets from to ch_sel fields on says = ap (λ b. b && is_connect_ind (pdu_heard channel octets)) on ∙ ap is_connect_ind says
 
--- an end comes from a CONNECT_IND, and its link is the one that its station knows last
+-- an end comes from a CONNECT_IND of the turn that is under way, and its link is the one that its station knows last
 pub record IsLast (history : List Event) (station : ℕ) (end : EndSetup) : Type 0 where
   pub has : HasConnectInd history station end
   pub number : (links_of history).last_of station ≡ (links_of has.before).begun + 1
+  pub now : turns_begun history ≡ end.opened + 1
 
 -- a central, whose CONNECT_IND was on the air
 made_by : IsUnderstood → (given : Given) → HaveAddresses given → (station channel : ℕ) (link : LinkSetup) (history : List Event) → HasAired given history station
@@ -298,6 +299,7 @@ made_by understood given six station channel link history aired in_slot doing =
         is_at_end = subst (λ role. IsAtEnd role station end connect) (sym wants.1) (refl, refl, refl);
       };
       number = sent.number (begins channel (advertising_packet channel pdu) link.own link.peer true link.fields on says);
+      now = in_slot;
     }
 
 -- a peripheral, which received a CONNECT_IND
@@ -340,6 +342,7 @@ taken_by taken given six station channel octets on pdu fields handle history hea
         is_at_end = (sent.differs, sent.received, refl, request.to_own, refl);
       };
       number = sent.number (begins sent.channel octets request.from request.to request.ch_sel fields on_air says);
+      now = in_slot;
     })
 
 -- ---- what each step keeps

@@ -27,7 +27,7 @@ use Rattle.scan_init.specs.Reports.{ScannerFacts}
 use Rattle.slot_plan.specs.declared.Activity.{Activity}
 use Rattle.slot_plan.specs.declared.Activity.TheVariants.{Link, Advertise, Scan, Initiate}
 use Rattle.slot_plan.specs.Holding.{is_held_in, winner_of}
-use Rattle.open_links.specs.OpenLinks.{Links, OpenLink, free_from, link_after, link_from, link_served, with_change, with_change_from, with_link, without_links}
+use Rattle.open_links.specs.OpenLinks.{Links, OpenLink, free_from, link_after, link_at, link_from, link_served, with_change, with_change_from, with_link, without_links}
 use Rattle.open_links.specs.Turns.{is_anchor, entered_if, links_entered, links_staying, reason_in, staying_by}
 use Rattle.one_side.specs.declared.doing.Doing.{Doing}
 use Rattle.one_side.specs.declared.doing.Doing.TheVariants.{Advertises, AwaitsRequest, Scans, Requests, AwaitsResponse, Initiates, Connects, CentralSends, CentralListens, PeripheralListens, PeripheralSends, Rests}
@@ -41,6 +41,7 @@ use Rattle.one_side.specs.Packets.{links_sending, pdu_heard}
 use Rattle.one_side.specs.Radio.{facts_entering, outcome_begun, plan_in, served, radio_served, turn_begins, winner_served}
 use Rattle.one_side.specs.Side.{facts_after, facts_fed, result_of}
 use Rattle.one_side.proofs.Always.{ending_is, links_won, opening_is, winning_is}
+use Rattle.one_side.proofs.LinkNotes.{AreIn, first_in, rest_in}
 use Rattle.one_side.proofs.Phases.{EachOutcome, heard_is, unheard_is}
 use Rattle.runs.specs.OnAir.{ends_phase}
 use Rattle.runs.specs.Run.{step_of}
@@ -72,6 +73,14 @@ pub each_more : (P Q : EndSetup → Type 0) (links : Links) → ((end : EndSetup
 each_more P Q [] more each = tt
 each_more P Q (None ∷ links) more each = (tt, each_more P Q links more each.1)
 each_more P Q (Some link ∷ links) more each = (more link.setup each.0, each_more P Q links more each.1)
+
+-- a fact of each link under its handle
+pub each_in : (P : EndSetup → Type 0) (whole links : Links) (first : ℕ) → AreIn whole first links
+    → ((handle : ℕ) (link : OpenLink) → link_at handle whole ≡ Some link → P link.setup) → EachLink P links
+each_in P whole [] first are has = tt
+each_in P whole (None ∷ links) first are has = (tt, each_in P whole links (first + 1) (rest_in whole first None links are) has)
+each_in P whole (Some link ∷ links) first are has =
+    (has first link (first_in whole first link links are), each_in P whole links (first + 1) (rest_in whole first (Some link) links are) has)
 
 pub none_linked : (P : EndSetup → Type 0) (many : ℕ) → EachLink P (replicate many None)
 none_linked P zero = tt

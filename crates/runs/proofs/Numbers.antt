@@ -1,8 +1,11 @@
 -- Each open link has, under its handle, the number of its CONNECT_IND.
-use Rattle.std.proofs.Common.{◌≡◌, ℕ, ◌+◌, ◌==◌, Bool, true, false, Some, None, List, [], ◌∷◌, ◌++◌, refl, sym, ap, subst, ◌∙◌}
+use Rattle.std.proofs.Common.{◌≡◌, ℕ, ◌==◌, Bool, true, false, Some, None, List, [], ◌∷◌, ◌++◌, refl, sym, ap, subst, ◌∙◌}
 use Rattle.std.specs.Prelude.{map, take, if◌then◌else◌}
 use Rattle.std.proofs.lemmas.Bool.{eqb-true}
+use Rattle.ble_base.specs.declared.addresses.Address.{Address}
 use Rattle.ble_base.specs.declared.notes.Note.{Note}
+use Rattle.ble_base.specs.declared.notes.Note.TheVariants.{Opened}
+use Rattle.ble_base.specs.declared.roles.Role.{Role}
 use Rattle.one_end.specs.Setup.{Setup as EndSetup}
 use Rattle.open_links.specs.OpenLinks.{Links as Places, OpenLink, link_at}
 use Rattle.open_links.proofs.Handles.{handle_is}
@@ -10,7 +13,7 @@ use Rattle.one_side.specs.Step.{Step, HostOctet, TurnBegins, TurnEnds}
 use Rattle.one_side.specs.Facts.{Facts}
 use Rattle.one_side.specs.Side.{facts_after, facts_of, notes_after}
 use Rattle.one_side.proofs.Handles.{own_handles}
-use Rattle.one_side.proofs.LinkNotes.{AreIn, all_in, first_in, rest_in}
+use Rattle.one_side.proofs.LinkNotes.{all_in}
 use Rattle.one_side.proofs.Pasts.{facts_more}
 use Rattle.runs.specs.History.{Event, TurnBegan, HostFed, Called, Noted, Transmitted, packet_received, past_of, steps_in}
 use Rattle.runs.specs.Links.{Links, begins_link, links_after, links_of, with_link}
@@ -20,25 +23,18 @@ use Rattle.runs.specs.Feeding.{AreDistinct, is_note}
 use Rattle.runs.specs.LinkEnds.{HaveAddresses}
 use Rattle.runs.specs.Numbers.{AreNumbered, HasNumber}
 use Rattle.runs.proofs.Calls.{flat_nothing, past_other, past_own}
-use Rattle.runs.proofs.Places.{each_at, each_called, each_event}
+use Rattle.runs.proofs.Places.{each_append, each_at, each_called, each_event}
 use Rattle.runs.proofs.Walk.{Place, NoTurn, IsKept, IsWhole, IsStopped, ends_with, run_kept}
 use Rattle.runs.proofs.OpenedNotes.{is_opened, made_is_noted, opened_was_free, taken_is_noted}
 use Rattle.runs.proofs.LinksKnown.{link_by_other, link_by_own, links_event}
-use Rattle.runs.proofs.LinkSteps.{EachLink, MayOpen, MayOpenNew, link_has, none_linked, step_opens}
+use Rattle.runs.proofs.LinkSteps.{EachLink, MayOpen, MayOpenNew, each_in, link_has, none_linked, step_opens}
 use Rattle.runs.proofs.Linked.{numbered_more, opens_none}
+use Rattle.runs.proofs.OpenedLinks.{IsOpening, OpensLast, call_opens_last, opens_nothing}
 use Rattle.runs.proofs.LinkEnds.{AreTaken, IsLast, IsLinkedSoFar, IsUnderstood, linked_kept, may_open_at, no_turn_linked}
 
 -- the end of a link has the number that its station has under the handle of the link
 abbrev IsNumbered : List Event → ℕ → EndSetup → Type 0
 IsNumbered history station end = HasNumber history ((links_of history).link_of station end.link.handle) station end
-
--- a fact of each link under its handle
-each_in : (P : EndSetup → Type 0) (whole links : Places) (first : ℕ) → AreIn whole first links
-    → ((handle : ℕ) (link : OpenLink) → link_at handle whole ≡ Some link → P link.setup) → EachLink P links
-each_in P whole [] first are has = tt
-each_in P whole (None ∷ links) first are has = (tt, each_in P whole links (first + 1) (rest_in whole first None links are) has)
-each_in P whole (Some link ∷ links) first are has =
-    (has first link (first_in whole first link links are), each_in P whole links (first + 1) (rest_in whole first (Some link) links are) has)
 
 -- ---- a history that grows
 
@@ -165,17 +161,20 @@ pub record IsNumberedSoFar (given : Given) (place : Place) (history : List Event
   pub linked : IsLinkedSoFar given place history
   pub numbered : AreNumbered given history
   pub each : Each (NumberedBefore given) [] history
+  pub opened : Each OpensLast [] history
 
 -- without the place
 record AreSoFar (given : Given) (history : List Event) : Type 0 where
   numbered : AreNumbered given history
   each : Each (NumberedBefore given) [] history
+  opened : Each OpensLast [] history
 
 event_so_far : (given : Given) (history : List Event) (event : Event) → ((station : ℕ) → steps_in station event ≡ []) → is_note event ≡ false
     → AreSoFar given history → AreSoFar given (history ++ event ∷ [])
 event_so_far given history event none is so_far = record {
   numbered = event_numbered given history event none is so_far.numbered;
   each = each_event (NumberedBefore given) history event so_far.each (λ not. so_far.numbered);
+  opened = each_event OpensLast history event so_far.opened (opens_nothing history event is);
 }
 
 call_so_far : (given : Given) (station : ℕ) (step : Step) (history : List Event) → MayOpen (IsLast history station) (facts_at given station history) step
@@ -184,6 +183,7 @@ call_so_far given station step history may so_far = record {
   numbered = call_numbered given station step history may so_far.numbered;
   each = each_called (NumberedBefore given) station step (notes_after (setup_at given station) (facts_at given station history) step) history so_far.each
       (λ not. so_far.numbered) (λ before note. not_note given before station note);
+  opened = each_append OpensLast [] history _ so_far.opened (call_opens_last given station step history may);
 }
 
 octets_so_far : (given : Given) (station : ℕ) (octets : List ℕ) (history : List Event) → AreSoFar given history → AreSoFar given (after_octets given station octets history)
@@ -199,10 +199,10 @@ feed_so_far given station (octet ∷ octets) history so_far =
     (event_so_far given history (HostFed station (octet ∷ octets)) (λ other. refl) refl so_far)
 
 so_far_at : (given : Given) (place : Place) (history : List Event) → IsNumberedSoFar given place history → AreSoFar given history
-so_far_at given place history all = record { numbered = all.numbered; each = all.each }
+so_far_at given place history all = record { numbered = all.numbered; each = all.each; opened = all.opened }
 
 at_place : (given : Given) (place : Place) (history : List Event) → IsLinkedSoFar given place history → AreSoFar given history → IsNumberedSoFar given place history
-at_place given place history linked so_far = record { linked = linked; numbered = so_far.numbered; each = so_far.each }
+at_place given place history linked so_far = record { linked = linked; numbered = so_far.numbered; each = so_far.each; opened = so_far.opened }
 
 pub numbered_kept : IsUnderstood → AreTaken → (given : Given) → HaveAddresses given → AreDistinct given.stations → IsKept given (IsNumberedSoFar given)
 numbered_kept understood taken given six distinct = let kept = linked_kept understood taken given six distinct in record {
@@ -246,6 +246,7 @@ numbered_first given = record {
   numbered = λ station handle link at. none_at (λ end. HasNumber [] ((links_of []).link_of station handle) station end) handle _ link
       (none_linked (λ end. ⊥) (setup_at given station).links) at;
   each = tt;
+  opened = tt;
 }
 
 run_numbered : IsUnderstood → AreTaken → (given : Given) → HaveAddresses given → AreDistinct given.stations → AreSoFar given (history_of (run_of given))
@@ -262,3 +263,10 @@ numbered_at understood taken given before rest event distinct six is not_noted =
 
 pub numbered_last : IsUnderstood → AreTaken → (given : Given) → AreDistinct given.stations → HaveAddresses given → AreNumbered given (history_of (run_of given))
 numbered_last understood taken given distinct six = (run_numbered understood taken given six distinct).numbered
+
+-- a link that is noted as opened is the one that its station knows last
+pub opening_at : IsUnderstood → AreTaken → (given : Given) (before rest : List Event) (station handle : ℕ) (role : Role) (own peer : Address) → AreDistinct given.stations
+    → HaveAddresses given → history_of (run_of given) ≡ before ++ Noted station (Opened handle role own peer) ∷ rest → IsOpening before station handle role
+opening_at understood taken given before rest station handle role own peer distinct six is =
+    each_at OpensLast (history_of (run_of given)) before rest (Noted station (Opened handle role own peer))
+    (run_numbered understood taken given six distinct).opened is
