@@ -1,1 +1,12 @@
 -- The lemmas of this crate.
+pub mod Bounds
+pub mod CallNotes
+pub mod Exchanging
+pub mod Acks
+pub mod LinkUses
+pub mod UnderHandles
+pub mod LinkPhases
+pub mod LinkCalls
+pub mod TwoStations
+pub mod LinksLater
+pub mod Counting

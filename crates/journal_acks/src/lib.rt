@@ -2,6 +2,8 @@
 //! each run of a pair about them. None of them names code.
 #![tactic(auto)]
 
+mod counts;
 mod rows;
 
+pub use crate::counts::counts_of_any_journal;
 pub use crate::rows::worked_exchange;
