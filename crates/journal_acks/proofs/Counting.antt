@@ -129,7 +129,7 @@ module _ (given : Given) where
       moved handle link (unsent station) (unsent_too station) (received station) (received_too station) turn turn end end (u station is) (r station is) refl refl
       (counted station handle link is at)
 
-  facts_event : (station : ℕ) (history : List Event) (event : Event) → steps_in station event ≡ [] → facts_at given station (history ++ event ∷ []) ≡ facts_at given station history
+  pub facts_event : (station : ℕ) (history : List Event) (event : Event) → steps_in station event ≡ [] → facts_at given station (history ++ event ∷ []) ≡ facts_at given station history
   facts_event station history event none = ap (facts_of (setup_at given station)) (event_past station history event none)
 
   -- an event that changes nothing of the counts

@@ -10,3 +10,7 @@ pub mod LinkCalls
 pub mod TwoStations
 pub mod LinksLater
 pub mod Counting
+pub mod FirstCounts
+pub mod Standing
+pub mod AirCounts
+pub mod KeptCounts

@@ -133,13 +133,13 @@ pub data HasPassed (facts : Facts) (received : Option (List ℕ)) (handle : ℕ)
       → after ≡ sent_if (sends_under handle doing) facts.turn.slot (link_after (PacketReceived facts.turn.slot octets) link)
       → HasPassed facts received handle doing after
 
-off_sends : (handle : ℕ) (doing : Doing) → is_on_link doing ≡ false → sends_under handle doing ≡ false
+pub off_sends : (handle : ℕ) (doing : Doing) → is_on_link doing ≡ false → sends_under handle doing ≡ false
 off_sends handle (CentralSends other) off = absurd cc
 off_sends handle (PeripheralSends other) off = absurd cc
 off_sends handle (Advertises channel) off = refl
 off_sends handle other off = refl
 
-off_listens : (handle : ℕ) (doing : Doing) → is_on_link doing ≡ false → listens_under handle doing ≡ false
+pub off_listens : (handle : ℕ) (doing : Doing) → is_on_link doing ≡ false → listens_under handle doing ≡ false
 off_listens handle (CentralListens other) off = absurd cc
 off_listens handle (PeripheralListens other) off = absurd cc
 off_listens handle (Advertises channel) off = refl

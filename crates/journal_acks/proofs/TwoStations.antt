@@ -2,7 +2,7 @@
 use Rattle.std.proofs.Common.{◌≡◌, ℕ, zero, suc, ◌<◌, ◌==◌, ◌&&◌, ◌||◌, ◌⊎◌, inl, inr, Bool, true, false, not, Option, Some, None, List, [], ◌∷◌, ◌++◌, take, refl, sym, ap, subst, ◌∙◌, arith}
 use Rattle.std.specs.Prelude.{if◌then◌else◌}
 use Rattle.std.specs.Str.{bytes_eq}
-use Rattle.std.proofs.lemmas.Bool.{eqb-true, eqb-false}
+use Rattle.std.proofs.lemmas.Bool.{eqb-true, eqb-false, false_from_ne_true}
 use Rattle.std.proofs.lemmas.Slice.Eq.{bytes_eq-Decides}
 use Rattle.ble_base.specs.Side.{other_side}
 use Rattle.ble_base.specs.declared.roles.Side.{Side}
@@ -57,6 +57,10 @@ other_is given pair station other is is_too differs =
     by (inl a) (inr b) = b ∙ ap other_of (sym a)
     by (inr a) (inl b) = b ∙ ap other_of (sym a)
     by (inr a) (inr b) = absurd (eqb-false other station differs (b ∙ sym a))
+
+pub own_differs : (station : ℕ) → (station == other_of station) ≡ false
+own_differs zero = refl
+own_differs (suc station) = false_from_ne_true (suc station == 0) (λ same. let is = eqb-true (suc station) 0 same in omega (arith, is))
 
 pub side_same : (station : ℕ) → is_side (side_of station) (side_of station) ≡ true
 side_same zero = refl
