@@ -1,1 +1,5 @@
 -- The lemmas of this crate.
+pub mod LinksBegun
+pub mod Numbered
+pub mod EnterLines
+pub mod OpenedLines

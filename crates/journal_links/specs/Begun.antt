@@ -1,5 +1,5 @@
--- The links of a journal: the n-th CONNECT_IND on the air begins link n, from 1 (our choice). It was sent by the central
--- (Core 5.2, volume 6 part B, sections 2.3.3.1 and 4.5).
+-- The links of a journal: the n-th CONNECT_IND on the air begins link n, from 1 (our choice). It was sent by the
+-- central (Core 5.2, volume 6 part B, sections 2.3.3.1 and 4.5).
 use Rattle.std.specs.Prelude.{ℕ, zero, suc, ◌+◌, ◌-◌, List, [], ◌∷◌, ◌++◌, length, Option, Some, None, slice_get, if◌then◌else◌}
 use Rattle.ble_base.specs.declared.roles.Side.{Side}
 use Rattle.adv_pdu.specs.declared.pdu.AdvPdu.{AdvPdu}

@@ -7,8 +7,8 @@ use Rattle.journal.specs.declared.entries.Entry.{Entry}
 use Rattle.runs.specs.Readers.{turns_of}
 use Rattle.journal_links.specs.Begun.{LinkBegun, link_numbered}
 
--- the slot of the anchor of an event: event 0 comes two slots and WinOffset after the CONNECT_IND, and each next event an
--- interval later
+-- the slot of the anchor of an event: event 0 comes two slots and WinOffset after the CONNECT_IND, and each next event
+-- an interval later
 abbrev pub anchor_in : LinkBegun → ℕ → ℕ
 anchor_in link event = link.slot + 2 + link.fields.win_offset + event * link.fields.interval
 

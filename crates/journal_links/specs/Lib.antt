@@ -1,4 +1,5 @@
 -- The definitions of this crate.
 pub mod Begun
 pub mod Entered
+pub mod Opened
 pub mod Rows

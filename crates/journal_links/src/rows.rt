@@ -7,7 +7,6 @@ ghost use Rattle.runs.specs.Rows.{one_event_journal};
 
 /// A journal with one CONNECT_IND has one link. Its first event is two slots after that, and its
 /// next event an interval of 24 slots later, on the channels 25 and 20.
-#[tactic(auto, unfolding(crate::specs::Begun::links_begun))]
 pub fn worked_links()
     ensures links { links_begun one_event_journal ≡ one_link ∷ [] }
     ensures one { link_numbered 1 one_event_journal ≡ Some one_link }

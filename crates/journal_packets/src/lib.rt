@@ -3,5 +3,7 @@
 #![tactic(auto)]
 
 mod rows;
+mod senders;
 
 pub use crate::rows::worked_packets;
+pub use crate::senders::each_packet_is_of_its_senders_link;

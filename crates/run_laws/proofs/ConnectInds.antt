@@ -40,7 +40,7 @@ use Rattle.run_laws.proofs.ByCalls.{StandsBy, at_turn, last_turn}
 
 -- ---- how many were sent
 
-count_event : (station : ℕ) (history : List Event) (event : Event) → connects_sent station (history ++ event ∷ []) ≡ connects_sent station history + connects_in station event
+pub count_event : (station : ℕ) (history : List Event) (event : Event) → connects_sent station (history ++ event ∷ []) ≡ connects_sent station history + connects_in station event
 unfolding connects_sent
 count_event station history event = fold_event (λ count event. count + connects_in station event) 0 history event
 
@@ -63,7 +63,7 @@ no_channel channel X below is =
     let from = leb-true 37 channel (and_parts (nat_le 37 channel) (nat_lt channel 40) is).0 in
     absurd (omega (arith, below, from))
 
-no_advertising : (channel : ℕ) (is : Bool) → is_advertising channel ≡ is → channel < 37 → is ≡ false
+pub no_advertising : (channel : ℕ) (is : Bool) → is_advertising channel ≡ is → channel < 37 → is ≡ false
 no_advertising channel true is below = no_channel channel _ below is
 no_advertising channel false is below = refl
 
@@ -77,7 +77,7 @@ says_count (Connects channel link) pdu says = ap (λ p. if is_connect_ind (Some 
 says_count (Advertises channel) pdu says = ap (λ b. if b then 1 else 0) says
 says_count other pdu says = ap (λ b. if b then 1 else 0) says
 
-on_channel : (channel : ℕ) → (37 ≤ channel) × (channel ≤ 39) → is_advertising channel ≡ true
+pub on_channel : (channel : ℕ) → (37 ≤ channel) × (channel ≤ 39) → is_advertising channel ≡ true
 on_channel channel is = rw (le-leb 37 channel is.0, lt-ltb channel 40 (omega (arith, is.1))) refl
 
 -- what is sent counts where a link is to be made

@@ -20,11 +20,11 @@ use Rattle.run_laws.proofs.ConnectInds.{taken_in_order}
 abbrev pub AreApart : Type 0
 AreApart = (cursor m n a b first second : ℕ) → m < n → nth_access cursor m ≡ Some (a, first) → nth_access cursor n ≡ Some (b, second) → a ≢ b
 
-record IsFound (may : Option (ℕ × ℕ)) (access : ℕ) : Type 0 where
-  after : ℕ
-  is : may ≡ Some (access, after)
+pub record IsFound (may : Option (ℕ × ℕ)) (access : ℕ) : Type 0 where
+  pub after : ℕ
+  pub is : may ≡ Some (access, after)
 
-found_at : (may : Option (ℕ × ℕ)) (access : ℕ) → access_found may ≡ Some access → IsFound may access
+pub found_at : (may : Option (ℕ × ℕ)) (access : ℕ) → access_found may ≡ Some access → IsFound may access
 found_at None access is = absurd cc
 found_at (Some found) access is = let same : found.0 ≡ access = cc in record { after = found.1; is = ap (λ (n : ℕ). Some (n, found.1)) same }
 

@@ -136,7 +136,7 @@ feed_none given station (octet ∷ octets) history other none =
 hears_nothing : (given : Given) (called : List ℕ) (history : List Event) (station : ℕ) → packet_received station history ≡ None → Hears given called history station
 hears_nothing given called history station none = λ octets is. absurd (let h : None ≡ Some octets = sym none ∙ is in absurd cc)
 
-use_same : (given : Given) (station : ℕ) (history after : List Event) → past_of station after ≡ past_of station history → use_at given station after ≡ use_at given station history
+pub use_same : (given : Given) (station : ℕ) (history after : List Event) → past_of station after ≡ past_of station history → use_at given station after ≡ use_at given station history
 use_same given station history after same = ap (λ past. use_of (facts_of (setup_at given station) past)) same
 
 facts_same : (given : Given) (station : ℕ) (history after : List Event) → past_of station after ≡ past_of station history → facts_at given station after ≡ facts_at given station history
@@ -184,7 +184,7 @@ unfolding use_of
 wanted_is given station history = refl
 
 -- a station that sends hears nothing
-sends_deaf : (given : Given) (called : List ℕ) (history : List Event) (station channel : ℕ) (octets : List ℕ) → Hears given called history station
+pub sends_deaf : (given : Given) (called : List ℕ) (history : List Event) (station channel : ℕ) (octets : List ℕ) → Hears given called history station
     → use_at given station history ≡ Sends channel octets → (received : Option (List ℕ)) → packet_received station history ≡ received → received ≡ None
 sends_deaf given called history station channel octets hears wanted None is = refl
 sends_deaf given called history station channel octets hears wanted (Some heard) is =

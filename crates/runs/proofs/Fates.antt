@@ -194,7 +194,7 @@ aired_is : (given : Given) → HasOneOther given → (history : List Event) → 
 unfolding journal_of packets_on_air
 aired_is given one history each = aired_from given one first_links history [] 0 each
 
-note_begun : (side : Side) (link : ℕ → ℕ) (last : ℕ) (note : Note) → pair_openings_in (entry_of side link last note) ≡ []
+pub note_begun : (side : Side) (link : ℕ → ℕ) (last : ℕ) (note : Note) → pair_openings_in (entry_of side link last note) ≡ []
 note_begun side link last (UpNote packet) = refl
 note_begun side link last note = refl
 
@@ -228,7 +228,7 @@ turns_are history = from_none _ ∙ turns_from first_links history 0
 
 -- ---- a pair
 
-pair_other : (a b : List ℕ) (script : Script) → HasOneOther (given_of a b script)
+pub pair_other : (a b : List ℕ) (script : Script) → HasOneOther (given_of a b script)
 pair_other a b script station is = elim (two station is) [
   | inl zeroth ↦ subst (λ s. length (others_than s (0 ∷ 1 ∷ [])) ≡ 1) (sym zeroth) refl
   | inr first ↦ subst (λ s. length (others_than s (0 ∷ 1 ∷ [])) ≡ 1) (sym first) refl

@@ -20,4 +20,10 @@ pub mod UpToDate
 pub mod Answers
 pub mod LinkSteps
 pub mod Doings
+pub mod OpenedNotes
+pub mod LinksKnown
+pub mod Linked
 pub mod LinkEnds
+pub mod OpenedLinks
+pub mod Numbers
+pub mod CallNotes

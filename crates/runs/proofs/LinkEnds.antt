@@ -20,7 +20,7 @@ use Rattle.radio_replay.specs.declared.fates.Fate.{Fate}
 use Rattle.radio_replay.specs.Script.{Script}
 use Rattle.one_side.specs.declared.doing.Doing.{Doing}
 use Rattle.one_side.specs.declared.doing.Doing.TheVariants.{AwaitsRequest, Connects}
-use Rattle.one_side.specs.Step.{Step, HostOctet, TurnBegins, PacketHeard, TurnEnds}
+use Rattle.one_side.specs.Step.{Step, TurnBegins, PacketHeard, TurnEnds}
 use Rattle.one_side.specs.Facts.{Facts, Use, Sends, Listens, Idle}
 use Rattle.one_side.specs.Heard.{link_taken}
 use Rattle.one_side.specs.Packets.{advertising_packet, channel_listened, pdu_heard, use_of}
@@ -28,140 +28,34 @@ use Rattle.one_side.specs.Side.{facts_of, notes_after}
 use Rattle.one_side.proofs.Always.{IsAdvertisingChannel}
 use Rattle.one_side.proofs.Pasts.{facts_more}
 use Rattle.one_side.proofs.Sent.{DoingFits, can_be_done}
-use Rattle.runs.specs.History.{Event, TurnBegan, HostFed, Called, Noted, Transmitted, Hearing as Heard, fates_used, has_received, is_good, packet_received, past_of, received_after, steps_in, turns_begun}
-use Rattle.runs.specs.Links.{is_advertising}
-use Rattle.runs.specs.Run.{Given, setup_at, facts_at, use_at, octets_left, after_call, after_octets, after_feed, fate_at, hearing_at, hearings_from, hearings_of, others_than, reaches, is_lost, step_of, verdict_where, run_of, history_of}
+use Rattle.runs.specs.History.{Event, TurnBegan, Called, Noted, Transmitted, Hearing as Heard, fates_used, has_received, is_good, packet_received, past_of, received_after, steps_in, turns_begun}
+use Rattle.runs.specs.Links.{Links, begins_link, is_advertising, is_connect_ind, links_of, with_link}
+use Rattle.runs.specs.Run.{Given, setup_at, facts_at, use_at, octets_left, after_call, fate_at, hearing_at, hearings_from, hearings_of, others_than, reaches, is_lost, step_of, verdict_where, run_of, history_of}
 use Rattle.runs.specs.Pair.{given_of}
-use Rattle.runs.specs.Due.{Each, packet_in}
+use Rattle.runs.specs.Due.{packet_in}
 use Rattle.runs.specs.Feeding.{AreDistinct}
 use Rattle.runs.specs.LinkEnds.{ConnectInd, HasConnectInd, HaveAddresses, IsAtEnd}
-use Rattle.runs.specs.OnAir.{ends_phase}
-use Rattle.runs.proofs.Calls.{with_notes, flat_nothing, fold_called, fold_event, past_other, past_own, turns_called, turns_same}
-use Rattle.runs.proofs.Places.{each_append, each_at, each_event}
+use Rattle.runs.proofs.Calls.{with_notes, flat_nothing, fold_called, fold_event, past_other, past_own, same_station, turns_called, turns_same}
+use Rattle.runs.proofs.Linked.{AreLinked, AreLinkedSoFar, LinkedBefore, call_linked, event_linked, feed_linked, opens_none}
+use Rattle.runs.proofs.LinksKnown.{last_by_call, links_event}
+use Rattle.runs.proofs.Places.{each_at}
 use Rattle.runs.proofs.Stations.{is_in, among, in_more_other, in_more_same, not_before, others_differ}
 use Rattle.runs.proofs.Walk.{Place, NoTurn, AtFeeds, AtBegins, AfterPhases, AtPackets, AtListening, AtEnds, IsKept, IsWhole, IsStopped, ends_with, run_kept}
 use Rattle.runs.proofs.Doings.{IsWanted, always_wanted}
-use Rattle.runs.proofs.LinkSteps.{EachLink, MayOpen, begun_slot, each_more, link_has, none_linked, phase_slot, step_linked}
-
--- ---- a history that grows
-
-grown : (history more : List Event) (station : ℕ) (end : EndSetup) → HasConnectInd history station end → HasConnectInd (history ++ more) station end
-grown history more station end has = record {
-  sent = has.sent;
-  before = has.before;
-  after = has.after ++ more;
-  is_at = ap (λ events. events ++ more) has.is_at
-      ∙ append_assoc has.before (Transmitted has.sent.sender has.sent.channel has.sent.octets has.sent.hearings ∷ has.after) more;
-  in_turn = has.in_turn;
-  on_channel = has.on_channel;
-  says = has.says;
-  fields_are = has.fields_are;
-  is_at_end = has.is_at_end;
-}
-
--- each link of each station has its CONNECT_IND in this history
-abbrev AreLinked : Given → List Event → Type 0
-AreLinked given history = (station : ℕ) → EachLink (HasConnectInd history station) (facts_at given station history).links
-
-linked_with : (given : Given) (history more : List Event) (station : ℕ) → past_of station (history ++ more) ≡ past_of station history
-    → EachLink (HasConnectInd history station) (facts_at given station history).links
-    → EachLink (HasConnectInd (history ++ more) station) (facts_at given station (history ++ more)).links
-linked_with given history more station same each =
-    subst (λ past. EachLink (HasConnectInd (history ++ more) station) (facts_of (setup_at given station) past).links) (sym same)
-    (each_more (HasConnectInd history station) (HasConnectInd (history ++ more) station) _ (grown history more station) each)
-
-outside_linked : (given : Given) (history : List Event) (event : Event) → ((station : ℕ) → steps_in station event ≡ []) → AreLinked given history
-    → AreLinked given (history ++ event ∷ [])
-outside_linked given history event none linked = λ station.
-    linked_with given history (event ∷ []) station (flat_nothing (steps_in station) history event (none station)) (linked station)
-
-abbrev LinkedBefore : Given → List Event → Event → Type 0
-LinkedBefore given before event = AreLinked given before
-
-record AreLinkedOn (given : Given) (history events : List Event) : Type 0 where
-  each : Each (LinkedBefore given) history events
-  linked : AreLinked given (history ++ events)
-
-notes_linked : (given : Given) (station : ℕ) (notes : List Note) (history : List Event) → AreLinked given history
-    → AreLinkedOn given history (map (Noted station) notes)
-notes_linked given station [] history linked = record { each = tt; linked = subst (AreLinked given) (sym (append-nil history)) linked }
-notes_linked given station (note ∷ notes) history linked =
-    let rest = notes_linked given station notes (history ++ Noted station note ∷ [])
-    (outside_linked given history (Noted station note) (λ other. refl) linked) in record {
-      each = (linked, rest.each);
-      linked = subst (AreLinked given) (append_assoc history (Noted station note ∷ []) (map (Noted station) notes)) rest.linked;
-    }
-
--- ---- a call
-
-own_linked : (given : Given) (station : ℕ) (step : Step) (history : List Event)
-    → MayOpen (HasConnectInd history station) (facts_at given station history) step → AreLinked given history
-    → EachLink (HasConnectInd (history ++ Called station step ∷ []) station) (facts_at given station (history ++ Called station step ∷ [])).links
-own_linked given station step history may linked =
-    let setup = setup_at given station in
-    let more = Called station step ∷ [] in
-    subst (λ facts. EachLink (HasConnectInd (history ++ more) station) facts.links)
-    (sym (ap (facts_of setup) (past_own station step [] history) ∙ facts_more setup (past_of station history) step))
-    (each_more (HasConnectInd history station) (HasConnectInd (history ++ more) station) _ (grown history more station)
-    (step_linked (HasConnectInd history station) setup (facts_at given station history) step may (linked station)))
-
-called_by : (given : Given) (station : ℕ) (step : Step) (history : List Event)
-    → MayOpen (HasConnectInd history station) (facts_at given station history) step → AreLinked given history → (other : ℕ) (same : Bool) → (other == station) ≡ same
-    → EachLink (HasConnectInd (history ++ Called station step ∷ []) other) (facts_at given other (history ++ Called station step ∷ [])).links
-called_by given station step history may linked other true is =
-    subst (λ one. EachLink (HasConnectInd (history ++ Called station step ∷ []) one) (facts_at given one (history ++ Called station step ∷ [])).links)
-    (sym (eqb-true other station is)) (own_linked given station step history may linked)
-called_by given station step history may linked other false is =
-    linked_with given history (Called station step ∷ []) other (past_other other station step [] history is) (linked other)
-
-record AreLinkedSoFar (given : Given) (history : List Event) : Type 0 where
-  each : Each (LinkedBefore given) [] history
-  linked : AreLinked given history
-
-call_linked : (given : Given) (station : ℕ) (step : Step) (history : List Event)
-    → MayOpen (HasConnectInd history station) (facts_at given station history) step → AreLinkedSoFar given history
-    → AreLinkedSoFar given (after_call given station step history)
-call_linked given station step history may so_far =
-    let noted = map (Noted station) (notes_after (setup_at given station) (facts_at given station history) step) in
-    let called : AreLinked given (history ++ Called station step ∷ []) = λ other. called_by given station step history may so_far.linked other (other == station) refl in
-    let rest = notes_linked given station (notes_after (setup_at given station) (facts_at given station history) step) (history ++ Called station step ∷ []) called in record {
-      each = each_append (LinkedBefore given) [] history (Called station step ∷ noted) so_far.each (so_far.linked, rest.each);
-      linked = subst (AreLinked given) (append_assoc history (Called station step ∷ []) noted) rest.linked;
-    }
-
-event_linked : (given : Given) (history : List Event) (event : Event) → ((station : ℕ) → steps_in station event ≡ []) → AreLinkedSoFar given history
-    → AreLinkedSoFar given (history ++ event ∷ [])
-event_linked given history event none so_far = record {
-  each = each_event (LinkedBefore given) history event so_far.each so_far.linked;
-  linked = outside_linked given history event none so_far.linked;
-}
-
--- a step that ends no phase opens no link
-opens_none : (P : EndSetup → Type 0) (facts : Facts) (step : Step) → ends_phase step ≡ false → MayOpen P facts step
-opens_none P facts step none = record {
-  made = λ channel link ends doing. absurd (let h : true ≡ false = sym ends ∙ none in absurd cc);
-  taken = λ channel octets on pdu fields handle is doing found takes.
-      absurd (let h : true ≡ false = ap ends_phase (sym is) ∙ none in absurd cc);
-}
-
-octets_linked : (given : Given) (station : ℕ) (octets : List ℕ) (history : List Event) → AreLinkedSoFar given history
-    → AreLinkedSoFar given (after_octets given station octets history)
-octets_linked given station [] history so_far = so_far
-octets_linked given station (octet ∷ octets) history so_far =
-    octets_linked given station octets (after_call given station (HostOctet octet) history)
-    (call_linked given station (HostOctet octet) history (opens_none _ _ (HostOctet octet) refl) so_far)
-
-feed_linked : (given : Given) (station : ℕ) (octets : List ℕ) (history : List Event) → AreLinkedSoFar given history
-    → AreLinkedSoFar given (after_feed given station octets history)
-feed_linked given station [] history so_far = so_far
-feed_linked given station (octet ∷ octets) history so_far =
-    octets_linked given station (octet ∷ octets) (history ++ HostFed station (octet ∷ octets) ∷ [])
-    (event_linked given history (HostFed station (octet ∷ octets)) (λ other. refl) so_far)
+use Rattle.runs.proofs.LinkSteps.{EachLink, MayOpen, begun_slot, link_has, none_linked, phase_slot}
 
 -- ---- what a station sent and heard
 
 abbrev IsInSlot : Given → List Event → ℕ → Type 0
 IsInSlot given history station = turns_begun history ≡ (facts_at given station history).turn.slot + 1
+
+-- the number of the link that a station knows last
+abbrev last_at : List Event → ℕ → ℕ
+last_at history station = (links_of history).last_of station
+
+-- it is that of the link that a packet begins, where it begins one: the packet stands after these events
+abbrev IsLastLink : List Event → List Event → ℕ → ℕ → List ℕ → Type 0
+IsLastLink history before station channel octets = begins_link channel octets ≡ true → last_at history station ≡ (links_of before).begun + 1
 
 -- a packet was on the air in the turn that is under way
 record WasAired (history : List Event) (station channel : ℕ) (octets : List ℕ) : Type 0 where
@@ -170,6 +64,7 @@ record WasAired (history : List Event) (station channel : ℕ) (octets : List �
   after : List Event
   is_at : history ≡ before ++ Transmitted station channel octets hearings ∷ after
   in_turn : turns_begun before ≡ turns_begun history
+  number : IsLastLink history before station channel octets
 
 -- what a station wants to send was on the air
 abbrev HasAired : Given → List Event → ℕ → Type 0
@@ -187,6 +82,7 @@ record WasHeard (given : Given) (history : List Event) (station : ℕ) (octets :
   differs : sender ≢ station
   received : has_received station hearings ≡ true
   listens : use_at given station history ≡ Listens channel
+  number : IsLastLink history before station channel octets
 
 abbrev HasHeard : Given → List Event → ℕ → Type 0
 HasHeard given history station = (octets : List ℕ) → packet_received station history ≡ Some octets → WasHeard given history station octets
@@ -205,9 +101,9 @@ slot_same : (given : Given) (station : ℕ) (history more : List Event) → IsSa
 slot_same given station history more same in_slot =
     same.turns ∙ in_slot ∙ ap (λ past. (facts_of (setup_at given station) past).turn.slot + 1) (sym same.past)
 
-aired_same : (given : Given) (station : ℕ) (history more : List Event) → IsSame station history more → HasAired given history station
-    → HasAired given (history ++ more) station
-aired_same given station history more same has = λ channel octets wants.
+aired_same : (given : Given) (station : ℕ) (history more : List Event) → IsSame station history more → last_at (history ++ more) station ≡ last_at history station
+    → HasAired given history station → HasAired given (history ++ more) station
+aired_same given station history more same last has = λ channel octets wants.
     let aired = has channel octets (sym (use_same given station history (history ++ more) same.past) ∙ wants) in record {
       before = aired.before;
       hearings = aired.hearings;
@@ -215,11 +111,13 @@ aired_same given station history more same has = λ channel octets wants.
       is_at = ap (λ events. events ++ more) aired.is_at
           ∙ append_assoc aired.before (Transmitted station channel octets aired.hearings ∷ aired.after) more;
       in_turn = aired.in_turn ∙ sym same.turns;
+      number = λ begins. last ∙ aired.number begins;
     }
 
 heard_same : (given : Given) (station : ℕ) (history more : List Event) → IsSame station history more
-    → packet_received station (history ++ more) ≡ packet_received station history → HasHeard given history station → HasHeard given (history ++ more) station
-heard_same given station history more same received has = λ octets is.
+    → packet_received station (history ++ more) ≡ packet_received station history → last_at (history ++ more) station ≡ last_at history station
+    → HasHeard given history station → HasHeard given (history ++ more) station
+heard_same given station history more same received last has = λ octets is.
     let heard = has octets (sym received ∙ is) in record {
       sender = heard.sender;
       channel = heard.channel;
@@ -232,10 +130,14 @@ heard_same given station history more same received has = λ octets is.
       differs = heard.differs;
       received = heard.received;
       listens = use_same given station history (history ++ more) same.past ∙ heard.listens;
+      number = λ begins. last ∙ heard.number begins;
     }
 
 heard_none : (given : Given) (station : ℕ) (history : List Event) → packet_received station history ≡ None → HasHeard given history station
 heard_none given station history none = λ octets is. absurd (let h : None ≡ Some octets = sym none ∙ is in absurd cc)
+
+last_called : (given : Given) (station : ℕ) (step : Step) (history : List Event) (other : ℕ) → last_at (after_call given station step history) other ≡ last_at history other
+last_called given station step history other = last_by_call station step (notes_after (setup_at given station) (facts_at given station history) step) history other
 
 called_same : (given : Given) (other station : ℕ) (step : Step) (history : List Event) → (other == station) ≡ false
     → IsSame other history (Called station step ∷ map (Noted station) (notes_after (setup_at given station) (facts_at given station history) step))
@@ -349,10 +251,22 @@ wanted_is : (given : Given) (station : ℕ) (history : List Event) → (facts_at
 unfolding use_of
 wanted_is given station history = refl
 
+-- a packet with a CONNECT_IND begins a link
+begins : (channel : ℕ) (octets : List ℕ) (from to : Address) (ch_sel : Bool) (fields : ConnectFields) → is_advertising channel ≡ true
+    → pdu_heard channel octets ≡ Some (Connect from to ch_sel fields) → begins_link channel octets ≡ true
+unfolding begins_link
+begins channel octets from to ch_sel fields on says = ap (λ b. b && is_connect_ind (pdu_heard channel octets)) on ∙ ap is_connect_ind says
+
+-- an end comes from a CONNECT_IND of the turn that is under way, and its link is the one that its station knows last
+pub record IsLast (history : List Event) (station : ℕ) (end : EndSetup) : Type 0 where
+  pub has : HasConnectInd history station end
+  pub number : (links_of history).last_of station ≡ (links_of has.before).begun + 1
+  pub now : turns_begun history ≡ end.opened + 1
+
 -- a central, whose CONNECT_IND was on the air
 made_by : IsUnderstood → (given : Given) → HaveAddresses given → (station channel : ℕ) (link : LinkSetup) (history : List Event) → HasAired given history station
     → IsInSlot given history station → (facts_at given station history).turn.doing ≡ Connects channel link
-    → HasConnectInd history station (record { link = link; opened = (facts_at given station history).turn.slot })
+    → IsLast history station (record { link = link; opened = (facts_at given station history).turn.slot })
 made_by understood given six station channel link history aired in_slot doing =
     let setup = setup_at given station in
     let past = past_of station history in
@@ -370,16 +284,22 @@ made_by understood given six station channel link history aired in_slot doing =
       ch_sel = true;
       fields = link.fields;
     } in
-    let end : EndSetup = record { link = link; opened = (facts_at given station history).turn.slot } in record {
-      sent = connect;
-      before = sent.before;
-      after = sent.after;
-      is_at = sent.is_at;
-      in_turn = sent.in_turn ∙ in_slot;
-      on_channel = on_channel channel fits.0;
-      says = understood channel pdu fits.1;
-      fields_are = refl;
-      is_at_end = subst (λ role. IsAtEnd role station end connect) (sym wants.1) (refl, refl, refl);
+    let end : EndSetup = record { link = link; opened = (facts_at given station history).turn.slot } in
+    let on = on_channel channel fits.0 in
+    let says = understood channel pdu fits.1 in record {
+      has = record {
+        sent = connect;
+        before = sent.before;
+        after = sent.after;
+        is_at = sent.is_at;
+        in_turn = sent.in_turn ∙ in_slot;
+        on_channel = on;
+        says = says;
+        fields_are = refl;
+        is_at_end = subst (λ role. IsAtEnd role station end connect) (sym wants.1) (refl, refl, refl);
+      };
+      number = sent.number (begins channel (advertising_packet channel pdu) link.own link.peer true link.fields on says);
+      now = in_slot;
     }
 
 -- a peripheral, which received a CONNECT_IND
@@ -388,7 +308,7 @@ taken_by : AreTaken → (given : Given) → HaveAddresses given → (station cha
     → step_of (packet_received station history) ≡ PacketHeard octets
     → (facts_at given station history).turn.doing ≡ AwaitsRequest channel → pdu_heard channel octets ≡ Some pdu
     → advertiser_answer on.params (facts_at given station history).view.accepted pdu ≡ Takes fields
-    → HasConnectInd history station (record { link = link_taken on.params.own pdu fields handle; opened = (facts_at given station history).turn.slot })
+    → IsLast history station (record { link = link_taken on.params.own pdu fields handle; opened = (facts_at given station history).turn.slot })
 taken_by taken given six station channel octets on pdu fields handle history heard in_slot is doing found takes =
     let setup = setup_at given station in
     let past = past_of station history in
@@ -397,26 +317,32 @@ taken_by taken given six station channel octets on pdu fields handle history hea
     let sent = heard octets (heard_step (packet_received station history) octets is) in
     let on_it : channel ≡ sent.channel = same_channel channel sent.channel (sym wants ∙ wanted_is given station history ∙ sent.listens) in
     let request = is_request taken on.params (facts_at given station history).view.accepted pdu fields takes in
-    subst (λ one. HasConnectInd history station (record { link = link_taken on.params.own one fields handle; opened = (facts_at given station history).turn.slot }))
+    let on_air = subst (λ one. is_advertising one ≡ true) on_it (on_channel channel fits) in
+    let says = subst (λ one. pdu_heard one octets ≡ Some (Connect request.from request.to request.ch_sel fields)) on_it (found ∙ ap Some request.is) in
+    subst (λ one. IsLast history station (record { link = link_taken on.params.own one fields handle; opened = (facts_at given station history).turn.slot }))
     (sym request.is) (record {
-      sent = record {
-        sender = sent.sender;
-        channel = sent.channel;
-        octets = octets;
-        hearings = sent.hearings;
-        from = request.from;
-        to = request.to;
-        ch_sel = request.ch_sel;
-        fields = fields;
+      has = record {
+        sent = record {
+          sender = sent.sender;
+          channel = sent.channel;
+          octets = octets;
+          hearings = sent.hearings;
+          from = request.from;
+          to = request.to;
+          ch_sel = request.ch_sel;
+          fields = fields;
+        };
+        before = sent.before;
+        after = sent.after;
+        is_at = sent.is_at;
+        in_turn = sent.in_turn ∙ in_slot;
+        on_channel = on_air;
+        says = says;
+        fields_are = refl;
+        is_at_end = (sent.differs, sent.received, refl, request.to_own, refl);
       };
-      before = sent.before;
-      after = sent.after;
-      is_at = sent.is_at;
-      in_turn = sent.in_turn ∙ in_slot;
-      on_channel = subst (λ one. is_advertising one ≡ true) on_it (on_channel channel fits);
-      says = subst (λ one. pdu_heard one octets ≡ Some (Connect request.from request.to request.ch_sel fields)) on_it (found ∙ ap Some request.is);
-      fields_are = refl;
-      is_at_end = (sent.differs, sent.received, refl, request.to_own, refl);
+      number = sent.number (begins sent.channel octets request.from request.to request.ch_sel fields on_air says);
+      now = in_slot;
     })
 
 -- ---- what each step keeps
@@ -447,7 +373,7 @@ AtPlace given (AtPackets phases done left) history station =
 AtPlace given (AtListening phases done left) history station = IsInSlot given history station × Listened (is_in station done) given history station
 AtPlace given (AtEnds done left) history station = Unit {0}
 
-record IsLinkedSoFar (given : Given) (place : Place) (history : List Event) : Type 0 where
+pub record IsLinkedSoFar (given : Given) (place : Place) (history : List Event) : Type 0 where
   so_far : AreLinkedSoFar given history
   at : (station : ℕ) → is_in station given.stations ≡ true → AtPlace given place history station
 
@@ -493,10 +419,73 @@ packet_same other station channel octets hearings history = record {
   turns = turns_same history (Transmitted station channel octets hearings) refl;
 }
 
-hears_by : (given : Given) (fates : List Fate) (station channel : ℕ) (octets : List ℕ) (history : List Event) (other : ℕ) → HasHeard given history other
-    → (received : Bool) → has_received other (hearings_of given fates station channel octets history) ≡ received
+-- the links that stations know after a packet
+last_sent : (station channel : ℕ) (octets : List ℕ) (hearings : List Heard) (history : List Event) (other : ℕ) (begins sends receives : Bool)
+    → begins_link channel octets ≡ begins → (other == station) ≡ sends → has_received other hearings ≡ receives
+    → last_at (history ++ Transmitted station channel octets hearings ∷ []) other
+    ≡ (if begins && (sends || receives) then (links_of history).begun + 1 else last_at history other)
+last_sent station channel octets hearings history other begins sends receives is own heard =
+    ap (λ (links : Links). links.last_of other) (links_event history (Transmitted station channel octets hearings))
+    ∙ ap (λ b. (if b then with_link station hearings (links_of history) else links_of history).last_of other) is
+    ∙ by begins
+  where
+    by : (test : Bool) → (if test then with_link station hearings (links_of history) else links_of history).last_of other
+        ≡ (if test && (sends || receives) then (links_of history).begun + 1 else last_at history other)
+    by true = rw (own, heard) refl
+    by false = refl
+
+-- it is the one that it sent or received
+last_begun : (station channel : ℕ) (octets : List ℕ) (hearings : List Heard) (history : List Event) (other : ℕ) → begins_link channel octets ≡ true
+    → (sends receives : Bool) → (other == station) ≡ sends → has_received other hearings ≡ receives → (sends || receives) ≡ true
+    → last_at (history ++ Transmitted station channel octets hearings ∷ []) other ≡ (links_of history).begun + 1
+last_begun station channel octets hearings history other begins sends receives own heard one =
+    last_sent station channel octets hearings history other true sends receives begins own heard
+    ∙ ap (λ b. if b then (links_of history).begun + 1 else last_at history other) one
+
+-- whoever did neither knows none of it
+last_other : (station channel : ℕ) (octets : List ℕ) (hearings : List Heard) (history : List Event) (other : ℕ) → (other == station) ≡ false
+    → has_received other hearings ≡ false → last_at (history ++ Transmitted station channel octets hearings ∷ []) other ≡ last_at history other
+last_other station channel octets hearings history other differs none =
+    last_sent station channel octets hearings history other (begins_link channel octets) false false refl differs none ∙ by (begins_link channel octets)
+  where
+    by : (begins : Bool) → (if begins && (false || false) then (links_of history).begun + 1 else last_at history other) ≡ last_at history other
+    by true = refl
+    by false = refl
+
+-- a station that sends receives nothing
+sends_or_listens : (wanted : Use) (channel on : ℕ) (octets : List ℕ) (X : Type 0) → wanted ≡ Sends channel octets → wanted ≡ Listens on → X
+sends_or_listens wanted channel on octets X sends listens = absurd (let h : Sends channel octets ≡ Listens on = sym sends ∙ listens in absurd cc)
+
+deaf_by : (given : Given) (fates : List Fate) (station channel : ℕ) (octets : List ℕ) (history : List Event) (other on : ℕ) (own : List ℕ)
+    → use_at given other history ≡ Sends on own → (received : Bool) → has_received other (hearings_of given fates station channel octets history) ≡ received → received ≡ false
+deaf_by given fates station channel octets history other on own wants true is =
+    let listener = is_listener given fates channel octets history station other is in
+    sends_or_listens (use_at given other history) on channel own _ wants listener.listens
+deaf_by given fates station channel octets history other on own wants false is = refl
+
+deaf : (given : Given) (fates : List Fate) (station channel : ℕ) (octets : List ℕ) (history : List Event) (other on : ℕ) (own : List ℕ)
+    → use_at given other history ≡ Sends on own → has_received other (hearings_of given fates station channel octets history) ≡ false
+deaf given fates station channel octets history other on own wants =
+    deaf_by given fates station channel octets history other on own wants (has_received other (hearings_of given fates station channel octets history)) refl
+
+heard_more : (given : Given) (station channel : ℕ) (octets : List ℕ) (hearings : List Heard) (history : List Event) → use_at given station history ≡ Sends channel octets
+    → (other : ℕ) → HasHeard given history other → has_received other hearings ≡ false → (same : Bool) → (other == station) ≡ same
+    → HasHeard given (history ++ Transmitted station channel octets hearings ∷ []) other
+heard_more given station channel octets hearings history wanted other heard none true is = λ sent same.
+    let event = Transmitted station channel octets hearings in
+    let told = sym (received_event other history event ∙ ap (λ b. if b then Some octets else packet_received other history) none) ∙ same in
+    sends_or_listens (use_at given other history) channel (heard sent told).channel octets _
+    (ap (λ n. use_at given n history) (eqb-true other station is) ∙ wanted) (heard sent told).listens
+heard_more given station channel octets hearings history wanted other heard none false is =
+    let event = Transmitted station channel octets hearings in
+    heard_same given other history (event ∷ []) (packet_same other station channel octets hearings history)
+    (received_event other history event ∙ ap (λ b. if b then Some octets else packet_received other history) none)
+    (last_other station channel octets hearings history other is none) heard
+
+hears_by : (given : Given) (fates : List Fate) (station channel : ℕ) (octets : List ℕ) (history : List Event) → use_at given station history ≡ Sends channel octets
+    → (other : ℕ) → HasHeard given history other → (received : Bool) → has_received other (hearings_of given fates station channel octets history) ≡ received
     → HasHeard given (history ++ Transmitted station channel octets (hearings_of given fates station channel octets history) ∷ []) other
-hears_by given fates station channel octets history other heard true is = λ sent same.
+hears_by given fates station channel octets history wanted other heard true is = λ sent same.
     let hearings = hearings_of given fates station channel octets history in
     let event = Transmitted station channel octets hearings in
     let listener = is_listener given fates channel octets history station other is in
@@ -514,12 +503,10 @@ hears_by given fates station channel octets history other heard true is = λ sen
       differs = λ one. unlike (sym one);
       received = is;
       listens = use_same given other history (history ++ event ∷ []) (packet_same other station channel octets hearings history).past ∙ listener.listens;
+      number = λ begins. last_begun station channel octets hearings history other (ap (begins_link channel) equal ∙ begins) false true listener.differs is refl;
     }
-hears_by given fates station channel octets history other heard false is =
-    let hearings = hearings_of given fates station channel octets history in
-    let event = Transmitted station channel octets hearings in
-    heard_same given other history (event ∷ []) (packet_same other station channel octets hearings history)
-    (received_event other history event ∙ ap (λ b. if b then Some octets else packet_received other history) is) heard
+hears_by given fates station channel octets history wanted other heard false is =
+    heard_more given station channel octets (hearings_of given fates station channel octets history) history wanted other heard is (other == station) refl
 
 -- the station that transmits
 airs : (given : Given) (station channel : ℕ) (octets : List ℕ) (hearings : List Heard) (history : List Event) → use_at given station history ≡ Sends channel octets
@@ -536,23 +523,34 @@ airs given station channel octets hearings history wanted = λ on sent wants.
       is_at = ap (λ n. history ++ Transmitted station n octets hearings ∷ []) same_channel
           ∙ ap (λ xs. history ++ Transmitted station on xs hearings ∷ []) same_octets;
       in_turn = sym (turns_same history event refl);
+      number = λ begins. last_begun station channel octets hearings history station
+          (ap (λ n. begins_link n octets) same_channel ∙ ap (begins_link on) same_octets ∙ begins)
+          true (has_received station hearings) (same_station station) refl refl;
     }
 
-sent_more : (given : Given) (history more : List Event) (other : ℕ) → IsSame other history more → (sent : Bool)
-    → Sent sent given history other → Sent sent given (history ++ more) other
-sent_more given history more other same true has = aired_same given other history more same has
-sent_more given history more other same false has = tt
+sent_more : (given : Given) (fates : List Fate) (station channel : ℕ) (octets : List ℕ) (history : List Event) (other : ℕ) → (other == station) ≡ false → (sent : Bool)
+    → Sent sent given history other → Sent sent given (history ++ Transmitted station channel octets (hearings_of given fates station channel octets history) ∷ []) other
+sent_more given fates station channel octets history other differs true has = λ on own wants.
+    let hearings = hearings_of given fates station channel octets history in
+    let more = Transmitted station channel octets hearings ∷ [] in
+    let same = packet_same other station channel octets hearings history in
+    let wanted = sym (use_same given other history (history ++ more) same.past) ∙ wants in
+    aired_same given other history more same
+    (last_other station channel octets hearings history other differs (deaf given fates station channel octets history other on own wanted)) has on own wants
+sent_more given fates station channel octets history other differs false has = tt
 
-packet_by : (given : Given) (done : List ℕ) (station channel : ℕ) (octets : List ℕ) (hearings : List Heard) (history : List Event)
+packet_by : (given : Given) (fates : List Fate) (done : List ℕ) (station channel : ℕ) (octets : List ℕ) (history : List Event)
     → use_at given station history ≡ Sends channel octets → (other : ℕ) → Sent (is_in other done) given history other → (same : Bool) → (other == station) ≡ same
-    → Sent (is_in other (done ++ station ∷ [])) given (history ++ Transmitted station channel octets hearings ∷ []) other
-packet_by given done station channel octets hearings history wanted other has true is =
+    → Sent (is_in other (done ++ station ∷ [])) given (history ++ Transmitted station channel octets (hearings_of given fates station channel octets history) ∷ []) other
+packet_by given fates done station channel octets history wanted other has true is =
+    let hearings = hearings_of given fates station channel octets history in
     let after = history ++ Transmitted station channel octets hearings ∷ [] in
     subst (λ b. Sent b given after other) (sym (in_more_same other station done is))
     (subst (HasAired given after) (sym (eqb-true other station is)) (airs given station channel octets hearings history wanted))
-packet_by given done station channel octets hearings history wanted other has false is =
+packet_by given fates done station channel octets history wanted other has false is =
+    let hearings = hearings_of given fates station channel octets history in
     subst (λ b. Sent b given (history ++ Transmitted station channel octets hearings ∷ []) other) (sym (in_more_other other station done is))
-    (sent_more given history _ other (packet_same other station channel octets hearings history) (is_in other done) has)
+    (sent_more given fates station channel octets history other is (is_in other done) has)
 
 wants_none : (wanted : Use) (channel : ℕ) (octets : List ℕ) (X : Type 0) → packet_in wanted ≡ [] → wanted ≡ Sends channel octets → X
 wants_none wanted channel octets X none sends =
@@ -574,9 +572,10 @@ listened_more : (given : Given) (station : ℕ) (step : Step) (history : List Ev
     → Listened listened given history other → Listened listened given (after_call given station step history) other
 listened_more given station step history other differs true none = received_by given other station step history false differs ∙ none
 listened_more given station step history other differs false has =
-    let same = called_same given other station step history differs in (
-      heard_same given other history _ same (received_by given other station step history false differs) has.0,
-      aired_same given other history _ same has.1,
+    let same = called_same given other station step history differs in
+    let last = last_called given station step history other in (
+      heard_same given other history _ same (received_by given other station step history false differs) last has.0,
+      aired_same given other history _ same last has.1,
     )
 
 listen_by : (given : Given) (done : List ℕ) (station : ℕ) (step : Step) (history : List Event) → (other : ℕ) → Listened (is_in other done) given history other
@@ -610,16 +609,32 @@ slot_by given station received history other in_slot false is =
 
 may_open : IsUnderstood → AreTaken → (given : Given) → HaveAddresses given → (station : ℕ) (history : List Event) → HasHeard given history station
     → HasAired given history station → IsInSlot given history station
-    → MayOpen (HasConnectInd history station) (facts_at given station history) (step_of (packet_received station history))
+    → MayOpen (IsLast history station) (facts_at given station history) (step_of (packet_received station history))
 may_open understood taken given six station history heard aired in_slot = record {
   made = λ channel link ends doing. made_by understood given six station channel link history aired in_slot doing;
   taken = λ channel octets on pdu fields handle is doing found takes.
       taken_by taken given six station channel octets on pdu fields handle history heard in_slot is doing found takes;
 }
 
+-- in the call that ends a phase, what a link is set up with comes from a CONNECT_IND, of which its station knows
+pub may_open_at : IsUnderstood → AreTaken → (given : Given) → HaveAddresses given → AreDistinct given.stations → (phases : ℕ) (done left : List ℕ) (station : ℕ)
+    (history : List Event) → given.stations ≡ done ++ station ∷ left → IsLinkedSoFar given (AtListening phases done (station ∷ left)) history
+    → MayOpen (IsLast history station) (facts_at given station history) (step_of (packet_received station history))
+may_open_at understood taken given six distinct phases done left station history are linked =
+    let own = linked.at station (among given.stations done left station are) in
+    let has = subst (λ b. Listened b given history station) (not_before given.stations done left station distinct are) own.1 in
+    may_open understood taken given six station history has.0 has.1 own.0
+
+has_one : (given : Given) (station : ℕ) (history : List Event) (step : Step) → MayOpen (IsLast history station) (facts_at given station history) step
+    → MayOpen (HasConnectInd history station) (facts_at given station history) step
+has_one given station history step may = record {
+  made = λ channel link ends doing. (may.made channel link ends doing).has;
+  taken = λ channel octets on pdu fields handle is doing found takes. (may.taken channel octets on pdu fields handle is doing found takes).has;
+}
+
 -- ---- the run
 
-linked_kept : IsUnderstood → AreTaken → (given : Given) → HaveAddresses given → AreDistinct given.stations → IsKept given (IsLinkedSoFar given)
+pub linked_kept : IsUnderstood → AreTaken → (given : Given) → HaveAddresses given → AreDistinct given.stations → IsKept given (IsLinkedSoFar given)
 linked_kept understood taken given six distinct = record {
   on_turn = λ slot plan history begun at linked. record {
     so_far = event_linked given history (TurnBegan slot (map plan.radio_of given.stations)) (λ station. refl) linked.so_far;
@@ -653,8 +668,8 @@ linked_kept understood taken given six distinct = record {
         so_far = event_linked given history event (λ other. refl) linked.so_far;
         at = λ other is. let has = linked.at other is in (
           slot_same given other history (event ∷ []) (packet_same other station channel octets hearings history) has.0,
-          hears_by given plan.fates station channel octets history other has.1 (has_received other hearings) refl,
-          packet_by given done station channel octets hearings history due.is_wanted other has.2 (other == station) refl,
+          hears_by given plan.fates station channel octets history due.is_wanted other has.1 (has_received other hearings) refl,
+          packet_by given plan.fates done station channel octets history due.is_wanted other has.2 (other == station) refl,
         );
       };
   on_air = λ phases history linked. record {
@@ -662,11 +677,9 @@ linked_kept understood taken given six distinct = record {
     at = λ station is. let has = linked.at station is in (has.0, (has.1, subst (λ b. Sent b given history station) is has.2));
   };
   on_hearing = λ phases done left station history are some linked.
-      let received = packet_received station history in
-      let own = linked.at station (among given.stations done left station are) in
-      let has = subst (λ b. Listened b given history station) (not_before given.stations done left station distinct are) own.1 in record {
-        so_far = call_linked given station (step_of received) history
-            (may_open understood taken given six station history has.0 has.1 own.0) linked.so_far;
+      let received = packet_received station history in record {
+        so_far = call_linked given station (step_of received) history (has_one given station history (step_of received)
+            (may_open_at understood taken given six distinct phases done left station history are linked)) linked.so_far;
         at = λ other is. let one = linked.at other is in (
           slot_by given station received history other one.0 (other == station) refl,
           listen_by given done station (step_of received) history other one.1 (other == station) refl,
@@ -688,13 +701,13 @@ first_linked : (given : Given) (station : ℕ) → EachLink (HasConnectInd [] st
 unfolding facts_of
 first_linked given station = none_linked (HasConnectInd [] station) (setup_at given station).links
 
+pub no_turn_linked : (given : Given) → IsLinkedSoFar given NoTurn []
+no_turn_linked given = record { so_far = record { each = tt; linked = first_linked given }; at = λ station is. tt }
+
 run_linked : IsUnderstood → AreTaken → (given : Given) → HaveAddresses given → AreDistinct given.stations → AreLinkedSoFar given (history_of (run_of given))
 run_linked understood taken given six distinct =
     ends_with (run_of given) (IsWhole given (IsLinkedSoFar given)) (IsStopped given (IsLinkedSoFar given)) (AreLinkedSoFar given)
-    (run_kept given (IsLinkedSoFar given) (linked_kept understood taken given six distinct) (record {
-      so_far = record { each = tt; linked = first_linked given };
-      at = λ station is. tt;
-    }))
+    (run_kept given (IsLinkedSoFar given) (linked_kept understood taken given six distinct) (no_turn_linked given))
     (λ history whole. whole.is.so_far) (λ history stop stopped. stopped.kept.so_far)
 
 linked_before : (given : Given) (history before rest : List Event) → history ≡ before ++ rest → AreLinkedSoFar given history → AreLinked given before

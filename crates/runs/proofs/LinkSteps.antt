@@ -5,6 +5,7 @@ use Rattle.std.specs.Option.{option_map}
 use Rattle.ble_base.specs.declared.addresses.Address.{Address}
 use Rattle.adv_pdu.specs.declared.pdu.AdvPdu.{AdvPdu}
 use Rattle.adv_pdu.specs.declared.pdu.ConnectFields.{ConnectFields}
+use Rattle.adv_pdu.specs.Pdu.{sender_of}
 use Rattle.advertise.specs.declared.answers.AdvAnswer.{AdvAnswer}
 use Rattle.advertise.specs.declared.answers.AdvAnswer.TheVariants.{Ignore, Respond, Connect as Takes}
 use Rattle.advertise.specs.Advertising.{AdvertiserFacts}
@@ -26,20 +27,21 @@ use Rattle.scan_init.specs.Reports.{ScannerFacts}
 use Rattle.slot_plan.specs.declared.Activity.{Activity}
 use Rattle.slot_plan.specs.declared.Activity.TheVariants.{Link, Advertise, Scan, Initiate}
 use Rattle.slot_plan.specs.Holding.{is_held_in, winner_of}
-use Rattle.open_links.specs.OpenLinks.{Links, OpenLink, free_from, link_after, link_from, link_served, with_change, with_change_from, with_link, without_links}
+use Rattle.open_links.specs.OpenLinks.{Links, OpenLink, free_from, link_after, link_at, link_from, link_served, with_change, with_change_from, with_link, without_links}
 use Rattle.open_links.specs.Turns.{is_anchor, entered_if, links_entered, links_staying, reason_in, staying_by}
 use Rattle.one_side.specs.declared.doing.Doing.{Doing}
 use Rattle.one_side.specs.declared.doing.Doing.TheVariants.{Advertises, AwaitsRequest, Scans, Requests, AwaitsResponse, Initiates, Connects, CentralSends, CentralListens, PeripheralListens, PeripheralSends, Rests}
 use Rattle.one_side.specs.Step.{Step, HostOctet, TurnBegins, PacketHeard, NothingHeard, TurnEnds}
 use Rattle.one_side.specs.Facts.{Setup, Facts}
 use Rattle.one_side.specs.Commands.{facts_commanded, facts_known, links_after}
-use Rattle.one_side.specs.Heard.{advertiser_answers, advertiser_heard, connects, heard, if_pdu, initiator_heard, link_heard, link_taken, link_to, opens, scanner_heard, taken_if, taken_under, unheard}
+use Rattle.one_side.specs.Heard.{advertiser_answers, advertiser_heard, connects, heard, if_pdu, initiator_heard, is_new_between, link_heard, link_taken, link_to, opens, scanner_heard, taken_if, taken_under, unheard}
 use Rattle.one_side.specs.Links.{facts_ending}
 use Rattle.one_side.specs.Outcome.{Outcome, facts_passed}
 use Rattle.one_side.specs.Packets.{links_sending, pdu_heard}
 use Rattle.one_side.specs.Radio.{facts_entering, outcome_begun, plan_in, served, radio_served, turn_begins, winner_served}
 use Rattle.one_side.specs.Side.{facts_after, facts_fed, result_of}
 use Rattle.one_side.proofs.Always.{ending_is, links_won, opening_is, winning_is}
+use Rattle.one_side.proofs.LinkNotes.{AreIn, first_in, rest_in}
 use Rattle.one_side.proofs.Phases.{EachOutcome, heard_is, unheard_is}
 use Rattle.runs.specs.OnAir.{ends_phase}
 use Rattle.runs.specs.Run.{step_of}
@@ -71,6 +73,14 @@ pub each_more : (P Q : EndSetup → Type 0) (links : Links) → ((end : EndSetup
 each_more P Q [] more each = tt
 each_more P Q (None ∷ links) more each = (tt, each_more P Q links more each.1)
 each_more P Q (Some link ∷ links) more each = (more link.setup each.0, each_more P Q links more each.1)
+
+-- a fact of each link under its handle
+pub each_in : (P : EndSetup → Type 0) (whole links : Links) (first : ℕ) → AreIn whole first links
+    → ((handle : ℕ) (link : OpenLink) → link_at handle whole ≡ Some link → P link.setup) → EachLink P links
+each_in P whole [] first are has = tt
+each_in P whole (None ∷ links) first are has = (tt, each_in P whole links (first + 1) (rest_in whole first None links are) has)
+each_in P whole (Some link ∷ links) first are has =
+    (has first link (first_in whole first link links are), each_in P whole links (first + 1) (rest_in whole first (Some link) links are) has)
 
 pub none_linked : (P : EndSetup → Type 0) (many : ℕ) → EachLink P (replicate many None)
 none_linked P zero = tt
@@ -189,6 +199,17 @@ module _ (P : EndSetup → Type 0) where
         → advertiser_answer on.params facts.view.accepted pdu ≡ Takes fields
         → P (record { link = link_taken on.params.own pdu fields handle; opened = facts.turn.slot })
 
+  -- the same with all that the step says of a link that is taken: by the advertiser that is on, from a device with which
+  -- there is no link yet, and under a free handle
+  pub record MayOpenNew (facts : Facts) (step : Step) : Type 0 where
+    pub made : (channel : ℕ) (link : LinkSetup) → ends_phase step ≡ true → facts.turn.doing ≡ Connects channel link
+        → P (record { link = link; opened = facts.turn.slot })
+    pub taken : (channel : ℕ) (octets : List ℕ) (on : AdvertiserFacts) (pdu : AdvPdu) (fields : ConnectFields) (handle : ℕ)
+        → step ≡ PacketHeard octets → facts.turn.doing ≡ AwaitsRequest channel → pdu_heard channel octets ≡ Some pdu
+        → facts.advertising.on ≡ Some on → advertiser_answer on.params facts.view.accepted pdu ≡ Takes fields
+        → is_new_between on.params.own (sender_of pdu) facts.links ≡ true → free_from 0 facts.links ≡ Some handle
+        → P (record { link = link_taken on.params.own pdu fields handle; opened = facts.turn.slot })
+
   opens_linked : (link : LinkSetup) (facts : Facts) → P (record { link = link; opened = facts.turn.slot }) → EachLink P facts.links → EachLink P (opens link facts).facts.links
   opens_linked link facts has each =
       subst (λ may. EachLink P may.links) (sym (opening_is link facts)) (opened (record { link = link; opened = facts.turn.slot }) facts.links has each)
@@ -202,31 +223,35 @@ module _ (P : EndSetup → Type 0) where
   unheard_linked facts other made each = each
 
   under_linked : (free : Option ℕ) (own : Address) (pdu : AdvPdu) (fields : ConnectFields) (facts : Facts)
-      → ((handle : ℕ) → P (record { link = link_taken own pdu fields handle; opened = facts.turn.slot })) → EachLink P facts.links
+      → ((handle : ℕ) → free ≡ Some handle → P (record { link = link_taken own pdu fields handle; opened = facts.turn.slot })) → EachLink P facts.links
       → EachLink P (taken_under free own pdu fields facts).facts.links
   under_linked None own pdu fields facts has each = each
-  under_linked (Some handle) own pdu fields facts has each = opens_linked (link_taken own pdu fields handle) facts (has handle) each
+  under_linked (Some handle) own pdu fields facts has each = opens_linked (link_taken own pdu fields handle) facts (has handle refl) each
 
   if_linked : (new : Bool) (own : Address) (pdu : AdvPdu) (fields : ConnectFields) (facts : Facts)
-      → ((handle : ℕ) → P (record { link = link_taken own pdu fields handle; opened = facts.turn.slot })) → EachLink P facts.links
-      → EachLink P (taken_if new own pdu fields facts).facts.links
+      → (new ≡ true → (handle : ℕ) → free_from 0 facts.links ≡ Some handle → P (record { link = link_taken own pdu fields handle; opened = facts.turn.slot }))
+      → EachLink P facts.links → EachLink P (taken_if new own pdu fields facts).facts.links
   if_linked false own pdu fields facts has each = each
-  if_linked true own pdu fields facts has each = under_linked (free_from 0 facts.links) own pdu fields facts has each
+  if_linked true own pdu fields facts has each = under_linked (free_from 0 facts.links) own pdu fields facts (has refl) each
 
   answers_linked : (answer : AdvAnswer) (channel : ℕ) (own : Address) (pdu : AdvPdu) (facts : Facts)
-      → ((fields : ConnectFields) (handle : ℕ) → answer ≡ Takes fields → P (record { link = link_taken own pdu fields handle; opened = facts.turn.slot }))
+      → ((fields : ConnectFields) (handle : ℕ) → answer ≡ Takes fields → is_new_between own (sender_of pdu) facts.links ≡ true
+      → free_from 0 facts.links ≡ Some handle → P (record { link = link_taken own pdu fields handle; opened = facts.turn.slot }))
       → EachLink P facts.links → EachLink P (advertiser_answers answer channel own pdu facts).facts.links
   answers_linked Ignore channel own pdu facts has each = each
   answers_linked Respond channel own pdu facts has each = each
-  answers_linked (Takes fields) channel own pdu facts has each = if_linked _ own pdu fields facts (λ handle. has fields handle refl) each
+  answers_linked (Takes fields) channel own pdu facts has each =
+      if_linked (is_new_between own (sender_of pdu) facts.links) own pdu fields facts (λ new handle free. has fields handle refl new free) each
 
   advertiser_linked : (on : Option AdvertiserFacts) (channel : ℕ) (pdu : AdvPdu) (facts : Facts)
-      → ((one : AdvertiserFacts) (fields : ConnectFields) (handle : ℕ) → advertiser_answer one.params facts.view.accepted pdu ≡ Takes fields
+      → ((one : AdvertiserFacts) (fields : ConnectFields) (handle : ℕ) → on ≡ Some one → advertiser_answer one.params facts.view.accepted pdu ≡ Takes fields
+      → is_new_between one.params.own (sender_of pdu) facts.links ≡ true → free_from 0 facts.links ≡ Some handle
       → P (record { link = link_taken one.params.own pdu fields handle; opened = facts.turn.slot }))
       → EachLink P facts.links → EachLink P (advertiser_heard on channel pdu facts).facts.links
   advertiser_linked None channel pdu facts has each = each
   advertiser_linked (Some on) channel pdu facts has each =
-      answers_linked (advertiser_answer on.params facts.view.accepted pdu) channel on.params.own pdu facts (λ fields handle is. has on fields handle is) each
+      answers_linked (advertiser_answer on.params facts.view.accepted pdu) channel on.params.own pdu facts
+      (λ fields handle is new free. has on fields handle refl is new free) each
 
   scanner_linked : (on : Option ScannerFacts) (may_ask : Bool) (channel : ℕ) (pdu : AdvPdu) (facts : Facts) → EachLink P facts.links
       → EachLink P (scanner_heard on may_ask channel pdu facts).facts.links
@@ -251,11 +276,11 @@ module _ (P : EndSetup → Type 0) where
   received_linked handle octets facts each =
       changed handle (link_after (PacketReceived facts.turn.slot octets)) facts.links (λ link. refl) each
 
-  heard_linked : (setup : Setup) (facts : Facts) (octets : List ℕ) (doing : Doing) → facts.turn.doing ≡ doing → MayOpen facts (PacketHeard octets)
+  heard_linked : (setup : Setup) (facts : Facts) (octets : List ℕ) (doing : Doing) → facts.turn.doing ≡ doing → MayOpenNew facts (PacketHeard octets)
       → EachLink P facts.links → EachLink P (heard setup doing octets facts).facts.links
   heard_linked setup facts octets (AwaitsRequest channel) is may each =
       pdu_linked (pdu_heard channel octets) facts _ each (λ pdu found. advertiser_linked facts.advertising.on channel pdu facts
-      (λ on fields handle takes. may.taken channel octets on pdu fields handle refl is found takes) each)
+      (λ on fields handle is_on takes new free. may.taken channel octets on pdu fields handle refl is found is_on takes new free) each)
   heard_linked setup facts octets (Scans channel) is may each =
       pdu_linked (pdu_heard channel octets) facts _ each (λ pdu found. scanner_linked facts.scanning.on true channel pdu facts each)
   heard_linked setup facts octets (AwaitsResponse channel) is may each =
@@ -272,14 +297,20 @@ module _ (P : EndSetup → Type 0) where
   passed_linked : (outcome : Outcome) → EachLink P outcome.facts.links → EachLink P (facts_passed outcome).links
   passed_linked outcome each = sends outcome.facts.turn.slot outcome.next outcome.facts.links each
 
-  pub step_linked : (setup : Setup) (facts : Facts) (step : Step) → MayOpen facts step → EachLink P facts.links → EachLink P (facts_after setup facts step).links
-  step_linked setup facts (HostOctet octet) may each = fed_linked setup facts (result_of facts.octets octet) each
-  step_linked setup facts (TurnBegins slot on) may each = passed_linked (outcome_begun slot on facts) (begun_linked slot on facts each)
-  step_linked setup facts (PacketHeard octets) may each =
+  pub step_opens : (setup : Setup) (facts : Facts) (step : Step) → MayOpenNew facts step → EachLink P facts.links → EachLink P (facts_after setup facts step).links
+  step_opens setup facts (HostOctet octet) may each = fed_linked setup facts (result_of facts.octets octet) each
+  step_opens setup facts (TurnBegins slot on) may each = passed_linked (outcome_begun slot on facts) (begun_linked slot on facts each)
+  step_opens setup facts (PacketHeard octets) may each =
       passed_linked (heard setup facts.turn.doing octets facts) (heard_linked setup facts octets facts.turn.doing refl may each)
-  step_linked setup facts NothingHeard may each =
+  step_opens setup facts NothingHeard may each =
       passed_linked (unheard facts.turn.doing facts) (unheard_linked facts facts.turn.doing (λ channel link is. may.made channel link refl is) each)
-  step_linked setup facts TurnEnds may each = sends facts.turn.slot Rests facts.links each
+  step_opens setup facts TurnEnds may each = sends facts.turn.slot Rests facts.links each
+
+  pub step_linked : (setup : Setup) (facts : Facts) (step : Step) → MayOpen facts step → EachLink P facts.links → EachLink P (facts_after setup facts step).links
+  step_linked setup facts step may each = step_opens setup facts step (record {
+    made = may.made;
+    taken = λ channel octets on pdu fields handle is doing found is_on takes new free. may.taken channel octets on pdu fields handle is doing found takes;
+  }) each
 
 -- ---- the slot of a turn
 

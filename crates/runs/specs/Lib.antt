@@ -15,3 +15,4 @@ pub mod Entries
 pub mod Answered
 pub mod LinkEnds
 pub mod Numbers
+pub mod NotedCalls

@@ -15,5 +15,7 @@ pub use crate::laws::{
     entries_are_in_order, feeding_follows_the_schedule, notes_are_those_of_the_calls,
     turns_follow_the_schedule, unseen_damage_stops_a_run,
 };
-pub use crate::links::each_link_has_its_connect_ind;
+pub use crate::links::{
+    each_link_has_its_connect_ind, each_note_is_of_a_call, each_open_link_has_its_number,
+};
 pub use crate::rows::{worked_damage, worked_runs};

@@ -1,12 +1,15 @@
-//! What the ends of links come from. The body only calls the laws that it rests on: the contract is
-//! the law.
-ghost use Rattle.std.specs.Prelude.{◌≡◌, ℕ, List, ◌++◌, Some, length};
+//! What the ends of links come from, and the calls that notes come from. The bodies only call the
+//! laws that they rest on: the contracts are the laws.
+ghost use Rattle.std.specs.Prelude.{◌≡◌, ℕ, false, List, ◌∷◌, ◌++◌, Some, length};
+ghost use Rattle.ble_base.specs.declared.notes.Note.{Note};
 ghost use Rattle.ble_base.specs.declared.roles.Side.{Side};
 ghost use Rattle.open_links.specs.OpenLinks.{OpenLink, link_at};
 ghost use Rattle.radio_replay.specs.Script.{Script};
-ghost use Rattle.runs.specs.Feeding.{AreDistinct};
-ghost use Rattle.runs.specs.History.{Event};
+ghost use Rattle.runs.specs.Feeding.{AreDistinct, is_note};
+ghost use Rattle.runs.specs.History.{Event, Noted};
 ghost use Rattle.runs.specs.LinkEnds.{HasConnectInd, HaveAddresses};
+ghost use Rattle.runs.specs.NotedCalls.{IsNotedInCall};
+ghost use Rattle.runs.specs.Numbers.{AreNumbered};
 ghost use Rattle.runs.specs.Pair.{given_of};
 ghost use Rattle.runs.specs.Readers.{station_of};
 ghost use Rattle.runs.specs.Run.{Given, facts_at, history_of, run_of};
@@ -32,3 +35,26 @@ pub fn each_link_has_its_connect_ind()
     one_side::a_pdu_is_understood();
     advertise::laws::connections_are_taken();
 }
+
+/// Each open link has, under its handle, the number of the CONNECT_IND that it comes from: the n-th
+/// CONNECT_IND on the air begins link n. This is so before each event that is no note, and at the
+/// end of a run or at its stop, where each public address has six octets.
+pub fn each_open_link_has_its_number()
+    ensures place { (given : Given) (before rest : List Event) (event : Event)
+        → AreDistinct given.stations → HaveAddresses given
+        → history_of (run_of given) ≡ before ++ event ∷ rest → is_note event ≡ false
+        → AreNumbered given before }
+    ensures last { (given : Given) → AreDistinct given.stations → HaveAddresses given
+        → AreNumbered given (history_of (run_of given)) }
+{
+    one_side::a_pdu_is_understood();
+    advertise::laws::connections_are_taken();
+}
+
+/// Each note in a run is one of those that a call on its controller gives: it stands after that
+/// call and the notes that the call gives before it.
+pub fn each_note_is_of_a_call()
+    ensures { (given : Given) (before rest : List Event) (station : ℕ) (note : Note)
+        → history_of (run_of given) ≡ before ++ Noted station note ∷ rest
+        → IsNotedInCall given before station note }
+{}

@@ -1,0 +1,69 @@
+//! Laws of the journal of each run of a pair about its lines of links. The bodies only call the
+//! laws that they rest on: the contracts are the laws.
+ghost use Rattle.std.specs.Prelude.{◌≡◌, ℕ, List, ◌∷◌, ◌++◌, length};
+ghost use Rattle.ble_base.specs.declared.roles.Role.{Role};
+ghost use Rattle.ble_base.specs.declared.roles.Side.{Side};
+ghost use Rattle.journal.specs.declared.entries.Entry.{Entry};
+ghost use Rattle.journal.specs.declared.entries.Entry.TheVariants.{Enter, Opened};
+ghost use Rattle.journal_links.specs.Entered.{IsEnteredInTime};
+ghost use Rattle.journal_links.specs.Opened.{IsOpenedInTime};
+ghost use Rattle.radio_replay.specs.Script.{Script};
+ghost use Rattle.runs.specs.Journal.{journal_of};
+ghost use Rattle.runs.specs.Pair.{given_of};
+ghost use Rattle.runs.specs.Readers.{turns_of};
+ghost use Rattle.runs.specs.Run.{history_of, run_of};
+
+/// Each line of an end that enters an event of a link stands in the turn of the anchor of that
+/// event, and its channel is that of the event, by channel selection algorithm #2: both follow from
+/// the CONNECT_IND of the link alone (Core 5.2, volume 6 part B, sections 4.5.1, 4.5.3 and 4.5.8).
+pub fn each_enter_line_is_at_its_anchor()
+    ensures { (a b : List ℕ) (script : Script) (front rest : List Entry) (side : Side)
+        (number event channel : ℕ)
+        → length script.a.public ≡ 6 → length script.b.public ≡ 6
+        → journal_of (history_of (run_of (given_of a b script)))
+        ≡ front ++ Enter side number event channel ∷ rest
+        → IsEnteredInTime front number event channel }
+{
+    one_side::a_pdu_is_understood();
+    advertise::laws::connections_are_taken();
+}
+
+/// Where two lines say that an event of one link is entered, they stand in one turn and name one
+/// channel: so it is where both ends of the link enter it (Core 5.2, volume 6 part B, sections
+/// 4.5.1 and 4.5.8).
+pub fn both_ends_enter_an_event_in_one_turn()
+    ensures turn { (a b : List ℕ) (script : Script) (front rest later last : List Entry)
+        (side other : Side) (number event channel too : ℕ)
+        → length script.a.public ≡ 6 → length script.b.public ≡ 6
+        → journal_of (history_of (run_of (given_of a b script)))
+        ≡ front ++ Enter side number event channel ∷ rest
+        → journal_of (history_of (run_of (given_of a b script)))
+        ≡ later ++ Enter other number event too ∷ last
+        → length (turns_of front) ≡ length (turns_of later) }
+    ensures channel { (a b : List ℕ) (script : Script) (front rest later last : List Entry)
+        (side other : Side) (number event channel too : ℕ)
+        → length script.a.public ≡ 6 → length script.b.public ≡ 6
+        → journal_of (history_of (run_of (given_of a b script)))
+        ≡ front ++ Enter side number event channel ∷ rest
+        → journal_of (history_of (run_of (given_of a b script)))
+        ≡ later ++ Enter other number event too ∷ last
+        → channel ≡ too }
+{
+    one_side::a_pdu_is_understood();
+    advertise::laws::connections_are_taken();
+}
+
+/// Each line of a link that a side holds from there on names a link of the journal, and stands in
+/// the turn of its CONNECT_IND: the central sent that, and the peripheral is the other side (Core
+/// 5.2, volume 6 part B, section 4.5).
+pub fn each_opened_line_names_its_link()
+    ensures { (a b : List ℕ) (script : Script) (front rest : List Entry) (side : Side)
+        (number handle : ℕ) (role : Role)
+        → length script.a.public ≡ 6 → length script.b.public ≡ 6
+        → journal_of (history_of (run_of (given_of a b script)))
+        ≡ front ++ Opened side number handle role ∷ rest
+        → IsOpenedInTime front side number role }
+{
+    one_side::a_pdu_is_understood();
+    advertise::laws::connections_are_taken();
+}

@@ -1,0 +1,217 @@
+-- Which links a step notes as opened: those that it opens, each under a handle that was free.
+use Rattle.std.proofs.Common.{◌≡◌, ℕ, ◌==◌, ◌||◌, Bool, true, false, Option, Some, None, List, [], ◌∷◌, ◌++◌, map, refl, sym, ap, subst, ◌∙◌}
+use Rattle.std.specs.Prelude.{filter, flat_map}
+use Rattle.std.specs.List.{list_any}
+use Rattle.std.proofs.lemmas.Bool.{eqb-true}
+use Rattle.std.proofs.lemmas.List.Folds.{list_any-append}
+use Rattle.ble_base.specs.declared.notes.Note.{Note}
+use Rattle.ble_base.specs.declared.notes.Note.TheVariants.{Up, Opened}
+use Rattle.adv_pdu.specs.declared.pdu.AdvPdu.{AdvPdu}
+use Rattle.adv_pdu.specs.declared.pdu.ConnectFields.{ConnectFields}
+use Rattle.adv_pdu.specs.Pdu.{sender_of}
+use Rattle.advertise.specs.declared.answers.AdvAnswer.{AdvAnswer}
+use Rattle.advertise.specs.declared.answers.AdvAnswer.TheVariants.{Connect as Takes}
+use Rattle.advertise.specs.Advertising.{AdvertiserFacts}
+use Rattle.advertise.specs.Answers.{advertiser_answer}
+use Rattle.h4_frames.specs.declared.packet.HostPacket.TheVariants.{Command as HostCommand, Acl}
+use Rattle.h4_frames.specs.declared.packet.Fed.{Fed}
+use Rattle.h4_frames.specs.declared.packet.Fed.TheVariants.{More, Packet, LostSync}
+use Rattle.hci_cmd.specs.declared.command.Command.{Command}
+use Rattle.hci_cmd.specs.declared.command.Command.TheVariants.{Reset}
+use Rattle.hci_cmd.specs.declared.command.CmdRead.{CmdRead}
+use Rattle.hci_cmd.specs.declared.command.CmdRead.TheVariants.{Known, UnknownOpcode, BadLength}
+use Rattle.hci_cmd.specs.Command.{command_of}
+use Rattle.hci_evt.specs.declared.event.Event.{Event}
+use Rattle.hci_evt.specs.declared.event.Event.TheVariants.{DisconnectionComplete, HardwareError}
+use Rattle.hci_evt.specs.Event.{mask_bit_of, written}
+use Rattle.host_view.specs.View.{View}
+use Rattle.host_view.specs.Unbuilt.{status_of}
+use Rattle.instants.specs.Track.{next_number}
+use Rattle.one_end.specs.declared.setup.LinkSetup.{LinkSetup}
+use Rattle.one_end.specs.End.{applied_notes}
+use Rattle.scan_init.specs.Reports.{scan_answer}
+use Rattle.open_links.specs.declared.ended.LinkEnded.{LinkEnded}
+use Rattle.open_links.specs.OpenLinks.{Links, OpenLink, facts_in, free_from, handles_from, link_at}
+use Rattle.open_links.specs.Turns.{is_anchor, notes_entering, notes_if}
+use Rattle.one_side.specs.declared.doing.Doing.{Doing}
+use Rattle.one_side.specs.declared.doing.Doing.TheVariants.{AwaitsRequest, Connects}
+use Rattle.one_side.specs.Step.{Step, HostOctet, TurnBegins, PacketHeard, NothingHeard, TurnEnds}
+use Rattle.one_side.specs.Facts.{Setup, Facts}
+use Rattle.one_side.specs.Answers.{answer_to}
+use Rattle.one_side.specs.Commands.{events_caused, notes_before, notes_commanded, notes_known}
+use Rattle.one_side.specs.Events.{notes_of_events, passes}
+use Rattle.one_side.specs.Heard.{advertiser_answers, advertiser_heard, events_reported, heard, if_pdu, is_new_between, link_taken, opens, taken_if, taken_under, unheard}
+use Rattle.one_side.specs.Links.{ends_in, events_opened, facts_ending, note_shut, notes_ended, notes_ending, notes_opened}
+use Rattle.one_side.specs.Outcome.{Outcome}
+use Rattle.one_side.specs.Packets.{pdu_heard}
+use Rattle.one_side.specs.Side.{notes_after, notes_fed, result_of}
+use Rattle.one_side.proofs.Handles.{HaveOwnHandles, IsNew, free_is_new}
+use Rattle.one_side.proofs.Phases.{EachOutcome, heard_is, unheard_is}
+use Rattle.runs.specs.OnAir.{ends_phase}
+use Rattle.runs.proofs.Calls.{same_station}
+
+-- a note that a link is opened under this handle
+abbrev pub opens_under : ℕ → Note → Bool
+opens_under handle (Opened other role own peer) = handle == other
+opens_under handle other = false
+
+-- and whether there is one among these
+abbrev pub is_opened : ℕ → List Note → Bool
+is_opened handle notes = list_any (opens_under handle) notes
+
+or_false : (one other : Bool) → other ≡ false → (one || other) ≡ true → one ≡ true
+or_false true other none is = refl
+or_false false other none is = absurd (let h : true ≡ false = sym is ∙ none in absurd cc)
+
+module _ (handle : ℕ) where
+  neither : (xs ys : List Note) → is_opened handle xs ≡ false → is_opened handle ys ≡ false → is_opened handle (xs ++ ys) ≡ false
+  neither xs ys one other = list_any-append (opens_under handle) xs ys ∙ ap (λ b. b || is_opened handle ys) one ∙ other
+
+  packets_open : (events : List Event) → is_opened handle (map (λ event. Up (record { items = written event })) events) ≡ false
+  packets_open [] = refl
+  packets_open (event ∷ events) = packets_open events
+
+  events_open : (view : View) (events : List Event) → is_opened handle (notes_of_events view events) ≡ false
+  events_open view events = packets_open (filter (λ event. passes view (mask_bit_of event)) events)
+
+  -- ---- an octet of the host
+
+  shut_open : (handles : List ℕ) → is_opened handle (map (λ one. note_shut one 0) handles) ≡ false
+  shut_open [] = refl
+  shut_open (one ∷ handles) = shut_open handles
+
+  before_open : (facts : Facts) (command : Command) → is_opened handle (notes_before facts command) ≡ false
+  before_open facts Reset = shut_open (handles_from 0 facts.links)
+  before_open facts other = refl
+
+  known_open : (accepted : Bool) (setup : Setup) (facts : Facts) (opcode : ℕ) (command : Command)
+      → is_opened handle (notes_known accepted setup facts opcode command) ≡ false
+  known_open false setup facts opcode command = events_open facts.view (answer_to setup facts opcode (Known command))
+  known_open true setup facts opcode command =
+      let answer = notes_of_events facts.view (answer_to setup facts opcode (Known command)) in
+      neither (notes_before facts command ++ answer) (notes_of_events facts.view (events_caused facts command))
+      (neither (notes_before facts command) answer (before_open facts command) (events_open facts.view (answer_to setup facts opcode (Known command))))
+      (events_open facts.view (events_caused facts command))
+
+  read_open : (setup : Setup) (facts : Facts) (opcode : ℕ) (read : CmdRead) → is_opened handle (notes_commanded setup facts opcode read) ≡ false
+  read_open setup facts opcode (Known command) = known_open (status_of facts.view command == 0) setup facts opcode command
+  read_open setup facts opcode UnknownOpcode = events_open facts.view (answer_to setup facts opcode UnknownOpcode)
+  read_open setup facts opcode BadLength = events_open facts.view (answer_to setup facts opcode BadLength)
+
+  fed_open : (setup : Setup) (facts : Facts) (fed : Fed) → is_opened handle (notes_fed setup facts fed) ≡ false
+  fed_open setup facts (Packet (HostCommand opcode body)) = read_open setup facts opcode (command_of opcode body.items)
+  fed_open setup facts (Packet (Acl number start count body)) = refl
+  fed_open setup facts LostSync = events_open facts.view (HardwareError 0x01 ∷ [])
+  fed_open setup facts More = refl
+
+  -- ---- a turn begins
+
+  ended_open : (view : View) (ended : List LinkEnded) → is_opened handle (flat_map (notes_ended view) ended) ≡ false
+  ended_open view [] = refl
+  ended_open view (one ∷ ended) =
+      neither (notes_ended view one) (flat_map (notes_ended view) ended)
+      (events_open view (DisconnectionComplete 0 one.handle one.reason.0 ∷ [])) (ended_open view ended)
+
+  applied_open : (other event : ℕ) (number : Option ℕ) → is_opened handle (applied_notes other event number) ≡ false
+  applied_open other event None = refl
+  applied_open other event (Some number) = refl
+
+  entry_open : (anchor : Bool) (slot : ℕ) (link : OpenLink) → is_opened handle (notes_if anchor slot link) ≡ false
+  entry_open false slot link = refl
+  entry_open true slot link =
+      neither (applied_notes link.setup.link.handle _ (next_number (facts_in link).parameters)) _
+      (applied_open link.setup.link.handle _ (next_number (facts_in link).parameters)) refl
+
+  entering_open : (slot : ℕ) (links : Links) → is_opened handle (notes_entering slot links) ≡ false
+  entering_open slot [] = refl
+  entering_open slot (None ∷ links) = entering_open slot links
+  entering_open slot (Some link ∷ links) =
+      neither (notes_if (is_anchor slot link) slot link) (notes_entering slot links) (entry_open (is_anchor slot link) slot link) (entering_open slot links)
+
+  begun_open : (slot : ℕ) (on : Bool) (setup : Setup) (facts : Facts) → is_opened handle (notes_after setup facts (TurnBegins slot on)) ≡ false
+  begun_open slot on setup facts =
+      neither (notes_ending slot facts) (notes_entering slot (facts_ending slot facts).links)
+      (ended_open facts.view (ends_in slot facts)) (entering_open slot (facts_ending slot facts).links)
+
+  -- a step that ends no phase opens none
+  pub outside_open : (setup : Setup) (facts : Facts) (step : Step) → ends_phase step ≡ false → is_opened handle (notes_after setup facts step) ≡ false
+  outside_open setup facts (HostOctet octet) none = fed_open setup facts (result_of facts.octets octet)
+  outside_open setup facts (TurnBegins slot on) none = begun_open slot on setup facts
+  outside_open setup facts (PacketHeard octets) none = absurd cc
+  outside_open setup facts NothingHeard none = absurd cc
+  outside_open setup facts TurnEnds none = refl
+
+  -- ---- a phase
+
+  abbrev WasFree : Facts → Outcome → Type 0
+  WasFree facts outcome = is_opened handle outcome.notes ≡ true → link_at handle facts.links ≡ None
+
+  not_noted : (facts : Facts) (notes : List Note) → is_opened handle notes ≡ false → is_opened handle notes ≡ true → link_at handle facts.links ≡ None
+  not_noted facts notes none is = absurd (let h : true ≡ false = sym is ∙ none in absurd cc)
+
+  opened_free : (facts : Facts) (link : LinkSetup) → link_at link.handle facts.links ≡ None → WasFree facts (opens link facts)
+  opened_free facts link free = λ is.
+      let same = or_false (handle == link.handle) (is_opened handle (notes_of_events facts.view (events_opened facts.view link)))
+      (events_open facts.view (events_opened facts.view link)) is in
+      subst (λ n. link_at n facts.links ≡ None) (sym (eqb-true handle link.handle same)) free
+
+  phase_free : (setup : Setup) (facts : Facts) → HaveOwnHandles setup facts → EachOutcome setup facts (WasFree facts)
+  phase_free setup facts own = let nothing = not_noted facts [] refl in record {
+    rests = nothing;
+    awaits_request = λ channel doing. nothing;
+    awaits_response = λ channel advertiser doing. nothing;
+    central_listens = λ other doing. nothing;
+    sent = λ channel link doing. let new = subst (IsNew facts.links) doing own.new in opened_free facts link new.1;
+    responds = λ channel on doing is_on. nothing;
+    taken = λ channel octets pdu on fields other is_on hears takes free.
+        opened_free facts (link_taken on.params.own pdu fields other) (free_is_new facts.links other free).1;
+    scanned = λ channel octets pdu on doing is_on hears.
+        let events = events_reported (scan_answer on.params facts.view.accepted on.recent pdu) pdu in
+        not_noted facts (notes_of_events facts.view events) (events_open facts.view events);
+    answered = λ channel octets pdu on doing is_on hears.
+        let events = events_reported (scan_answer on.params facts.view.accepted on.recent pdu) pdu in
+        not_noted facts (notes_of_events facts.view events) (events_open facts.view events);
+    connects = λ channel octets pdu on access other doing is_on hears answers next free in_range. nothing;
+    received = λ other octets. nothing;
+  }
+
+  pub opened_was_free : (setup : Setup) (facts : Facts) (step : Step) → HaveOwnHandles setup facts → is_opened handle (notes_after setup facts step) ≡ true
+      → link_at handle facts.links ≡ None
+  opened_was_free setup facts (HostOctet octet) own is =
+      not_noted facts (notes_after setup facts (HostOctet octet)) (outside_open setup facts (HostOctet octet) refl) is
+  opened_was_free setup facts (TurnBegins slot on) own is =
+      not_noted facts (notes_after setup facts (TurnBegins slot on)) (outside_open setup facts (TurnBegins slot on) refl) is
+  opened_was_free setup facts (PacketHeard octets) own is =
+      heard_is setup facts (WasFree facts) (phase_free setup facts own) facts.turn.doing octets refl is
+  opened_was_free setup facts NothingHeard own is = unheard_is setup facts (WasFree facts) (phase_free setup facts own) facts.turn.doing refl is
+  opened_was_free setup facts TurnEnds own is = absurd cc
+
+-- ---- a link that is opened is noted
+
+opened_is : (view : View) (link : LinkSetup) → is_opened link.handle (notes_opened view link) ≡ true
+opened_is view link = ap (λ b. b || is_opened link.handle (notes_of_events view (events_opened view link))) (same_station link.handle)
+
+pub made_is_noted : (setup : Setup) (facts : Facts) (step : Step) (channel : ℕ) (link : LinkSetup) → ends_phase step ≡ true
+    → facts.turn.doing ≡ Connects channel link → is_opened link.handle (notes_after setup facts step) ≡ true
+made_is_noted setup facts (PacketHeard octets) channel link ends doing =
+    ap (λ (d : Doing). is_opened link.handle (heard setup d octets facts).notes) doing ∙ opened_is facts.view link
+made_is_noted setup facts NothingHeard channel link ends doing =
+    ap (λ (d : Doing). is_opened link.handle (unheard d facts).notes) doing ∙ opened_is facts.view link
+made_is_noted setup facts (HostOctet octet) channel link ends doing = absurd cc
+made_is_noted setup facts (TurnBegins slot on) channel link ends doing = absurd cc
+made_is_noted setup facts TurnEnds channel link ends doing = absurd cc
+
+pub taken_is_noted : (setup : Setup) (facts : Facts) (channel : ℕ) (octets : List ℕ) (on : AdvertiserFacts) (pdu : AdvPdu) (fields : ConnectFields) (handle : ℕ)
+    → facts.turn.doing ≡ AwaitsRequest channel → pdu_heard channel octets ≡ Some pdu → facts.advertising.on ≡ Some on
+    → advertiser_answer on.params facts.view.accepted pdu ≡ Takes fields → is_new_between on.params.own (sender_of pdu) facts.links ≡ true
+    → free_from 0 facts.links ≡ Some handle → is_opened handle (notes_after setup facts (PacketHeard octets)) ≡ true
+taken_is_noted setup facts channel octets on pdu fields handle doing found is_on takes new free =
+    let own = on.params.own in
+    let noted = λ (outcome : Outcome). is_opened handle outcome.notes in
+    ap (λ (d : Doing). noted (heard setup d octets facts)) doing
+    ∙ ap (λ (one : Option AdvPdu). noted (if_pdu one facts (λ heard_pdu. advertiser_heard facts.advertising.on channel heard_pdu facts))) found
+    ∙ ap (λ (one : Option AdvertiserFacts). noted (advertiser_heard one channel pdu facts)) is_on
+    ∙ ap (λ (answer : AdvAnswer). noted (advertiser_answers answer channel own pdu facts)) takes
+    ∙ ap (λ b. noted (taken_if b own pdu fields facts)) new
+    ∙ ap (λ (one : Option ℕ). noted (taken_under one own pdu fields facts)) free
+    ∙ opened_is facts.view (link_taken own pdu fields handle)
