@@ -1,7 +1,7 @@
 -- What a packet on the air does to the counts of both ends of its link.
 use Rattle.std.proofs.Common.{◌≡◌, ℕ, ◌+◌, ◌<◌, ◌≤◌, ◌==◌, ◌&&◌, ◌⊎◌, inl, inr, Bool, true, false, not, Option, Some, None, List, [], ◌∷◌, ◌++◌, length, take, refl, sym, ap, subst, ◌∙◌, arith}
 use Rattle.std.specs.Prelude.{if◌then◌else◌}
-use Rattle.std.proofs.lemmas.Bool.{eqb-true, eq-eqb, le-leb, lt-ltb}
+use Rattle.std.proofs.lemmas.Bool.{eqb-true, eq-eqb}
 use Rattle.ble_base.specs.Side.{other_side}
 use Rattle.ble_base.specs.declared.roles.Role.{Role}
 use Rattle.ble_base.specs.declared.roles.Role.TheVariants.{Central, Peripheral}
@@ -13,44 +13,46 @@ use Rattle.one_end.proofs.Received.{IsHeardWhole}
 use Rattle.one_end.specs.Step.{PacketSent, PacketReceived}
 use Rattle.open_links.specs.OpenLinks.{OpenLink, facts_in, link_after, link_at}
 use Rattle.one_side.specs.declared.doing.Turn.{Turn}
-use Rattle.one_side.specs.Facts.{Facts, Sends, Listens}
+use Rattle.one_side.specs.Facts.{Facts, Sends}
 use Rattle.one_side.proofs.Always.{IsAdvertisingChannel}
 use Rattle.one_side.proofs.DataChannels.{link_channel}
 use Rattle.one_side.proofs.Sent.{sends_well}
 use Rattle.one_side.specs.Packets.{verdict_of}
 use Rattle.radio_replay.specs.declared.fates.Fate.{Fate}
 use Rattle.radio_replay.specs.Damage.{damaged_packet}
-use Rattle.runs.specs.Due.{IsPacketDue}
 use Rattle.runs.specs.Feeding.{AreDistinct}
-use Rattle.runs.specs.History.{Event, Transmitted, Hearing, fates_used, has_received, is_good, packet_received, past_of, received_after, turns_begun}
+use Rattle.runs.specs.History.{Event, Transmitted, Hearing, fates_used, has_received, is_good, packet_received, past_of, turns_begun}
 use Rattle.runs.specs.Journal.{journal_of, side_of}
 use Rattle.runs.specs.LinkEnds.{HaveAddresses}
 use Rattle.runs.specs.Links.{is_advertising}
-use Rattle.runs.specs.Run.{Given, Plan, facts_at, fate_at, hearings_of, setup_at, unseen_in, use_at}
+use Rattle.runs.specs.Run.{Given, facts_at, fate_at, hearings_of, setup_at, unseen_in, use_at}
 use Rattle.runs.proofs.LinkEnds.{is_listener, received_event}
 use Rattle.runs.proofs.Stations.{is_in, among, in_more_other, in_more_same, not_before}
 use Rattle.runs.proofs.Walk.{Place, AtPackets}
 use Rattle.run_laws.specs.Ends.{HaveOneConnectInd}
 use Rattle.run_laws.proofs.Agreed.{Agree, ack_of}
 use Rattle.run_laws.proofs.ByCalls.{Holds}
+use Rattle.run_laws.proofs.ConnectInds.{on_channel}
 use Rattle.run_laws.proofs.Hearings.{use_sent_at, wanted_is}
 use Rattle.run_laws.proofs.InAgreement.{AreStations, IsPair, WithAll, differs_back, few_links}
 use Rattle.run_laws.proofs.OpenSteps.{open_has}
 use Rattle.run_laws.proofs.SentPackets.{IsUseSent}
 use Rattle.run_laws.proofs.TurnPlaces.{Within}
+use Rattle.journal_links.specs.Opened.{central_side}
 use Rattle.journal_links.specs.Begun.{LinkBegun, link_numbered, links_begun}
 use Rattle.journal_packets.specs.Belonging.{first_number, link_of_packet}
 use Rattle.journal_packets.specs.Senders.{IsOfSendersLink}
+use Rattle.journal_packets.proofs.Replies.{sent_begins}
 use Rattle.journal_acks.specs.Counted.{IsCounted}
 use Rattle.journal_acks.specs.Exchange.{Exchanged, after_packet, carries_empty, with_heard, with_sent}
 use Rattle.journal_acks.proofs.Acks.{hears_counted, told}
-use Rattle.journal_acks.proofs.Counting.{AreCountedSo, AreKnown, IsBegun, IsEndCounted, ahead_if, facts_event, moved, plain, side_as, taking_if}
+use Rattle.journal_acks.proofs.Counting.{AreCountedSo, AreKnown, IsBegun, IsEndCounted, ahead_if, facts_event, moved, plain, taking_if}
 use Rattle.journal_acks.proofs.Exchanging.{exchange_at, number_at, number_sent}
 use Rattle.journal_acks.proofs.FirstCounts.{IsFirst, first_event_at, first_old}
 use Rattle.journal_acks.proofs.LinkPhases.{IsPhased}
 use Rattle.journal_acks.proofs.LinkUses.{listens_under, sends_under}
 use Rattle.journal_acks.proofs.Standing.{AreOne, listener_role, listener_sends, one_link, other_listens, other_sends, phased_at, sender_role, sends_on}
-use Rattle.journal_acks.proofs.TwoStations.{IsListening, IsOfTwo, after_air, air_of_link, air_quiet, good_begins, hearing_of, judged, link_listens, one_hearing, other_is, other_of, own_received, other_received, own_differs, sent_begins, sent_empty, side_differs, side_other, side_same, unchanged}
+use Rattle.journal_acks.proofs.TwoStations.{IsListening, IsOfTwo, after_air, air_of_link, air_quiet, good_begins, hearing_of, judged, link_listens, one_hearing, other_is, other_of, own_received, other_received, own_differs, sent_empty, side_differs, side_other, side_same, unchanged}
 
 -- ---- the counts of a side after a packet
 
@@ -120,12 +122,12 @@ central_back A = refl
 central_back B = refl
 
 one_central : (phases station : ℕ) (one other : Role) → ((phases ≡ 0) × (one ≡ Central)) ⊎ ((phases ≡ 1) × (one ≡ Peripheral))
-    → ((phases ≡ 0) × (other ≡ Peripheral)) ⊎ ((phases ≡ 1) × (other ≡ Central)) → side_as one (side_of station) ≡ side_as other (side_of (other_of station))
+    → ((phases ≡ 0) × (other ≡ Peripheral)) ⊎ ((phases ≡ 1) × (other ≡ Central)) → central_side one (side_of station) ≡ central_side other (side_of (other_of station))
 one_central phases station one other (inl a) (inl b) =
-    ap (λ r. side_as r (side_of station)) a.1 ∙ sym (central_back (side_of station)) ∙ ap other_side (sym (side_other station))
-    ∙ ap (λ r. side_as r (side_of (other_of station))) (sym b.1)
+    ap (λ r. central_side r (side_of station)) a.1 ∙ sym (central_back (side_of station)) ∙ ap other_side (sym (side_other station))
+    ∙ ap (λ r. central_side r (side_of (other_of station))) (sym b.1)
 one_central phases station one other (inr a) (inr b) =
-    ap (λ r. side_as r (side_of station)) a.1 ∙ sym (side_other station) ∙ ap (λ r. side_as r (side_of (other_of station))) (sym b.1)
+    ap (λ r. central_side r (side_of station)) a.1 ∙ sym (side_other station) ∙ ap (λ r. central_side r (side_of (other_of station))) (sym b.1)
 one_central phases station one other (inl a) (inr b) = absurd (let x = a.0 in let y = b.0 in omega (arith, x, y))
 one_central phases station one other (inr a) (inl b) = absurd (let x = a.0 in let y = b.0 in omega (arith, x, y))
 
@@ -139,7 +141,7 @@ one_begun history number other station station_too one two same begun begun_too 
     }
 
 pub advertises : (channel : ℕ) → IsAdvertisingChannel channel → is_advertising channel ≡ false → ⊥
-advertises channel on off = let h : true ≡ false = sym (rw (le-leb 37 channel on.0, lt-ltb channel 40 (omega (arith, on.1))) refl) ∙ off in absurd cc
+advertises channel on off = let h : true ≡ false = sym (on_channel channel on) ∙ off in absurd cc
 
 -- the counts of a link change only in a turn after that of its CONNECT_IND
 pub first_aired : (number own station channel : ℕ) (octets : List ℕ) (history : List Event) (hearings : List Hearing) (hearing : Hearing) (link : LinkBegun) → hearings ≡ hearing ∷ []
@@ -309,7 +311,7 @@ module _ (whole : IsHeardWhole) (given : Given) (Q : Place → List Event → Ty
         begins : take 4 octets ≡ access_octets link.setup.link.fields.access
         begins = subst (λ (l : OpenLink). take 4 octets ≡ access_octets l.setup.link.fields.access) (sym one.links) (good_begins listening.link.setup (facts_in listening.link) octets listening.good)
 
-        centrals : side_as link_sent.setup.link.role (side_of station) ≡ side_as link.setup.link.role (side_of other)
+        centrals : central_side link_sent.setup.link.role (side_of station) ≡ central_side link.setup.link.role (side_of other)
         centrals =
             one_central phases station link_sent.setup.link.role link.setup.link.role
             (sender_role phases (facts station).links (facts station).turn.doing sent.handle link_sent (phased station is).phase (sends_it sent.handle link_sent sent.is_open) sent.is_open)

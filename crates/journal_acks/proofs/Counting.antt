@@ -1,8 +1,5 @@
 -- How far a journal is ahead of what each controller holds, or behind, at each place of a run.
 use Rattle.std.proofs.Common.{◌≡◌, ℕ, ◌==◌, ◌&&◌, Bool, true, false, Option, Some, None, List, [], ◌∷◌, ◌++◌, take, refl, sym, ap, subst, ◌∙◌}
-use Rattle.ble_base.specs.Side.{other_side}
-use Rattle.ble_base.specs.declared.roles.Role.{Role}
-use Rattle.ble_base.specs.declared.roles.Role.TheVariants.{Central, Peripheral}
 use Rattle.ble_base.specs.declared.roles.Side.{Side}
 use Rattle.air_frame.specs.Packet.{access_octets}
 use Rattle.one_end.specs.Setup.{Setup as EndSetup}
@@ -20,6 +17,7 @@ use Rattle.runs.proofs.Walk.{Place, AtPackets, IsKept}
 use Rattle.run_laws.proofs.Agreed.{ack_of}
 use Rattle.run_laws.proofs.Hearings.{other_facts}
 use Rattle.run_laws.proofs.TurnPlaces.{event_past}
+use Rattle.journal_links.specs.Opened.{central_side}
 use Rattle.journal_links.specs.Begun.{LinkBegun, link_numbered, links_begun}
 use Rattle.journal_packets.specs.Belonging.{first_number}
 use Rattle.journal_packets.specs.Senders.{IsOfSendersLink}
@@ -31,10 +29,6 @@ use Rattle.std.proofs.lemmas.Bool.{eqb-true}
 use Rattle.one_side.specs.Side.{facts_of}
 
 -- ---- what is known of the links of a journal
-
-abbrev pub side_as : Role → Side → Side
-side_as Central side = side
-side_as Peripheral side = other_side side
 
 -- an open end at a station is one of the link with this number
 pub record IsBegun (history : List Event) (number station : ℕ) (end : EndSetup) : Type 0 where
@@ -50,7 +44,7 @@ pub record AreKnown (given : Given) (Q : Place → List Event → Type 0) : Type
   -- the first link of its central that begins with the access address of the end is its own
   pub fits : (place : Place) (history : List Event) → Q place history → (station handle : ℕ) (link : OpenLink) (octets : List ℕ) → is_in station given.stations ≡ true
       → link_at handle (facts_at given station history).links ≡ Some link → take 4 octets ≡ access_octets link.setup.link.fields.access
-      → first_number (side_as link.setup.link.role (side_of station)) octets 1 (links_begun (journal_of history)) ≡ Some (number_at station handle history)
+      → first_number (central_side link.setup.link.role (side_of station)) octets 1 (links_begun (journal_of history)) ≡ Some (number_at station handle history)
   pub sends : (phases : ℕ) (done left : List ℕ) (station : ℕ) (history : List Event) → given.stations ≡ done ++ station ∷ left
       → Q (AtPackets phases done (station ∷ left)) history → (channel : ℕ) (octets : List ℕ) → use_at given station history ≡ Sends channel octets
       → is_advertising channel ≡ false → IsOfSendersLink given history station channel octets

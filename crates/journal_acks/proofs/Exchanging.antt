@@ -1,8 +1,7 @@
 -- What an entry, an event or a call adds to the counts of a journal, and to the numbers of links.
 use Rattle.std.proofs.Common.{◌≡◌, ℕ, ◌==◌, ◌&&◌, Bool, true, false, List, [], ◌∷◌, ◌++◌, refl, sym, ap, ◌∙◌, append-nil, append_assoc}
-use Rattle.std.specs.Prelude.{All, fold, map, if◌then◌else◌}
+use Rattle.std.specs.Prelude.{All, map, if◌then◌else◌}
 use Rattle.std.proofs.lemmas.List.Elements.{All-cons, All-head, All-nil, All-tail}
-use Rattle.std.proofs.lemmas.List.Sums.{fold-append}
 use Rattle.ble_base.specs.declared.roles.Side.{Side}
 use Rattle.ble_base.specs.declared.notes.Note.{Note}
 use Rattle.ble_base.specs.declared.notes.Note.TheVariants.{Up, Opened, Took}
@@ -10,9 +9,11 @@ use Rattle.journal.specs.declared.entries.Entry.{Entry}
 use Rattle.one_side.specs.Step.{Step}
 use Rattle.one_side.specs.Side.{notes_after}
 use Rattle.runs.specs.History.{Event, TurnBegan, HostFed, Called, Noted, Transmitted, Hearing}
-use Rattle.runs.specs.Journal.{entries_of, entry_of, journal_from, journal_of, side_of}
-use Rattle.runs.specs.Links.{Links, begins_link, first_links, links_after, links_noted, links_of, with_link}
+use Rattle.runs.specs.Journal.{entries_of, entry_of, journal_of, side_of}
+use Rattle.runs.specs.Links.{Links, begins_link, links_after, links_noted, links_of, with_link}
 use Rattle.runs.specs.Run.{Given, after_call, facts_at, setup_at}
+use Rattle.runs.proofs.LinksKnown.{links_event}
+use Rattle.runs.proofs.Parts.{journal_event}
 use Rattle.journal_acks.specs.Exchange.{Exchanged, exchange_after, exchange_from, exchange_of, first_exchanged}
 use Rattle.journal_acks.proofs.CallNotes.{TakesNone, is_taking, step_takes_none}
 
@@ -33,21 +34,6 @@ exchange_more number journal entry = from_more number [] (λ side. first_exchang
 
 -- ---- an event more
 
-journal_further : (links : Links) (history : List Event) (event : Event)
-    → journal_from links (history ++ event ∷ []) ≡ journal_from links history ++ entries_of (fold links_after links history) event
-journal_further links [] event = append-nil (entries_of links event)
-journal_further links (first ∷ history) event =
-    ap (λ xs. entries_of links first ++ xs) (journal_further (links_after links first) history event)
-    ∙ sym (append_assoc (entries_of links first) (journal_from (links_after links first) history) _)
-
-pub journal_more : (history : List Event) (event : Event) → journal_of (history ++ event ∷ []) ≡ journal_of history ++ entries_of (links_of history) event
-unfolding journal_of links_of
-journal_more history event = journal_further first_links history event
-
-pub links_more : (history : List Event) (event : Event) → links_of (history ++ event ∷ []) ≡ links_after (links_of history) event
-unfolding links_of
-links_more history event = fold-append links_after first_links history (event ∷ [])
-
 -- both ends of the link with a number, as the journal of a history has them
 abbrev pub exchange_at : ℕ → List Event → Side → Exchanged
 exchange_at number history = exchange_of number (journal_of history)
@@ -57,7 +43,7 @@ entry_quiet : (number : ℕ) (history : List Event) (event : Event) (entry : Ent
     → exchange_after number (journal_of history) (exchange_at number history) entry ≡ exchange_at number history
     → exchange_at number (history ++ event ∷ []) ≡ exchange_at number history
 entry_quiet number history event entry is same =
-    ap (exchange_of number) (journal_more history event ∙ ap (λ xs. journal_of history ++ xs) is) ∙ exchange_more number (journal_of history) entry ∙ same
+    ap (exchange_of number) (journal_event history event ∙ ap (λ xs. journal_of history ++ xs) is) ∙ exchange_more number (journal_of history) entry ∙ same
 
 pub turn_quiet : (number : ℕ) (history : List Event) (slot : ℕ) (radios : List Bool)
     → exchange_at number (history ++ TurnBegan slot radios ∷ []) ≡ exchange_at number history
@@ -69,7 +55,7 @@ feed_quiet number history station octets = entry_quiet number history (HostFed s
 
 pub call_quiet : (number : ℕ) (history : List Event) (station : ℕ) (step : Step)
     → exchange_at number (history ++ Called station step ∷ []) ≡ exchange_at number history
-call_quiet number history station step = ap (exchange_of number) (journal_more history (Called station step) ∙ append-nil (journal_of history))
+call_quiet number history station step = ap (exchange_of number) (journal_event history (Called station step) ∙ append-nil (journal_of history))
 
 note_same : (number : ℕ) (front : List Entry) (ends : Side → Exchanged) (side : Side) (link_of : ℕ → ℕ) (last : ℕ) (note : Note) → is_taking note ≡ false
     → exchange_after number front ends (entry_of side link_of last note) ≡ ends
@@ -149,7 +135,7 @@ of_others station other handle note links differs = refl
 event_number : (station handle : ℕ) (history : List Event) (event : Event)
     → (links_after (links_of history) event).link_of station handle ≡ number_at station handle history
     → number_at station handle (history ++ event ∷ []) ≡ number_at station handle history
-event_number station handle history event same = ap (λ (links : Links). links.link_of station handle) (links_more history event) ∙ same
+event_number station handle history event same = ap (λ (links : Links). links.link_of station handle) (links_event history event) ∙ same
 
 -- an event that is no note
 pub number_quiet : (station handle : ℕ) (history : List Event) (event : Event) → ((links : Links) → (links_after links event).link_of station handle ≡ links.link_of station handle)

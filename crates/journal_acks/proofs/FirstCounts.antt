@@ -1,21 +1,22 @@
 -- The counts of a link are the first ones until a turn after that of its CONNECT_IND.
-use Rattle.std.proofs.Common.{◌≡◌, ℕ, ◌+◌, ◌<◌, ◌≤◌, List, [], ◌∷◌, ◌++◌, refl, sym, ap, subst, ◌∙◌, append-nil, append_assoc, arith}
-use Rattle.std.specs.Prelude.{fold, map, Some}
+use Rattle.std.proofs.Common.{◌≡◌, ℕ, ◌+◌, ◌<◌, ◌≤◌, List, [], ◌∷◌, ◌++◌, refl, sym, ap, subst, ◌∙◌, arith}
+use Rattle.std.specs.Prelude.{map, Some}
 use Rattle.ble_base.specs.declared.roles.Side.{Side}
 use Rattle.journal.specs.declared.entries.Entry.{Entry}
 use Rattle.one_end.specs.Setup.{Setup as EndSetup}
 use Rattle.one_side.specs.Step.{Step}
 use Rattle.one_side.specs.Side.{notes_after}
-use Rattle.runs.specs.History.{Event, Called, Noted, turns_begun, turns_in}
+use Rattle.runs.specs.History.{Event, Called, Noted, turns_begun}
 use Rattle.runs.specs.Journal.{entries_of, journal_from, journal_of}
-use Rattle.runs.specs.Links.{Links, first_links, links_after, links_of}
+use Rattle.runs.specs.Links.{links_of}
 use Rattle.runs.specs.Run.{Given, after_call, facts_at, setup_at}
 use Rattle.runs.proofs.Calls.{turns_called, turns_more}
+use Rattle.runs.proofs.Parts.{journal_event, journal_more}
+use Rattle.journal_links.proofs.LinksBegun.{number_stays}
 use Rattle.journal_links.specs.Begun.{LinkBegun, link_numbered}
 use Rattle.journal_acks.specs.Exchange.{Exchanged, exchange_of, first_exchanged}
 use Rattle.journal_acks.proofs.Counting.{IsBegun}
-use Rattle.journal_acks.proofs.Exchanging.{exchange_at, exchange_called, journal_more}
-use Rattle.journal_acks.proofs.LinksLater.{number_stays}
+use Rattle.journal_acks.proofs.Exchanging.{exchange_at, exchange_called}
 
 pub data IsFirst (number : ℕ) (history : List Event) : Type 0 where
   -- the link began before this turn
@@ -40,7 +41,7 @@ turns_grow history event = let more = turns_more history event in omega (arith, 
 pub first_event_at : (number : ℕ) (history : List Event) (event : Event) → exchange_at number (history ++ event ∷ []) ≡ exchange_at number history
     → IsFirst number history → IsFirst number (history ++ event ∷ [])
 first_event_at number history event same first =
-    first_grown number history (history ++ event ∷ []) (entries_of (links_of history) event) (journal_more history event) (turns_grow history event) same first
+    first_grown number history (history ++ event ∷ []) (entries_of (links_of history) event) (journal_event history event) (turns_grow history event) same first
 
 pub first_event : (history : List Event) (event : Event) → ((number : ℕ) → exchange_at number (history ++ event ∷ []) ≡ exchange_at number history)
     → AreFirst history → AreFirst (history ++ event ∷ [])
@@ -51,17 +52,7 @@ pub first_old : (number : ℕ) (history : List Event) (event : Event) (link : Li
     → IsFirst number (history ++ event ∷ [])
 first_old number history event link is before =
     let more = turns_grow history event in
-    IsOld link (ap (link_numbered number) (journal_more history event) ∙ number_stays number (journal_of history) (entries_of (links_of history) event) link is) (omega (arith, before, more))
-
-journal_grows : (links : Links) (history more : List Event) → journal_from links (history ++ more) ≡ journal_from links history ++ journal_from (fold links_after links history) more
-journal_grows links [] more = refl
-journal_grows links (event ∷ history) more =
-    ap (λ xs. entries_of links event ++ xs) (journal_grows (links_after links event) history more)
-    ∙ sym (append_assoc (entries_of links event) (journal_from (links_after links event) history) _)
-
-journal_further : (history more : List Event) → journal_of (history ++ more) ≡ journal_of history ++ journal_from (links_of history) more
-unfolding journal_of links_of
-journal_further history more = journal_grows first_links history more
+    IsOld link (ap (link_numbered number) (journal_event history event) ∙ number_stays number (journal_of history) (entries_of (links_of history) event) link is) (omega (arith, before, more))
 
 same_turns : (one other : ℕ) → other ≡ one → one ≤ other
 same_turns one other is = omega (arith, is)
@@ -70,7 +61,7 @@ pub first_called : (given : Given) (station : ℕ) (step : Step) (history : List
 first_called given station step history first = λ number.
     let notes = notes_after (setup_at given station) (facts_at given station history) step in
     first_grown number history (after_call given station step history) (journal_from (links_of history) (Called station step ∷ map (Noted station) notes))
-    (journal_further history (Called station step ∷ map (Noted station) notes))
+    (journal_more history (Called station step ∷ map (Noted station) notes))
     (same_turns (turns_begun history) (turns_begun (after_call given station step history)) (turns_called station step notes history))
     (exchange_called given number station step history) (first number)
 

@@ -1,5 +1,5 @@
 -- Each step of a run of a pair keeps what the counts of its journal are, end by end.
-use Rattle.std.proofs.Common.{◌≡◌, ℕ, zero, suc, ◌+◌, ◌-◌, ◌<◌, ◌==◌, ◌||◌, ◌&&◌, ◌⊎◌, inl, inr, Bool, true, false, not, Option, Some, None, List, [], ◌∷◌, ◌++◌, refl, sym, ap, subst, ◌∙◌, arith}
+use Rattle.std.proofs.Common.{◌≡◌, ℕ, suc, ◌+◌, ◌-◌, ◌<◌, ◌==◌, ◌⊎◌, inl, inr, Bool, true, false, not, Option, Some, None, List, [], ◌∷◌, ◌++◌, refl, sym, ap, subst, ◌∙◌, arith}
 use Rattle.std.specs.Prelude.{All, map, take, if◌then◌else◌}
 use Rattle.std.proofs.lemmas.Bool.{eqb-true}
 use Rattle.std.proofs.lemmas.List.Elements.{All-nil}
@@ -27,15 +27,15 @@ use Rattle.runs.proofs.Walk.{Place, NoTurn, AtFeeds, AtBegins, AfterPhases, AtPa
 use Rattle.run_laws.proofs.Agreed.{ack_of}
 use Rattle.run_laws.proofs.ByCalls.{Holds, holds_kept}
 use Rattle.run_laws.proofs.Hearings.{own_facts, use_sent_at, wanted_is}
-use Rattle.run_laws.proofs.InAgreement.{AreStations, IsPair, IsStation, OpenedBefore, agreement_kept, differs_back}
+use Rattle.run_laws.proofs.InAgreement.{AreStations, IsPair, OpenedBefore, agreement_kept, differs_back}
 use Rattle.run_laws.proofs.LinkPasses.{is_on_link}
 use Rattle.run_laws.proofs.OpenSteps.{open_has}
 use Rattle.run_laws.proofs.SentPackets.{IsUseSent}
-use Rattle.run_laws.proofs.TurnPlaces.{Between, Standing, Within, at_stage, stands_at}
+use Rattle.run_laws.proofs.TurnPlaces.{Between, Within, at_stage}
 use Rattle.run_laws.proofs.TurnSteps.{octet_turn, phase_turn}
 use Rattle.journal_packets.specs.Senders.{IsOfSendersLink}
 use Rattle.journal_acks.specs.Counted.{IsCounted}
-use Rattle.journal_acks.specs.Exchange.{Exchanged, first_exchanged}
+use Rattle.journal_acks.specs.Exchange.{Exchanged}
 use Rattle.journal_acks.proofs.Acks.{link_sends}
 use Rattle.journal_acks.proofs.AirCounts.{advertises, any_sending, first_aired, packet_counted}
 use Rattle.journal_acks.proofs.CallNotes.{IsOfBegins, begin_noted, octet_noted}
@@ -43,7 +43,6 @@ use Rattle.journal_acks.proofs.Counting.{AreCountedSo, AreKnown, IsEndCounted, a
 use Rattle.journal_acks.proofs.Exchanging.{OpensNone, exchange_at, exchange_called, feed_quiet, number_at, number_called, number_quiet, turn_quiet}
 use Rattle.journal_acks.proofs.FirstCounts.{AreFirst, IsFirst, first_called, first_event, first_event_at, first_of}
 use Rattle.journal_acks.proofs.LinkCalls.{HasPassed, IsNew, Stays, Takes, base_ack, begins_under, passes_under, phase_quiet}
-use Rattle.journal_acks.proofs.LinkPhases.{IsPhased}
 use Rattle.journal_acks.proofs.LinkUses.{listens_under, sends_under}
 use Rattle.journal_acks.proofs.Standing.{PhasedBy, fresh_counted, last_phase, phased_at, sending_on_link, silent_sends}
 use Rattle.journal_acks.proofs.TwoStations.{IsOfTwo, air_quiet, hearing_of, one_hearing, other_is, own_differs, own_received}

@@ -8,9 +8,11 @@ pub mod UnderHandles
 pub mod LinkPhases
 pub mod LinkCalls
 pub mod TwoStations
-pub mod LinksLater
 pub mod Counting
 pub mod FirstCounts
 pub mod Standing
 pub mod AirCounts
 pub mod KeptCounts
+pub mod Known
+pub mod Seen
+pub mod RunCounts

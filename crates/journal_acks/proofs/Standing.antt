@@ -1,17 +1,14 @@
 -- What the facts of a station say of its one link at each place of a run of a pair.
-use Rattle.std.proofs.Common.{◌≡◌, ℕ, zero, suc, ◌+◌, ◌<◌, ◌≤◌, ◌==◌, ◌||◌, ◌⊎◌, inl, inr, Bool, true, false, not, Option, Some, None, List, [], ◌∷◌, ◌++◌, length, refl, sym, ap, subst, ◌∙◌, arith}
+use Rattle.std.proofs.Common.{◌≡◌, ℕ, ◌<◌, ◌≤◌, ◌==◌, ◌⊎◌, inl, inr, Bool, true, false, Option, Some, None, List, [], ◌∷◌, length, refl, sym, ap, subst, ◌∙◌, arith}
 use Rattle.std.specs.Prelude.{if◌then◌else◌}
-use Rattle.std.proofs.lemmas.Bool.{eqb-true, false_from_ne_true, lt-leb}
+use Rattle.std.proofs.lemmas.Bool.{eqb-true, false_from_ne_true}
 use Rattle.ble_base.specs.declared.roles.Role.{Role}
 use Rattle.ble_base.specs.declared.roles.Role.TheVariants.{Central, Peripheral}
-use Rattle.one_end.specs.Acknowledgement.{first_acknowledgement}
 use Rattle.one_end.specs.Packets.{packet_sent}
-use Rattle.one_end.specs.Step.{PacketSent}
-use Rattle.open_links.specs.OpenLinks.{Links, OpenLink, facts_in, link_after, link_at, link_from}
+use Rattle.open_links.specs.OpenLinks.{Links, OpenLink, facts_in, link_at}
 use Rattle.one_side.specs.declared.doing.Doing.{Doing}
 use Rattle.one_side.specs.declared.doing.Doing.TheVariants.{Advertises, CentralSends, CentralListens, PeripheralListens, PeripheralSends}
-use Rattle.one_side.specs.declared.doing.Turn.{Turn}
-use Rattle.one_side.specs.Facts.{Setup, Facts, Use, Sends, Listens}
+use Rattle.one_side.specs.Facts.{Setup, Facts, Sends, Listens}
 use Rattle.one_side.specs.Packets.{listens_on}
 use Rattle.one_side.specs.Sent.{SendsOn}
 use Rattle.one_side.proofs.DataChannels.{link_channel}
@@ -22,6 +19,7 @@ use Rattle.runs.specs.Run.{Given, facts_at, setup_at}
 use Rattle.runs.proofs.Stations.{is_in}
 use Rattle.runs.proofs.Walk.{Place}
 use Rattle.run_laws.proofs.Agreed.{ack_of, first_ack}
+use Rattle.run_laws.proofs.ConnectInds.{no_advertising}
 use Rattle.run_laws.proofs.InAgreement.{IsFresh, IsStation, OpenedBefore}
 use Rattle.run_laws.proofs.LinkPasses.{is_on_link}
 use Rattle.run_laws.proofs.OpenSteps.{open_has}
@@ -68,7 +66,7 @@ one_link links handle other one two few is is_too =
 -- ---- what a link sends or listens for is wanted, on a data channel
 
 pub off_channels : (channel : ℕ) → channel < 37 → is_advertising channel ≡ false
-off_channels channel below = rw (lt-leb 37 channel below) refl
+off_channels channel below = no_advertising channel (is_advertising channel) refl below
 
 -- what is sent on a link is wanted
 pub sends_none : (facts : Facts) (handle : ℕ) (link : OpenLink) → IsSendingOpen facts → link_at handle facts.links ≡ Some link

@@ -32,12 +32,13 @@ use Rattle.runs.specs.Journal.{air_entries, journal_of, mark_of, side_of}
 use Rattle.runs.specs.Links.{is_advertising}
 use Rattle.runs.specs.Run.{Given, fate_at, hearing_at, hearings_from, hearings_of, is_lost, others_than, reaches, unseen_in, verdict_where}
 use Rattle.runs.proofs.Journals.{two}
+use Rattle.runs.proofs.Parts.{journal_event}
 use Rattle.runs.proofs.Stations.{is_in}
 use Rattle.run_laws.proofs.TurnSteps.{IsListening as IsListeningFor}
 use Rattle.journal_links.specs.Begun.{LinkBegun, link_numbered}
 use Rattle.journal_packets.specs.Belonging.{is_side, link_of_packet}
 use Rattle.journal_acks.specs.Exchange.{Exchanged, after_packet, carries_empty, exchange_of, is_empty_in, is_number}
-use Rattle.journal_acks.proofs.Exchanging.{exchange_at, exchange_more, journal_more}
+use Rattle.journal_acks.proofs.Exchanging.{exchange_at, exchange_more}
 use Rattle.journal_acks.proofs.LinkUses.{IsScanning, listens_under}
 
 abbrev pub IsOfTwo : Given → Type 0
@@ -187,10 +188,6 @@ link_listens facts channel octets below fits listening scanning listens good =
 
 -- ---- the access address of a packet
 
-pub sent_begins : (setup : EndSetup) (facts : EndFacts) → take 4 (packet_sent setup facts) ≡ access_octets setup.link.fields.access
-unfolding packet_sent
-sent_begins setup facts = refl
-
 pub good_begins : (setup : EndSetup) (facts : EndFacts) (octets : List ℕ) → is_good (verdict_of_end setup facts octets) ≡ true
     → take 4 octets ≡ access_octets setup.link.fields.access
 unfolding verdict_of_end heard_in
@@ -215,7 +212,7 @@ pub air_exchange : (number station channel : ℕ) (octets : List ℕ) (history :
     ≡ after_air (not (is_advertising channel) && is_number (link_of_packet (journal_of history) (side_of station) octets) number) (side_of station)
     (is_good hearing.verdict) (carries_empty (link_numbered number (journal_of history)) channel octets) (exchange_at number history)
 air_exchange number station channel octets history hearings hearing are =
-    ap (exchange_of number) (journal_more history (Transmitted station channel octets hearings)
+    ap (exchange_of number) (journal_event history (Transmitted station channel octets hearings)
     ∙ ap (λ xs. journal_of history ++ air_entries (side_of station) channel octets xs) are)
     ∙ exchange_more number (journal_of history) (Air (side_of station) channel octets (mark_of hearing.fate) hearing.verdict)
 

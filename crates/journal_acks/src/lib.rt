@@ -3,7 +3,9 @@
 #![tactic(auto)]
 
 mod counts;
+mod exchanges;
 mod rows;
 
 pub use crate::counts::counts_of_any_journal;
+pub use crate::exchanges::each_end_counts_as_the_journal_says;
 pub use crate::rows::worked_exchange;
