@@ -1,3 +1,4 @@
 -- The definitions of this crate.
 pub mod Exchange
 pub mod Carried
+pub mod Counted

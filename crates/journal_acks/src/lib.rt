@@ -2,6 +2,10 @@
 //! each run of a pair about them. None of them names code.
 #![tactic(auto)]
 
+mod counts;
+mod exchanges;
 mod rows;
 
+pub use crate::counts::counts_of_any_journal;
+pub use crate::exchanges::each_end_counts_as_the_journal_says;
 pub use crate::rows::worked_exchange;

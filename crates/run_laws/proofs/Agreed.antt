@@ -30,7 +30,7 @@ other_way one other agree = λ same. exchange (ack_of one) (ack_of other) (agree
 
 -- ---- a step of one of them
 
-step_facts : (link : OpenLink) (step : Step) → facts_in (link_after step link) ≡ facts_after link.setup (facts_in link) step
+pub step_facts : (link : OpenLink) (step : Step) → facts_in (link_after step link) ≡ facts_after link.setup (facts_in link) step
 unfolding facts_of
 step_facts link step = fold-append (facts_after link.setup) (first_facts link.setup) link.past (step ∷ [])
 
@@ -45,7 +45,7 @@ agree_entered slot one other agree = entered_by (is_anchor slot one) slot one ot
 pub agree_served : (slot : ℕ) (one other : OpenLink) → Agree one other → Agree (link_served slot one) other
 agree_served slot one other agree = agree
 
-ack_sent : (slot : ℕ) (link : OpenLink) → ack_of (link_after (PacketSent slot) link) ≡ after_sending empty_pdu (ack_of link)
+pub ack_sent : (slot : ℕ) (link : OpenLink) → ack_of (link_after (PacketSent slot) link) ≡ after_sending empty_pdu (ack_of link)
 ack_sent slot link = ap (λ (f : Facts). f.acknowledgement) (step_facts link (PacketSent slot))
 
 pub agree_sent : (slot : ℕ) (one other : OpenLink) → Agree one other → Agree (link_after (PacketSent slot) one) other
@@ -54,7 +54,7 @@ agree_sent slot one other agree = λ same.
 
 -- ---- as a link begins
 
-first_ack : (setup : Setup) (past : List Step) → past ≡ [] → (facts_of setup past).acknowledgement ≡ first_acknowledgement
+pub first_ack : (setup : Setup) (past : List Step) → past ≡ [] → (facts_of setup past).acknowledgement ≡ first_acknowledgement
 unfolding facts_of
 first_ack setup past none = ap (λ steps. (facts_of setup steps).acknowledgement) none
 
@@ -79,11 +79,11 @@ out_by false ack other is agreed =
     let high = agreed.step.from_a.reliable.sent_only in
     omega (arith, some, low, high)
 
-out_after : (ack other : Acknowledgement) → AreAgreed (after_sending empty_pdu ack) other → IsOut (end_of (after_sending empty_pdu ack))
+pub out_after : (ack other : Acknowledgement) → AreAgreed (after_sending empty_pdu ack) other → IsOut (end_of (after_sending empty_pdu ack))
 out_after ack other agreed = out_by (is_acked ack) ack other refl agreed
 
 -- the packet is the same before and after that it is sent; only the fields of the link count in it
-abbrev as_other : Setup → Setup → Setup
+abbrev pub as_other : Setup → Setup → Setup
 as_other from to = record { link = record to.link { fields = from.link.fields }; opened = to.opened }
 
 same_packet : (from to : Setup) (facts : Facts) → packet_sent from facts ≡ packet_sent (as_other from to) (facts_sent facts)

@@ -57,11 +57,11 @@ called_facts given station step history is = record {
 
 -- ---- at each place
 
-abbrev HeldBefore : Given → ((ℕ → Facts) → Type 0) → List Event → Event → Type 0
+abbrev pub HeldBefore : Given → ((ℕ → Facts) → Type 0) → List Event → Event → Type 0
 HeldBefore given M before event = M (all_facts given before)
 
 pub record HoldsSoFar (given : Given) (M : (ℕ → Facts) → Type 0) (history : List Event) : Type 0 where
-  each : Each (HeldBefore given M) [] history
+  pub each : Each (HeldBefore given M) [] history
   pub last : M (all_facts given history)
 
 pub record Holds (given : Given) (M : (ℕ → Facts) → Type 0) (place : Place) (history : List Event) : Type 0 where

@@ -274,7 +274,7 @@ pub record AreStations (given : Given) (facts : ℕ → Facts) : Type 0 where
   pub agree : (one other : ℕ) → is_in one given.stations ≡ true → is_in other given.stations ≡ true → (one == other) ≡ false
       → AllAgree (facts one).links (facts other).links
 
-differs_back : (one other : ℕ) → (one == other) ≡ false → (other == one) ≡ false
+pub differs_back : (one other : ℕ) → (one == other) ≡ false → (other == one) ≡ false
 differs_back one other differs = false_from_ne_true (other == one) (λ same. eqb-false one other differs (sym (eqb-true other one same)))
 
 stations_called : (given : Given) (station : ℕ) (step : Step) (before after : ℕ → Facts) → IsCalled given station step before after
@@ -311,7 +311,7 @@ stations_called given station step before after called next agrees are = record 
         subst (λ (f : Facts). AllAgree f.links (after other).links) (sym (called.others one there))
         (subst (λ (f : Facts). AllAgree (before one).links f.links) (sym (called.others other there_too)) (are.agree one other is is_too differs))
 
-few_links : (given : Given) → IsPair given → (station : ℕ) (facts : Facts) → IsStation (setup_at given station) facts → length facts.links ≤ 1
+pub few_links : (given : Given) → IsPair given → (station : ℕ) (facts : Facts) → IsStation (setup_at given station) facts → length facts.links ≤ 1
 few_links given pair station facts is = let many = is.own.many in let few = pair.links station in omega (arith, many, few)
 
 one_slot : (one other turns : ℕ) → one + 1 ≡ turns → other + 1 ≡ turns → one ≡ other

@@ -1,0 +1,424 @@
+-- What a packet on the air does to the counts of both ends of its link.
+use Rattle.std.proofs.Common.{◌≡◌, ℕ, ◌+◌, ◌<◌, ◌≤◌, ◌==◌, ◌&&◌, ◌⊎◌, inl, inr, Bool, true, false, not, Option, Some, None, List, [], ◌∷◌, ◌++◌, length, take, refl, sym, ap, subst, ◌∙◌, arith}
+use Rattle.std.specs.Prelude.{if◌then◌else◌}
+use Rattle.std.proofs.lemmas.Bool.{eqb-true, eq-eqb}
+use Rattle.ble_base.specs.Side.{other_side}
+use Rattle.ble_base.specs.declared.roles.Role.{Role}
+use Rattle.ble_base.specs.declared.roles.Role.TheVariants.{Central, Peripheral}
+use Rattle.ble_base.specs.declared.roles.Side.{Side}
+use Rattle.ble_base.specs.declared.roles.Side.TheVariants.{A, B}
+use Rattle.air_frame.specs.Packet.{access_octets}
+use Rattle.one_end.proofs.Pairs.{AreAgreed}
+use Rattle.one_end.proofs.Received.{IsHeardWhole}
+use Rattle.one_end.specs.Step.{PacketSent, PacketReceived}
+use Rattle.open_links.specs.OpenLinks.{OpenLink, facts_in, link_after, link_at}
+use Rattle.one_side.specs.declared.doing.Turn.{Turn}
+use Rattle.one_side.specs.Facts.{Facts, Sends}
+use Rattle.one_side.proofs.Always.{IsAdvertisingChannel}
+use Rattle.one_side.proofs.DataChannels.{link_channel}
+use Rattle.one_side.proofs.Sent.{sends_well}
+use Rattle.one_side.specs.Packets.{verdict_of}
+use Rattle.radio_replay.specs.declared.fates.Fate.{Fate}
+use Rattle.radio_replay.specs.Damage.{damaged_packet}
+use Rattle.runs.specs.Feeding.{AreDistinct}
+use Rattle.runs.specs.History.{Event, Transmitted, Hearing, fates_used, has_received, is_good, packet_received, past_of, turns_begun}
+use Rattle.runs.specs.Journal.{journal_of, side_of}
+use Rattle.runs.specs.LinkEnds.{HaveAddresses}
+use Rattle.runs.specs.Links.{is_advertising}
+use Rattle.runs.specs.Run.{Given, facts_at, fate_at, hearings_of, setup_at, unseen_in, use_at}
+use Rattle.runs.proofs.LinkEnds.{is_listener, received_event}
+use Rattle.runs.proofs.Stations.{is_in, among, in_more_other, in_more_same, not_before}
+use Rattle.runs.proofs.Walk.{Place, AtPackets}
+use Rattle.run_laws.specs.Ends.{HaveOneConnectInd}
+use Rattle.run_laws.proofs.Agreed.{Agree, ack_of}
+use Rattle.run_laws.proofs.ByCalls.{Holds}
+use Rattle.run_laws.proofs.ConnectInds.{on_channel}
+use Rattle.run_laws.proofs.Hearings.{use_sent_at, wanted_is}
+use Rattle.run_laws.proofs.InAgreement.{AreStations, IsPair, WithAll, differs_back, few_links}
+use Rattle.run_laws.proofs.OpenSteps.{open_has}
+use Rattle.run_laws.proofs.SentPackets.{IsUseSent}
+use Rattle.run_laws.proofs.TurnPlaces.{Within}
+use Rattle.journal_links.specs.Opened.{central_side}
+use Rattle.journal_links.specs.Begun.{LinkBegun, link_numbered, links_begun}
+use Rattle.journal_packets.specs.Belonging.{first_number, link_of_packet}
+use Rattle.journal_packets.specs.Senders.{IsOfSendersLink}
+use Rattle.journal_packets.proofs.Replies.{sent_begins}
+use Rattle.journal_acks.specs.Counted.{IsCounted}
+use Rattle.journal_acks.specs.Exchange.{Exchanged, after_packet, carries_empty, with_heard, with_sent}
+use Rattle.journal_acks.proofs.Acks.{hears_counted, told}
+use Rattle.journal_acks.proofs.Counting.{AreCountedSo, AreKnown, IsBegun, IsEndCounted, ahead_if, facts_event, moved, plain, taking_if}
+use Rattle.journal_acks.proofs.Exchanging.{exchange_at, number_at, number_sent}
+use Rattle.journal_acks.proofs.FirstCounts.{IsFirst, first_event_at, first_old}
+use Rattle.journal_acks.proofs.LinkPhases.{IsPhased}
+use Rattle.journal_acks.proofs.LinkUses.{listens_under, sends_under}
+use Rattle.journal_acks.proofs.Standing.{AreOne, listener_role, listener_sends, one_link, other_listens, other_sends, phased_at, sender_role, sends_on}
+use Rattle.journal_acks.proofs.TwoStations.{IsListening, IsOfTwo, after_air, air_of_link, air_quiet, good_begins, hearing_of, judged, link_listens, one_hearing, other_is, other_of, own_received, other_received, own_differs, sent_empty, side_differs, side_other, side_same, unchanged}
+
+-- ---- the counts of a side after a packet
+
+own_after : (good empty : Bool) (station : ℕ) (ends : Side → Exchanged) → after_packet (side_of station) good empty ends (side_of station) ≡ with_sent (ends (side_of station))
+own_after good empty station ends =
+    ap (λ b. if b then with_sent (ends (side_of station))
+    else (if good then with_heard empty (with_sent (ends (side_of station))) (ends (side_of station)) else ends (side_of station))) (side_same station)
+
+other_after : (good empty : Bool) (station : ℕ) (ends : Side → Exchanged) → after_packet (side_of station) good empty ends (side_of (other_of station))
+    ≡ (if good then with_heard empty (with_sent (ends (side_of station))) (ends (side_of (other_of station))) else ends (side_of (other_of station)))
+other_after good empty station ends =
+    ap (λ b. if b then with_sent (ends (side_of station))
+    else (if good then with_heard empty (with_sent (ends (side_of station))) (ends (side_of (other_of station))) else ends (side_of (other_of station)))) (side_differs station)
+
+deaf_after : (ours empty : Bool) (station : ℕ) (ends : Side → Exchanged) → after_air ours (side_of station) false empty ends (side_of (other_of station)) ≡ ends (side_of (other_of station))
+deaf_after true empty station ends = other_after false empty station ends
+deaf_after false empty station ends = refl
+
+same_number : (n : ℕ) → (n == n) ≡ true
+same_number n = grind arith
+
+-- ---- one side, by what is sent and taken
+
+pub any_sending : (unsent unsent_too : Bool) (received : Option (List ℕ)) (handle : ℕ) (turn : Turn) (link : OpenLink) (end : Exchanged) → sends_under handle turn.doing ≡ false
+    → IsEndCounted unsent received handle turn link end → IsEndCounted unsent_too received handle turn link end
+any_sending unsent unsent_too received handle turn link end none is =
+    subst (λ b. IsCounted (ahead_if b end) (ack_of (taking_if (listens_under handle turn.doing) received turn.slot link)))
+    (ap (λ b. unsent && b) none ∙ no_one unsent ∙ sym (ap (λ b. unsent_too && b) none ∙ no_one unsent_too)) is
+  where
+    no_one : (b : Bool) → (b && false) ≡ false
+    no_one true = refl
+    no_one false = refl
+
+any_taking : (unsent : Bool) (received received_too : Option (List ℕ)) (handle : ℕ) (turn : Turn) (link : OpenLink) (end : Exchanged) → listens_under handle turn.doing ≡ false
+    → IsEndCounted unsent received handle turn link end → IsEndCounted unsent received_too handle turn link end
+any_taking unsent received received_too handle turn link end none is =
+    subst (λ b. IsCounted (ahead_if (unsent && sends_under handle turn.doing) end) (ack_of (taking_if b received_too turn.slot link))) (sym none)
+    (subst (λ b. IsCounted (ahead_if (unsent && sends_under handle turn.doing) end) (ack_of (taking_if b received turn.slot link))) none is)
+
+-- the packet that it was to send is on the air
+was_sent : (received : Option (List ℕ)) (handle : ℕ) (turn : Turn) (link : OpenLink) (end : Exchanged) → sends_under handle turn.doing ≡ true
+    → IsEndCounted true received handle turn link end → IsEndCounted false received handle turn link (with_sent end)
+was_sent received handle turn link end on is =
+    subst (λ b. IsCounted (ahead_if b end) (ack_of (taking_if (listens_under handle turn.doing) received turn.slot link))) on is
+
+-- and its counts are those of the link then
+sent_counted : (received : Option (List ℕ)) (handle : ℕ) (turn : Turn) (link : OpenLink) (end : Exchanged) → sends_under handle turn.doing ≡ true → listens_under handle turn.doing ≡ false
+    → IsEndCounted true received handle turn link end → IsCounted (with_sent end) (ack_of link)
+sent_counted received handle turn link end on off is =
+    subst (λ b. IsCounted (with_sent end) (ack_of (taking_if b received turn.slot link))) off (was_sent received handle turn link end on is)
+
+-- a packet that it is to take is on the air
+takes : (unsent : Bool) (octets : List ℕ) (handle : ℕ) (turn : Turn) (link : OpenLink) (end : Exchanged) → listens_under handle turn.doing ≡ true → sends_under handle turn.doing ≡ false
+    → IsCounted end (ack_of (link_after (PacketReceived turn.slot octets) link)) → IsEndCounted unsent (Some octets) handle turn link end
+takes unsent octets handle turn link end on none is =
+    any_sending false unsent (Some octets) handle turn link end none
+    (subst (λ b. IsCounted end (ack_of (taking_if b (Some octets) turn.slot link))) (sym on) is)
+
+listener_off : (handle : ℕ) (turn : Turn) → sends_under handle turn.doing ≡ true → (listens : Bool) → listens_under handle turn.doing ≡ listens → listens ≡ false
+listener_off handle turn on true is = absurd (let h : true ≡ false = sym on ∙ listener_sends handle turn.doing is in absurd cc)
+listener_off handle turn on false is = refl
+
+-- ---- both ends have one link
+
+central_back : (side : Side) → other_side (other_side side) ≡ side
+central_back A = refl
+central_back B = refl
+
+one_central : (phases station : ℕ) (one other : Role) → ((phases ≡ 0) × (one ≡ Central)) ⊎ ((phases ≡ 1) × (one ≡ Peripheral))
+    → ((phases ≡ 0) × (other ≡ Peripheral)) ⊎ ((phases ≡ 1) × (other ≡ Central)) → central_side one (side_of station) ≡ central_side other (side_of (other_of station))
+one_central phases station one other (inl a) (inl b) =
+    ap (λ r. central_side r (side_of station)) a.1 ∙ sym (central_back (side_of station)) ∙ ap other_side (sym (side_other station))
+    ∙ ap (λ r. central_side r (side_of (other_of station))) (sym b.1)
+one_central phases station one other (inr a) (inr b) =
+    ap (λ r. central_side r (side_of station)) a.1 ∙ sym (side_other station) ∙ ap (λ r. central_side r (side_of (other_of station))) (sym b.1)
+one_central phases station one other (inl a) (inr b) = absurd (let x = a.0 in let y = b.0 in omega (arith, x, y))
+one_central phases station one other (inr a) (inl b) = absurd (let x = a.0 in let y = b.0 in omega (arith, x, y))
+
+one_begun : (history : List Event) (number other station station_too : ℕ) (one two : OpenLink) → number ≡ other → IsBegun history number station one.setup
+    → IsBegun history other station_too two.setup → HaveOneConnectInd one.setup two.setup
+one_begun history number other station station_too one two same begun begun_too =
+    let links : Some begun.link ≡ Some begun_too.link = sym begun.is_link ∙ ap (λ n. link_numbered n (journal_of history)) same ∙ begun_too.is_link in
+    let equal : begun.link ≡ begun_too.link = cc in record {
+      fields = sym begun.fields ∙ ap (λ (l : LinkBegun). l.fields) equal ∙ begun_too.fields;
+      opened = sym begun.slot ∙ ap (λ (l : LinkBegun). l.slot) equal ∙ begun_too.slot;
+    }
+
+pub advertises : (channel : ℕ) → IsAdvertisingChannel channel → is_advertising channel ≡ false → ⊥
+advertises channel on off = let h : true ≡ false = sym (on_channel channel on) ∙ off in absurd cc
+
+-- the counts of a link change only in a turn after that of its CONNECT_IND
+pub first_aired : (number own station channel : ℕ) (octets : List ℕ) (history : List Event) (hearings : List Hearing) (hearing : Hearing) (link : LinkBegun) → hearings ≡ hearing ∷ []
+    → is_advertising channel ≡ false → link_of_packet (journal_of history) (side_of station) octets ≡ Some own → link_numbered own (journal_of history) ≡ Some link
+    → link.slot + 1 < turns_begun history → IsFirst number history → (same : Bool) → (own == number) ≡ same
+    → IsFirst number (history ++ Transmitted station channel octets hearings ∷ [])
+first_aired number own station channel octets history hearings hearing link has off belongs is later first true same =
+    first_old number history (Transmitted station channel octets hearings) link (ap (λ n. link_numbered n (journal_of history)) (sym (eqb-true own number same)) ∙ is) later
+first_aired number own station channel octets history hearings hearing link has off belongs is later first false same =
+    first_event_at number history (Transmitted station channel octets hearings)
+    (air_of_link number own station channel octets history hearings hearing has off belongs
+    ∙ ap (λ b. after_air b (side_of station) (is_good hearing.verdict) (carries_empty (link_numbered number (journal_of history)) channel octets) (exchange_at number history)) same) first
+
+-- ---- a packet is on the air
+
+module _ (whole : IsHeardWhole) (given : Given) (Q : Place → List Event → Type 0) (known : AreKnown given Q) (are_two : IsOfTwo given) (pair : IsPair given) (six : HaveAddresses given)
+    (distinct : AreDistinct given.stations) (phases : ℕ) (done left : List ℕ) (station channel : ℕ) (octets : List ℕ) (fates : List Fate) (history : List Event)
+    (are : given.stations ≡ done ++ station ∷ left) (wanted : use_at given station history ≡ Sends channel octets)
+    (seen : unseen_in octets (hearings_of given fates station channel octets history) ≡ None)
+    (q : Q (AtPackets phases done (station ∷ left)) history) (holds : Holds given (AreStations given) (AtPackets phases done (station ∷ left)) history)
+    (silent : (other : ℕ) → is_in other given.stations ≡ true → (other == station) ≡ false → packet_received other history ≡ None)
+    (counted : AreCountedSo given history (λ one. not (is_in one done)) (λ one. packet_received one history)) where
+  abbrev facts : ℕ → Facts
+  facts one = facts_at given one history
+
+  abbrev here : Place
+  here = AtPackets phases done (station ∷ left)
+
+  abbrev hearing : Hearing
+  hearing = hearing_of given fates station channel octets history
+
+  abbrev hearings : List Hearing
+  hearings = hearings_of given fates station channel octets history
+
+  abbrev after : List Event
+  after = history ++ Transmitted station channel octets hearings ∷ []
+
+  abbrev other : ℕ
+  other = other_of station
+
+  is : is_in station given.stations ≡ true
+  is = among given.stations done left station are
+
+  has : hearings ≡ hearing ∷ []
+  has = one_hearing given are_two fates station channel octets history is
+
+  phased : (one : ℕ) → is_in one given.stations ≡ true → IsPhased (setup_at given one) (Within phases) (turns_begun history) (facts one)
+  phased one in_it = phased_at given here history holds.hearing.stand one in_it
+
+  few : (one : ℕ) → is_in one given.stations ≡ true → length (facts one).links ≤ 1
+  few one in_it = few_links given pair one (facts one) (holds.so_far.last.each one in_it)
+
+  wants : (facts station).wanted ≡ Sends channel octets
+  wants = wanted_is given station history ∙ wanted
+
+  -- the station that sends it has its packet still to come
+  before_sent : (handle : ℕ) (link : OpenLink) → link_at handle (facts station).links ≡ Some link
+      → IsEndCounted true (packet_received station history) handle (facts station).turn link (exchange_at (number_at station handle history) history (side_of station))
+  before_sent handle link is_open =
+      subst (λ b. IsEndCounted (not b) (packet_received station history) handle (facts station).turn link (exchange_at (number_at station handle history) history (side_of station)))
+      (not_before given.stations done left station distinct are) (counted station handle link is is_open)
+
+  -- ---- on an advertising channel
+
+  own_advertised : is_advertising channel ≡ true → (handle : ℕ) (link : OpenLink) → link_at handle (facts station).links ≡ Some link
+      → IsEndCounted false (packet_received station history) handle (facts station).turn link (exchange_at (number_at station handle history) after (side_of station))
+  own_advertised on handle link is_open =
+      subst (λ e. IsEndCounted false (packet_received station history) handle (facts station).turn link e)
+      (sym (ap (λ (ends : Side → Exchanged). ends (side_of station)) (air_quiet (number_at station handle history) station channel octets history hearings hearing has on)))
+      (any_sending true false (packet_received station history) handle (facts station).turn link (exchange_at (number_at station handle history) history (side_of station))
+      (other_sends (facts station) handle channel octets link (phased station is).uses.sends is_open wants on) (before_sent handle link is_open))
+
+  other_advertised : is_advertising channel ≡ true → (one : ℕ) → is_in one given.stations ≡ true → (received : Bool) → has_received one hearings ≡ received → (handle : ℕ) (link : OpenLink)
+      → link_at handle (facts one).links ≡ Some link
+      → IsEndCounted (not (is_in one done)) (if received then Some octets else packet_received one history) handle (facts one).turn link
+      (exchange_at (number_at one handle history) after (side_of one))
+  other_advertised on one in_it received heard handle link is_open =
+      subst (λ e. IsEndCounted (not (is_in one done)) (if received then Some octets else packet_received one history) handle (facts one).turn link e)
+      (sym (ap (λ (ends : Side → Exchanged). ends (side_of one)) (air_quiet (number_at one handle history) station channel octets history hearings hearing has on)))
+      (by received heard)
+    where
+      by : (b : Bool) → has_received one hearings ≡ b
+          → IsEndCounted (not (is_in one done)) (if b then Some octets else packet_received one history) handle (facts_at given one history).turn link
+          (exchange_at (number_at one handle history) history (side_of one))
+      by true heard_one =
+          any_taking (not (is_in one done)) (packet_received one history) (Some octets) handle (facts_at given one history).turn link (exchange_at (number_at one handle history) history (side_of one))
+          (other_listens (facts_at given one history) handle channel link (phased one in_it).uses.in_turn.listens is_open
+          (wanted_is given one history ∙ (is_listener given fates channel octets history station one heard_one).listens) on)
+          (counted one handle link in_it is_open)
+      by false heard_none = counted one handle link in_it is_open
+
+  -- ---- on a data channel
+
+  module _ (off : is_advertising channel ≡ false) where
+    sent : IsOfSendersLink given history station channel octets
+    sent = known.sends phases done left station history are q channel octets wanted off
+
+    abbrev link_sent : OpenLink
+    link_sent = link_after (PacketSent sent.slot) sent.link
+
+    abbrev own_number : ℕ
+    own_number = number_at station sent.handle history
+
+    -- it is to send on its open link
+    sends_it : (handle : ℕ) (link : OpenLink) → link_at handle (facts station).links ≡ Some link → sends_under handle (facts station).turn.doing ≡ true
+    sends_it handle link is_open = by (use_sent_at given six here history holds.hearing.stand station is channel octets wanted)
+      where
+        by : IsUseSent (facts_at given station history) (Sends channel octets) → sends_under handle (facts_at given station history).turn.doing ≡ true
+        by (inl pdu) = absurd (advertises channel pdu.on_channel off)
+        by (inr on) =
+            let one = one_link (facts_at given station history).links handle on.handle link (link_after (PacketSent (facts_at given station history).turn.slot) on.link) (few station is) is_open on.is_open in
+            ap (λ n. sends_under n (facts_at given station history).turn.doing) one.handles ∙ sends_on on.handle (facts_at given station history).turn.doing on.sends
+
+    exchanged : (number : ℕ) → own_number ≡ number → (side : Side)
+        → exchange_at number after side ≡ after_packet (side_of station) (is_good hearing.verdict) (carries_empty (link_numbered number (journal_of history)) channel octets) (exchange_at number history) side
+    exchanged number same side =
+        ap (λ (ends : Side → Exchanged). ends side) (air_of_link number own_number station channel octets history hearings hearing has off sent.belongs
+        ∙ ap (λ b. after_air b (side_of station) (is_good hearing.verdict) (carries_empty (link_numbered number (journal_of history)) channel octets) (exchange_at number history))
+        (eq-eqb own_number number same))
+
+    own_sent : (handle : ℕ) (link : OpenLink) → link_at handle (facts station).links ≡ Some link
+        → IsEndCounted false (packet_received station history) handle (facts station).turn link (exchange_at (number_at station handle history) after (side_of station))
+    own_sent handle link is_open =
+        let one = one_link (facts station).links handle sent.handle link link_sent (few station is) is_open sent.is_open in
+        let number = number_at station handle history in
+        subst (λ e. IsEndCounted false (packet_received station history) handle (facts station).turn link e)
+        (sym (exchanged number (ap (λ h. number_at station h history) (sym one.handles)) (side_of station)
+        ∙ own_after (is_good hearing.verdict) (carries_empty (link_numbered number (journal_of history)) channel octets) station (exchange_at number history)))
+        (was_sent (packet_received station history) handle (facts station).turn link (exchange_at number history (side_of station)) (sends_it handle link is_open) (before_sent handle link is_open))
+
+    sender_counted : IsCounted (with_sent (exchange_at own_number history (side_of station))) (ack_of link_sent)
+    sender_counted =
+        let on = sends_it sent.handle link_sent sent.is_open in
+        sent_counted (packet_received station history) sent.handle (facts station).turn link_sent (exchange_at own_number history (side_of station)) on
+        (listener_off sent.handle (facts station).turn on (listens_under sent.handle (facts station).turn.doing) refl) (before_sent sent.handle link_sent sent.is_open)
+
+    module _ (is_too : is_in other given.stations ≡ true) (differs : (other == station) ≡ false) where
+      heard_it : has_received other hearings ≡ is_good hearing.verdict
+      heard_it = ap (has_received other) has ∙ other_received other hearing (same_number other)
+
+      deaf_counted : is_good hearing.verdict ≡ false → (handle : ℕ) (link : OpenLink) → link_at handle (facts other).links ≡ Some link
+          → IsEndCounted (not (is_in other done)) (packet_received other history) handle (facts other).turn link (exchange_at (number_at other handle history) after (side_of other))
+      deaf_counted bad handle link is_open =
+          let number = number_at other handle history in
+          let empty = carries_empty (link_numbered number (journal_of history)) channel octets in
+          subst (λ e. IsEndCounted (not (is_in other done)) (packet_received other history) handle (facts other).turn link e)
+          (sym (ap (λ (ends : Side → Exchanged). ends (side_of other)) (air_of_link number own_number station channel octets history hearings hearing has off sent.belongs)
+          ∙ ap (λ b. after_air (own_number == number) (side_of station) b empty (exchange_at number history) (side_of other)) bad
+          ∙ deaf_after (own_number == number) empty station (exchange_at number history)))
+          (counted other handle link is_too is_open)
+
+      module _ (good : is_good hearing.verdict ≡ true) (handle : ℕ) (link : OpenLink) (is_open : link_at handle (facts other).links ≡ Some link) where
+        listening : IsListening (facts other) channel octets
+        listening =
+            let is_judged = judged (use_at given other history) (fate_at fates (fates_used history)) channel (facts other) (damaged_packet (fate_at fates (fates_used history)) octets) good in
+            let same = unchanged octets hearing (ap (unseen_in octets) (sym has) ∙ seen) good in
+            link_listens (facts other) channel octets (subst (λ n. n < 37) (sym sent.channel_is) (link_channel sent.link))
+            (sends_well (setup_at given other) (six other) (past_of other history)).does (phased other is_too).uses.in_turn.listens (phased other is_too).uses.scans
+            (wanted_is given other history ∙ is_judged.listens) (subst (λ xs. is_good (verdict_of (facts other) xs) ≡ true) same is_judged.good)
+
+        one : AreOne handle listening.handle link listening.link
+        one = one_link (facts other).links handle listening.handle link listening.link (few other is_too) is_open listening.is_open
+
+        listens : listens_under handle (facts other).turn.doing ≡ true
+        listens = ap (λ n. listens_under n (facts other).turn.doing) one.handles ∙ listening.on
+
+        begins : take 4 octets ≡ access_octets link.setup.link.fields.access
+        begins = subst (λ (l : OpenLink). take 4 octets ≡ access_octets l.setup.link.fields.access) (sym one.links) (good_begins listening.link.setup (facts_in listening.link) octets listening.good)
+
+        centrals : central_side link_sent.setup.link.role (side_of station) ≡ central_side link.setup.link.role (side_of other)
+        centrals =
+            one_central phases station link_sent.setup.link.role link.setup.link.role
+            (sender_role phases (facts station).links (facts station).turn.doing sent.handle link_sent (phased station is).phase (sends_it sent.handle link_sent sent.is_open) sent.is_open)
+            (listener_role phases (facts other).links (facts other).turn.doing handle link (phased other is_too).phase listens is_open)
+
+        -- the journal has one number for both of its ends
+        one_number : own_number ≡ number_at other handle history
+        one_number =
+            let numbers : Some own_number ≡ Some (number_at other handle history) =
+            sym (known.fits here history q station sent.handle link_sent octets is sent.is_open (ap (take 4) sent.packet ∙ sent_begins sent.link.setup (facts_in sent.link)))
+            ∙ ap (λ s. first_number s octets 1 (links_begun (journal_of history))) centrals
+            ∙ known.fits here history q other handle link octets is_too is_open begins in cc
+
+        begun : IsBegun history (number_at other handle history) other link.setup
+        begun = known.begun here history q other handle link is_too is_open
+
+        connect_ind : HaveOneConnectInd link_sent.setup link.setup
+        connect_ind = one_begun history own_number (number_at other handle history) station other link_sent link one_number (known.begun here history q station sent.handle link_sent is sent.is_open) begun
+
+        agreed : AreAgreed (ack_of link_sent) (ack_of link)
+        agreed =
+            let all = holds.so_far.last.agree station other is is_too (differs_back other station differs) in
+            let each = open_has (WithAll (facts other).links) 0 sent.handle (facts station).links link_sent all sent.is_open in
+            open_has (λ (l : OpenLink). Agree link_sent l) 0 handle (facts other).links link each is_open connect_ind
+
+        before_taken : IsCounted (exchange_at (number_at other handle history) history (side_of other)) (ack_of link)
+        before_taken =
+            plain (not (is_in other done)) (packet_received other history) handle (facts other).turn link (exchange_at (number_at other handle history) history (side_of other))
+            (listener_sends handle (facts other).turn.doing listens) (λ on. silent other is_too differs) (counted other handle link is_too is_open)
+
+        empty_is : carries_empty (link_numbered (number_at other handle history) (journal_of history)) channel octets ≡ true
+        empty_is =
+            ap (λ may. carries_empty may channel octets) begun.is_link
+            ∙ sent_empty whole sent.link.setup (facts_in sent.link) begun.link channel octets (begun.fields ∙ sym connect_ind.fields) sent.channel_is sent.packet
+
+        taken_counted : IsEndCounted (not (is_in other done)) (Some octets) handle (facts other).turn link (exchange_at (number_at other handle history) after (side_of other))
+        taken_counted =
+            let number = number_at other handle history in
+            let slot = (facts other).turn.slot in
+            let before = exchange_at number history in
+            let tells = told whole slot sent.slot link sent.link octets connect_ind.fields sent.packet
+            (sym sent.channel_is ∙ listening.channel_is ∙ ap (λ (l : OpenLink). (facts_in l).event.channel) (sym one.links)) agreed in
+            let from = subst (λ n. IsCounted (with_sent (exchange_at n history (side_of station))) (ack_of link_sent)) one_number sender_counted in
+            let next = hears_counted (before (side_of other)) (with_sent (before (side_of station))) (ack_of link) (ack_of link_sent) (ack_of (link_after (PacketReceived slot octets) link)) before_taken from tells in
+            subst (λ e. IsEndCounted (not (is_in other done)) (Some octets) handle (facts other).turn link e)
+            (sym (exchanged number one_number (side_of other)
+            ∙ other_after (is_good hearing.verdict) (carries_empty (link_numbered number (journal_of history)) channel octets) station before
+            ∙ ap (λ b. if b then with_heard (carries_empty (link_numbered number (journal_of history)) channel octets) (with_sent (before (side_of station))) (before (side_of other)) else before (side_of other)) good
+            ∙ ap (λ b. with_heard b (with_sent (before (side_of station))) (before (side_of other))) empty_is))
+            (takes (not (is_in other done)) octets handle (facts other).turn link (with_heard true (with_sent (before (side_of station))) (before (side_of other))) listens
+            (listener_sends handle (facts other).turn.doing listens) next)
+
+      other_sent : (received : Bool) → is_good hearing.verdict ≡ received → (handle : ℕ) (link : OpenLink) → link_at handle (facts other).links ≡ Some link
+          → IsEndCounted (not (is_in other done)) (if received then Some octets else packet_received other history) handle (facts other).turn link
+          (exchange_at (number_at other handle history) after (side_of other))
+      other_sent true good handle link is_open = taken_counted good handle link is_open
+      other_sent false bad handle link is_open = deaf_counted bad handle link is_open
+
+  -- ---- both
+
+  own_aired : (on : Bool) → is_advertising channel ≡ on → (handle : ℕ) (link : OpenLink) → link_at handle (facts station).links ≡ Some link
+      → IsEndCounted false (packet_received station history) handle (facts station).turn link (exchange_at (number_at station handle history) after (side_of station))
+  own_aired true on handle link is_open = own_advertised on handle link is_open
+  own_aired false off handle link is_open = own_sent off handle link is_open
+
+  other_aired : (on : Bool) → is_advertising channel ≡ on → is_in other given.stations ≡ true → (other == station) ≡ false → (handle : ℕ) (link : OpenLink)
+      → link_at handle (facts other).links ≡ Some link
+      → IsEndCounted (not (is_in other done)) (if has_received other hearings then Some octets else packet_received other history) handle (facts other).turn link
+      (exchange_at (number_at other handle history) after (side_of other))
+  other_aired true on is_too differs handle link is_open = other_advertised on other is_too (has_received other hearings) refl handle link is_open
+  other_aired false off is_too differs handle link is_open =
+      other_sent off is_too differs (has_received other hearings) (sym (heard_it off is_too differs)) handle link is_open
+
+  own_receives : packet_received station after ≡ packet_received station history
+  own_receives =
+      received_event station history (Transmitted station channel octets hearings)
+      ∙ ap (λ xs. if has_received station xs then Some octets else packet_received station history) has
+      ∙ ap (λ b. if b then Some octets else packet_received station history) (own_received station hearing (own_differs station))
+
+  pub packet_counted : AreCountedSo given after (λ one. not (is_in one (done ++ station ∷ []))) (λ one. packet_received one after)
+  packet_counted = λ one handle link in_it is_open. by one in_it (one == station) refl handle link (ap (λ (f : Facts). link_at handle f.links) (sym (same_facts one)) ∙ is_open)
+    where
+      same_facts : (one : ℕ) → facts_at given one (history ++ Transmitted station channel octets (hearings_of given fates station channel octets history) ∷ []) ≡ facts_at given one history
+      same_facts one = facts_event given one history (Transmitted station channel octets (hearings_of given fates station channel octets history)) refl
+
+      by : (one : ℕ) → is_in one given.stations ≡ true → (same : Bool) → (one == station) ≡ same → (handle : ℕ) (link : OpenLink) → link_at handle (facts_at given one history).links ≡ Some link
+          → IsEndCounted (not (is_in one (done ++ station ∷ [])))
+          (packet_received one (history ++ Transmitted station channel octets (hearings_of given fates station channel octets history) ∷ [])) handle
+          (facts_at given one (history ++ Transmitted station channel octets (hearings_of given fates station channel octets history) ∷ [])).turn link
+          (exchange_at (number_at one handle (history ++ Transmitted station channel octets (hearings_of given fates station channel octets history) ∷ []))
+          (history ++ Transmitted station channel octets (hearings_of given fates station channel octets history) ∷ []) (side_of one))
+      by one in_it true same handle link is_open =
+          let equal = eqb-true one station same in
+          subst (λ n. IsEndCounted (not (is_in n (done ++ station ∷ []))) (packet_received n after) handle (facts_at given n after).turn link (exchange_at (number_at n handle after) after (side_of n))) (sym equal)
+          (moved handle link false (not (is_in station (done ++ station ∷ []))) (packet_received station history) (packet_received station after) (facts station).turn (facts_at given station after).turn
+          (exchange_at (number_at station handle history) after (side_of station)) (exchange_at (number_at station handle after) after (side_of station))
+          (ap not (in_more_same station station done (same_number station))) own_receives (ap (λ (f : Facts). f.turn) (same_facts station))
+          (ap (λ n. exchange_at n after (side_of station)) (number_sent station handle history station channel octets hearings))
+          (own_aired (is_advertising channel) refl handle link (subst (λ n. link_at handle (facts_at given n history).links ≡ Some link) equal is_open)))
+      by one in_it false differs handle link is_open =
+          let equal = other_is given are_two station one is in_it differs in
+          subst (λ n. IsEndCounted (not (is_in n (done ++ station ∷ []))) (packet_received n after) handle (facts_at given n after).turn link (exchange_at (number_at n handle after) after (side_of n))) (sym equal)
+          (let unlike = subst (λ n. (n == station) ≡ false) equal differs in
+          moved handle link (not (is_in other done)) (not (is_in other (done ++ station ∷ []))) (if has_received other hearings then Some octets else packet_received other history) (packet_received other after)
+          (facts other).turn (facts_at given other after).turn
+          (exchange_at (number_at other handle history) after (side_of other)) (exchange_at (number_at other handle after) after (side_of other))
+          (ap not (in_more_other other station done unlike)) (received_event other history (Transmitted station channel octets hearings)) (ap (λ (f : Facts). f.turn) (same_facts other))
+          (ap (λ n. exchange_at n after (side_of other)) (number_sent other handle history station channel octets hearings))
+          (other_aired (is_advertising channel) refl (subst (λ n. is_in n given.stations ≡ true) equal in_it) unlike handle link
+          (subst (λ n. link_at handle (facts_at given n history).links ≡ Some link) equal is_open)))

@@ -1,0 +1,170 @@
+-- How far a journal is ahead of what each controller holds, or behind, at each place of a run.
+use Rattle.std.proofs.Common.{◌≡◌, ℕ, ◌==◌, ◌&&◌, Bool, true, false, Option, Some, None, List, [], ◌∷◌, ◌++◌, take, refl, sym, ap, subst, ◌∙◌}
+use Rattle.ble_base.specs.declared.roles.Side.{Side}
+use Rattle.air_frame.specs.Packet.{access_octets}
+use Rattle.one_end.specs.Setup.{Setup as EndSetup}
+use Rattle.one_end.specs.Step.{PacketReceived}
+use Rattle.open_links.specs.OpenLinks.{OpenLink, link_after, link_at}
+use Rattle.one_side.specs.declared.doing.Turn.{Turn}
+use Rattle.one_side.specs.Step.{Step}
+use Rattle.one_side.specs.Facts.{Facts, Sends}
+use Rattle.runs.specs.History.{Event, steps_in}
+use Rattle.runs.specs.Journal.{journal_of, side_of}
+use Rattle.runs.specs.Links.{is_advertising}
+use Rattle.runs.specs.Run.{Given, after_call, facts_at, setup_at, use_at}
+use Rattle.runs.proofs.Stations.{is_in}
+use Rattle.runs.proofs.Walk.{Place, AtPackets, IsKept}
+use Rattle.run_laws.proofs.Agreed.{ack_of}
+use Rattle.run_laws.proofs.Hearings.{other_facts}
+use Rattle.run_laws.proofs.TurnPlaces.{event_past}
+use Rattle.journal_links.specs.Opened.{central_side}
+use Rattle.journal_links.specs.Begun.{LinkBegun, link_numbered, links_begun}
+use Rattle.journal_packets.specs.Belonging.{first_number}
+use Rattle.journal_packets.specs.Senders.{IsOfSendersLink}
+use Rattle.journal_acks.specs.Counted.{IsCounted}
+use Rattle.journal_acks.specs.Exchange.{Exchanged, with_sent}
+use Rattle.journal_acks.proofs.Exchanging.{exchange_at, exchange_called, number_at, number_other}
+use Rattle.journal_acks.proofs.LinkUses.{listens_under, sends_under}
+use Rattle.std.proofs.lemmas.Bool.{eqb-true}
+use Rattle.one_side.specs.Side.{facts_of}
+
+-- ---- what is known of the links of a journal
+
+-- an open end at a station is one of the link with this number
+pub record IsBegun (history : List Event) (number station : ℕ) (end : EndSetup) : Type 0 where
+  pub link : LinkBegun
+  pub is_link : link_numbered number (journal_of history) ≡ Some link
+  pub fields : link.fields ≡ end.link.fields
+  pub slot : link.slot ≡ end.opened
+
+pub record AreKnown (given : Given) (Q : Place → List Event → Type 0) : Type 0 where
+  pub kept : IsKept given Q
+  pub begun : (place : Place) (history : List Event) → Q place history → (station handle : ℕ) (link : OpenLink) → is_in station given.stations ≡ true
+      → link_at handle (facts_at given station history).links ≡ Some link → IsBegun history (number_at station handle history) station link.setup
+  -- the first link of its central that begins with the access address of the end is its own
+  pub fits : (place : Place) (history : List Event) → Q place history → (station handle : ℕ) (link : OpenLink) (octets : List ℕ) → is_in station given.stations ≡ true
+      → link_at handle (facts_at given station history).links ≡ Some link → take 4 octets ≡ access_octets link.setup.link.fields.access
+      → first_number (central_side link.setup.link.role (side_of station)) octets 1 (links_begun (journal_of history)) ≡ Some (number_at station handle history)
+  pub sends : (phases : ℕ) (done left : List ℕ) (station : ℕ) (history : List Event) → given.stations ≡ done ++ station ∷ left
+      → Q (AtPackets phases done (station ∷ left)) history → (channel : ℕ) (octets : List ℕ) → use_at given station history ≡ Sends channel octets
+      → is_advertising channel ≡ false → IsOfSendersLink given history station channel octets
+
+-- ---- one end
+
+-- before the packet that an end is to send is on the air, the journal is one sending behind; before it takes a packet that
+-- was on the air, the journal is one reception ahead
+abbrev pub ahead_if : Bool → Exchanged → Exchanged
+ahead_if true end = with_sent end
+ahead_if false end = end
+
+abbrev pub taking_if : Bool → Option (List ℕ) → ℕ → OpenLink → OpenLink
+taking_if true (Some octets) slot link = link_after (PacketReceived slot octets) link
+taking_if true None slot link = link
+taking_if false received slot link = link
+
+abbrev pub IsEndCounted : Bool → Option (List ℕ) → ℕ → Turn → OpenLink → Exchanged → Type 0
+IsEndCounted unsent received handle turn link end =
+    IsCounted (ahead_if (unsent && sends_under handle turn.doing) end) (ack_of (taking_if (listens_under handle turn.doing) received turn.slot link))
+
+pub moved : (handle : ℕ) (link : OpenLink) (unsent unsent_too : Bool) (received received_too : Option (List ℕ)) (turn turn_too : Turn) (end end_too : Exchanged)
+    → unsent_too ≡ unsent → received_too ≡ received → turn_too ≡ turn → end_too ≡ end → IsEndCounted unsent received handle turn link end
+    → IsEndCounted unsent_too received_too handle turn_too link end_too
+moved handle link unsent unsent_too received received_too turn turn_too end end_too u r t e is =
+    subst (λ b. IsEndCounted b received_too handle turn_too link end_too) (sym u)
+    (subst (λ may. IsEndCounted unsent may handle turn_too link end_too) (sym r)
+    (subst (λ now. IsEndCounted unsent received handle now link end_too) (sym t)
+    (subst (λ one. IsEndCounted unsent received handle turn link one) (sym e) is)))
+
+not_yet : (unsent : Bool) → (unsent && false) ≡ false
+not_yet true = refl
+not_yet false = refl
+
+nothing_taken : (listens : Bool) (received : Option (List ℕ)) (slot : ℕ) (link : OpenLink) → (listens ≡ true → received ≡ None) → taking_if listens received slot link ≡ link
+nothing_taken true None slot link none = refl
+nothing_taken true (Some octets) slot link none = absurd (let h : Some octets ≡ None = none refl in absurd cc)
+nothing_taken false received slot link none = refl
+
+-- an end that neither is to send nor has a packet to take has just the counts of the journal
+pub plain : (unsent : Bool) (received : Option (List ℕ)) (handle : ℕ) (turn : Turn) (link : OpenLink) (end : Exchanged) → sends_under handle turn.doing ≡ false
+    → (listens_under handle turn.doing ≡ true → received ≡ None) → IsEndCounted unsent received handle turn link end → IsCounted end (ack_of link)
+plain unsent received handle turn link end none nothing is =
+    subst (λ l. IsCounted end (ack_of l)) (nothing_taken (listens_under handle turn.doing) received turn.slot link nothing)
+    (subst (λ b. IsCounted (ahead_if b end) (ack_of (taking_if (listens_under handle turn.doing) received turn.slot link)))
+    (ap (λ b. unsent && b) none ∙ not_yet unsent) is)
+
+pub from_plain : (unsent : Bool) (received : Option (List ℕ)) (handle : ℕ) (turn : Turn) (link : OpenLink) (end : Exchanged) → sends_under handle turn.doing ≡ false
+    → (listens_under handle turn.doing ≡ true → received ≡ None) → IsCounted end (ack_of link) → IsEndCounted unsent received handle turn link end
+from_plain unsent received handle turn link end none nothing is =
+    subst (λ b. IsCounted (ahead_if b end) (ack_of (taking_if (listens_under handle turn.doing) received turn.slot link)))
+    (sym (ap (λ b. unsent && b) none ∙ not_yet unsent))
+    (subst (λ l. IsCounted end (ack_of l)) (sym (nothing_taken (listens_under handle turn.doing) received turn.slot link nothing)) is)
+
+-- an end whose packet is still to come, or that was sent, and that takes nothing
+pub from_sent : (sends : Bool) (received : Option (List ℕ)) (handle : ℕ) (turn : Turn) (link : OpenLink) (end : Exchanged) → sends_under handle turn.doing ≡ sends
+    → (listens_under handle turn.doing ≡ true → received ≡ None) → IsCounted (ahead_if sends end) (ack_of link) → IsEndCounted true received handle turn link end
+from_sent sends received handle turn link end is nothing counted =
+    subst (λ b. IsCounted (ahead_if b end) (ack_of (taking_if (listens_under handle turn.doing) received turn.slot link))) (sym is)
+    (subst (λ l. IsCounted (ahead_if sends end) (ack_of l)) (sym (nothing_taken (listens_under handle turn.doing) received turn.slot link nothing)) counted)
+
+-- ---- all ends
+
+module _ (given : Given) where
+  abbrev pub AreCountedSo : List Event → (ℕ → Bool) → (ℕ → Option (List ℕ)) → Type 0
+  AreCountedSo history unsent received = (station handle : ℕ) (link : OpenLink) → is_in station given.stations ≡ true → link_at handle (facts_at given station history).links ≡ Some link
+      → IsEndCounted (unsent station) (received station) handle (facts_at given station history).turn link (exchange_at (number_at station handle history) history (side_of station))
+
+  pub counted_same : (history : List Event) (unsent unsent_too : ℕ → Bool) (received received_too : ℕ → Option (List ℕ))
+      → ((station : ℕ) → is_in station given.stations ≡ true → unsent_too station ≡ unsent station)
+      → ((station : ℕ) → is_in station given.stations ≡ true → received_too station ≡ received station)
+      → AreCountedSo history unsent received → AreCountedSo history unsent_too received_too
+  counted_same history unsent unsent_too received received_too u r counted = λ station handle link is at.
+      let turn = (facts_at given station history).turn in
+      let end = exchange_at (number_at station handle history) history (side_of station) in
+      moved handle link (unsent station) (unsent_too station) (received station) (received_too station) turn turn end end (u station is) (r station is) refl refl
+      (counted station handle link is at)
+
+  pub facts_event : (station : ℕ) (history : List Event) (event : Event) → steps_in station event ≡ [] → facts_at given station (history ++ event ∷ []) ≡ facts_at given station history
+  facts_event station history event none = ap (facts_of (setup_at given station)) (event_past station history event none)
+
+  -- an event that changes nothing of the counts
+  pub counted_event : (history : List Event) (event : Event) (unsent : ℕ → Bool) (received : ℕ → Option (List ℕ)) → ((station : ℕ) → steps_in station event ≡ [])
+      → ((number : ℕ) → exchange_at number (history ++ event ∷ []) ≡ exchange_at number history)
+      → ((station handle : ℕ) → number_at station handle (history ++ event ∷ []) ≡ number_at station handle history)
+      → AreCountedSo history unsent received → AreCountedSo (history ++ event ∷ []) unsent received
+  counted_event history event unsent received none exchange number counted = λ station handle link is at.
+      let same = facts_event station history event (none station) in
+      moved handle link (unsent station) (unsent station) (received station) (received station) (facts_at given station history).turn
+      (facts_at given station (history ++ event ∷ [])).turn _ _ refl refl (ap (λ (f : Facts). f.turn) same)
+      (ap (λ n. exchange_at n (history ++ event ∷ []) (side_of station)) (number station handle)
+      ∙ ap (λ (ends : Side → Exchanged). ends (side_of station)) (exchange (number_at station handle history)))
+      (counted station handle link is (ap (λ (f : Facts). link_at handle f.links) (sym same) ∙ at))
+
+  -- a call on one station
+  pub counted_call : (station : ℕ) (step : Step) (history : List Event) (unsent unsent_too : ℕ → Bool) (received received_too : ℕ → Option (List ℕ))
+      → ((handle : ℕ) (link : OpenLink) → link_at handle (facts_at given station (after_call given station step history)).links ≡ Some link
+      → IsEndCounted (unsent_too station) (received_too station) handle (facts_at given station (after_call given station step history)).turn link
+      (exchange_at (number_at station handle (after_call given station step history)) history (side_of station)))
+      → ((other : ℕ) → is_in other given.stations ≡ true → (other == station) ≡ false → unsent_too other ≡ unsent other)
+      → ((other : ℕ) → is_in other given.stations ≡ true → (other == station) ≡ false → received_too other ≡ received other)
+      → AreCountedSo history unsent received → AreCountedSo (after_call given station step history) unsent_too received_too
+  counted_call station step history unsent unsent_too received received_too own u r counted = λ other handle link is at. by other handle link is at (other == station) refl
+    where
+      by : (other handle : ℕ) (link : OpenLink) → is_in other given.stations ≡ true → link_at handle (facts_at given other (after_call given station step history)).links ≡ Some link
+          → (same : Bool) → (other == station) ≡ same
+          → IsEndCounted (unsent_too other) (received_too other) handle (facts_at given other (after_call given station step history)).turn link
+          (exchange_at (number_at other handle (after_call given station step history)) (after_call given station step history) (side_of other))
+      by other handle link is at true one =
+          let equal = eqb-true other station one in
+          let next = after_call given station step history in
+          subst (λ n. IsEndCounted (unsent_too n) (received_too n) handle (facts_at given n next).turn link (exchange_at (number_at n handle next) next (side_of n))) (sym equal)
+          (moved handle link (unsent_too station) (unsent_too station) (received_too station) (received_too station) (facts_at given station next).turn (facts_at given station next).turn _ _
+          refl refl refl (ap (λ (ends : Side → Exchanged). ends (side_of station)) (exchange_called given (number_at station handle next) station step history))
+          (own handle link (subst (λ n. link_at handle (facts_at given n next).links ≡ Some link) equal at)))
+      by other handle link is at false differs =
+          let next = after_call given station step history in
+          let same = other_facts given station step history other differs in
+          moved handle link (unsent other) (unsent_too other) (received other) (received_too other) (facts_at given other history).turn (facts_at given other next).turn _ _
+          (u other is differs) (r other is differs) (ap (λ (f : Facts). f.turn) same)
+          (ap (λ n. exchange_at n next (side_of other)) (number_other given station step history other handle differs)
+          ∙ ap (λ (ends : Side → Exchanged). ends (side_of other)) (exchange_called given (number_at other handle history) station step history))
+          (counted other handle link is (ap (λ (f : Facts). link_at handle f.links) (sym same) ∙ at))

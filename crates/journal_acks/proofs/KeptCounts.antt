@@ -1,0 +1,500 @@
+-- Each step of a run of a pair keeps what the counts of its journal are, end by end.
+use Rattle.std.proofs.Common.{◌≡◌, ℕ, suc, ◌+◌, ◌-◌, ◌<◌, ◌==◌, ◌⊎◌, inl, inr, Bool, true, false, not, Option, Some, None, List, [], ◌∷◌, ◌++◌, refl, sym, ap, subst, ◌∙◌, arith}
+use Rattle.std.specs.Prelude.{All, map, take, if◌then◌else◌}
+use Rattle.std.proofs.lemmas.Bool.{eqb-true}
+use Rattle.std.proofs.lemmas.List.Elements.{All-nil}
+use Rattle.ble_base.specs.declared.roles.Side.{Side}
+use Rattle.one_end.proofs.Received.{IsHeardWhole}
+use Rattle.one_end.specs.Step.{PacketReceived, PacketSent}
+use Rattle.open_links.specs.OpenLinks.{OpenLink, link_after, link_at}
+use Rattle.one_side.specs.declared.doing.Doing.TheVariants.{Rests}
+use Rattle.one_side.specs.declared.doing.Turn.{Turn}
+use Rattle.one_side.specs.Step.{Step, HostOctet, TurnBegins, TurnEnds}
+use Rattle.one_side.specs.Facts.{Facts, Sends}
+use Rattle.one_side.specs.Side.{facts_after, notes_after}
+use Rattle.radio_replay.specs.declared.fates.Fate.{Fate}
+use Rattle.runs.specs.Due.{packet_in}
+use Rattle.runs.specs.Feeding.{AreDistinct}
+use Rattle.runs.specs.History.{Event, TurnBegan, HostFed, Transmitted, has_received, packet_received, turns_begun}
+use Rattle.runs.specs.Journal.{side_of}
+use Rattle.runs.specs.LinkEnds.{HaveAddresses}
+use Rattle.runs.specs.Links.{is_advertising}
+use Rattle.runs.specs.Run.{Given, after_call, after_feed, after_octets, facts_at, hearings_of, octets_left, setup_at, step_of, use_at}
+use Rattle.runs.proofs.Calls.{same_station, turns_called}
+use Rattle.runs.proofs.LinkEnds.{received_by, received_event}
+use Rattle.runs.proofs.Stations.{is_in, among, in_more_other, in_more_same, not_before}
+use Rattle.runs.proofs.Walk.{Place, NoTurn, AtFeeds, AtBegins, AfterPhases, AtPackets, AtListening, AtEnds, IsKept}
+use Rattle.run_laws.proofs.Agreed.{ack_of}
+use Rattle.run_laws.proofs.ByCalls.{Holds, holds_kept}
+use Rattle.run_laws.proofs.Hearings.{own_facts, use_sent_at, wanted_is}
+use Rattle.run_laws.proofs.InAgreement.{AreStations, IsPair, OpenedBefore, agreement_kept, differs_back}
+use Rattle.run_laws.proofs.LinkPasses.{is_on_link}
+use Rattle.run_laws.proofs.OpenSteps.{open_has}
+use Rattle.run_laws.proofs.SentPackets.{IsUseSent}
+use Rattle.run_laws.proofs.TurnPlaces.{Between, Within, at_stage}
+use Rattle.run_laws.proofs.TurnSteps.{octet_turn, phase_turn}
+use Rattle.journal_packets.specs.Senders.{IsOfSendersLink}
+use Rattle.journal_acks.specs.Counted.{IsCounted}
+use Rattle.journal_acks.specs.Exchange.{Exchanged}
+use Rattle.journal_acks.proofs.Acks.{link_sends}
+use Rattle.journal_acks.proofs.AirCounts.{advertises, any_sending, first_aired, packet_counted}
+use Rattle.journal_acks.proofs.CallNotes.{IsOfBegins, begin_noted, octet_noted}
+use Rattle.journal_acks.proofs.Counting.{AreCountedSo, AreKnown, IsEndCounted, ahead_if, counted_call, counted_event, counted_same, from_plain, from_sent, moved, plain, taking_if}
+use Rattle.journal_acks.proofs.Exchanging.{OpensNone, exchange_at, exchange_called, feed_quiet, number_at, number_called, number_quiet, turn_quiet}
+use Rattle.journal_acks.proofs.FirstCounts.{AreFirst, IsFirst, first_called, first_event, first_event_at, first_of}
+use Rattle.journal_acks.proofs.LinkCalls.{HasPassed, IsNew, Stays, Takes, base_ack, begins_under, passes_under, phase_quiet}
+use Rattle.journal_acks.proofs.LinkUses.{listens_under, sends_under}
+use Rattle.journal_acks.proofs.Standing.{PhasedBy, fresh_counted, last_phase, phased_at, sending_on_link, silent_sends}
+use Rattle.journal_acks.proofs.TwoStations.{IsOfTwo, air_quiet, hearing_of, one_hearing, other_is, own_differs, own_received}
+use Rattle.journal_acks.proofs.UnderHandles.{octet_under, sent_if}
+
+-- a station still has to transmit what it wants to
+abbrev pub unsent : Place → ℕ → Bool
+unsent (AtPackets phases done left) station = not (is_in station done)
+unsent (AtListening phases done left) station = is_in station done
+unsent NoTurn station = true
+unsent (AtFeeds done left) station = true
+unsent (AtBegins done left) station = true
+unsent (AfterPhases phases) station = true
+unsent (AtEnds done left) station = true
+
+-- nothing is heard of a station that did not transmit yet
+abbrev pub IsSilent : Given → Place → List Event → Type 0
+IsSilent given (AtPackets phases done left) history =
+    (other sender : ℕ) → is_in other given.stations ≡ true → is_in sender given.stations ≡ true → (other == sender) ≡ false → is_in sender done ≡ false
+    → packet_received other history ≡ None
+IsSilent given place history = Unit {0}
+
+pub record AreCountedAt (given : Given) (Q : Place → List Event → Type 0) (place : Place) (history : List Event) : Type 0 where
+  pub known : Q place history
+  pub holds : Holds given (AreStations given) place history
+  pub first : AreFirst history
+  pub silent : IsSilent given place history
+  pub counted : AreCountedSo given history (unsent place) (λ station. packet_received station history)
+
+-- ---- small steps
+
+opening_none : (handle : ℕ) → IsOfBegins (OpensNone handle)
+opening_none handle = record {
+  up = λ event. refl;
+  shut = λ other reason. refl;
+  applied = λ other number event. refl;
+  entered = λ other event channel. refl;
+}
+
+-- an end that sends, or does not
+sent_counted : (sends : Bool) (slot : ℕ) (base : OpenLink) (end : Exchanged) → IsCounted end (ack_of base) → IsCounted (ahead_if sends end) (ack_of (sent_if sends slot base))
+sent_counted true slot base end is = link_sends slot base end is
+sent_counted false slot base end is = is
+
+-- an end whose packet was on the air, and that has none to take
+was_plain : (received : Option (List ℕ)) (handle : ℕ) (turn : Turn) (link : OpenLink) (end : Exchanged) → (listens_under handle turn.doing ≡ true → received ≡ None)
+    → IsEndCounted false received handle turn link end → IsCounted end (ack_of link)
+was_plain received handle turn link end nothing is = by (listens_under handle turn.doing) received nothing is
+  where
+    by : (listens : Bool) (received : Option (List ℕ)) → (listens ≡ true → received ≡ None) → IsCounted end (ack_of (taking_if listens received turn.slot link)) → IsCounted end (ack_of link)
+    by true None none counted = counted
+    by true (Some octets) none counted = absurd (let h : Some octets ≡ None = none refl in absurd cc)
+    by false received none counted = counted
+
+-- and that takes one
+was_taking : (received : Option (List ℕ)) (octets : List ℕ) (handle : ℕ) (turn : Turn) (link : OpenLink) (end : Exchanged) → listens_under handle turn.doing ≡ true → received ≡ Some octets
+    → IsEndCounted false received handle turn link end → IsCounted end (ack_of (link_after (PacketReceived turn.slot octets) link))
+was_taking received octets handle turn link end on some is =
+    subst (λ may. IsCounted end (ack_of (taking_if true may turn.slot link))) some
+    (subst (λ b. IsCounted end (ack_of (taking_if b received turn.slot link))) on is)
+
+not_in_more : (one : ℕ) (done : List ℕ) (station : ℕ) → is_in one (done ++ station ∷ []) ≡ false → (same : Bool) → (one == station) ≡ same → is_in one done ≡ false
+not_in_more one done station out true is = absurd (let h : true ≡ false = sym (in_more_same one station done is) ∙ out in absurd cc)
+not_in_more one done station out false is = sym (in_more_other one station done is) ∙ out
+
+rests_none : (facts : Facts) (handle : ℕ) → facts.turn.doing ≡ Rests → sends_under handle facts.turn.doing ≡ false
+rests_none facts handle is = ap (sends_under handle) is
+
+-- ---- a host sends
+
+module _ (given : Given) where
+  -- what is kept while a turn feeds its stations
+  record IsFed (history : List Event) : Type 0 where
+    first : AreFirst history
+    counted : AreCountedSo given history (λ station. true) (λ station. None)
+
+  octet_fed : (station octet : ℕ) (history : List Event) → is_in station given.stations ≡ true → IsFed history → IsFed (after_call given station (HostOctet octet) history)
+  octet_fed station octet history is fed = record {
+    first = first_called given station (HostOctet octet) history fed.first;
+    counted = counted_call given station (HostOctet octet) history (λ one. true) (λ one. true) (λ one. None) (λ one. None)
+        (λ handle link at.
+        let facts = facts_at given station history in
+        let setup = setup_at given station in
+        let same = own_facts given station (HostOctet octet) history in
+        let was = octet_under setup facts octet handle link (ap (λ (f : Facts). link_at handle f.links) (sym same) ∙ at) in
+        moved handle link true true None None facts.turn (facts_at given station (after_call given station (HostOctet octet) history)).turn
+        (exchange_at (number_at station handle history) history (side_of station))
+        (exchange_at (number_at station handle (after_call given station (HostOctet octet) history)) history (side_of station)) refl refl
+        (ap (λ (f : Facts). f.turn) same ∙ (octet_turn setup facts octet).turn)
+        (ap (λ n. exchange_at n history (side_of station)) (number_called given station (HostOctet octet) history handle (octet_noted (OpensNone handle) (opening_none handle) setup facts octet)))
+        (fed.counted station handle link is was))
+        (λ other in_it differs. refl) (λ other in_it differs. refl) fed.counted;
+  }
+
+  octets_fed : (station : ℕ) (octets : List ℕ) (history : List Event) → is_in station given.stations ≡ true → IsFed history → IsFed (after_octets given station octets history)
+  octets_fed station [] history is fed = fed
+  octets_fed station (octet ∷ octets) history is fed =
+      octets_fed station octets (after_call given station (HostOctet octet) history) is (octet_fed station octet history is fed)
+
+  feed_fed : (station : ℕ) (octets : List ℕ) (history : List Event) → is_in station given.stations ≡ true → IsFed history → IsFed (after_feed given station octets history)
+  feed_fed station [] history is fed = fed
+  feed_fed station (octet ∷ octets) history is fed =
+      octets_fed station (octet ∷ octets) (history ++ HostFed station (octet ∷ octets) ∷ []) is (record {
+        first = first_event history (HostFed station (octet ∷ octets)) (λ number. feed_quiet number history station (octet ∷ octets)) fed.first;
+        counted = counted_event given history (HostFed station (octet ∷ octets)) (λ one. true) (λ one. None) (λ one. refl)
+            (λ number. feed_quiet number history station (octet ∷ octets))
+            (λ one handle. number_quiet one handle history (HostFed station (octet ∷ octets)) (λ links. refl)) fed.counted;
+      })
+
+-- ---- a call in a turn
+
+module _ (given : Given) (station : ℕ) (step : Step) (history : List Event) (handle : ℕ) (link : OpenLink)
+    (at : link_at handle (facts_at given station (after_call given station step history)).links ≡ Some link) where
+  -- the link, in what the controller holds after the call
+  own_at : link_at handle (facts_after (setup_at given station) (facts_at given station history) step).links ≡ Some link
+  own_at = ap (λ (f : Facts). link_at handle f.links) (sym (own_facts given station step history)) ∙ at
+
+  -- its counts, by those of the journal before
+  pub own_moved : (received : Option (List ℕ)) → number_at station handle (after_call given station step history) ≡ number_at station handle history
+      → IsEndCounted true received handle (facts_after (setup_at given station) (facts_at given station history) step).turn link (exchange_at (number_at station handle history) history (side_of station))
+      → IsEndCounted true received handle (facts_at given station (after_call given station step history)).turn link
+      (exchange_at (number_at station handle (after_call given station step history)) history (side_of station))
+  own_moved received number is =
+      moved handle link true true received received (facts_after (setup_at given station) (facts_at given station history) step).turn
+      (facts_at given station (after_call given station step history)).turn (exchange_at (number_at station handle history) history (side_of station))
+      (exchange_at (number_at station handle (after_call given station step history)) history (side_of station)) refl refl
+      (ap (λ (f : Facts). f.turn) (own_facts given station step history)) (ap (λ n. exchange_at n history (side_of station)) number) is
+
+begin_own : (given : Given) (station slot : ℕ) (on : Bool) (history : List Event) → is_in station given.stations ≡ true → (facts_at given station history).turn.doing ≡ Rests
+    → (received : Option (List ℕ)) → AreCountedSo given history (λ one. true) (λ one. packet_received one history)
+    → (handle : ℕ) (link : OpenLink) → link_at handle (facts_at given station (after_call given station (TurnBegins slot on) history)).links ≡ Some link
+    → received ≡ None → IsEndCounted true received handle (facts_at given station (after_call given station (TurnBegins slot on) history)).turn link
+    (exchange_at (number_at station handle (after_call given station (TurnBegins slot on) history)) history (side_of station))
+begin_own given station slot on history is rests received counted handle link at none =
+    let setup = setup_at given station in
+    let facts = facts_at given station history in
+    let next = facts_after setup facts (TurnBegins slot on) in
+    let begun = begins_under setup facts slot on handle link (own_at given station (TurnBegins slot on) history handle link at) in
+    let end = exchange_at (number_at station handle history) history (side_of station) in
+    let before = plain true (packet_received station history) handle facts.turn begun.link end (rests_none facts handle rests)
+    (λ listens. absurd (let h : true ≡ false = sym listens ∙ ap (listens_under handle) rests in absurd cc)) (counted station handle begun.link is begun.was) in
+    let base = subst (IsCounted end) (sym (base_ack facts slot handle next.turn.doing link begun)) before in
+    let sends = sends_under handle next.turn.doing in
+    own_moved given station (TurnBegins slot on) history handle link at received
+    (number_called given station (TurnBegins slot on) history handle (begin_noted (OpensNone handle) (opening_none handle) setup slot on facts))
+    (from_sent sends received handle next.turn link end refl (λ listens. none)
+    (subst (λ l. IsCounted (ahead_if sends end) (ack_of l)) (sym begun.is) (sent_counted sends slot begun.base end base)))
+
+end_own : (given : Given) (station : ℕ) (history : List Event) → is_in station given.stations ≡ true
+    → ((handle : ℕ) → sends_under handle (facts_at given station history).turn.doing ≡ false) → (received : Option (List ℕ)) → packet_received station history ≡ None → received ≡ None
+    → AreCountedSo given history (λ one. true) (λ one. packet_received one history)
+    → (handle : ℕ) (link : OpenLink) → link_at handle (facts_at given station (after_call given station TurnEnds history)).links ≡ Some link
+    → IsEndCounted true received handle (facts_at given station (after_call given station TurnEnds history)).turn link
+    (exchange_at (number_at station handle (after_call given station TurnEnds history)) history (side_of station))
+end_own given station history is silent received heard none counted handle link at =
+    let setup = setup_at given station in
+    let facts = facts_at given station history in
+    let next = facts_after setup facts TurnEnds in
+    let end = exchange_at (number_at station handle history) history (side_of station) in
+    let before = plain true (packet_received station history) handle facts.turn link end (silent handle) (λ listens. heard)
+    (counted station handle link is (own_at given station TurnEnds history handle link at)) in
+    own_moved given station TurnEnds history handle link at received
+    (number_called given station TurnEnds history handle (All-nil (OpensNone handle)))
+    (from_plain true received handle next.turn link end refl (λ listens. none) before)
+
+-- a phase passes, at the station whose call it is
+module _ (given : Given) (Q : Place → List Event → Type 0) (known : AreKnown given Q) (distinct : AreDistinct given.stations) (phases : ℕ) (done left : List ℕ) (station : ℕ) (history : List Event)
+    (are : given.stations ≡ done ++ station ∷ left) (is : AreCountedAt given Q (AtListening phases done (station ∷ left)) history)
+    (q : Q (AtListening phases (done ++ station ∷ []) left) (after_call given station (step_of (packet_received station history)) history))
+    (holds : Holds given (AreStations given) (AtListening phases (done ++ station ∷ []) left) (after_call given station (step_of (packet_received station history)) history)) where
+  abbrev received : Option (List ℕ)
+  received = packet_received station history
+
+  abbrev after : List Event
+  after = after_call given station (step_of received) history
+
+  abbrev facts : Facts
+  facts = facts_at given station history
+
+  abbrev next : Facts
+  next = facts_after (setup_at given station) facts (step_of received)
+
+  in_it : is_in station given.stations ≡ true
+  in_it = among given.stations done left station are
+
+  phased : PhasedBy given history station (at_stage (Within phases) (turns_begun history))
+  phased =
+      subst (λ b. PhasedBy given history station (if b then at_stage (Within (suc phases)) (turns_begun history) else at_stage (Within phases) (turns_begun history)))
+      (not_before given.stations done left station distinct are) (phased_at given (AtListening phases done (station ∷ left)) history is.holds.hearing.stand station in_it)
+
+  none_after : packet_received station after ≡ None
+  none_after = received_by given station station (step_of received) history true (same_station station)
+
+  -- a link of this turn has the first counts
+  fresh : (handle : ℕ) (link : OpenLink) → link_at handle (facts_at given station after).links ≡ Some link → link.setup.opened ≡ facts.turn.slot
+      → IsEndCounted true (packet_received station after) handle (facts_at given station after).turn link (exchange_at (number_at station handle after) history (side_of station))
+  fresh handle link at opened =
+      let number = number_at station handle after in
+      let begun = known.begun (AtListening phases (done ++ station ∷ []) left) after q station handle link in_it at in
+      let turns : turns_begun after ≡ turns_begun history = turns_called station (step_of received) (notes_after (setup_at given station) facts (step_of received)) history in
+      let now = ap (λ n. n + 1) opened ∙ phased.uses.in_turn.slot_is ∙ sym turns in
+      let first = first_of after number station link.setup (first_called given station (step_of received) history is.first number) begun now (side_of station) in
+      let slot = ap (λ (f : Facts). f.turn.slot) (own_facts given station (step_of received) history) ∙ (phase_turn (setup_at given station) facts received).slot in
+      fresh_counted (setup_at given station) (facts_at given station after) handle link true (packet_received station after) (exchange_at number history (side_of station))
+      (holds.so_far.last.each station in_it) at (opened ∙ sym slot)
+      (ap (λ (ends : Side → Exchanged). ends (side_of station)) (sym (exchange_called given number station (step_of received) history)) ∙ first)
+
+  -- before it takes what it heard, its packet was on the air
+  before_call : (handle : ℕ) (link : OpenLink) → link_at handle facts.links ≡ Some link
+      → IsEndCounted false received handle facts.turn link (exchange_at (number_at station handle history) history (side_of station))
+  before_call handle link at =
+      subst (λ b. IsEndCounted b received handle facts.turn link (exchange_at (number_at station handle history) history (side_of station)))
+      (not_before given.stations done left station distinct are) (is.counted station handle link in_it at)
+
+  passed : (handle : ℕ) (link : OpenLink) → link_at handle (facts_at given station after).links ≡ Some link → number_at station handle after ≡ number_at station handle history
+      → HasPassed facts received handle next.turn.doing link
+      → IsEndCounted true (packet_received station after) handle (facts_at given station after).turn link (exchange_at (number_at station handle after) history (side_of station))
+  passed handle link at number (IsNew opened) = fresh handle link at opened
+  passed handle link at number (Stays was none nothing) =
+      let end = exchange_at (number_at station handle history) history (side_of station) in
+      own_moved given station (step_of received) history handle link at (packet_received station after) number
+      (from_plain true (packet_received station after) handle next.turn link end none (λ listens. none_after)
+      (was_plain received handle facts.turn link end nothing (before_call handle link was)))
+  passed handle link at number (Takes base octets was some on same) =
+      let end = exchange_at (number_at station handle history) history (side_of station) in
+      let sends = sends_under handle next.turn.doing in
+      let taken = was_taking received octets handle facts.turn base end on some (before_call handle base was) in
+      own_moved given station (step_of received) history handle link at (packet_received station after) number
+      (from_sent sends (packet_received station after) handle next.turn link end refl (λ listens. none_after)
+      (subst (λ l. IsCounted (ahead_if sends end) (ack_of l)) (sym same) (sent_counted sends facts.turn.slot (link_after (PacketReceived facts.turn.slot octets) base) end taken)))
+
+  pub passes_own : (handle : ℕ) (link : OpenLink) → link_at handle (facts_at given station after).links ≡ Some link
+      → IsEndCounted true (packet_received station after) handle (facts_at given station after).turn link (exchange_at (number_at station handle after) history (side_of station))
+  passes_own handle link at = by (phase_quiet (setup_at given station) facts received handle)
+    where
+      by : All (OpensNone handle) (notes_after (setup_at given station) (facts_at given station history) (step_of (packet_received station history)))
+          ⊎ ((one : OpenLink) → link_at handle (facts_after (setup_at given station) (facts_at given station history) (step_of (packet_received station history))).links ≡ Some one
+          → one.setup.opened ≡ (facts_at given station history).turn.slot)
+          → IsEndCounted true (packet_received station after) handle (facts_at given station after).turn link (exchange_at (number_at station handle after) history (side_of station))
+      by (inl quiet) =
+          passed handle link at (number_called given station (step_of received) history handle quiet)
+          (passes_under (setup_at given station) facts received handle link phased.uses.in_turn.listens (own_at given station (step_of received) history handle link at))
+      by (inr new) = fresh handle link at (new link (own_at given station (step_of received) history handle link at))
+
+-- what is sent on a data channel is sent on a link
+sends_on_link : (held : Facts) (channel : ℕ) (octets : List ℕ) → is_advertising channel ≡ false → IsUseSent held (Sends channel octets) → is_on_link held.turn.doing ≡ true
+sends_on_link held channel octets off (inl pdu) = absurd (advertises channel pdu.on_channel off)
+sends_on_link held channel octets off (inr sent) = sending_on_link sent.handle held.turn.doing sent.sends
+
+later_sender : (one : ℕ) (done : List ℕ) (station : ℕ) → is_in one (done ++ station ∷ []) ≡ false → (same : Bool) → (one == station) ≡ same → same ≡ false
+later_sender one done station out true is = absurd (let h : true ≡ false = sym (in_more_same one station done is) ∙ out in absurd cc)
+later_sender one done station out false is = refl
+
+-- ---- each step
+
+module _ (whole : IsHeardWhole) (given : Given) (Q : Place → List Event → Type 0) (known : AreKnown given Q) (are_two : IsOfTwo given) (pair : IsPair given) (six : HaveAddresses given)
+    (distinct : AreDistinct given.stations) where
+  P : Place → List Event → Type 0
+  P place history = AreCountedAt given Q place history
+
+  still_silent : (phases : ℕ) (done left : List ℕ) (station : ℕ) (history : List Event) → IsSilent given (AtPackets phases done (station ∷ left)) history
+      → IsSilent given (AtPackets phases (done ++ station ∷ []) left) history
+  still_silent phases done left station history silent = λ other sender in_it is_too differs out.
+      silent other sender in_it is_too differs (not_in_more sender done station out (sender == station) refl)
+
+  -- a station hears nothing of itself
+  packet_silent : (phases : ℕ) (done left : List ℕ) (station channel : ℕ) (octets : List ℕ) (fates : List Fate) (history : List Event) → is_in station given.stations ≡ true
+      → IsSilent given (AtPackets phases done (station ∷ left)) history
+      → IsSilent given (AtPackets phases (done ++ station ∷ []) left) (history ++ Transmitted station channel octets (hearings_of given fates station channel octets history) ∷ [])
+  packet_silent phases done left station channel octets fates history in_it silent = λ other sender is_other is_sender differs out.
+      let apart : (sender == station) ≡ false = later_sender sender done station out (sender == station) refl in
+      let one = other_is given are_two sender station is_sender in_it (differs_back sender station apart) ∙ sym (other_is given are_two sender other is_sender is_other differs) in
+      received_event other history (Transmitted station channel octets (hearings_of given fates station channel octets history))
+      ∙ ap (λ xs. if has_received other xs then Some octets else packet_received other history) (one_hearing given are_two fates station channel octets history in_it)
+      ∙ ap (λ b. if b then Some octets else packet_received other history)
+      (ap (λ n. has_received n (hearing_of given fates station channel octets history ∷ [])) (sym one) ∙ own_received station (hearing_of given fates station channel octets history) (own_differs station))
+      ∙ silent other sender is_other is_sender differs (not_in_more sender done station out (sender == station) refl)
+
+  -- a packet of a link is sent in a turn after that of its CONNECT_IND
+  sent_later : (phases : ℕ) (done left : List ℕ) (station channel : ℕ) (octets : List ℕ) (history : List Event) → given.stations ≡ done ++ station ∷ left
+      → use_at given station history ≡ Sends channel octets → is_advertising channel ≡ false → AreCountedAt given Q (AtPackets phases done (station ∷ left)) history
+      → (sent : IsOfSendersLink given history station channel octets) → sent.link.setup.opened + 1 < turns_begun history
+  sent_later phases done left station channel octets history are wanted off is sent =
+      let place = AtPackets phases done (station ∷ left) in
+      let in_it = among given.stations done left station are in
+      let phased = phased_at given place history is.holds.hearing.stand station in_it in
+      let facts = facts_at given station history in
+      let old = (is.holds.so_far.last.each station in_it).old (sends_on_link facts channel octets off (use_sent_at given six place history is.holds.hearing.stand station in_it channel octets wanted)) in
+      let before : sent.link.setup.opened < facts.turn.slot =
+      open_has (OpenedBefore facts.turn.slot) 0 sent.handle facts.links (link_after (PacketSent sent.slot) sent.link) old sent.is_open in
+      let now = phased.uses.in_turn.slot_is in omega (arith, before, now)
+
+  packet_first : (phases : ℕ) (done left : List ℕ) (station channel : ℕ) (octets : List ℕ) (fates : List Fate) (history : List Event) → given.stations ≡ done ++ station ∷ left
+      → use_at given station history ≡ Sends channel octets → AreCountedAt given Q (AtPackets phases done (station ∷ left)) history
+      → AreFirst (history ++ Transmitted station channel octets (hearings_of given fates station channel octets history) ∷ [])
+  packet_first phases done left station channel octets fates history are wanted is = λ number. by number (is_advertising channel) refl
+    where
+      by : (number : ℕ) → (on : Bool) → is_advertising channel ≡ on
+          → IsFirst number (history ++ Transmitted station channel octets (hearings_of given fates station channel octets history) ∷ [])
+      by number true on =
+          let hearings = hearings_of given fates station channel octets history in
+          first_event_at number history (Transmitted station channel octets hearings)
+          (air_quiet number station channel octets history hearings (hearing_of given fates station channel octets history)
+          (one_hearing given are_two fates station channel octets history (among given.stations done left station are)) on) (is.first number)
+      by number false off =
+          let place = AtPackets phases done (station ∷ left) in
+          let in_it = among given.stations done left station are in
+          let sent = known.sends phases done left station history are is.known channel octets wanted off in
+          let begun = known.begun place history is.known station sent.handle (link_after (PacketSent sent.slot) sent.link) in_it sent.is_open in
+          let later = sent_later phases done left station channel octets history are wanted off is sent in
+          first_aired number (number_at station sent.handle history) station channel octets history (hearings_of given fates station channel octets history)
+          (hearing_of given fates station channel octets history) begun.link (one_hearing given are_two fates station channel octets history in_it) off sent.belongs begun.is_link
+          (subst (λ n. n + 1 < turns_begun history) (sym begun.slot) later) (is.first number) (number_at station sent.handle history == number) refl
+
+  silence_kept : (phases : ℕ) (done left : List ℕ) (station : ℕ) (history : List Event) → given.stations ≡ done ++ station ∷ left
+      → packet_in (use_at given station history) ≡ [] → AreCountedAt given Q (AtPackets phases done (station ∷ left)) history
+      → AreCountedSo given history (unsent (AtPackets phases (done ++ station ∷ []) left)) (λ one. packet_received one history)
+  silence_kept phases done left station history are none is = λ one handle link in_it at. by one handle link in_it at (one == station) refl
+    where
+      by : (one handle : ℕ) (link : OpenLink) → is_in one given.stations ≡ true → link_at handle (facts_at given one history).links ≡ Some link → (same : Bool) → (one == station) ≡ same
+          → IsEndCounted (not (is_in one (done ++ station ∷ []))) (packet_received one history) handle (facts_at given one history).turn link
+          (exchange_at (number_at one handle history) history (side_of one))
+      by one handle link in_it at true same =
+          let place = AtPackets phases done (station ∷ left) in
+          let equal = eqb-true one station same in
+          let phased = phased_at given place history is.holds.hearing.stand one in_it in
+          any_sending (not (is_in one done)) (not (is_in one (done ++ station ∷ []))) (packet_received one history) handle (facts_at given one history).turn link
+          (exchange_at (number_at one handle history) history (side_of one))
+          (silent_sends (facts_at given one history) handle link phased.uses.sends at
+          (ap packet_in (wanted_is given one history) ∙ ap (λ n. packet_in (use_at given n history)) equal ∙ none)) (is.counted one handle link in_it at)
+      by one handle link in_it at false differs =
+          subst (λ b. IsEndCounted (not b) (packet_received one history) handle (facts_at given one history).turn link (exchange_at (number_at one handle history) history (side_of one)))
+          (sym (in_more_other one station done differs)) (is.counted one handle link in_it at)
+
+  pub counts_kept : IsKept given (AreCountedAt given Q)
+  counts_kept = let kept = holds_kept given (AreStations given) (agreement_kept whole given pair) six distinct in record {
+    on_turn = λ slot plan history begun at is.
+        let event = TurnBegan slot (map plan.radio_of given.stations) in record {
+          known = known.kept.on_turn slot plan history begun at is.known;
+          holds = kept.on_turn slot plan history begun at is.holds;
+          first = first_event history event (λ number. turn_quiet number history slot (map plan.radio_of given.stations)) is.first;
+          silent = tt;
+          counted = counted_same given (history ++ event ∷ []) (λ one. true) (λ one. true) (λ one. packet_received one history) (λ one. packet_received one (history ++ event ∷ []))
+              (λ one in_it. refl) (λ one in_it. received_event one history event)
+              (counted_event given history event (λ one. true) (λ one. packet_received one history) (λ one. refl)
+              (λ number. turn_quiet number history slot (map plan.radio_of given.stations)) (λ one handle. number_quiet one handle history event (λ links. refl)) is.counted);
+        };
+    on_feed = λ plan done left station history are some now is.
+        let octets = take (plan.feed_of station) (octets_left given station history) in
+        let holds = kept.on_feed plan done left station history are some now is.holds in
+        let fed = feed_fed given station octets history (among given.stations done left station are) (record {
+          first = is.first;
+          counted = counted_same given history (λ one. true) (λ one. true) (λ one. packet_received one history) (λ one. None) (λ one in_it. refl)
+              (λ one in_it. sym (is.holds.hearing.hears one in_it)) is.counted;
+        }) in record {
+          known = known.kept.on_feed plan done left station history are some now is.known;
+          holds = holds;
+          first = fed.first;
+          silent = tt;
+          counted = counted_same given (after_feed given station octets history) (λ one. true) (λ one. true) (λ one. None) (λ one. packet_received one (after_feed given station octets history))
+              (λ one in_it. refl) (λ one in_it. holds.hearing.hears one in_it) fed.counted;
+        };
+    on_fed = λ history is. record { known = known.kept.on_fed history is.known; holds = kept.on_fed history is.holds; first = is.first; silent = tt; counted = is.counted };
+    on_begin = λ slot plan done left station history are due is.
+        let on = plan.radio_of station in
+        let step = TurnBegins slot on in
+        let holds = kept.on_begin slot plan done left station history are due is.holds in
+        let in_it = among given.stations done left station are in
+        let phased = subst (λ b. PhasedBy given history station (if b then at_stage (Within 0) (turns_begun history) else at_stage Between (turns_begun history - 1)))
+        (not_before given.stations done left station distinct are) (phased_at given (AtBegins done (station ∷ left)) history is.holds.hearing.stand station in_it) in record {
+          known = known.kept.on_begin slot plan done left station history are due is.known;
+          holds = holds;
+          first = first_called given station step history is.first;
+          silent = tt;
+          counted = counted_call given station step history (λ one. true) (λ one. true) (λ one. packet_received one history) (λ one. packet_received one (after_call given station step history))
+              (λ handle link at. begin_own given station slot on history in_it phased.phase (packet_received station (after_call given station step history)) is.counted handle link at
+              (holds.hearing.hears station in_it))
+              (λ other is_too differs. refl) (λ other is_too differs. received_by given other station step history false differs) is.counted;
+        };
+    on_begun = λ history is. record { known = known.kept.on_begun history is.known; holds = kept.on_begun history is.holds; first = is.first; silent = tt; counted = is.counted };
+    on_phase = λ phases history few is. record {
+      known = known.kept.on_phase phases history few is.known;
+      holds = kept.on_phase phases history few is.holds;
+      first = is.first;
+      silent = λ other sender in_it is_too differs out. is.holds.hearing.hears other in_it;
+      counted = is.counted;
+    };
+    on_silence = λ phases done left station history are none is. record {
+      known = known.kept.on_silence phases done left station history are none is.known;
+      holds = kept.on_silence phases done left station history are none is.holds;
+      first = is.first;
+      silent = still_silent phases done left station history is.silent;
+      counted = silence_kept phases done left station history are none is;
+    };
+    on_packet = λ phases plan done left station channel octets history are some due is.
+        let hearings = hearings_of given plan.fates station channel octets history in
+        let event = Transmitted station channel octets hearings in
+        let in_it = among given.stations done left station are in
+        let out = not_before given.stations done left station distinct are in record {
+          known = known.kept.on_packet phases plan done left station channel octets history are some due is.known;
+          holds = kept.on_packet phases plan done left station channel octets history are some due is.holds;
+          first = packet_first phases done left station channel octets plan.fates history are due.is_wanted is;
+          silent = packet_silent phases done left station channel octets plan.fates history in_it is.silent;
+          counted = packet_counted whole given Q known are_two pair six distinct phases done left station channel octets plan.fates history are due.is_wanted due.is_seen is.known is.holds
+              (λ other is_other differs. is.silent other station is_other in_it differs out) is.counted;
+        };
+    on_air = λ phases history is. record {
+      known = known.kept.on_air phases history is.known;
+      holds = kept.on_air phases history is.holds;
+      first = is.first;
+      silent = tt;
+      counted = counted_same given history (λ one. not (is_in one given.stations)) (λ one. is_in one []) (λ one. packet_received one history) (λ one. packet_received one history)
+          (λ one in_it. sym (ap not in_it)) (λ one in_it. refl) is.counted;
+    };
+    on_hearing = λ phases done left station history are some is.
+        let received = packet_received station history in
+        let step = step_of received in
+        let q = known.kept.on_hearing phases done left station history are some is.known in
+        let holds = kept.on_hearing phases done left station history are some is.holds in
+        let after = after_call given station step history in record {
+          known = q;
+          holds = holds;
+          first = first_called given station step history is.first;
+          silent = tt;
+          counted = counted_call given station step history (λ one. is_in one done) (λ one. is_in one (done ++ station ∷ [])) (λ one. packet_received one history) (λ one. packet_received one after)
+              (λ handle link at. subst (λ b. IsEndCounted b (packet_received station after) handle (facts_at given station after).turn link (exchange_at (number_at station handle after) history (side_of station)))
+              (sym (in_more_same station station done (same_station station)))
+              (passes_own given Q known distinct phases done left station history are is q holds handle link at))
+              (λ other is_too differs. in_more_other other station done differs) (λ other is_too differs. received_by given other station step history false differs) is.counted;
+        };
+    on_heard = λ phases history is. record {
+      known = known.kept.on_heard phases history is.known;
+      holds = kept.on_heard phases history is.holds;
+      first = is.first;
+      silent = tt;
+      counted = counted_same given history (λ one. is_in one given.stations) (λ one. true) (λ one. packet_received one history) (λ one. packet_received one history)
+          (λ one in_it. sym in_it) (λ one in_it. refl) is.counted;
+    };
+    on_phases = λ history is. record { known = known.kept.on_phases history is.known; holds = kept.on_phases history is.holds; first = is.first; silent = tt; counted = is.counted };
+    on_end = λ done left station history are some is.
+        let holds = kept.on_end done left station history are some is.holds in
+        let in_it = among given.stations done left station are in
+        let phased = subst (λ b. PhasedBy given history station (if b then at_stage Between (turns_begun history) else at_stage (Within 3) (turns_begun history)))
+        (not_before given.stations done left station distinct are) (phased_at given (AtEnds done (station ∷ left)) history is.holds.hearing.stand station in_it) in record {
+          known = known.kept.on_end done left station history are some is.known;
+          holds = holds;
+          first = first_called given station TurnEnds history is.first;
+          silent = tt;
+          counted = counted_call given station TurnEnds history (λ one. true) (λ one. true) (λ one. packet_received one history) (λ one. packet_received one (after_call given station TurnEnds history))
+              (end_own given station history in_it (λ handle. last_phase (facts_at given station history).links (facts_at given station history).turn.doing handle phased.phase)
+              (packet_received station (after_call given station TurnEnds history)) (is.holds.hearing.hears station in_it) (holds.hearing.hears station in_it) is.counted)
+              (λ other is_too differs. refl) (λ other is_too differs. received_by given other station TurnEnds history false differs) is.counted;
+        };
+    on_ended = λ history is. record { known = known.kept.on_ended history is.known; holds = kept.on_ended history is.holds; first = is.first; silent = tt; counted = is.counted };
+  }

@@ -1,0 +1,292 @@
+-- What each call on a controller does to the link under one handle, and that it opens no other one there.
+use Rattle.std.proofs.Common.{◌≡◌, ℕ, ◌==◌, ◌⊎◌, inl, inr, Bool, true, false, Option, Some, None, List, [], ◌∷◌, map, refl, sym, ap, subst, ◌∙◌}
+use Rattle.std.specs.Prelude.{All, filter}
+use Rattle.std.proofs.lemmas.Bool.{eqb-true, eq-eqb}
+use Rattle.std.proofs.lemmas.List.Elements.{All-cons, All-nil}
+use Rattle.ble_base.specs.declared.notes.Note.TheVariants.{Up}
+use Rattle.hci_evt.specs.declared.event.Event.{Event}
+use Rattle.hci_evt.specs.Event.{mask_bit_of, written}
+use Rattle.host_view.specs.View.{View}
+use Rattle.one_end.specs.declared.setup.LinkSetup.{LinkSetup}
+use Rattle.one_end.specs.Facts.{Facts as EndFacts}
+use Rattle.one_end.specs.Setup.{Setup as EndSetup}
+use Rattle.one_end.specs.Step.{EventEntered, PacketReceived}
+use Rattle.scan_init.specs.Reports.{scan_answer}
+use Rattle.slot_plan.specs.declared.Activity.{Activity}
+use Rattle.slot_plan.specs.declared.Activity.TheVariants.{Link, Advertise, Scan, Initiate}
+use Rattle.slot_plan.specs.Holding.{is_held_in, winner_of}
+use Rattle.open_links.specs.OpenLinks.{Links, OpenLink, link_after, link_at, link_served, with_change}
+use Rattle.open_links.specs.Turns.{entered_if, is_anchor, link_entered, reason_in}
+use Rattle.open_links.proofs.Ends.{entered_setup}
+use Rattle.one_side.specs.declared.doing.Doing.{Doing}
+use Rattle.one_side.specs.declared.doing.Doing.TheVariants.{Advertises, CentralSends, CentralListens, PeripheralListens, PeripheralSends}
+use Rattle.one_side.specs.Step.{TurnBegins}
+use Rattle.one_side.specs.Facts.{Setup, Facts}
+use Rattle.one_side.specs.Events.{notes_of_events, passes}
+use Rattle.one_side.specs.Heard.{events_reported, heard, link_heard, link_taken, opens, replies_in, reply_if, unheard}
+use Rattle.one_side.specs.Links.{events_opened, facts_ending}
+use Rattle.one_side.specs.Outcome.{Outcome, facts_passed}
+use Rattle.one_side.specs.Radio.{facts_entering, outcome_begun, plan_in, radio_served, served, turn_begins, winner_served}
+use Rattle.one_side.specs.Side.{facts_after, notes_after}
+use Rattle.one_side.proofs.Always.{ending_is, links_won, opening_is, winning_is}
+use Rattle.one_side.proofs.Phases.{EachOutcome, heard_is, unheard_is}
+use Rattle.runs.specs.Run.{step_of}
+use Rattle.run_laws.proofs.Agreed.{ack_of, step_facts}
+use Rattle.run_laws.proofs.LinkPasses.{IsPassing, Leaves, Opens, Receives, is_on_link, phase_passes}
+use Rattle.run_laws.proofs.TurnSteps.{IsListening, begins_slot}
+use Rattle.journal_acks.proofs.Exchanging.{OpensNone}
+use Rattle.journal_acks.proofs.LinkUses.{listens_under, sends_under}
+use Rattle.journal_acks.proofs.UnderHandles.{IsOpenedIf, WasOpen, change_if, change_under, entered_under, opened_under, sending_under, sent_if, staying_under}
+
+-- ---- a turn begins
+
+-- a link that gets the radio, or does not
+record WasServed (before : Option OpenLink) (after : OpenLink) : Type 0 where
+  link : OpenLink
+  was : before ≡ Some link
+  setup_is : after.setup ≡ link.setup
+  past_is : after.past ≡ link.past
+
+served_none : (place : Option OpenLink) (after : OpenLink) → place ≡ Some after → WasServed place after
+served_none place after is = record { link = after; was = is; setup_is = refl; past_is = refl }
+
+served_if : (same : Bool) (slot : ℕ) (place : Option OpenLink) (after : OpenLink) → WasOpen (change_if same (link_served slot)) place after → WasServed place after
+served_if true slot place after was =
+    record { link = was.link; was = was.was; setup_is = ap (λ (l : OpenLink). l.setup) was.is; past_is = ap (λ (l : OpenLink). l.past) was.is }
+served_if false slot place after was =
+    record { link = was.link; was = was.was; setup_is = ap (λ (l : OpenLink). l.setup) was.is; past_is = ap (λ (l : OpenLink). l.past) was.is }
+
+won_under : (slot handle : ℕ) (activity : Activity) (links : Links) (after : OpenLink) → link_at handle (links_won slot activity links) ≡ Some after
+    → WasServed (link_at handle links) after
+won_under slot handle (Link other) links after is =
+    served_if (other == handle) slot (link_at handle links) after (change_under other handle (link_served slot) links after is)
+won_under slot handle Advertise links after is = served_none (link_at handle links) after is
+won_under slot handle Scan links after is = served_none (link_at handle links) after is
+won_under slot handle Initiate links after is = served_none (link_at handle links) after is
+
+winner_under : (slot handle : ℕ) (winner : Option Activity) (facts : Facts) (after : OpenLink) → link_at handle (winner_served slot winner facts).facts.links ≡ Some after
+    → WasServed (link_at handle facts.links) after
+winner_under slot handle None facts after is = served_none (link_at handle facts.links) after is
+winner_under slot handle (Some activity) facts after is =
+    won_under slot handle activity facts.links after (ap (λ (won : Facts). link_at handle won.links) (sym (winning_is slot activity facts)) ∙ is)
+
+radio_under : (held : Bool) (slot handle : ℕ) (winner : Option Activity) (facts : Facts) (after : OpenLink)
+    → link_at handle (radio_served held slot winner facts).facts.links ≡ Some after → WasServed (link_at handle facts.links) after
+radio_under true slot handle winner facts after is = served_none (link_at handle facts.links) after is
+radio_under false slot handle winner facts after is = winner_under slot handle winner facts after is
+
+served_under : (on : Bool) (slot handle : ℕ) (winner : Option Activity) (facts : Facts) (after : OpenLink)
+    → link_at handle (served on slot winner facts).facts.links ≡ Some after → WasServed (link_at handle facts.links) after
+served_under false slot handle winner facts after is = served_none (link_at handle facts.links) after is
+served_under true slot handle winner facts after is = radio_under (is_held_in facts.radio.hold slot) slot handle winner facts after is
+
+-- the link was open before and stays; it enters its event where that is due, and sends where it is to
+pub record HasBegun (facts : Facts) (slot handle : ℕ) (doing : Doing) (after : OpenLink) : Type 0 where
+  pub link : OpenLink
+  pub was : link_at handle facts.links ≡ Some link
+  pub stays : reason_in slot link ≡ None
+  pub base : OpenLink
+  pub setup_is : base.setup ≡ link.setup
+  pub past_is : base.past ≡ (link_entered slot link).past
+  pub is : after ≡ sent_if (sends_under handle doing) slot base
+
+pub begins_under : (setup : Setup) (facts : Facts) (slot : ℕ) (on : Bool) (handle : ℕ) (after : OpenLink)
+    → link_at handle (facts_after setup facts (TurnBegins slot on)).links ≡ Some after
+    → HasBegun facts slot handle (facts_after setup facts (TurnBegins slot on)).turn.doing after
+begins_under setup facts slot on handle after is =
+    let begun = turn_begins slot (facts_ending slot facts) in
+    let outcome = outcome_begun slot on facts in
+    let sent = sending_under outcome.facts.turn.slot handle outcome.next outcome.facts.links after is in
+    let base = served_under on slot handle (winner_of (plan_in slot begun) slot) (facts_entering slot begun) sent.link sent.was in
+    let entered = entered_under slot handle begun.links base.link base.was in
+    let stayed = staying_under slot handle facts.links entered.link (ap (λ (ended : Facts). link_at handle ended.links) (sym (ending_is slot facts)) ∙ entered.was) in
+    record {
+      link = entered.link;
+      was = stayed.was;
+      stays = stayed.stays;
+      base = sent.link;
+      setup_is = base.setup_is ∙ ap (λ (l : OpenLink). l.setup) entered.is ∙ entered_setup (is_anchor slot entered.link) slot entered.link;
+      past_is = base.past_is ∙ ap (λ (l : OpenLink). l.past) entered.is;
+      is = sent.is ∙ ap (λ (n : ℕ). sent_if (sends_under handle outcome.next) n sent.link) (begins_slot setup slot on facts);
+    }
+
+entered_ack : (anchor : Bool) (slot : ℕ) (link : OpenLink) → ack_of (entered_if anchor slot link) ≡ ack_of link
+entered_ack false slot link = refl
+entered_ack true slot link = ap (λ (f : EndFacts). f.acknowledgement) (step_facts link (EventEntered slot))
+
+-- entering an event changes no count
+pub base_ack : (facts : Facts) (slot handle : ℕ) (doing : Doing) (after : OpenLink) (begun : HasBegun facts slot handle doing after) → ack_of begun.base ≡ ack_of begun.link
+base_ack facts slot handle doing after begun =
+    (λ i. ack_of (record { setup = (begun.setup_is ∙ sym (entered_setup (is_anchor slot begun.link) slot begun.link)) i; past = begun.past_is i; last_served = 0 }))
+    ∙ entered_ack (is_anchor slot begun.link) slot begun.link
+
+-- ---- a phase passes
+
+pub data HasPassed (facts : Facts) (received : Option (List ℕ)) (handle : ℕ) (doing : Doing) (after : OpenLink) : Type 0 where
+  -- it is a new link
+  IsNew : after.setup.opened ≡ facts.turn.slot → HasPassed facts received handle doing after
+  -- nothing happened to it
+  Stays : link_at handle facts.links ≡ Some after → sends_under handle doing ≡ false → (listens_under handle facts.turn.doing ≡ true → received ≡ None)
+      → HasPassed facts received handle doing after
+  -- it received a packet, and may answer that
+  Takes : (link : OpenLink) (octets : List ℕ) → link_at handle facts.links ≡ Some link → received ≡ Some octets → listens_under handle facts.turn.doing ≡ true
+      → after ≡ sent_if (sends_under handle doing) facts.turn.slot (link_after (PacketReceived facts.turn.slot octets) link)
+      → HasPassed facts received handle doing after
+
+pub off_sends : (handle : ℕ) (doing : Doing) → is_on_link doing ≡ false → sends_under handle doing ≡ false
+off_sends handle (CentralSends other) off = absurd cc
+off_sends handle (PeripheralSends other) off = absurd cc
+off_sends handle (Advertises channel) off = refl
+off_sends handle other off = refl
+
+pub off_listens : (handle : ℕ) (doing : Doing) → is_on_link doing ≡ false → listens_under handle doing ≡ false
+off_listens handle (CentralListens other) off = absurd cc
+off_listens handle (PeripheralListens other) off = absurd cc
+off_listens handle (Advertises channel) off = refl
+off_listens handle other off = refl
+
+deaf : (handle : ℕ) (doing : Doing) (received : Option (List ℕ)) → listens_under handle doing ≡ false → listens_under handle doing ≡ true → received ≡ None
+deaf handle doing received is listens = absurd (let h : true ≡ false = sym listens ∙ is in absurd cc)
+
+off_after : (facts after : Facts) (received : Option (List ℕ)) → is_on_link facts.turn.doing ≡ false → (is_on_link after.turn.doing ≡ true → is_on_link facts.turn.doing ≡ true)
+    → (on : Bool) → is_on_link after.turn.doing ≡ on → is_on_link after.turn.doing ≡ false
+off_after facts after received off on true is = absurd (let h : true ≡ false = sym (on is) ∙ off in absurd cc)
+off_after facts after received off on false is = is
+
+opened_passes : (facts after : Facts) (received : Option (List ℕ)) (handle : ℕ) (end : EndSetup) (link : OpenLink) → is_on_link facts.turn.doing ≡ false → is_on_link after.turn.doing ≡ false
+    → end.opened ≡ facts.turn.slot → (same : Bool) → IsOpenedIf same end (link_at handle facts.links) link
+    → HasPassed facts received handle after.turn.doing link
+opened_passes facts after received handle end link off none now true is = IsNew (ap (λ (l : OpenLink). l.setup.opened) is ∙ now)
+opened_passes facts after received handle end link off none now false is =
+    Stays is (off_sends handle after.turn.doing none) (deaf handle facts.turn.doing received (off_listens handle facts.turn.doing off))
+
+off_passes : (facts after : Facts) (received : Option (List ℕ)) (handle : ℕ) (link : OpenLink) → is_on_link facts.turn.doing ≡ false → IsPassing facts received after
+    → link_at handle after.links ≡ Some link → HasPassed facts received handle after.turn.doing link
+off_passes facts after received handle link off (Leaves same on) is =
+    Stays (ap (link_at handle) (sym same) ∙ is) (off_sends handle after.turn.doing (off_after facts after received off on (is_on_link after.turn.doing) refl))
+    (deaf handle facts.turn.doing received (off_listens handle facts.turn.doing off))
+off_passes facts after received handle link off (Opens made made_is none) is =
+    let end : EndSetup = record { link = made; opened = facts.turn.slot } in
+    opened_passes facts after received handle end link off none refl (made.handle == handle)
+    (opened_under end handle facts.links link (ap (link_at handle) (sym made_is) ∙ is) (made.handle == handle) refl)
+off_passes facts after received handle link off (Receives other octets was wanted on replies links_are) is = absurd (let h : true ≡ false = sym on ∙ off in absurd cc)
+
+reply_none : (replies : Bool) (handle other : ℕ) → (other == handle) ≡ false → sends_under handle (reply_if replies other) ≡ false
+reply_none true handle other differs = differs
+reply_none false handle other differs = refl
+
+-- it takes a packet on the link under some handle
+taken_by : (facts : Facts) (octets : List ℕ) (handle other : ℕ) (after link : OpenLink) (replies : Bool) → listens_under handle facts.turn.doing ≡ (other == handle)
+    → WasOpen (sent_if (sends_under handle (reply_if replies other)) facts.turn.slot) (link_at handle (with_change other (link_after (PacketReceived facts.turn.slot octets)) facts.links)) after
+    → (same : Bool) → (other == handle) ≡ same → HasPassed facts (Some octets) handle (reply_if replies other) after
+taken_by facts octets handle other after link replies listens sent true one =
+    let was = change_under other handle (link_after (PacketReceived facts.turn.slot octets)) facts.links sent.link sent.was in
+    Takes was.link octets was.was refl (listens ∙ one)
+    (sent.is ∙ ap (sent_if (sends_under handle (reply_if replies other)) facts.turn.slot)
+    (was.is ∙ ap (λ (b : Bool). change_if b (link_after (PacketReceived facts.turn.slot octets)) was.link) one))
+taken_by facts octets handle other after link replies listens sent false differs =
+    let none = reply_none replies handle other differs in
+    let was = change_under other handle (link_after (PacketReceived facts.turn.slot octets)) facts.links sent.link sent.was in
+    let same : after ≡ was.link = sent.is ∙ ap (λ (b : Bool). sent_if b facts.turn.slot sent.link) none
+    ∙ was.is ∙ ap (λ (b : Bool). change_if b (link_after (PacketReceived facts.turn.slot octets)) was.link) differs in
+    Stays (was.was ∙ ap Some (sym same)) none (deaf handle facts.turn.doing (Some octets) (listens ∙ differs))
+
+takes_on : (facts : Facts) (octets : List ℕ) (handle other : ℕ) (after : OpenLink) → listens_under handle facts.turn.doing ≡ (other == handle)
+    → link_at handle (facts_passed (link_heard other octets facts)).links ≡ Some after
+    → HasPassed facts (Some octets) handle (facts_passed (link_heard other octets facts)).turn.doing after
+takes_on facts octets handle other after listens is =
+    let replies = replies_in (link_at other facts.links) octets in
+    taken_by facts octets handle other after after replies listens
+    (sending_under facts.turn.slot handle (reply_if replies other) (with_change other (link_after (PacketReceived facts.turn.slot octets)) facts.links) after is) (other == handle) refl
+
+passes_by : (setup : Setup) (facts : Facts) (received : Option (List ℕ)) (handle : ℕ) (after : OpenLink) (doing : Doing) → facts.turn.doing ≡ doing
+    → IsPassing facts received (facts_after setup facts (step_of received)) → link_at handle (facts_after setup facts (step_of received)).links ≡ Some after
+    → HasPassed facts received handle (facts_after setup facts (step_of received)).turn.doing after
+passes_by setup facts None handle after (CentralSends other) doing passing is =
+    let next = ap (λ (d : Doing). (unheard d facts)) doing in
+    Stays (ap (λ (o : Outcome). link_at handle (facts_passed o).links) (sym next) ∙ is) (ap (λ (o : Outcome). sends_under handle o.next) next)
+    (deaf handle facts.turn.doing None (ap (listens_under handle) doing))
+passes_by setup facts (Some octets) handle after (CentralSends other) doing passing is =
+    let next = ap (λ (d : Doing). (heard setup d octets facts)) doing in
+    Stays (ap (λ (o : Outcome). link_at handle (facts_passed o).links) (sym next) ∙ is) (ap (λ (o : Outcome). sends_under handle o.next) next)
+    (deaf handle facts.turn.doing (Some octets) (ap (listens_under handle) doing))
+passes_by setup facts None handle after (PeripheralSends other) doing passing is =
+    let next = ap (λ (d : Doing). (unheard d facts)) doing in
+    Stays (ap (λ (o : Outcome). link_at handle (facts_passed o).links) (sym next) ∙ is) (ap (λ (o : Outcome). sends_under handle o.next) next)
+    (deaf handle facts.turn.doing None (ap (listens_under handle) doing))
+passes_by setup facts (Some octets) handle after (PeripheralSends other) doing passing is =
+    let next = ap (λ (d : Doing). (heard setup d octets facts)) doing in
+    Stays (ap (λ (o : Outcome). link_at handle (facts_passed o).links) (sym next) ∙ is) (ap (λ (o : Outcome). sends_under handle o.next) next)
+    (deaf handle facts.turn.doing (Some octets) (ap (listens_under handle) doing))
+passes_by setup facts None handle after (CentralListens other) doing passing is =
+    let next = ap (λ (d : Doing). (unheard d facts)) doing in
+    Stays (ap (λ (o : Outcome). link_at handle (facts_passed o).links) (sym next) ∙ is) (ap (λ (o : Outcome). sends_under handle o.next) next) (λ listens. refl)
+passes_by setup facts (Some octets) handle after (CentralListens other) doing passing is =
+    let next = ap (λ (d : Doing). (heard setup d octets facts)) doing in
+    subst (λ (o : Outcome). HasPassed facts (Some octets) handle o.next after) (sym next)
+    (takes_on facts octets handle other after (ap (listens_under handle) doing) (ap (λ (o : Outcome). link_at handle (facts_passed o).links) (sym next) ∙ is))
+passes_by setup facts None handle after (PeripheralListens other) doing passing is =
+    let next = ap (λ (d : Doing). (unheard d facts)) doing in
+    Stays (ap (λ (o : Outcome). link_at handle (facts_passed o).links) (sym next) ∙ is) (ap (λ (o : Outcome). sends_under handle o.next) next) (λ listens. refl)
+passes_by setup facts (Some octets) handle after (PeripheralListens other) doing passing is =
+    let next = ap (λ (d : Doing). (heard setup d octets facts)) doing in
+    subst (λ (o : Outcome). HasPassed facts (Some octets) handle o.next after) (sym next)
+    (takes_on facts octets handle other after (ap (listens_under handle) doing) (ap (λ (o : Outcome). link_at handle (facts_passed o).links) (sym next) ∙ is))
+passes_by setup facts received handle after (Advertises channel) doing passing is = off_passes facts _ received handle after (ap is_on_link doing) passing is
+passes_by setup facts received handle after other doing passing is = off_passes facts _ received handle after (ap is_on_link doing) passing is
+
+pub passes_under : (setup : Setup) (facts : Facts) (received : Option (List ℕ)) (handle : ℕ) (after : OpenLink) → IsListening facts facts.turn.doing
+    → link_at handle (facts_after setup facts (step_of received)).links ≡ Some after
+    → HasPassed facts received handle (facts_after setup facts (step_of received)).turn.doing after
+passes_under setup facts received handle after listens is = passes_by setup facts received handle after facts.turn.doing refl (phase_passes setup facts received listens) is
+
+-- ---- what is noted of links that are opened
+
+-- no link is opened under the handle, or the one that is open there then is new
+IsQuiet : ℕ → Facts → Outcome → Type 0
+IsQuiet handle facts outcome =
+    All (OpensNone handle) outcome.notes
+    ⊎ ((after : OpenLink) → link_at handle (facts_passed outcome).links ≡ Some after → after.setup.opened ≡ facts.turn.slot)
+
+packets_quiet : (handle : ℕ) (events : List Event) → All (OpensNone handle) (map (λ event. Up (record { items = written event })) events)
+packets_quiet handle [] = All-nil (OpensNone handle)
+packets_quiet handle (event ∷ events) = All-cons (OpensNone handle) _ _ refl (packets_quiet handle events)
+
+events_quiet : (handle : ℕ) (view : View) (events : List Event) → All (OpensNone handle) (notes_of_events view events)
+events_quiet handle view events = packets_quiet handle (filter (λ event. passes view (mask_bit_of event)) events)
+
+opens_quiet : (handle : ℕ) (link : LinkSetup) (facts : Facts) (same : Bool) → (handle == link.handle) ≡ same → IsQuiet handle facts (opens link facts)
+unfolding IsQuiet
+opens_quiet handle link facts true one = inr (λ after is.
+    let end : EndSetup = record { link = link; opened = facts.turn.slot } in
+    ap (λ (l : OpenLink). l.setup.opened)
+    (opened_under end handle facts.links after (ap (λ (f : Facts). link_at handle f.links) (sym (opening_is link facts)) ∙ is) true (eq-eqb link.handle handle (sym (eqb-true handle link.handle one)))))
+opens_quiet handle link facts false differs =
+    inl (All-cons (OpensNone handle) _ _ differs (events_quiet handle facts.view (events_opened facts.view link)))
+
+each_quiet : (handle : ℕ) (setup : Setup) (facts : Facts) → EachOutcome setup facts (IsQuiet handle facts)
+unfolding IsQuiet
+each_quiet handle setup facts =
+    let nothing = All-nil (OpensNone handle) in record {
+      rests = inl nothing;
+      awaits_request = λ channel doing. inl nothing;
+      awaits_response = λ channel advertiser doing. inl nothing;
+      central_listens = λ other doing. inl nothing;
+      sent = λ channel link doing. opens_quiet handle link facts (handle == link.handle) refl;
+      responds = λ channel on doing is_on. inl nothing;
+      taken = λ channel octets pdu on fields other is_on hears takes free.
+          opens_quiet handle (link_taken on.params.own pdu fields other) facts (handle == other) refl;
+      scanned = λ channel octets pdu on doing is_on hears.
+          inl (events_quiet handle facts.view (events_reported (scan_answer on.params facts.view.accepted on.recent pdu) pdu));
+      answered = λ channel octets pdu on doing is_on hears.
+          inl (events_quiet handle facts.view (events_reported (scan_answer on.params facts.view.accepted on.recent pdu) pdu));
+      connects = λ channel octets pdu on access other doing is_on hears answers next free in_range. inl nothing;
+      received = λ other octets. inl nothing;
+    }
+
+pub phase_quiet : (setup : Setup) (facts : Facts) (received : Option (List ℕ)) (handle : ℕ)
+    → All (OpensNone handle) (notes_after setup facts (step_of received))
+    ⊎ ((after : OpenLink) → link_at handle (facts_after setup facts (step_of received)).links ≡ Some after → after.setup.opened ≡ facts.turn.slot)
+unfolding IsQuiet
+phase_quiet setup facts None handle = unheard_is setup facts (IsQuiet handle facts) (each_quiet handle setup facts) facts.turn.doing refl
+phase_quiet setup facts (Some octets) handle = heard_is setup facts (IsQuiet handle facts) (each_quiet handle setup facts) facts.turn.doing octets refl

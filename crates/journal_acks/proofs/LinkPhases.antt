@@ -1,0 +1,250 @@
+-- In which phase a controller sends or listens on a link, and as which end of it.
+use Rattle.std.proofs.Common.{◌≡◌, ℕ, suc, ◌+◌, ◌==◌, Bool, true, false, Option, Some, None, List, refl, sym, ap, subst, ◌∙◌, arith}
+use Rattle.std.specs.Prelude.{⊤, if◌then◌else◌}
+use Rattle.std.specs.Option.{option_map}
+use Rattle.std.proofs.lemmas.Bool.{false_from_ne_true}
+use Rattle.ble_base.specs.declared.roles.Role.{Role}
+use Rattle.ble_base.specs.declared.roles.Role.TheVariants.{Central, Peripheral}
+use Rattle.one_end.specs.End.{replies_by, replies_of}
+use Rattle.one_end.specs.Packets.{good_pdu}
+use Rattle.one_end.specs.Step.{PacketSent, PacketReceived}
+use Rattle.open_links.specs.OpenLinks.{Links, OpenLink, facts_in, link_after, link_at, link_served, with_change}
+use Rattle.slot_plan.specs.declared.Activity.{Activity}
+use Rattle.slot_plan.specs.declared.Activity.TheVariants.{Link, Advertise, Scan, Initiate}
+use Rattle.slot_plan.specs.Holding.{is_held_in, winner_of}
+use Rattle.advertise.specs.Advertising.{AdvertiserFacts}
+use Rattle.one_side.specs.declared.doing.Doing.{Doing}
+use Rattle.one_side.specs.declared.doing.Doing.TheVariants.{Advertises, CentralSends, CentralListens, PeripheralListens, PeripheralSends, Rests}
+use Rattle.one_side.specs.Step.{TurnBegins}
+use Rattle.one_side.specs.Facts.{Setup, Facts, first_facts}
+use Rattle.one_side.specs.Heard.{heard, link_heard, replies_in, reply_if, unheard}
+use Rattle.one_side.specs.Links.{facts_ending}
+use Rattle.one_side.specs.Outcome.{Outcome, facts_passed}
+use Rattle.one_side.specs.Packets.{facts_doing}
+use Rattle.one_side.specs.Radio.{advertises_at, advertises_on, doing_held, doing_won, exchange_begins, exchange_if, facts_entering, facts_won, first_exchange, initiates_on, initiator_channel, outcome_begun, plan_in, radio_served, scanner_channel, scans_on, second_exchange, served, slots_since, turn_begins, winner_served}
+use Rattle.one_side.specs.Side.{facts_after}
+use Rattle.runs.specs.Run.{step_of}
+use Rattle.run_laws.proofs.LinkPasses.{IsPassing, Leaves, Opens, Receives, is_on_link, phase_passes}
+use Rattle.run_laws.proofs.TurnPlaces.{Between, IsTurned, Stage, Within}
+use Rattle.journal_acks.proofs.LinkUses.{IsUsing, using_first, using_kept}
+use Rattle.journal_acks.proofs.UnderHandles.{change_by, change_if}
+
+abbrev pub HasRole : Role → Option OpenLink → Type 0
+HasRole role None = ⊤
+HasRole role (Some link) = link.setup.link.role ≡ role
+
+-- a central sends in the first phase, and a peripheral answers in the second one
+abbrev pub IsInPhase : ℕ → Links → Doing → Type 0
+IsInPhase phases links (CentralSends handle) = (phases ≡ 0) × HasRole Central (link_at handle links)
+IsInPhase phases links (PeripheralListens handle) = (phases ≡ 0) × HasRole Peripheral (link_at handle links)
+IsInPhase phases links (CentralListens handle) = (phases ≡ 1) × HasRole Central (link_at handle links)
+IsInPhase phases links (PeripheralSends handle) = (phases ≡ 1) × HasRole Peripheral (link_at handle links)
+IsInPhase phases links other = ⊤
+
+abbrev pub IsAtStage : Stage → Links → Doing → Type 0
+IsAtStage Between links doing = doing ≡ Rests
+IsAtStage (Within phases) links doing = IsInPhase phases links doing
+
+-- what uses no link may be done in any phase
+off_link : (phases : ℕ) (links : Links) (doing : Doing) → is_on_link doing ≡ false → IsInPhase phases links doing
+off_link phases links (CentralSends handle) off = absurd cc
+off_link phases links (CentralListens handle) off = absurd cc
+off_link phases links (PeripheralListens handle) off = absurd cc
+off_link phases links (PeripheralSends handle) off = absurd cc
+off_link phases links (Advertises channel) off = tt
+off_link phases links other off = tt
+
+role_mapped : (role : Role) (change : OpenLink → OpenLink) (place : Option OpenLink) → ((link : OpenLink) → (change link).setup ≡ link.setup)
+    → HasRole role place → HasRole role (option_map change place)
+role_mapped role change None same has = tt
+role_mapped role change (Some link) same has = ap (λ s. s.link.role) (same link) ∙ has
+
+changing : (same : Bool) (change : OpenLink → OpenLink) → ((link : OpenLink) → (change link).setup ≡ link.setup) → (link : OpenLink) → (change_if same change link).setup ≡ link.setup
+changing true change keeps link = keeps link
+changing false change keeps link = refl
+
+-- a change of one link that keeps what it was set up with
+role_changed : (role : Role) (handle other : ℕ) (change : OpenLink → OpenLink) (links : Links) → ((link : OpenLink) → (change link).setup ≡ link.setup)
+    → HasRole role (link_at other links) → HasRole role (link_at other (with_change handle change links))
+role_changed role handle other change links keeps has =
+    subst (HasRole role) (sym (change_by (handle == other) handle other change links refl))
+    (role_mapped role (change_if (handle == other) change) (link_at other links) (changing (handle == other) change keeps) has)
+
+phase_changed : (phases handle : ℕ) (change : OpenLink → OpenLink) (links : Links) (doing : Doing) → ((link : OpenLink) → (change link).setup ≡ link.setup)
+    → IsInPhase phases links doing → IsInPhase phases (with_change handle change links) doing
+phase_changed phases handle change links (CentralSends other) keeps is = (is.0, role_changed Central handle other change links keeps is.1)
+phase_changed phases handle change links (PeripheralListens other) keeps is = (is.0, role_changed Peripheral handle other change links keeps is.1)
+phase_changed phases handle change links (CentralListens other) keeps is = (is.0, role_changed Central handle other change links keeps is.1)
+phase_changed phases handle change links (PeripheralSends other) keeps is = (is.0, role_changed Peripheral handle other change links keeps is.1)
+phase_changed phases handle change links (Advertises channel) keeps is = tt
+phase_changed phases handle change links other keeps is = tt
+
+doing_phase : (phases : ℕ) (doing : Doing) (facts : Facts) → IsInPhase phases facts.links doing → IsInPhase phases (facts_doing doing facts).links doing
+doing_phase phases (CentralSends handle) facts is =
+    phase_changed phases handle (link_after (PacketSent facts.turn.slot)) facts.links (CentralSends handle) (λ link. refl) is
+doing_phase phases (PeripheralSends handle) facts is =
+    phase_changed phases handle (link_after (PacketSent facts.turn.slot)) facts.links (PeripheralSends handle) (λ link. refl) is
+doing_phase phases (CentralListens handle) facts is = is
+doing_phase phases (PeripheralListens handle) facts is = is
+doing_phase phases (Advertises channel) facts is = tt
+doing_phase phases other facts is = tt
+
+-- ---- a turn begins
+
+exchange_in : (role : Role) (handle : ℕ) (links : Links) → HasRole role (link_at handle links) → IsInPhase 0 links (exchange_begins role handle)
+exchange_in Central handle links has = (refl, has)
+exchange_in Peripheral handle links has = (refl, has)
+
+first_in : (handle : ℕ) (links : Links) (found : Option OpenLink) → link_at handle links ≡ found → IsInPhase 0 links (first_exchange handle found)
+first_in handle links None is = tt
+first_in handle links (Some link) is = exchange_in link.setup.link.role handle links (subst (HasRole link.setup.link.role) (sym is) refl)
+
+exchange_if_in : (continues : Bool) (role : Role) (handle : ℕ) (links : Links) → HasRole role (link_at handle links)
+    → IsInPhase 0 links (exchange_if continues role handle)
+exchange_if_in true role handle links has = exchange_in role handle links has
+exchange_if_in false role handle links has = tt
+
+second_in : (handle : ℕ) (links : Links) (found : Option OpenLink) → link_at handle links ≡ found → IsInPhase 0 links (second_exchange handle found)
+second_in handle links None is = tt
+second_in handle links (Some link) is =
+    exchange_if_in (facts_in link).event.continues link.setup.link.role handle links (subst (HasRole link.setup.link.role) (sym is) refl)
+
+on_in : (channel : Option ℕ) (links : Links) → IsInPhase 0 links (advertises_on channel)
+on_in None links = tt
+on_in (Some channel) links = tt
+
+if_in : (test : Bool) (channel : Option ℕ) (links : Links) → IsInPhase 0 links (if test then advertises_on channel else Rests)
+if_in true channel links = on_in channel links
+if_in false channel links = tt
+
+advertises_in : (place : ℕ) (on : Option AdvertiserFacts) (links : Links) → IsInPhase 0 links (advertises_at place on)
+advertises_in place None links = tt
+advertises_in place (Some on) links = if_in _ _ links
+
+scans_in : (channel : Option ℕ) (links : Links) → IsInPhase 0 links (scans_on channel)
+scans_in None links = tt
+scans_in (Some channel) links = tt
+
+initiates_in : (channel : Option ℕ) (links : Links) → IsInPhase 0 links (initiates_on channel)
+initiates_in None links = tt
+initiates_in (Some channel) links = tt
+
+won_in : (slot : ℕ) (activity : Activity) (facts : Facts) → IsInPhase 0 (facts_won slot activity facts).links (doing_won slot activity facts)
+won_in slot (Link handle) facts =
+    phase_changed 0 handle (link_served slot) facts.links (first_exchange handle (link_at handle facts.links)) (λ link. refl)
+    (first_in handle facts.links (link_at handle facts.links) refl)
+won_in slot Advertise facts = advertises_in 0 facts.advertising.on facts.links
+won_in slot Scan facts = scans_in (scanner_channel slot facts.scanning.on) facts.links
+won_in slot Initiate facts = initiates_in (initiator_channel slot facts.initiator) facts.links
+
+held_in : (slot : ℕ) (activity : Activity) (facts : Facts) → IsInPhase 0 facts.links (doing_held slot activity facts)
+held_in slot (Link handle) facts = second_in handle facts.links (link_at handle facts.links) refl
+held_in slot Advertise facts = advertises_in (slots_since slot facts.radio.hold) facts.advertising.on facts.links
+held_in slot Scan facts = tt
+held_in slot Initiate facts = tt
+
+abbrev IsBegunIn : Outcome → Type 0
+IsBegunIn outcome = IsInPhase 0 outcome.facts.links outcome.next
+
+winner_in : (slot : ℕ) (winner : Option Activity) (facts : Facts) → IsBegunIn (winner_served slot winner facts)
+winner_in slot None facts = tt
+winner_in slot (Some activity) facts = won_in slot activity facts
+
+radio_in : (held : Bool) (slot : ℕ) (winner : Option Activity) (facts : Facts) → IsBegunIn (radio_served held slot winner facts)
+radio_in true slot winner facts = held_in slot facts.radio.holder facts
+radio_in false slot winner facts = winner_in slot winner facts
+
+served_in : (on : Bool) (slot : ℕ) (winner : Option Activity) (facts : Facts) → IsBegunIn (served on slot winner facts)
+served_in false slot winner facts = tt
+served_in true slot winner facts = radio_in (is_held_in facts.radio.hold slot) slot winner facts
+
+begins_in : (setup : Setup) (slot : ℕ) (on : Bool) (facts : Facts)
+    → IsInPhase 0 (facts_after setup facts (TurnBegins slot on)).links (facts_after setup facts (TurnBegins slot on)).turn.doing
+begins_in setup slot on facts =
+    let begun = turn_begins slot (facts_ending slot facts) in
+    let outcome = outcome_begun slot on facts in
+    doing_phase 0 outcome.next outcome.facts (served_in on slot (winner_of (plan_in slot begun) slot) (facts_entering slot begun))
+
+-- ---- a phase passes
+
+-- a peripheral alone answers
+reply_by : (role : Role) (handle : ℕ) (links : Links) (pdu : Option (List ℕ)) → HasRole role (link_at handle links)
+    → (phases : ℕ) → (role ≡ Peripheral → phases ≡ 1) → IsInPhase phases links (reply_if (replies_by role pdu) handle)
+reply_by Central handle links pdu has phases second = tt
+reply_by Peripheral handle links None has phases second = tt
+reply_by Peripheral handle links (Some octets) has phases second = (second refl, has)
+
+reply_in : (role : Role) (handle : ℕ) (links after : Links) (octets : List ℕ) (found : Option OpenLink) (phases : ℕ) → HasRole role found → HasRole role (link_at handle after)
+    → (role ≡ Peripheral → phases ≡ 1) → IsInPhase phases after (reply_if (replies_in found octets) handle)
+unfolding replies_of
+reply_in role handle links after octets None phases is has second = tt
+reply_in role handle links after octets (Some link) phases is has second =
+    subst (λ (r : Role). IsInPhase phases after (reply_if (replies_by r (good_pdu link.setup (facts_in link) octets)) handle)) (sym is)
+    (reply_by role handle after (good_pdu link.setup (facts_in link) octets) has phases second)
+
+next_phase : (phases first : ℕ) → phases ≡ first → suc phases ≡ first + 1
+next_phase phases first is = omega (arith, is)
+
+heard_in : (role : Role) (setup : Setup) (facts : Facts) (phases handle : ℕ) (octets : List ℕ) → HasRole role (link_at handle facts.links) → (role ≡ Peripheral → suc phases ≡ 1)
+    → IsInPhase (suc phases) (facts_passed (link_heard handle octets facts)).links (reply_if (replies_in (link_at handle facts.links) octets) handle)
+heard_in role setup facts phases handle octets has second =
+    let outcome = link_heard handle octets facts in
+    doing_phase (suc phases) outcome.next outcome.facts
+    (reply_in role handle facts.links outcome.facts.links octets (link_at handle facts.links) (suc phases) has
+    (role_changed role handle handle (link_after (PacketReceived facts.turn.slot octets)) facts.links (λ link. refl) has) second)
+
+abbrev PassesIn : ℕ → Facts → Type 0
+PassesIn phases after = IsInPhase phases after.links after.turn.doing
+
+no_central : (phases : ℕ) → Central ≡ Peripheral → phases ≡ 1
+no_central phases same = absurd cc
+
+off_passing : (facts after : Facts) (received : Option (List ℕ)) (phases : ℕ) → is_on_link facts.turn.doing ≡ false → IsPassing facts received after → PassesIn phases after
+off_passing facts after received phases off (Leaves same on) =
+    off_link phases after.links after.turn.doing (false_from_ne_true (is_on_link after.turn.doing) (λ does. let h : true ≡ false = sym (on does) ∙ off in absurd cc))
+off_passing facts after received phases off (Opens link is none) = off_link phases after.links after.turn.doing none
+off_passing facts after received phases off (Receives handle octets is wanted on replies links_are) = absurd (let h : true ≡ false = sym on ∙ off in absurd cc)
+
+passes_in : (setup : Setup) (facts : Facts) (received : Option (List ℕ)) (phases : ℕ) (doing : Doing) → facts.turn.doing ≡ doing → IsInPhase phases facts.links doing
+    → IsPassing facts received (facts_after setup facts (step_of received)) → PassesIn (suc phases) (facts_after setup facts (step_of received))
+passes_in setup facts None phases (CentralSends handle) doing is passing =
+    subst (λ (d : Doing). IsInPhase (suc phases) (facts_passed (unheard d facts)).links (unheard d facts).next) (sym doing) (next_phase phases 0 is.0, is.1)
+passes_in setup facts (Some octets) phases (CentralSends handle) doing is passing =
+    subst (λ (d : Doing). IsInPhase (suc phases) (facts_passed (heard setup d octets facts)).links (heard setup d octets facts).next) (sym doing) (next_phase phases 0 is.0, is.1)
+passes_in setup facts None phases (CentralListens handle) doing is passing =
+    subst (λ (d : Doing). IsInPhase (suc phases) (facts_passed (unheard d facts)).links (unheard d facts).next) (sym doing) tt
+passes_in setup facts (Some octets) phases (CentralListens handle) doing is passing =
+    subst (λ (d : Doing). IsInPhase (suc phases) (facts_passed (heard setup d octets facts)).links (heard setup d octets facts).next) (sym doing)
+    (heard_in Central setup facts phases handle octets is.1 (no_central (suc phases)))
+passes_in setup facts None phases (PeripheralListens handle) doing is passing =
+    subst (λ (d : Doing). IsInPhase (suc phases) (facts_passed (unheard d facts)).links (unheard d facts).next) (sym doing) tt
+passes_in setup facts (Some octets) phases (PeripheralListens handle) doing is passing =
+    subst (λ (d : Doing). IsInPhase (suc phases) (facts_passed (heard setup d octets facts)).links (heard setup d octets facts).next) (sym doing)
+    (heard_in Peripheral setup facts phases handle octets is.1 (λ same. next_phase phases 0 is.0))
+passes_in setup facts None phases (PeripheralSends handle) doing is passing =
+    subst (λ (d : Doing). IsInPhase (suc phases) (facts_passed (unheard d facts)).links (unheard d facts).next) (sym doing) tt
+passes_in setup facts (Some octets) phases (PeripheralSends handle) doing is passing =
+    subst (λ (d : Doing). IsInPhase (suc phases) (facts_passed (heard setup d octets facts)).links (heard setup d octets facts).next) (sym doing) tt
+passes_in setup facts received phases (Advertises channel) doing is passing = off_passing facts _ received (suc phases) (ap is_on_link doing) passing
+passes_in setup facts received phases other doing is passing = off_passing facts _ received (suc phases) (ap is_on_link doing) passing
+
+-- ---- at any time
+
+pub record IsPhased (setup : Setup) (stage : Stage) (begun : ℕ) (facts : Facts) : Type 0 where
+  pub uses : IsUsing setup stage begun facts
+  pub phase : IsAtStage stage facts.links facts.turn.doing
+
+pub phased_kept : (setup : Setup) → IsTurned setup (IsPhased setup)
+phased_kept setup = record {
+  feeds = λ begun octet facts is.
+      let uses = (using_kept setup).feeds begun octet facts is.uses in record { uses = uses; phase = uses.in_turn.does };
+  begins = λ begun on facts is. record { uses = (using_kept setup).begins begun on facts is.uses; phase = begins_in setup begun on facts };
+  passes = λ phases begun received facts is. record {
+    uses = (using_kept setup).passes phases begun received facts is.uses;
+    phase = passes_in setup facts received phases facts.turn.doing refl is.phase (phase_passes setup facts received is.uses.in_turn.listens);
+  };
+  ends = λ begun facts is. record { uses = (using_kept setup).ends begun facts is.uses; phase = refl };
+}
+
+pub phased_first : (setup : Setup) → IsPhased setup Between 0 (first_facts setup)
+phased_first setup = record { uses = using_first setup; phase = refl }
