@@ -83,7 +83,8 @@ module _ (given : Given) where
           (own handle link (subst (λ n. link_at handle (facts_at given n next).links ≡ Some link) equal at))
       by other handle link in_it at false differs =
           let next = after_call given station step history in
-          let apart : is_side (side_of station) (side_of other) ≡ false = subst (λ n. is_side (side_of n) (side_of other) ≡ false) (sym (other_is given are_two other station in_it is (differs_back other station differs))) (side_differs other) in
+          let equal = other_is given are_two other station in_it is (differs_back other station differs) in
+          let apart : is_side (side_of station) (side_of other) ≡ false = subst (λ n. is_side (side_of n) (side_of other) ≡ false) (sym equal) (side_differs other) in
           moved link.setup link.setup (entries_in link.past) (entries_in link.past) _ _ refl refl
           (ap (λ n. channel_at n other next) (number_other given station step history other handle differs)
           ∙ channel_other given (number_at other handle history) station other step history apart)
