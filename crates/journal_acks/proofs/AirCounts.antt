@@ -160,9 +160,7 @@ first_aired number own station channel octets history hearings hearing link has 
 module _ (whole : IsHeardWhole) (given : Given) (Q : Place → List Event → Type 0) (known : AreKnown given Q) (are_two : IsOfTwo given) (pair : IsPair given) (six : HaveAddresses given)
     (distinct : AreDistinct given.stations) (phases : ℕ) (done left : List ℕ) (station channel : ℕ) (octets : List ℕ) (fates : List Fate) (history : List Event)
     (are : given.stations ≡ done ++ station ∷ left) (wanted : use_at given station history ≡ Sends channel octets)
-    (seen : unseen_in octets (hearings_of given fates station channel octets history) ≡ None)
     (q : Q (AtPackets phases done (station ∷ left)) history) (holds : Holds given (AreStations given) (AtPackets phases done (station ∷ left)) history)
-    (silent : (other : ℕ) → is_in other given.stations ≡ true → (other == station) ≡ false → packet_received other history ≡ None)
     (counted : AreCountedSo given history (λ one. not (is_in one done)) (λ one. packet_received one history)) where
   abbrev facts : ℕ → Facts
   facts one = facts_at given one history
@@ -236,17 +234,17 @@ module _ (whole : IsHeardWhole) (given : Given) (Q : Place → List Event → Ty
   -- ---- on a data channel
 
   module _ (off : is_advertising channel ≡ false) where
-    sent : IsOfSendersLink given history station channel octets
+    abbrev pub sent : IsOfSendersLink given history station channel octets
     sent = known.sends phases done left station history are q channel octets wanted off
 
-    abbrev link_sent : OpenLink
+    abbrev pub link_sent : OpenLink
     link_sent = link_after (PacketSent sent.slot) sent.link
 
-    abbrev own_number : ℕ
+    abbrev pub own_number : ℕ
     own_number = number_at station sent.handle history
 
     -- it is to send on its open link
-    sends_it : (handle : ℕ) (link : OpenLink) → link_at handle (facts station).links ≡ Some link → sends_under handle (facts station).turn.doing ≡ true
+    pub sends_it : (handle : ℕ) (link : OpenLink) → link_at handle (facts station).links ≡ Some link → sends_under handle (facts station).turn.doing ≡ true
     sends_it handle link is_open = by (use_sent_at given six here history holds.hearing.stand station is channel octets wanted)
       where
         by : IsUseSent (facts_at given station history) (Sends channel octets) → sends_under handle (facts_at given station history).turn.doing ≡ true
@@ -272,13 +270,14 @@ module _ (whole : IsHeardWhole) (given : Given) (Q : Place → List Event → Ty
         ∙ own_after (is_good hearing.verdict) (carries_empty (link_numbered number (journal_of history)) channel octets) station (exchange_at number history)))
         (was_sent (packet_received station history) handle (facts station).turn link (exchange_at number history (side_of station)) (sends_it handle link is_open) (before_sent handle link is_open))
 
-    sender_counted : IsCounted (with_sent (exchange_at own_number history (side_of station))) (ack_of link_sent)
+    pub sender_counted : IsCounted (with_sent (exchange_at own_number history (side_of station))) (ack_of link_sent)
     sender_counted =
         let on = sends_it sent.handle link_sent sent.is_open in
         sent_counted (packet_received station history) sent.handle (facts station).turn link_sent (exchange_at own_number history (side_of station)) on
         (listener_off sent.handle (facts station).turn on (listens_under sent.handle (facts station).turn.doing) refl) (before_sent sent.handle link_sent sent.is_open)
 
-    module _ (is_too : is_in other given.stations ≡ true) (differs : (other == station) ≡ false) where
+    module _ (is_too : is_in other given.stations ≡ true) (differs : (other == station) ≡ false) (seen : unseen_in octets hearings ≡ None)
+        (silent : (one : ℕ) → is_in one given.stations ≡ true → (one == station) ≡ false → packet_received one history ≡ None) where
       heard_it : has_received other hearings ≡ is_good hearing.verdict
       heard_it = ap (has_received other) has ∙ other_received other hearing (same_number other)
 
@@ -377,13 +376,14 @@ module _ (whole : IsHeardWhole) (given : Given) (Q : Place → List Event → Ty
   own_aired true on handle link is_open = own_advertised on handle link is_open
   own_aired false off handle link is_open = own_sent off handle link is_open
 
-  other_aired : (on : Bool) → is_advertising channel ≡ on → is_in other given.stations ≡ true → (other == station) ≡ false → (handle : ℕ) (link : OpenLink)
+  other_aired : (on : Bool) → is_advertising channel ≡ on → is_in other given.stations ≡ true → (other == station) ≡ false → unseen_in octets hearings ≡ None
+      → ((one : ℕ) → is_in one given.stations ≡ true → (one == station) ≡ false → packet_received one history ≡ None) → (handle : ℕ) (link : OpenLink)
       → link_at handle (facts other).links ≡ Some link
       → IsEndCounted (not (is_in other done)) (if has_received other hearings then Some octets else packet_received other history) handle (facts other).turn link
       (exchange_at (number_at other handle history) after (side_of other))
-  other_aired true on is_too differs handle link is_open = other_advertised on other is_too (has_received other hearings) refl handle link is_open
-  other_aired false off is_too differs handle link is_open =
-      other_sent off is_too differs (has_received other hearings) (sym (heard_it off is_too differs)) handle link is_open
+  other_aired true on is_too differs seen silent handle link is_open = other_advertised on other is_too (has_received other hearings) refl handle link is_open
+  other_aired false off is_too differs seen silent handle link is_open =
+      other_sent off is_too differs seen silent (has_received other hearings) (sym (heard_it off is_too differs seen silent)) handle link is_open
 
   own_receives : packet_received station after ≡ packet_received station history
   own_receives =
@@ -391,8 +391,9 @@ module _ (whole : IsHeardWhole) (given : Given) (Q : Place → List Event → Ty
       ∙ ap (λ xs. if has_received station xs then Some octets else packet_received station history) has
       ∙ ap (λ b. if b then Some octets else packet_received station history) (own_received station hearing (own_differs station))
 
-  pub packet_counted : AreCountedSo given after (λ one. not (is_in one (done ++ station ∷ []))) (λ one. packet_received one after)
-  packet_counted = λ one handle link in_it is_open. by one in_it (one == station) refl handle link (ap (λ (f : Facts). link_at handle f.links) (sym (same_facts one)) ∙ is_open)
+  pub packet_counted : unseen_in octets hearings ≡ None → ((one : ℕ) → is_in one given.stations ≡ true → (one == station) ≡ false → packet_received one history ≡ None)
+      → AreCountedSo given after (λ one. not (is_in one (done ++ station ∷ []))) (λ one. packet_received one after)
+  packet_counted seen silent = λ one handle link in_it is_open. by one in_it (one == station) refl handle link (ap (λ (f : Facts). link_at handle f.links) (sym (same_facts one)) ∙ is_open)
     where
       same_facts : (one : ℕ) → facts_at given one (history ++ Transmitted station channel octets (hearings_of given fates station channel octets history) ∷ []) ≡ facts_at given one history
       same_facts one = facts_event given one history (Transmitted station channel octets (hearings_of given fates station channel octets history)) refl
@@ -420,5 +421,5 @@ module _ (whole : IsHeardWhole) (given : Given) (Q : Place → List Event → Ty
           (exchange_at (number_at other handle history) after (side_of other)) (exchange_at (number_at other handle after) after (side_of other))
           (ap not (in_more_other other station done unlike)) (received_event other history (Transmitted station channel octets hearings)) (ap (λ (f : Facts). f.turn) (same_facts other))
           (ap (λ n. exchange_at n after (side_of other)) (number_sent other handle history station channel octets hearings))
-          (other_aired (is_advertising channel) refl (subst (λ n. is_in n given.stations ≡ true) equal in_it) unlike handle link
+          (other_aired (is_advertising channel) refl (subst (λ n. is_in n given.stations ≡ true) equal in_it) unlike seen silent handle link
           (subst (λ n. link_at handle (facts_at given n history).links ≡ Some link) equal is_open)))

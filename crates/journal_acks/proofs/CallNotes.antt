@@ -37,15 +37,13 @@ abbrev pub is_taking : Note → Bool
 is_taking (Took handle number llid body) = true
 is_taking other = false
 
--- ---- a fact of all that is noted as a host sends, and as a turn begins
+-- ---- a fact of all that is noted as a host sends
 
-pub record IsOfBegins (P : Note → Type 0) : Type 0 where
+pub record IsOfFeeds (P : Note → Type 0) : Type 0 where
   pub up : (event : Event) → P (Up (record { items = written event }))
   pub shut : (handle reason : ℕ) → P (note_shut handle reason)
-  pub applied : (handle number event : ℕ) → P (Applied handle number (record { 0 = event }))
-  pub entered : (handle event channel : ℕ) → P (Enter handle (record { 0 = event }) channel)
 
-module _ (P : Note → Type 0) (of : IsOfBegins P) where
+module _ (P : Note → Type 0) (of : IsOfFeeds P) where
   packets_noted : (events : List Event) → All P (map (λ event. Up (record { items = written event })) events)
   packets_noted [] = All-nil P
   packets_noted (event ∷ events) = All-cons P _ _ (of.up event) (packets_noted events)
@@ -88,6 +86,20 @@ module _ (P : Note → Type 0) (of : IsOfBegins P) where
       All-append P (notes_ended view one) (flat_map (notes_ended view) ended)
       (All-cons P _ _ (of.shut one.handle one.reason.0) (events_noted view (DisconnectionComplete 0 one.handle one.reason.0 ∷ []))) (ends_noted view ended)
 
+  pub octet_noted : (setup : Setup) (facts : Facts) (octet : ℕ) → All P (notes_after setup facts (HostOctet octet))
+  octet_noted setup facts octet = fed_noted setup facts (result_of facts.octets octet)
+
+  pub ending_noted : (slot : ℕ) (facts : Facts) → All P (notes_ending slot facts)
+  ending_noted slot facts = ends_noted facts.view (ends_in slot facts)
+
+-- ---- a fact of all that is noted as a turn begins
+
+pub record IsOfBegins (P : Note → Type 0) : Type 0 where
+  pub feeds : IsOfFeeds P
+  pub applied : (handle number event : ℕ) → P (Applied handle number (record { 0 = event }))
+  pub entered : (handle event channel : ℕ) → P (Enter handle (record { 0 = event }) channel)
+
+module _ (P : Note → Type 0) (of : IsOfBegins P) where
   applied_noted : (handle event : ℕ) (number : Option ℕ) → All P (applied_notes handle event number)
   applied_noted handle event None = All-nil P
   applied_noted handle event (Some number) = All-cons P _ [] (of.applied handle number event) (All-nil P)
@@ -106,24 +118,18 @@ module _ (P : Note → Type 0) (of : IsOfBegins P) where
       All-append P (notes_if (is_anchor slot link) slot link) (notes_entering slot links)
       (entry_noted (is_anchor slot link) slot link) (entering_noted slot links)
 
-  pub octet_noted : (setup : Setup) (facts : Facts) (octet : ℕ) → All P (notes_after setup facts (HostOctet octet))
-  octet_noted setup facts octet = fed_noted setup facts (result_of facts.octets octet)
-
-  pub ending_noted : (slot : ℕ) (facts : Facts) → All P (notes_ending slot facts)
-  ending_noted slot facts = ends_noted facts.view (ends_in slot facts)
-
   pub begin_noted : (setup : Setup) (slot : ℕ) (on : Bool) (facts : Facts) → All P (notes_after setup facts (TurnBegins slot on))
   begin_noted setup slot on facts =
       All-append P (notes_ending slot facts) (notes_entering slot (facts_ending slot facts).links)
-      (ending_noted slot facts) (entering_noted slot (facts_ending slot facts).links)
+      (ending_noted P of.feeds slot facts) (entering_noted slot (facts_ending slot facts).links)
 
   pub step_noted : ((link : LinkSetup) → P (note_opened link)) → (setup : Setup) (facts : Facts) (step : Step) → All P (notes_after setup facts step)
-  step_noted opened setup facts (HostOctet octet) = octet_noted setup facts octet
+  step_noted opened setup facts (HostOctet octet) = octet_noted P of.feeds setup facts octet
   step_noted opened setup facts (TurnBegins slot on) = begin_noted setup slot on facts
   step_noted opened setup facts (PacketHeard octets) =
-      heard_is setup facts (λ outcome. All P outcome.notes) (phase_too P (record { up = of.up; opened = opened }) setup facts) facts.turn.doing octets refl
+      heard_is setup facts (λ outcome. All P outcome.notes) (phase_too P (record { up = of.feeds.up; opened = opened }) setup facts) facts.turn.doing octets refl
   step_noted opened setup facts NothingHeard =
-      unheard_is setup facts (λ outcome. All P outcome.notes) (phase_too P (record { up = of.up; opened = opened }) setup facts) facts.turn.doing refl
+      unheard_is setup facts (λ outcome. All P outcome.notes) (phase_too P (record { up = of.feeds.up; opened = opened }) setup facts) facts.turn.doing refl
   step_noted opened setup facts TurnEnds = All-nil P
 
 -- no note says that a PDU is taken: links carry no data yet
@@ -133,8 +139,7 @@ TakesNone note = is_taking note ≡ false
 pub step_takes_none : (setup : Setup) (facts : Facts) (step : Step) → All TakesNone (notes_after setup facts step)
 step_takes_none setup facts step =
     step_noted TakesNone (record {
-      up = λ event. refl;
-      shut = λ handle reason. refl;
+      feeds = record { up = λ event. refl; shut = λ handle reason. refl };
       applied = λ handle number event. refl;
       entered = λ handle event channel. refl;
     }) (λ link. refl) setup facts step

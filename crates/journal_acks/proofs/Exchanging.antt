@@ -75,7 +75,7 @@ note_quiet number history station note quiet =
 -- what an event keeps whose notes have a fact, a call with its notes keeps
 module _ (X : Type 0) (read : List Event → X) (P : Note → Type 0) (station : ℕ)
     (one : (history : List Event) (note : Note) → P note → read (history ++ Noted station note ∷ []) ≡ read history) where
-  notes_keep : (notes : List Note) (history : List Event) → All P notes → read (history ++ map (Noted station) notes) ≡ read history
+  pub notes_keep : (notes : List Note) (history : List Event) → All P notes → read (history ++ map (Noted station) notes) ≡ read history
   notes_keep [] history all = ap read (append-nil history)
   notes_keep (note ∷ notes) history all =
       ap read (sym (append_assoc history (Noted station note ∷ []) (map (Noted station) notes)))
@@ -115,7 +115,7 @@ none_if : (same opens : Bool) (number last : ℕ) → opens ≡ false → (if sa
 none_if true opens number last is = rw is refl
 none_if false opens number last is = refl
 
-opens_none : (station other handle : ℕ) (note : Note) (links : Links) → OpensNone handle note
+pub opens_none : (station other handle : ℕ) (note : Note) (links : Links) → OpensNone handle note
     → (links_noted station note links).link_of other handle ≡ links.link_of other handle
 opens_none station other handle (Opened new role own peer) links quiet =
     none_if (other == station) (handle == new) (links.link_of other handle) (links.last_of station) quiet
@@ -132,7 +132,7 @@ of_others station other handle (Opened new role own peer) links differs =
 of_others station other handle (Up packet) links differs = refl
 of_others station other handle note links differs = refl
 
-event_number : (station handle : ℕ) (history : List Event) (event : Event)
+pub event_number : (station handle : ℕ) (history : List Event) (event : Event)
     → (links_after (links_of history) event).link_of station handle ≡ number_at station handle history
     → number_at station handle (history ++ event ∷ []) ≡ number_at station handle history
 event_number station handle history event same = ap (λ (links : Links). links.link_of station handle) (links_event history event) ∙ same
@@ -162,7 +162,7 @@ number_called given station step history handle none =
     (λ before note quiet. event_number station handle before (Noted station note) (opens_none station station handle note (links_of before) quiet))
     given step history (number_quiet station handle history (Called station step) (λ links. refl)) none
 
-any_note : (notes : List Note) → All (λ note. true ≡ true) notes
+pub any_note : (notes : List Note) → All (λ note. true ≡ true) notes
 any_note [] = All-nil (λ note. true ≡ true)
 any_note (note ∷ notes) = All-cons (λ one. true ≡ true) note notes refl (any_note notes)
 

@@ -74,10 +74,9 @@ pub record AreCountedAt (given : Given) (Q : Place → List Event → Type 0) (p
 
 -- ---- small steps
 
-opening_none : (handle : ℕ) → IsOfBegins (OpensNone handle)
+pub opening_none : (handle : ℕ) → IsOfBegins (OpensNone handle)
 opening_none handle = record {
-  up = λ event. refl;
-  shut = λ other reason. refl;
+  feeds = record { up = λ event. refl; shut = λ other reason. refl };
   applied = λ other number event. refl;
   entered = λ other event channel. refl;
 }
@@ -132,7 +131,7 @@ module _ (given : Given) where
         (exchange_at (number_at station handle history) history (side_of station))
         (exchange_at (number_at station handle (after_call given station (HostOctet octet) history)) history (side_of station)) refl refl
         (ap (λ (f : Facts). f.turn) same ∙ (octet_turn setup facts octet).turn)
-        (ap (λ n. exchange_at n history (side_of station)) (number_called given station (HostOctet octet) history handle (octet_noted (OpensNone handle) (opening_none handle) setup facts octet)))
+        (ap (λ n. exchange_at n history (side_of station)) (number_called given station (HostOctet octet) history handle (octet_noted (OpensNone handle) (opening_none handle).feeds setup facts octet)))
         (fed.counted station handle link is was))
         (λ other in_it differs. refl) (λ other in_it differs. refl) fed.counted;
   }
@@ -157,7 +156,7 @@ module _ (given : Given) where
 module _ (given : Given) (station : ℕ) (step : Step) (history : List Event) (handle : ℕ) (link : OpenLink)
     (at : link_at handle (facts_at given station (after_call given station step history)).links ≡ Some link) where
   -- the link, in what the controller holds after the call
-  own_at : link_at handle (facts_after (setup_at given station) (facts_at given station history) step).links ≡ Some link
+  pub own_at : link_at handle (facts_after (setup_at given station) (facts_at given station history) step).links ≡ Some link
   own_at = ap (λ (f : Facts). link_at handle f.links) (sym (own_facts given station step history)) ∙ at
 
   -- its counts, by those of the journal before
@@ -260,8 +259,8 @@ module _ (given : Given) (Q : Place → List Event → Type 0) (known : AreKnown
   passed : (handle : ℕ) (link : OpenLink) → link_at handle (facts_at given station after).links ≡ Some link → number_at station handle after ≡ number_at station handle history
       → HasPassed facts received handle next.turn.doing link
       → IsEndCounted true (packet_received station after) handle (facts_at given station after).turn link (exchange_at (number_at station handle after) history (side_of station))
-  passed handle link at number (IsNew opened) = fresh handle link at opened
-  passed handle link at number (Stays was none nothing) =
+  passed handle link at number (IsNew end made opened off) = fresh handle link at (ap (λ (l : OpenLink). l.setup.opened) made ∙ opened)
+  passed handle link at number (Stays was none nothing listened) =
       let end = exchange_at (number_at station handle history) history (side_of station) in
       own_moved given station (step_of received) history handle link at (packet_received station after) number
       (from_plain true (packet_received station after) handle next.turn link end none (λ listens. none_after)
@@ -446,8 +445,8 @@ module _ (whole : IsHeardWhole) (given : Given) (Q : Place → List Event → Ty
           holds = kept.on_packet phases plan done left station channel octets history are some due is.holds;
           first = packet_first phases done left station channel octets plan.fates history are due.is_wanted is;
           silent = packet_silent phases done left station channel octets plan.fates history in_it is.silent;
-          counted = packet_counted whole given Q known are_two pair six distinct phases done left station channel octets plan.fates history are due.is_wanted due.is_seen is.known is.holds
-              (λ other is_other differs. is.silent other station is_other in_it differs out) is.counted;
+          counted = packet_counted whole given Q known are_two pair six distinct phases done left station channel octets plan.fates history are due.is_wanted is.known is.holds is.counted
+              due.is_seen (λ other is_other differs. is.silent other station is_other in_it differs out);
         };
     on_air = λ phases history is. record {
       known = known.kept.on_air phases history is.known;

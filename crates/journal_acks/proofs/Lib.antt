@@ -16,3 +16,7 @@ pub mod KeptCounts
 pub mod Known
 pub mod Seen
 pub mod RunCounts
+pub mod EnteredLinks
+pub mod ChannelLines
+pub mod KeptChannels
+pub mod LinkPackets

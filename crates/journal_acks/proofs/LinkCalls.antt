@@ -15,8 +15,8 @@ use Rattle.scan_init.specs.Reports.{scan_answer}
 use Rattle.slot_plan.specs.declared.Activity.{Activity}
 use Rattle.slot_plan.specs.declared.Activity.TheVariants.{Link, Advertise, Scan, Initiate}
 use Rattle.slot_plan.specs.Holding.{is_held_in, winner_of}
-use Rattle.open_links.specs.OpenLinks.{Links, OpenLink, link_after, link_at, link_served, with_change}
-use Rattle.open_links.specs.Turns.{entered_if, is_anchor, link_entered, reason_in}
+use Rattle.open_links.specs.OpenLinks.{Links, OpenLink, link_after, link_at, link_served, with_change, new_link}
+use Rattle.open_links.specs.Turns.{entered_if, is_anchor, link_entered, links_staying}
 use Rattle.open_links.proofs.Ends.{entered_setup}
 use Rattle.one_side.specs.declared.doing.Doing.{Doing}
 use Rattle.one_side.specs.declared.doing.Doing.TheVariants.{Advertises, CentralSends, CentralListens, PeripheralListens, PeripheralSends}
@@ -84,7 +84,7 @@ served_under true slot handle winner facts after is = radio_under (is_held_in fa
 pub record HasBegun (facts : Facts) (slot handle : ℕ) (doing : Doing) (after : OpenLink) : Type 0 where
   pub link : OpenLink
   pub was : link_at handle facts.links ≡ Some link
-  pub stays : reason_in slot link ≡ None
+  pub stayed : link_at handle (links_staying slot facts.links) ≡ Some link
   pub base : OpenLink
   pub setup_is : base.setup ≡ link.setup
   pub past_is : base.past ≡ (link_entered slot link).past
@@ -99,11 +99,12 @@ begins_under setup facts slot on handle after is =
     let sent = sending_under outcome.facts.turn.slot handle outcome.next outcome.facts.links after is in
     let base = served_under on slot handle (winner_of (plan_in slot begun) slot) (facts_entering slot begun) sent.link sent.was in
     let entered = entered_under slot handle begun.links base.link base.was in
-    let stayed = staying_under slot handle facts.links entered.link (ap (λ (ended : Facts). link_at handle ended.links) (sym (ending_is slot facts)) ∙ entered.was) in
+    let here : link_at handle (links_staying slot facts.links) ≡ Some entered.link = ap (λ (ended : Facts). link_at handle ended.links) (sym (ending_is slot facts)) ∙ entered.was in
+    let stayed = staying_under slot handle facts.links entered.link here in
     record {
       link = entered.link;
       was = stayed.was;
-      stays = stayed.stays;
+      stayed = here;
       base = sent.link;
       setup_is = base.setup_is ∙ ap (λ (l : OpenLink). l.setup) entered.is ∙ entered_setup (is_anchor slot entered.link) slot entered.link;
       past_is = base.past_is ∙ ap (λ (l : OpenLink). l.past) entered.is;
@@ -124,10 +125,10 @@ base_ack facts slot handle doing after begun =
 
 pub data HasPassed (facts : Facts) (received : Option (List ℕ)) (handle : ℕ) (doing : Doing) (after : OpenLink) : Type 0 where
   -- it is a new link
-  IsNew : after.setup.opened ≡ facts.turn.slot → HasPassed facts received handle doing after
+  IsNew : (end : EndSetup) → after ≡ new_link end → end.opened ≡ facts.turn.slot → is_on_link doing ≡ false → HasPassed facts received handle doing after
   -- nothing happened to it
   Stays : link_at handle facts.links ≡ Some after → sends_under handle doing ≡ false → (listens_under handle facts.turn.doing ≡ true → received ≡ None)
-      → HasPassed facts received handle doing after
+      → (listens_under handle doing ≡ true → sends_under handle facts.turn.doing ≡ true) → HasPassed facts received handle doing after
   -- it received a packet, and may answer that
   Takes : (link : OpenLink) (octets : List ℕ) → link_at handle facts.links ≡ Some link → received ≡ Some octets → listens_under handle facts.turn.doing ≡ true
       → after ≡ sent_if (sends_under handle doing) facts.turn.slot (link_after (PacketReceived facts.turn.slot octets) link)
@@ -148,6 +149,10 @@ off_listens handle other off = refl
 deaf : (handle : ℕ) (doing : Doing) (received : Option (List ℕ)) → listens_under handle doing ≡ false → listens_under handle doing ≡ true → received ≡ None
 deaf handle doing received is listens = absurd (let h : true ≡ false = sym listens ∙ is in absurd cc)
 
+-- what it listens for next on a link, it sent on that link
+hears_none : (handle : ℕ) (doing before : Doing) → listens_under handle doing ≡ false → listens_under handle doing ≡ true → sends_under handle before ≡ true
+hears_none handle doing before none listens = absurd (let h : true ≡ false = sym listens ∙ none in absurd cc)
+
 off_after : (facts after : Facts) (received : Option (List ℕ)) → is_on_link facts.turn.doing ≡ false → (is_on_link after.turn.doing ≡ true → is_on_link facts.turn.doing ≡ true)
     → (on : Bool) → is_on_link after.turn.doing ≡ on → is_on_link after.turn.doing ≡ false
 off_after facts after received off on true is = absurd (let h : true ≡ false = sym (on is) ∙ off in absurd cc)
@@ -156,15 +161,16 @@ off_after facts after received off on false is = is
 opened_passes : (facts after : Facts) (received : Option (List ℕ)) (handle : ℕ) (end : EndSetup) (link : OpenLink) → is_on_link facts.turn.doing ≡ false → is_on_link after.turn.doing ≡ false
     → end.opened ≡ facts.turn.slot → (same : Bool) → IsOpenedIf same end (link_at handle facts.links) link
     → HasPassed facts received handle after.turn.doing link
-opened_passes facts after received handle end link off none now true is = IsNew (ap (λ (l : OpenLink). l.setup.opened) is ∙ now)
+opened_passes facts after received handle end link off none now true is = IsNew end is now none
 opened_passes facts after received handle end link off none now false is =
-    Stays is (off_sends handle after.turn.doing none) (deaf handle facts.turn.doing received (off_listens handle facts.turn.doing off))
+    Stays is (off_sends handle after.turn.doing none) (deaf handle facts.turn.doing received (off_listens handle facts.turn.doing off)) (hears_none handle after.turn.doing facts.turn.doing (off_listens handle after.turn.doing none))
 
 off_passes : (facts after : Facts) (received : Option (List ℕ)) (handle : ℕ) (link : OpenLink) → is_on_link facts.turn.doing ≡ false → IsPassing facts received after
     → link_at handle after.links ≡ Some link → HasPassed facts received handle after.turn.doing link
 off_passes facts after received handle link off (Leaves same on) is =
-    Stays (ap (link_at handle) (sym same) ∙ is) (off_sends handle after.turn.doing (off_after facts after received off on (is_on_link after.turn.doing) refl))
-    (deaf handle facts.turn.doing received (off_listens handle facts.turn.doing off))
+    let none = off_after facts after received off on (is_on_link after.turn.doing) refl in
+    Stays (ap (link_at handle) (sym same) ∙ is) (off_sends handle after.turn.doing none) (deaf handle facts.turn.doing received (off_listens handle facts.turn.doing off))
+    (hears_none handle after.turn.doing facts.turn.doing (off_listens handle after.turn.doing none))
 off_passes facts after received handle link off (Opens made made_is none) is =
     let end : EndSetup = record { link = made; opened = facts.turn.slot } in
     opened_passes facts after received handle end link off none refl (made.handle == handle)
@@ -174,6 +180,10 @@ off_passes facts after received handle link off (Receives other octets was wante
 reply_none : (replies : Bool) (handle other : ℕ) → (other == handle) ≡ false → sends_under handle (reply_if replies other) ≡ false
 reply_none true handle other differs = differs
 reply_none false handle other differs = refl
+
+reply_deaf : (replies : Bool) (handle other : ℕ) → listens_under handle (reply_if replies other) ≡ false
+reply_deaf true handle other = refl
+reply_deaf false handle other = refl
 
 -- it takes a packet on the link under some handle
 taken_by : (facts : Facts) (octets : List ℕ) (handle other : ℕ) (after link : OpenLink) (replies : Bool) → listens_under handle facts.turn.doing ≡ (other == handle)
@@ -189,7 +199,7 @@ taken_by facts octets handle other after link replies listens sent false differs
     let was = change_under other handle (link_after (PacketReceived facts.turn.slot octets)) facts.links sent.link sent.was in
     let same : after ≡ was.link = sent.is ∙ ap (λ (b : Bool). sent_if b facts.turn.slot sent.link) none
     ∙ was.is ∙ ap (λ (b : Bool). change_if b (link_after (PacketReceived facts.turn.slot octets)) was.link) differs in
-    Stays (was.was ∙ ap Some (sym same)) none (deaf handle facts.turn.doing (Some octets) (listens ∙ differs))
+    Stays (was.was ∙ ap Some (sym same)) none (deaf handle facts.turn.doing (Some octets) (listens ∙ differs)) (hears_none handle (reply_if replies other) facts.turn.doing (reply_deaf replies handle other))
 
 takes_on : (facts : Facts) (octets : List ℕ) (handle other : ℕ) (after : OpenLink) → listens_under handle facts.turn.doing ≡ (other == handle)
     → link_at handle (facts_passed (link_heard other octets facts)).links ≡ Some after
@@ -205,22 +215,25 @@ passes_by : (setup : Setup) (facts : Facts) (received : Option (List ℕ)) (hand
 passes_by setup facts None handle after (CentralSends other) doing passing is =
     let next = ap (λ (d : Doing). (unheard d facts)) doing in
     Stays (ap (λ (o : Outcome). link_at handle (facts_passed o).links) (sym next) ∙ is) (ap (λ (o : Outcome). sends_under handle o.next) next)
-    (deaf handle facts.turn.doing None (ap (listens_under handle) doing))
+    (deaf handle facts.turn.doing None (ap (listens_under handle) doing)) (λ listens. ap (sends_under handle) doing ∙ sym (ap (λ (o : Outcome). listens_under handle o.next) next) ∙ listens)
 passes_by setup facts (Some octets) handle after (CentralSends other) doing passing is =
     let next = ap (λ (d : Doing). (heard setup d octets facts)) doing in
     Stays (ap (λ (o : Outcome). link_at handle (facts_passed o).links) (sym next) ∙ is) (ap (λ (o : Outcome). sends_under handle o.next) next)
-    (deaf handle facts.turn.doing (Some octets) (ap (listens_under handle) doing))
+    (deaf handle facts.turn.doing (Some octets) (ap (listens_under handle) doing)) (λ listens. ap (sends_under handle) doing ∙ sym (ap (λ (o : Outcome). listens_under handle o.next) next) ∙ listens)
 passes_by setup facts None handle after (PeripheralSends other) doing passing is =
     let next = ap (λ (d : Doing). (unheard d facts)) doing in
     Stays (ap (λ (o : Outcome). link_at handle (facts_passed o).links) (sym next) ∙ is) (ap (λ (o : Outcome). sends_under handle o.next) next)
     (deaf handle facts.turn.doing None (ap (listens_under handle) doing))
+    (hears_none handle (unheard facts.turn.doing facts).next facts.turn.doing (ap (λ (o : Outcome). listens_under handle o.next) next))
 passes_by setup facts (Some octets) handle after (PeripheralSends other) doing passing is =
     let next = ap (λ (d : Doing). (heard setup d octets facts)) doing in
     Stays (ap (λ (o : Outcome). link_at handle (facts_passed o).links) (sym next) ∙ is) (ap (λ (o : Outcome). sends_under handle o.next) next)
     (deaf handle facts.turn.doing (Some octets) (ap (listens_under handle) doing))
+    (hears_none handle (heard setup facts.turn.doing octets facts).next facts.turn.doing (ap (λ (o : Outcome). listens_under handle o.next) next))
 passes_by setup facts None handle after (CentralListens other) doing passing is =
     let next = ap (λ (d : Doing). (unheard d facts)) doing in
     Stays (ap (λ (o : Outcome). link_at handle (facts_passed o).links) (sym next) ∙ is) (ap (λ (o : Outcome). sends_under handle o.next) next) (λ listens. refl)
+    (hears_none handle (unheard facts.turn.doing facts).next facts.turn.doing (ap (λ (o : Outcome). listens_under handle o.next) next))
 passes_by setup facts (Some octets) handle after (CentralListens other) doing passing is =
     let next = ap (λ (d : Doing). (heard setup d octets facts)) doing in
     subst (λ (o : Outcome). HasPassed facts (Some octets) handle o.next after) (sym next)
@@ -228,6 +241,7 @@ passes_by setup facts (Some octets) handle after (CentralListens other) doing pa
 passes_by setup facts None handle after (PeripheralListens other) doing passing is =
     let next = ap (λ (d : Doing). (unheard d facts)) doing in
     Stays (ap (λ (o : Outcome). link_at handle (facts_passed o).links) (sym next) ∙ is) (ap (λ (o : Outcome). sends_under handle o.next) next) (λ listens. refl)
+    (hears_none handle (unheard facts.turn.doing facts).next facts.turn.doing (ap (λ (o : Outcome). listens_under handle o.next) next))
 passes_by setup facts (Some octets) handle after (PeripheralListens other) doing passing is =
     let next = ap (λ (d : Doing). (heard setup d octets facts)) doing in
     subst (λ (o : Outcome). HasPassed facts (Some octets) handle o.next after) (sym next)

@@ -48,7 +48,7 @@ pub record AreOne (handle other : ℕ) (one two : OpenLink) : Type 0 where
   pub handles : handle ≡ other
   pub links : one ≡ two
 
-first_handle : (links : Links) (handle : ℕ) (link : OpenLink) → length links ≤ 1 → link_at handle links ≡ Some link → handle ≡ 0
+pub first_handle : (links : Links) (handle : ℕ) (link : OpenLink) → length links ≤ 1 → link_at handle links ≡ Some link → handle ≡ 0
 first_handle [] handle link few is = absurd cc
 first_handle (place ∷ []) handle link few is = at (0 == handle) refl is
   where

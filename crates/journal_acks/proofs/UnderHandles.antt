@@ -78,7 +78,7 @@ sending_under slot handle doing links after is = nothing_sent (link_at handle li
 
 -- ---- links that stay, and that enter an event
 
-map_under : (change : Option OpenLink → Option OpenLink) → change None ≡ None → (first handle : ℕ) (links : Links)
+pub map_under : (change : Option OpenLink → Option OpenLink) → change None ≡ None → (first handle : ℕ) (links : Links)
     → link_from first handle (map change links) ≡ change (link_from first handle links)
 map_under change none first handle [] = sym none
 map_under change none first handle (place ∷ links) = at (first == handle) (map_under change none (first + 1) handle links)

@@ -4,8 +4,10 @@
 
 mod counts;
 mod exchanges;
+mod packets;
 mod rows;
 
 pub use crate::counts::counts_of_any_journal;
 pub use crate::exchanges::each_end_counts_as_the_journal_says;
+pub use crate::packets::each_link_packet_carries_what_the_journal_says;
 pub use crate::rows::worked_exchange;

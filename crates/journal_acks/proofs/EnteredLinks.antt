@@ -1,0 +1,325 @@
+-- A controller sends and listens only on a link that has entered an event.
+use Rattle.std.proofs.Common.{◌≡◌, ℕ, ◌+◌, ◌<◌, Bool, true, false, Option, Some, None, List, [], ◌∷◌, ◌++◌, replicate, refl, sym, ap, subst, ◌∙◌, arith}
+use Rattle.std.specs.Prelude.{is_some, nat_lt, if◌then◌else◌}
+use Rattle.std.specs.List.{AllByRecursion}
+use Rattle.std.specs.Option.{option_map}
+use Rattle.std.proofs.lemmas.Bool.{eqb-true}
+use Rattle.std.proofs.lemmas.List.Sums.{fold-append}
+use Rattle.ble_base.specs.declared.roles.Role.{Role}
+use Rattle.ble_base.specs.declared.roles.Role.TheVariants.{Central, Peripheral}
+use Rattle.advertise.specs.Advertising.{AdvertiserFacts, event_channel}
+use Rattle.one_end.specs.End.{facts_of as end_facts}
+use Rattle.one_end.specs.Events.{count_entry, entries_in}
+use Rattle.one_end.specs.Facts.{Facts as EndFacts}
+use Rattle.one_end.specs.Setup.{Setup as EndSetup}
+use Rattle.one_end.specs.Step.{Step as EndStep, EventEntered, PacketSent, PacketReceived}
+use Rattle.open_links.specs.OpenLinks.{Links, OpenLink, facts_in, link_after, link_at, new_link}
+use Rattle.open_links.specs.Turns.{entered_if, is_anchor, link_entered, links_entered, want_if as want_link, wants_entering, wants_from, wants_if}
+use Rattle.open_links.proofs.Ends.{entered_setup}
+use Rattle.slot_plan.specs.Holding.{is_held_in, winner_of}
+use Rattle.slot_plan.specs.Winner.{first_activity, first_of, is_before}
+use Rattle.slot_plan.specs.declared.Activity.{Activity}
+use Rattle.slot_plan.specs.declared.Activity.TheVariants.{Link, Advertise, Scan, Initiate}
+use Rattle.slot_plan.specs.declared.Want.{Want}
+use Rattle.one_side.specs.declared.doing.Doing.{Doing}
+use Rattle.one_side.specs.declared.doing.Doing.TheVariants.{Rests}
+use Rattle.one_side.specs.Step.{TurnBegins}
+use Rattle.one_side.specs.Facts.{Setup, Facts, first_facts}
+use Rattle.one_side.specs.Links.{facts_ending}
+use Rattle.one_side.specs.Radio.{advertiser_wants, advertises_at, advertises_on, doing_held, doing_won, exchange_begins, exchange_if, facts_entering, first_exchange, initiates_on, initiator_channel, plan_in, radio_served, scanner_channel, scans_on, second_exchange, served, slots_since, turn_begins, want_if, wants_in, winner_served}
+use Rattle.one_side.specs.Side.{facts_after}
+use Rattle.one_side.proofs.Always.{ending_is}
+use Rattle.one_side.proofs.LinkNotes.{AreIn, all_in, first_in, rest_in}
+use Rattle.runs.specs.Run.{step_of}
+use Rattle.run_laws.proofs.Agreed.{step_facts}
+use Rattle.run_laws.proofs.LinkPasses.{is_on_link}
+use Rattle.run_laws.proofs.OpenSteps.{none_open, open_has}
+use Rattle.run_laws.proofs.TurnPlaces.{Between, IsTurned, Stage}
+use Rattle.journal_acks.proofs.LinkCalls.{HasPassed, IsNew, Stays, Takes, begins_under, off_listens, off_sends, passes_under}
+use Rattle.journal_acks.proofs.LinkPhases.{IsPhased, phased_first, phased_kept}
+use Rattle.journal_acks.proofs.LinkUses.{listens_under, sends_under}
+use Rattle.journal_acks.proofs.UnderHandles.{map_under, octet_under, sent_if}
+
+-- it has entered an event
+abbrev pub HasEntered : OpenLink → Type 0
+HasEntered link = 0 < entries_in link.past
+
+-- ---- what wins a slot wants it
+
+-- a link that wants a slot enters its event in it
+abbrev IsEntering : ℕ → Links → Want → Type 0
+IsEntering slot whole want = (handle : ℕ) (link : OpenLink) → want.activity ≡ Link handle → link_at handle whole ≡ Some link → wants_entering slot link ≡ true
+
+entering_if : (wants : Bool) (slot first last_served : ℕ) (whole : Links) (link : OpenLink) → link_at first whole ≡ Some link → wants_entering slot link ≡ wants
+    → AllByRecursion (IsEntering slot whole) (want_link wants first last_served)
+entering_if true slot first last_served whole link at is = (
+  (λ handle other same found.
+      let one : Link first ≡ Link handle = same in
+      let equal : first ≡ handle = cc in
+      let links : Some link ≡ Some other = sym at ∙ ap (λ n. link_at n whole) equal ∙ found in
+      let alike : link ≡ other = cc in subst (λ (l : OpenLink). wants_entering slot l ≡ true) alike is),
+  tt,
+)
+entering_if false slot first last_served whole link at is = tt
+
+both_all : (P : Want → Type 0) (xs ys : List Want) → AllByRecursion P xs → AllByRecursion P ys → AllByRecursion P (xs ++ ys)
+both_all P [] ys all more = more
+both_all P (want ∷ xs) ys all more = (all.0, both_all P xs ys all.1 more)
+
+links_entering : (slot : ℕ) (whole : Links) (first : ℕ) (links : Links) → AreIn whole first links → AllByRecursion (IsEntering slot whole) (wants_from slot first links)
+links_entering slot whole first [] are = tt
+links_entering slot whole first (None ∷ links) are = links_entering slot whole (first + 1) links (rest_in whole first None links are)
+links_entering slot whole first (Some link ∷ links) are =
+    both_all (IsEntering slot whole) (want_link (wants_entering slot link) first link.last_served) (wants_from slot (first + 1) links)
+    (entering_if (wants_entering slot link) slot first link.last_served whole link (first_in whole first link links are) refl)
+    (links_entering slot whole (first + 1) links (rest_in whole first (Some link) links are))
+
+other_wants : (slot : ℕ) (whole : Links) (wants : Bool) (activity : Activity) → ((handle : ℕ) → activity ≡ Link handle → ⊥) → AllByRecursion (IsEntering slot whole) (want_if wants activity)
+other_wants slot whole true activity none = ((λ handle link same at. absurd (none handle same)), tt)
+other_wants slot whole false activity none = tt
+
+all_entering : (slot : ℕ) (facts : Facts) → AllByRecursion (IsEntering slot facts.links) (wants_in slot facts)
+all_entering slot facts =
+    let P = IsEntering slot facts.links in
+    both_all P _ _ (both_all P _ _ (both_all P _ _ (links_entering slot facts.links 0 facts.links (all_in facts.links))
+    (other_wants slot facts.links (advertiser_wants slot facts.advertising.on) Advertise (λ handle same. absurd cc)))
+    (other_wants slot facts.links (is_some (scanner_channel slot facts.scanning.on)) Scan (λ handle same. absurd cc)))
+    (other_wants slot facts.links (is_some (initiator_channel slot facts.initiator)) Initiate (λ handle same. absurd cc))
+
+earlier_has : (P : Want → Type 0) (want other : Want) (test : Bool) → P want → P other → P (if test then want else other)
+earlier_has P want other true has has_too = has
+earlier_has P want other false has has_too = has_too
+
+first_has : (P : Want → Type 0) (want : Want) (wants : List Want) → P want → AllByRecursion P wants → P (first_of want wants)
+first_has P want [] has all = has
+first_has P want (next ∷ wants) has all =
+    earlier_has P want (first_of next wants) (is_before want (first_of next wants)) has (first_has P next wants all.0 all.1)
+
+activity_wants : (slot handle : ℕ) (whole : Links) (link : OpenLink) (wants : List Want) → AllByRecursion (IsEntering slot whole) wants → first_activity wants ≡ Some (Link handle)
+    → link_at handle whole ≡ Some link → wants_entering slot link ≡ true
+activity_wants slot handle whole link [] all is at = absurd cc
+activity_wants slot handle whole link (want ∷ wants) all is at =
+    let same : (first_of want wants).activity ≡ Link handle = cc in first_has (IsEntering slot whole) want wants all.0 all.1 handle link same at
+
+winner_wants : (slot handle : ℕ) (facts : Facts) (link : OpenLink) (held : Bool) → (if held then None else first_activity (wants_in slot facts)) ≡ Some (Link handle)
+    → link_at handle facts.links ≡ Some link → wants_entering slot link ≡ true
+winner_wants slot handle facts link true is at = absurd cc
+winner_wants slot handle facts link false is at = activity_wants slot handle facts.links link (wants_in slot facts) (all_entering slot facts) is at
+
+-- ---- a link that enters its event
+
+entries_more : (link : OpenLink) (step : EndStep) → entries_in (link_after step link).past ≡ count_entry (entries_in link.past) step
+entries_more link step = fold-append count_entry 0 link.past (step ∷ [])
+
+one_more : (n m : ℕ) → m ≡ n + 1 → 0 < m
+one_more n m is = omega (arith, is)
+
+entered_at : (anchor : Bool) (slot : ℕ) (link : OpenLink) → wants_if anchor slot link ≡ true → HasEntered (entered_if anchor slot link)
+entered_at true slot link wants = one_more (entries_in link.past) _ (entries_more link (EventEntered slot))
+entered_at false slot link wants = absurd cc
+
+-- one that continues an event has entered it
+abbrev pub IsGoing : OpenLink → Type 0
+IsGoing link = (facts_in link).event.continues ≡ true → HasEntered link
+
+entered_goes : (anchor : Bool) (slot : ℕ) (link : OpenLink) → IsGoing link → IsGoing (entered_if anchor slot link)
+entered_goes true slot link going = λ on. one_more (entries_in link.past) _ (entries_more link (EventEntered slot))
+entered_goes false slot link going = going
+
+pub entries_sent : (sends : Bool) (slot : ℕ) (link : OpenLink) → entries_in (sent_if sends slot link).past ≡ entries_in link.past
+entries_sent true slot link = entries_more link (PacketSent slot)
+entries_sent false slot link = refl
+
+pub entries_received : (slot : ℕ) (octets : List ℕ) (link : OpenLink) → entries_in (link_after (PacketReceived slot octets) link).past ≡ entries_in link.past
+entries_received slot octets link = entries_more link (PacketReceived slot octets)
+
+sent_goes : (sends : Bool) (slot : ℕ) (link : OpenLink) → IsGoing link → IsGoing (sent_if sends slot link)
+sent_goes true slot link going = λ on.
+    subst (λ n. 0 < n) (sym (entries_sent true slot link)) (going (ap (λ (f : EndFacts). f.event.continues) (sym (step_facts link (PacketSent slot))) ∙ on))
+sent_goes false slot link going = going
+
+new_goes : (end : EndSetup) → IsGoing (new_link end)
+unfolding end_facts
+new_goes end = λ on. absurd cc
+
+-- the same link, but for when it had the radio last
+same_goes : (one other : OpenLink) → other.setup ≡ one.setup → other.past ≡ one.past → IsGoing one → IsGoing other
+same_goes one other setup past going = λ on.
+    subst (λ (xs : List EndStep). 0 < entries_in xs) (sym past)
+    (going ((λ i. (end_facts (sym setup i) (sym past i)).event.continues) ∙ on))
+
+-- ---- a turn begins
+
+data Uses (handle : ℕ) (doing : Doing) : Type 0 where
+  Sending : sends_under handle doing ≡ true → Uses handle doing
+  Listening : listens_under handle doing ≡ true → Uses handle doing
+
+off_uses : (handle : ℕ) (doing : Doing) (X : Type 0) → is_on_link doing ≡ false → Uses handle doing → X
+off_uses handle doing X off (Sending on) = absurd (let h : true ≡ false = sym on ∙ off_sends handle doing off in absurd cc)
+off_uses handle doing X off (Listening on) = absurd (let h : true ≡ false = sym on ∙ off_listens handle doing off in absurd cc)
+
+exchange_uses : (role : Role) (handle other : ℕ) → Uses handle (exchange_begins role other) → other ≡ handle
+exchange_uses Central handle other (Sending on) = eqb-true other handle on
+exchange_uses Central handle other (Listening on) = absurd cc
+exchange_uses Peripheral handle other (Sending on) = absurd cc
+exchange_uses Peripheral handle other (Listening on) = eqb-true other handle on
+
+on_off : (channel : Option ℕ) → is_on_link (advertises_on channel) ≡ false
+on_off None = refl
+on_off (Some channel) = refl
+
+if_off : (test : Bool) (channel : Option ℕ) → is_on_link (if test then advertises_on channel else Rests) ≡ false
+if_off true channel = on_off channel
+if_off false channel = refl
+
+advertises_off : (place : ℕ) (on : Option AdvertiserFacts) → is_on_link (advertises_at place on) ≡ false
+advertises_off place None = refl
+advertises_off place (Some on) = if_off (nat_lt place 3) (event_channel on.params.channels place)
+
+scans_off : (channel : Option ℕ) → is_on_link (scans_on channel) ≡ false
+scans_off None = refl
+scans_off (Some channel) = refl
+
+initiates_off : (channel : Option ℕ) → is_on_link (initiates_on channel) ≡ false
+initiates_off None = refl
+initiates_off (Some channel) = refl
+
+-- the links before they enter their events, and one of them
+module _ (slot handle : ℕ) (begun : Facts) (link : OpenLink) (at : link_at handle begun.links ≡ Some link) where
+  -- what it is then
+  entered_is : (found : Option OpenLink) (other : ℕ) → other ≡ handle → link_at other (facts_entering slot begun).links ≡ found → found ≡ Some (link_entered slot link)
+  entered_is found other same is =
+      sym is ∙ ap (λ n. link_at n (links_entered slot begun.links)) same ∙ map_under (option_map (link_entered slot)) refl 0 handle begun.links ∙ ap (option_map (link_entered slot)) at
+
+  won_uses : (activity : Activity) → (activity ≡ Link handle → wants_entering slot link ≡ true) → Uses handle (doing_won slot activity (facts_entering slot begun)) → HasEntered (link_entered slot link)
+  won_uses (Link other) wants uses = by (link_at other (facts_entering slot begun).links) uses
+    where
+      by : (found : Option OpenLink) → Uses handle (first_exchange other found) → HasEntered (link_entered slot link)
+      by None uses = off_uses handle Rests _ refl uses
+      by (Some one) uses = entered_at (is_anchor slot link) slot link (wants (ap Link (exchange_uses one.setup.link.role handle other uses)))
+  won_uses Advertise wants uses = off_uses handle _ _ (advertises_off 0 begun.advertising.on) uses
+  won_uses Scan wants uses = off_uses handle _ _ (scans_off (scanner_channel slot begun.scanning.on)) uses
+  won_uses Initiate wants uses = off_uses handle _ _ (initiates_off (initiator_channel slot begun.initiator)) uses
+
+  held_uses : IsGoing link → (activity : Activity) → Uses handle (doing_held slot activity (facts_entering slot begun)) → HasEntered (link_entered slot link)
+  held_uses going (Link other) uses = by (link_at other (facts_entering slot begun).links) refl uses
+    where
+      if_by : (one : OpenLink) (continues : Bool) → (facts_in one).event.continues ≡ continues → link_at other (facts_entering slot begun).links ≡ Some one
+          → Uses handle (exchange_if continues one.setup.link.role other) → HasEntered (link_entered slot link)
+      if_by one true is found uses =
+          let some : Some one ≡ Some (link_entered slot link) = entered_is (Some one) other (exchange_uses one.setup.link.role handle other uses) found in
+          let same : one ≡ link_entered slot link = cc in
+          entered_goes (is_anchor slot link) slot link going (ap (λ (l : OpenLink). (facts_in l).event.continues) (sym same) ∙ is)
+      if_by one false is found uses = off_uses handle Rests _ refl uses
+
+      by : (found : Option OpenLink) → link_at other (facts_entering slot begun).links ≡ found → Uses handle (second_exchange other found) → HasEntered (link_entered slot link)
+      by None is uses = off_uses handle Rests _ refl uses
+      by (Some one) is uses = if_by one (facts_in one).event.continues refl is uses
+  held_uses going Advertise uses = off_uses handle _ _ (advertises_off (slots_since slot begun.radio.hold) begun.advertising.on) uses
+  held_uses going Scan uses = off_uses handle Rests _ refl uses
+  held_uses going Initiate uses = off_uses handle Rests _ refl uses
+
+  winner_uses : (winner : Option Activity) → (winner ≡ Some (Link handle) → wants_entering slot link ≡ true) → Uses handle (winner_served slot winner (facts_entering slot begun)).next
+      → HasEntered (link_entered slot link)
+  winner_uses None wants uses = off_uses handle Rests _ refl uses
+  winner_uses (Some activity) wants uses = won_uses activity (λ same. wants (ap Some same)) uses
+
+  radio_uses : IsGoing link → (held : Bool) (winner : Option Activity) → (winner ≡ Some (Link handle) → wants_entering slot link ≡ true)
+      → Uses handle (radio_served held slot winner (facts_entering slot begun)).next → HasEntered (link_entered slot link)
+  radio_uses going true winner wants uses = held_uses going begun.radio.holder uses
+  radio_uses going false winner wants uses = winner_uses winner wants uses
+
+  served_uses : IsGoing link → (on : Bool) → Uses handle (served on slot (winner_of (plan_in slot begun) slot) (facts_entering slot begun)).next → HasEntered (link_entered slot link)
+  served_uses going false uses = off_uses handle Rests _ refl uses
+  served_uses going true uses =
+      radio_uses going (is_held_in begun.radio.hold slot) (winner_of (plan_in slot begun) slot) (λ is. winner_wants slot handle begun link (is_held_in begun.radio.hold slot) is at) uses
+
+-- ---- at any time
+
+pub record AreEntered (setup : Setup) (stage : Stage) (begun : ℕ) (facts : Facts) : Type 0 where
+  pub phased : IsPhased setup stage begun facts
+  pub going : (handle : ℕ) (link : OpenLink) → link_at handle facts.links ≡ Some link → IsGoing link
+  pub sends : (handle : ℕ) (link : OpenLink) → link_at handle facts.links ≡ Some link → sends_under handle facts.turn.doing ≡ true → HasEntered link
+  pub listens : (handle : ℕ) (link : OpenLink) → link_at handle facts.links ≡ Some link → listens_under handle facts.turn.doing ≡ true → HasEntered link
+
+rests_uses : (handle : ℕ) (doing : Doing) (X : Type 0) → doing ≡ Rests → Uses handle doing → X
+rests_uses handle doing X is uses = off_uses handle doing X (ap is_on_link is) uses
+
+-- what is kept as a turn begins
+begun_entered : (setup : Setup) (slot : ℕ) (on : Bool) (facts : Facts) → ((handle : ℕ) (link : OpenLink) → link_at handle facts.links ≡ Some link → IsGoing link)
+    → (handle : ℕ) (after : OpenLink) → link_at handle (facts_after setup facts (TurnBegins slot on)).links ≡ Some after
+    → IsGoing after × (Uses handle (facts_after setup facts (TurnBegins slot on)).turn.doing → HasEntered after)
+begun_entered setup slot on facts going handle after is =
+    let next = facts_after setup facts (TurnBegins slot on) in
+    let has = begins_under setup facts slot on handle after is in
+    let sends = sends_under handle next.turn.doing in
+    let begun = turn_begins slot (facts_ending slot facts) in
+    let entered = entered_if (is_anchor slot has.link) slot has.link in
+    let at : link_at handle begun.links ≡ Some has.link = ap (λ (ended : Facts). link_at handle ended.links) (ending_is slot facts) ∙ has.stayed in
+    let setup_is : has.base.setup ≡ entered.setup = has.setup_is ∙ sym (entered_setup (is_anchor slot has.link) slot has.link) in (
+      subst IsGoing (sym has.is) (sent_goes sends slot has.base (same_goes entered has.base setup_is has.past_is
+          (entered_goes (is_anchor slot has.link) slot has.link (going handle has.link has.was)))),
+      (λ uses. subst HasEntered (sym has.is) (subst (λ n. 0 < n) (sym (entries_sent sends slot has.base)) (subst (λ (xs : List EndStep). 0 < entries_in xs) (sym has.past_is)
+          (served_uses slot handle begun has.link at (going handle has.link has.was) on uses)))),
+    )
+
+passed_entered : (facts after : Facts) (received : Option (List ℕ)) (handle : ℕ) (link : OpenLink)
+    → ((handle : ℕ) (link : OpenLink) → link_at handle facts.links ≡ Some link → IsGoing link)
+    → ((handle : ℕ) (link : OpenLink) → link_at handle facts.links ≡ Some link → sends_under handle facts.turn.doing ≡ true → HasEntered link)
+    → ((handle : ℕ) (link : OpenLink) → link_at handle facts.links ≡ Some link → listens_under handle facts.turn.doing ≡ true → HasEntered link)
+    → HasPassed facts received handle after.turn.doing link → IsGoing link × (Uses handle after.turn.doing → HasEntered link)
+passed_entered facts after received handle link going sends listens (IsNew end made opened off) =
+    (subst IsGoing (sym made) (new_goes end), (λ uses. off_uses handle after.turn.doing _ off uses))
+passed_entered facts after received handle link going sends listens (Stays was none nothing listened) = (going handle link was, by)
+  where
+    by : Uses handle after.turn.doing → HasEntered link
+    by (Sending on) = absurd (let h : true ≡ false = sym on ∙ none in absurd cc)
+    by (Listening on) = sends handle link was (listened on)
+passed_entered facts after received handle link going sends listens (Takes base octets was some on same) =
+    let taken = link_after (PacketReceived facts.turn.slot octets) base in
+    let count = ap (λ (l : OpenLink). entries_in l.past) same ∙ entries_sent (sends_under handle after.turn.doing) facts.turn.slot taken ∙ entries_received facts.turn.slot octets base in
+    let entered : HasEntered link = subst (λ n. 0 < n) (sym count) (listens handle base was on) in
+    ((λ continues. entered), (λ uses. entered))
+
+pub entered_kept : (setup : Setup) → IsTurned setup (AreEntered setup)
+entered_kept setup = record {
+  feeds = λ begun octet facts is.
+      let phased = (phased_kept setup).feeds begun octet facts is.phased in record {
+        phased = phased;
+        going = λ handle link at. is.going handle link (octet_under setup facts octet handle link at);
+        sends = λ handle link at on. rests_uses handle _ _ phased.phase (Sending on);
+        listens = λ handle link at on. rests_uses handle _ _ phased.phase (Listening on);
+      };
+  begins = λ begun on facts is. record {
+    phased = (phased_kept setup).begins begun on facts is.phased;
+    going = λ handle link at. (begun_entered setup begun on facts is.going handle link at).0;
+    sends = λ handle link at does. (begun_entered setup begun on facts is.going handle link at).1 (Sending does);
+    listens = λ handle link at does. (begun_entered setup begun on facts is.going handle link at).1 (Listening does);
+  };
+  passes = λ phases begun received facts is.
+      let next = facts_after setup facts (step_of received) in
+      let passes : (handle : ℕ) (link : OpenLink) → link_at handle next.links ≡ Some link → IsGoing link × (Uses handle next.turn.doing → HasEntered link) =
+      (λ handle link at. passed_entered facts next received handle link is.going is.sends is.listens (passes_under setup facts received handle link is.phased.uses.in_turn.listens at)) in record {
+        phased = (phased_kept setup).passes phases begun received facts is.phased;
+        going = λ handle link at. (passes handle link at).0;
+        sends = λ handle link at does. (passes handle link at).1 (Sending does);
+        listens = λ handle link at does. (passes handle link at).1 (Listening does);
+      };
+  ends = λ begun facts is. record {
+    phased = (phased_kept setup).ends begun facts is.phased;
+    going = λ handle link at. is.going handle link at;
+    sends = λ handle link at on. absurd cc;
+    listens = λ handle link at on. absurd cc;
+  };
+}
+
+no_link : (setup : Setup) (handle : ℕ) (link : OpenLink) (X : Type 0) → link_at handle (first_facts setup).links ≡ Some link → X
+no_link setup handle link X at = absurd (open_has (λ one. ⊥) 0 handle (replicate setup.links None) link (none_open (λ one. ⊥) setup.links) at)
+
+pub entered_first : (setup : Setup) → AreEntered setup Between 0 (first_facts setup)
+entered_first setup = record {
+  phased = phased_first setup;
+  going = λ handle link at. no_link setup handle link _ at;
+  sends = λ handle link at on. no_link setup handle link _ at;
+  listens = λ handle link at on. no_link setup handle link _ at;
+}
