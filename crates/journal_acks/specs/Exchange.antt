@@ -30,7 +30,7 @@ first_exchanged = record { sent = 1; accepted = 0; acked = 0 }
 abbrev pub with_sent : Exchanged → Exchanged
 with_sent one = record one { sent = (if one.acked == one.sent then one.sent + 1 else one.sent) }
 
--- a good packet of the other end: its PDU is accepted where it is empty, and what the other end accepted is acknowledged
+-- a good packet of the other end: its PDU is accepted where it is empty, and what that end accepted is acknowledged
 abbrev pub with_heard : Bool → Exchanged → Exchanged → Exchanged
 with_heard empty from one =
     record one { accepted = (if empty then from.sent else one.accepted); acked = from.accepted }
