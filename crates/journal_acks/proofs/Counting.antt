@@ -1,4 +1,4 @@
--- How far a journal is ahead of what each controller holds, or behind, at each place of a run.
+-- How far the journal is ahead of what each controller holds, or late, at each place of a run.
 use Rattle.std.proofs.Common.{◌≡◌, ℕ, ◌==◌, ◌&&◌, Bool, true, false, Option, Some, None, List, [], ◌∷◌, ◌++◌, take, refl, sym, ap, subst, ◌∙◌}
 use Rattle.ble_base.specs.declared.roles.Side.{Side}
 use Rattle.air_frame.specs.Packet.{access_octets}
@@ -51,7 +51,7 @@ pub record AreKnown (given : Given) (Q : Place → List Event → Type 0) : Type
 
 -- ---- one end
 
--- before the packet that an end is to send is on the air, the journal is one sending behind; before it takes a packet that
+-- before the packet that an end is to send is on the air, the journal is one sending late; before it takes a packet that
 -- was on the air, the journal is one reception ahead
 abbrev pub ahead_if : Bool → Exchanged → Exchanged
 ahead_if true end = with_sent end

@@ -65,7 +65,7 @@ first_called given station step history first = λ number.
     (same_turns (turns_begun history) (turns_begun (after_call given station step history)) (turns_called station step notes history))
     (exchange_called given number station step history) (first number)
 
--- nothing stands in an empty journal
+-- an empty journal has no line
 pub none_first : AreFirst []
 unfolding exchange_of journal_of
 none_first = λ number. IsUnused (λ side. refl)

@@ -66,7 +66,7 @@ abbrev pub after_taking : Side → (Side → Exchanged) → Side → Exchanged
 after_taking taker ends side =
     if is_side side taker then with_taken (ends (other_side taker)) (ends taker) else ends side
 
--- both ends of the link with this number, after an entry that stands after these
+-- both ends of the link with this number, after an entry that comes after these
 abbrev pub exchange_after : ℕ → List Entry → (Side → Exchanged) → Entry → Side → Exchanged
 exchange_after number front ends (Air sender channel octets fate verdict) =
     if not (is_advertising channel) && is_number (link_of_packet front sender octets) number

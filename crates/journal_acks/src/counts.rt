@@ -1,4 +1,4 @@
-//! What the counts of any journal keep, whatever packets and verdicts stand in it. The body is
+//! What the counts of any journal keep, whatever packets and verdicts are in it. The body is
 //! empty: the contract is the law.
 ghost use Rattle.std.specs.Prelude.{◌≤◌, ◌+◌, ℕ, List};
 ghost use Rattle.ble_base.specs.Side.{other_side};

@@ -14,7 +14,7 @@ ghost use Rattle.runs.specs.Run.{history_of, run_of};
 ghost use Rattle.journal_acks.specs.Carried.{IsLinkPacket};
 
 /// In the journal of a run of a pair, each packet off the advertising channels is one of a link
-/// whose CONNECT_IND stands before it, on the channel that its side entered last on that link. It
+/// whose CONNECT_IND comes before it, on the channel that its side entered last on that link. It
 /// is the packet of an empty PDU with the access address and CRCInit of that CONNECT_IND; SN is the
 /// number of PDUs of its side that are acknowledged, and NESN that of the PDUs that its side
 /// accepted, both modulo 2, as the packets and verdicts before it say (Core 5.2, volume 6 part B,

@@ -6,7 +6,8 @@ ghost use Rattle.journal.specs.declared.entries.Entry.TheVariants.{Air, Enter};
 ghost use Rattle.journal.specs.declared.entries.Mark.TheVariants.{Lost as WasLost};
 ghost use Rattle.journal_acks.specs.Carried.{channel_entered};
 ghost use Rattle.journal_acks.specs.Exchange.{exchange_of};
-ghost use Rattle.runs.specs.Rows.{first_packet, one_connection_journal, one_event_journal, turn_entry};
+ghost use Rattle.runs.specs.Rows.{first_packet, one_connection_journal, one_event_journal};
+ghost use Rattle.runs.specs.Rows.{turn_entry};
 
 /// After the first exchange of a link, each end has accepted the PDU of the other, and the central
 /// knows that its own is acknowledged. Where the first packet is lost nothing is accepted.

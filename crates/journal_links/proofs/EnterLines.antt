@@ -1,4 +1,4 @@
--- Each line of an end that enters an event stands in the turn of the anchor of the event, on its channel.
+-- Each line of an end that enters an event is in the turn of the anchor of the event, on its channel.
 use Rattle.std.proofs.Common.{◌≡◌, ℕ, suc, ◌+◌, ◌*◌, ◌||◌, Bool, true, false, List, [], ◌∷◌, ◌++◌, length, map, Some, refl, sym, ap, subst, ◌∙◌, append_assoc, arith}
 use Rattle.std.specs.Prelude.{if◌then◌else◌}
 use Rattle.std.specs.List.{Contains}

@@ -1,4 +1,4 @@
--- Each line of a link that is opened names a link of the journal, and stands in the turn of its CONNECT_IND.
+-- Each line of a link that is opened names a link of the journal, and is in the turn of its CONNECT_IND.
 use Rattle.std.proofs.Common.{◌≡◌, ℕ, ◌+◌, List, [], ◌∷◌, ◌++◌, length, sym, ap, ◌∙◌}
 use Rattle.ble_base.specs.declared.addresses.Address.{Address}
 use Rattle.ble_base.specs.declared.notes.Note.{Note}

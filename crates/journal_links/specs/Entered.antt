@@ -16,7 +16,7 @@ anchor_in link event = link.slot + 2 + link.fields.win_offset + event * link.fie
 abbrev pub channel_in : LinkBegun → ℕ → ℕ
 channel_in link event = channel_of (Two link.fields.access) event link.fields.map
 
--- a line that stands after these entries says that an end enters this event of this link, on this channel: it stands in
+-- a line that comes after these entries says that an end enters this event of this link, on this channel: it is in
 -- the turn of the anchor of the event, and the channel is that of the event
 pub record IsEnteredInTime (front : List Entry) (number event channel : ℕ) : Type 0 where
   pub link : LinkBegun

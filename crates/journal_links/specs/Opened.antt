@@ -13,7 +13,7 @@ abbrev pub central_side : Role → Side → Side
 central_side Central side = side
 central_side Peripheral side = other_side side
 
--- a line that stands after these entries says that a side holds this link from there on, in this role: it stands in the
+-- a line that comes after these entries says that a side holds this link from there on, in this role: it is in the
 -- turn of the CONNECT_IND of the link, and the central is the side that sent it
 pub record IsOpenedInTime (front : List Entry) (side : Side) (number : ℕ) (role : Role) : Type 0 where
   pub link : LinkBegun

@@ -13,7 +13,7 @@ ghost use Rattle.runs.specs.Pair.{given_of};
 ghost use Rattle.runs.specs.Readers.{turns_of};
 ghost use Rattle.runs.specs.Run.{history_of, run_of};
 
-/// Each line of an end that enters an event of a link stands in the turn of the anchor of that
+/// Each line of an end that enters an event of a link is in the turn of the anchor of that
 /// event, and its channel is that of the event, by channel selection algorithm #2: both follow from
 /// the CONNECT_IND of the link alone (Core 5.2, volume 6 part B, sections 4.5.1, 4.5.3 and 4.5.8).
 pub fn each_enter_line_is_at_its_anchor()
@@ -28,7 +28,7 @@ pub fn each_enter_line_is_at_its_anchor()
     advertise::laws::connections_are_taken();
 }
 
-/// Where two lines say that an event of one link is entered, they stand in one turn and name one
+/// Where two lines say that an event of one link is entered, they are in one turn and name one
 /// channel: so it is where both ends of the link enter it (Core 5.2, volume 6 part B, sections
 /// 4.5.1 and 4.5.8).
 pub fn both_ends_enter_an_event_in_one_turn()
@@ -53,7 +53,7 @@ pub fn both_ends_enter_an_event_in_one_turn()
     advertise::laws::connections_are_taken();
 }
 
-/// Each line of a link that a side holds from there on names a link of the journal, and stands in
+/// Each line of a link that a side holds from there on names a link of the journal, and is in
 /// the turn of its CONNECT_IND: the central sent that, and the peripheral is the other side (Core
 /// 5.2, volume 6 part B, section 4.5).
 pub fn each_opened_line_names_its_link()

@@ -32,7 +32,7 @@ abbrev pub asked_after : Side → List ℕ → Bool → Entry → Bool
 asked_after side octets asked (Turn slot a b) = false
 asked_after side octets asked entry = asked || is_asking side octets entry
 
--- a good packet of the other side with this access address stands before it in the same turn, so a side that sends it
+-- a good packet of the other side with this access address comes before it in the same turn, so a side that sends it
 -- then answers that
 unfoldable pub is_answer : List Entry → Side → List ℕ → Bool
 is_answer front side octets = fold (asked_after side octets) false front

@@ -1,4 +1,4 @@
--- Each note of a run is one of those that a call gives, after which it stands.
+-- Each note of a run is one of those that a call gives, after that call.
 use Rattle.std.proofs.Common.{◌≡◌, ℕ, true, List, [], ◌∷◌, ◌++◌, refl, sym, ap, ◌∙◌, append_assoc}
 use Rattle.std.specs.Prelude.{map}
 use Rattle.ble_base.specs.declared.notes.Note.{Note}

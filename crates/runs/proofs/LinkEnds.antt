@@ -53,7 +53,7 @@ IsInSlot given history station = turns_begun history ≡ (facts_at given station
 abbrev last_at : List Event → ℕ → ℕ
 last_at history station = (links_of history).last_of station
 
--- it is that of the link that a packet begins, where it begins one: the packet stands after these events
+-- it is that of the link that a packet begins, where it begins one: the packet comes after these events
 abbrev IsLastLink : List Event → List Event → ℕ → ℕ → List ℕ → Type 0
 IsLastLink history before station channel octets = begins_link channel octets ≡ true → last_at history station ≡ (links_of before).begun + 1
 

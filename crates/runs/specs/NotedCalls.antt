@@ -6,7 +6,7 @@ use Rattle.one_side.specs.Side.{notes_after}
 use Rattle.runs.specs.History.{Event, Called, Noted}
 use Rattle.runs.specs.Run.{Given, facts_at, setup_at}
 
--- a note that stands after this history is one of those that a call gives: between that call and the note there are
+-- a note that comes after this history is one of those that a call gives: between that call and the note there are
 -- only the notes that the call gives before it
 pub record IsNotedInCall (given : Given) (before : List Event) (station : ℕ) (note : Note) : Type 0 where
   pub base : List Event

@@ -51,7 +51,7 @@ pub fn each_open_link_has_its_number()
     advertise::laws::connections_are_taken();
 }
 
-/// Each note in a run is one of those that a call on its controller gives: it stands after that
+/// Each note in a run is one of those that a call on its controller gives: it comes after that
 /// call and the notes that the call gives before it.
 pub fn each_note_is_of_a_call()
     ensures { (given : Given) (before rest : List Event) (station : ℕ) (note : Note)
