@@ -1,6 +1,7 @@
 -- What each call leaves of a bank, from the place that it works at.
-use Rattle.std.proofs.Common.{◌≡◌, ◌↔◌, ℕ, ◌+◌, ◌-◌, ◌<◌, ◌≤◌, min, Bool, true, false, IsTrue, List, [], length, get_or, set, take, Some, None, IsSome, refl, sym, ap, subst, ◌∙◌, arith, nat_lt, length-append}
+use Rattle.std.proofs.Common.{◌≡◌, ◌↔◌, if◌then◌else◌, ℕ, ◌+◌, ◌-◌, ◌<◌, ◌≤◌, min, Bool, true, false, IsTrue, List, [], length, get_or, set, take, Some, None, IsSome, refl, sym, ap, subst, ◌∙◌, arith, nat_lt, length-append}
 use Rattle.std.proofs.lemmas.Bool.Decides.{nat_tests}
+use Rattle.std.proofs.lemmas.Grind.{get_or-set_at}
 use Rattle.std.proofs.lemmas.List.{take-append-le, take_min, get_or_read}
 use Rattle.std.specs.Option.{option_map}
 use Rattle.std.specs.List.{position, find, remove}
@@ -143,3 +144,16 @@ module _ (bank : Bank) (handle : ℕ) where
 -- the count of a handle, as it is read
 pub count_read : (counts : List ℕ) (i handle n : ℕ) → i ≡ handle → n ≡ get_or counts i n → handle < 65536 → length counts ≡ 65536 → n ≡ get_or counts handle 0
 count_read counts i handle n at read below all = get_or_read counts i n (omega arith) read 0 ∙ ap (λ k. get_or counts k 0) at
+
+-- the count of a link after a piece of it was acknowledged
+pub acked-counted : (bank : Bank) (handle : ℕ) → handle < length bank.counts
+    → credits_of (bank_after_acked bank handle) handle
+    ≡ (if is_completed (packet_out bank handle) then credits_of bank handle + 1 else credits_of bank handle)
+acked-counted bank handle below = by_test (is_completed (packet_out bank handle))
+  where
+    by_test : (b : Bool) → credits_of (if b
+        then record { packets = without_first (has_piece_out handle) bank.packets; counts = set bank.counts handle (credits_of bank handle + 1) }
+        else record bank { packets = with_first (has_piece_out handle) packet_after_acked bank.packets }) handle
+        ≡ (if b then credits_of bank handle + 1 else credits_of bank handle)
+    by_test true = get_or-set_at bank.counts handle handle (credits_of bank handle + 1) 0 refl below
+    by_test false = refl

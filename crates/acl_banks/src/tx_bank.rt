@@ -1,9 +1,9 @@
 //! The packets of the host that wait to be sent.
 
-ghost use Rattle.std.specs.Prelude.{◌≡◌, ℕ, ◌<◌, ◌≤◌, ◌↔◌, ◌⊎◌, ◌+◌, [], IfOk, IsTrue, IsErr, IsSome, IsNone, OnOk, OnErr, IfSome, None, Some, length, take, slice_index_or};
+ghost use Rattle.std.specs.Prelude.{◌≡◌, ℕ, ◌<◌, ◌≤◌, ◌↔◌, ◌⊎◌, ◌+◌, [], IfOk, IsTrue, IsErr, IsSome, IsNone, OnOk, OnErr, IfSome, None, Some, if◌then◌else◌, length, take, slice_index_or};
 ghost use Rattle.std.specs.List.{position};
 ghost use Rattle.acl_banks.specs.Packets.{DataPacket, new_packet, has_unsent, has_piece_out, piece_of, marked_octets};
-ghost use Rattle.acl_banks.specs.Banks.{Bank, taken_buffers, credits_of, unsent_of, next_piece, next_length, packet_out, bank_after_offer, bank_after_went, bank_after_acked, bank_after_credited, bank_after_drop};
+ghost use Rattle.acl_banks.specs.Banks.{Bank, taken_buffers, credits_of, unsent_of, next_piece, next_length, packet_out, is_completed, bank_after_offer, bank_after_went, bank_after_acked, bank_after_credited, bank_after_drop};
 
 use crate::packets::Buffer;
 use crate::pieces::Piece;
@@ -169,6 +169,9 @@ impl<const T: usize> TxBank<T> {
         requires out { IsSome (packet_out self.old handle) }
         requires counts { credits_of self.old handle < 65535 }
         ensures bank { self.new ≡ bank_after_acked self.old handle }
+        ensures counted { credits_of self.new handle
+            ≡ (if is_completed (packet_out self.old handle) then credits_of self.old handle + 1
+            else credits_of self.old handle) }
         ensures none_out { packet_out self.new handle ≡ None }
     {
         let Some(place) = self.place_of_piece_out(handle) else {

@@ -1,8 +1,8 @@
 -- Each step keeps an end in the events that its CONNECT_IND gives.
-use Rattle.std.proofs.Common.{◌≡◌, ℕ, zero, suc, ◌+◌, ◌-◌, ◌==◌, false, List, [], ◌∷◌, fold, Option, None, Some, refl, ap, sym, ◌∙◌, subst, arith}
+use Rattle.std.proofs.Common.{◌≡◌, ℕ, zero, suc, ◌+◌, ◌-◌, ◌==◌, Bool, false, List, [], ◌∷◌, fold, Option, None, Some, refl, ap, sym, ◌∙◌, subst, arith}
 use Rattle.instants.specs.Track.{TrackFacts, next_anchor_of, track_after_enter, track_unchanged, event_of}
 use Rattle.one_end.specs.Setup.{Setup, algorithm_of, first_params}
-use Rattle.one_end.specs.Step.{Step, EventEntered, PacketSent, PacketReceived}
+use Rattle.one_end.specs.Step.{Step, DataGiven, EventEntered, PduFixed, PacketSent, PacketReceived, DataReported}
 use Rattle.one_end.specs.Facts.{Facts, first_facts}
 use Rattle.one_end.specs.Packets.{good_pdu}
 use Rattle.one_end.specs.End.{facts_after, facts_of, facts_received, facts_entered}
@@ -61,37 +61,40 @@ entered_in setup count slot facts at =
         let here : count + 1 ≡ suc count = omega arith in
         rw (event, params, here) refl
 
--- what is received changes neither the events nor the channel
-received_in : (setup : Setup) (count slot : ℕ) (pdu : Option (List ℕ)) (facts : Facts) → IsInEvent setup count facts
-    → IsInEvent setup count (facts_received slot pdu facts)
-received_in setup count slot None facts at = at
-received_in setup count slot (Some pdu) facts at =
+-- what a step leaves of the events is in the events as before
+kept_in : (setup : Setup) (count : ℕ) (before after : Facts) → after.parameters ≡ before.parameters
+    → after.event.number ≡ before.event.number → after.event.channel ≡ before.event.channel
+    → IsInEvent setup count before → IsInEvent setup count after
+kept_in setup count before after same number channel at =
     record {
-      entered_events = at.entered_events;
-      params = at.params;
-      free = at.free;
-      unchanged = at.unchanged;
-      anchor = at.anchor;
-      next_anchor = at.next_anchor;
-      number = at.number;
-      channel = at.channel;
+      entered_events = ap (λ (t : TrackFacts). t.entered) same ∙ at.entered_events;
+      params = ap (λ (t : TrackFacts). t.params) same ∙ at.params;
+      free = ap (λ (t : TrackFacts). t.waits) same ∙ at.free;
+      unchanged = ap (λ (t : TrackFacts). t.applied) same ∙ at.unchanged;
+      anchor = ap (λ (t : TrackFacts). t.anchor) same ∙ at.anchor;
+      next_anchor = ap next_anchor_of same ∙ at.next_anchor;
+      number = number ∙ at.number;
+      channel = channel ∙ at.channel;
     }
+
+-- what is received changes neither the events nor the channel
+received_in : (setup : Setup) (count slot : ℕ) (room : Bool) (pdu : Option (List ℕ)) (facts : Facts) → IsInEvent setup count facts
+    → IsInEvent setup count (facts_received slot room pdu facts)
+received_in setup count slot room None facts at = at
+received_in setup count slot room (Some pdu) facts at =
+    kept_in setup count facts (facts_received slot room (Some pdu) facts) refl refl refl at
 
 pub step_in : (setup : Setup) (count : ℕ) (facts : Facts) (step : Step) → IsInEvent setup count facts
     → IsInEvent setup (count_entry count step) (facts_after setup facts step)
+step_in setup count facts (DataGiven start body) at =
+    kept_in setup count facts (facts_after setup facts (DataGiven start body)) refl refl refl at
 step_in setup count facts (EventEntered slot) at = entered_in setup count slot facts at
+step_in setup count facts PduFixed at = kept_in setup count facts (facts_after setup facts PduFixed) refl refl refl at
 step_in setup count facts (PacketSent slot) at =
-    record {
-      entered_events = at.entered_events;
-      params = at.params;
-      free = at.free;
-      unchanged = at.unchanged;
-      anchor = at.anchor;
-      next_anchor = at.next_anchor;
-      number = at.number;
-      channel = at.channel;
-    }
-step_in setup count facts (PacketReceived slot octets) at = received_in setup count slot (good_pdu setup facts octets) facts at
+    kept_in setup count facts (facts_after setup facts (PacketSent slot)) refl refl refl at
+step_in setup count facts (PacketReceived slot octets room) at =
+    received_in setup count slot room (good_pdu setup facts octets) facts at
+step_in setup count facts DataReported at = kept_in setup count facts (facts_after setup facts DataReported) refl refl refl at
 
 steps_in : (setup : Setup) (count : ℕ) (facts : Facts) (steps : List Step) → IsInEvent setup count facts
     → IsInEvent setup (fold count_entry count steps) (fold (facts_after setup) facts steps)

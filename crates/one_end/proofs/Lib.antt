@@ -1,6 +1,10 @@
 -- The lemmas of this crate.
 pub mod InEvents
+pub mod Payloads
 pub mod Received
+pub mod Sending
+pub mod Pieces
+pub mod Taking
 pub mod Pairs
-pub mod Latency
+pub mod Numbering
 pub mod Pasts

@@ -1,144 +1,192 @@
 -- The ends of a link stay in agreement.
-use Rattle.std.proofs.Common.{◌≡◌, ℕ, ◌+◌, ◌≤◌, ◌==◌, ◌&&◌, Bool, true, false, List, [], ◌∷◌, ◌++◌, fold, length, length-append, refl, ap, sym, ◌∙◌, subst, arith, if◌then◌else◌}
-use Rattle.std.proofs.lemmas.Bool.{eqb-true, eqb-false}
-use Rattle.ack_bit.specs.AckLink.{End, Packet, header_from, after_receiving as end_after_receiving}
-use Rattle.ack_bit.specs.InStep.{AreInStep, IsOut}
+use Rattle.std.proofs.Common.{◌≡◌, ℕ, ◌+◌, ◌≤◌, ◌==◌, ◌&&◌, ◌||◌, not, Bool, true, false, List, [], ◌∷◌, ◌++◌, fold, length, length-append, refl, ap, sym, ◌∙◌, subst, arith, if◌then◌else◌}
+use Rattle.std.proofs.lemmas.Bool.{eqb-true, eqb-false, ne_eqb}
+use Rattle.ack_bit.specs.AckBits.{acknowledges, is_new}
+use Rattle.ack_bit.specs.AckLink.{Packet}
+use Rattle.ack_bit.specs.InStep.{AreInStep}
 use Rattle.ack_bit.proofs.Links.{acked_count, begins, exchanged, sent, out, received, says}
 use Rattle.one_end.specs.Setup.{Setup}
-use Rattle.one_end.specs.Step.{PacketReceived}
-use Rattle.one_end.specs.Acknowledgement.{Acknowledgement, Pdu, empty_pdu, end_of, is_acked, next_sent, after_sending, after_receiving}
+use Rattle.one_end.specs.Step.{PacketReceived, PacketSent}
+use Rattle.one_end.specs.Acknowledgement.{Acknowledgement, Pdu, after_sending, bits_of, empty_pdu, end_of, is_acked, received_by}
+use Rattle.one_end.specs.Data.{is_data}
 use Rattle.one_end.specs.Facts.{Facts}
-use Rattle.one_end.specs.Packets.{header_sent, packet_sent}
-use Rattle.one_end.specs.End.{facts_after, facts_received}
-use Rattle.one_end.specs.Pair.{AreOneLink, Pair, Move, CentralEnters, PeripheralEnters, CentralSends, PeripheralSends, first_pair, sender_after, receiver_after, listener_after, pair_after, pair_of, AreInAgreement}
-use Rattle.one_end.proofs.Received.{IsHeardWhole, header_read, pdu_read, heard_good, received_end}
+use Rattle.one_end.specs.Packets.{header_sent, more_sent, packet_sent, pdu_sent}
+use Rattle.one_end.specs.End.{facts_after, facts_received, has_acknowledged, is_accepted}
+use Rattle.one_end.specs.Pair.{AreInAgreement, AreOneLink, Move, CentralDoes, PeripheralDoes, CentralSends, PeripheralSends, Own, Given, Enters, Fixes, Reports, Pair, first_pair, listener_after, own_step, pair_after, pair_of, receiver_after, sender_after}
+use Rattle.one_end.proofs.Payloads.{AreShort, IsShort, first_short, sent_pdu_short, step_short}
+use Rattle.one_end.proofs.Received.{IsHeardWhole, header_read, heard_good, pdu_read, received_end}
 
--- two ends in agreement, each of which sent nothing but empty PDUs
-pub record AreAgreed (one other : Acknowledgement) : Type 0 where
-  pub step : AreInAgreement one other
-  pub one_last : one.last ≡ empty_pdu
-  pub other_last : other.last ≡ empty_pdu
+abbrev IsReady : Facts → Type 0
+IsReady facts = AreShort facts.outgoing facts.acknowledgement.last
 
-pub exchange : (one other : Acknowledgement) → AreAgreed one other → AreAgreed other one
+-- two ends in agreement, each of which sends short PDUs
+pub record AreAgreed (one other : Facts) : Type 0 where
+  pub step : AreInAgreement one.acknowledgement other.acknowledgement
+  pub one_ready : IsReady one
+  pub other_ready : IsReady other
+
+pub exchange : (one other : Facts) → AreAgreed one other → AreAgreed other one
 exchange one other agreed =
-    record { step = exchanged (end_of one) (end_of other) agreed.step; one_last = agreed.other_last; other_last = agreed.one_last }
-
-last_sent : (acked : Bool) (ack : Acknowledgement) → ack.last ≡ empty_pdu → (next_sent acked empty_pdu ack).last ≡ empty_pdu
-last_sent true ack last = refl
-last_sent false ack last = last
-
--- one end sends
-pub sends : (one other : Acknowledgement) → AreAgreed one other → AreAgreed (after_sending empty_pdu one) other
-sends one other agreed =
     record {
-      step = sent (end_of one) (end_of other) empty_pdu agreed.step;
-      one_last = last_sent (is_acked one) one agreed.one_last;
-      other_last = agreed.other_last;
+      step = exchanged (end_of one.acknowledgement) (end_of other.acknowledgement) agreed.step;
+      one_ready = agreed.other_ready;
+      other_ready = agreed.one_ready;
     }
 
--- a packet of an empty PDU, with room at the other end
-abbrev plain_packet : Packet Pdu
-plain_packet = record { next = empty_pdu; llid = 1; md = false; length = 0; arrives = true; room = true }
+-- the packet of an end, with room at the other end or with none for data
+abbrev packet_of : Facts → Bool → Packet Pdu
+packet_of sender room =
+    record {
+      next = sender.outgoing.fixed;
+      llid = (pdu_sent sender).llid;
+      md = more_sent sender;
+      length = length (pdu_sent sender).body;
+      arrives = true;
+      room = room || not (is_data (pdu_sent sender));
+    }
 
 -- what the other end holds when it received the packet of this one
-pub heard : (whole : IsHeardWhole) (from to : Setup) (slot : ℕ) (sender facts : Facts) → AreOneLink from to
-    → sender.event.channel ≡ facts.event.channel
-    → (facts_after to facts (PacketReceived slot (packet_sent from sender))).acknowledgement
-    ≡ after_receiving (header_sent sender) empty_pdu facts.acknowledgement
-heard whole from to slot sender facts one channel =
-    ap (λ pdu. (facts_received slot pdu facts).acknowledgement) (heard_good whole from to sender facts one channel)
-    ∙ (λ i. after_receiving (header_read sender i) (pdu_read sender i) facts.acknowledgement)
+abbrev heard_by : Facts → Bool → Acknowledgement → Acknowledgement
+heard_by sender room ack =
+    received_by (acknowledges (bits_of ack) (header_sent sender))
+    (is_accepted room (is_new (bits_of ack) (header_sent sender)) (pdu_sent sender)) (pdu_sent sender) ack
 
-pub receives : (one other : Acknowledgement) (sender : Facts) → one ≡ sender.acknowledgement → AreAgreed one other → IsOut (end_of one)
-    → AreAgreed one (after_receiving (header_sent sender) empty_pdu other)
-receives one other sender same agreed is_out =
-    let at_ends : AreInStep (end_of one) (end_after_receiving (end_of other) (header_from (end_of one) plain_packet) one.last true) =
-    received (end_of one) (end_of other) plain_packet agreed.step is_out in
-    let empty : AreInStep (end_of one) (end_after_receiving (end_of other) (header_from (end_of one) plain_packet) empty_pdu true) =
-    subst (λ (pdu : Pdu). AreInStep (end_of one) (end_after_receiving (end_of other) (header_from (end_of one) plain_packet) pdu true)) agreed.one_last at_ends in
-    let by_header : AreInStep (end_of one) (end_after_receiving (end_of other) (header_sent sender) empty_pdu true) =
-    subst (λ (a : Acknowledgement). AreInStep (end_of one) (end_after_receiving (end_of other) (header_from (end_of a) plain_packet) empty_pdu true)) same empty in
-    record {
-      step = subst (λ (e : End Pdu). AreInStep (end_of one) e) (sym (received_end other (header_sent sender) empty_pdu)) by_header;
-      one_last = agreed.one_last;
-      other_last = agreed.other_last;
-    }
+-- what a packet acknowledges is out
+unless_acked : (all says : Bool) → (all ≡ true → says ≡ false) → (not all && says) ≡ says
+unless_acked true says none = sym (none refl)
+unless_acked false says none = refl
+
+acknowledges_out : (sender facts : Facts) → AreInAgreement sender.acknowledgement facts.acknowledgement
+    → has_acknowledged facts (header_sent sender) ≡ acknowledges (bits_of facts.acknowledgement) (header_sent sender)
+acknowledges_out sender facts agreed =
+    let other = facts.acknowledgement in
+    unless_acked (is_acked other) (acknowledges (bits_of other) (header_sent sender))
+    (λ all. (says (end_of sender.acknowledgement) (end_of other) (packet_of sender true) agreed).acked
+    ∙ ne_eqb (length sender.acknowledgement.accepted) (other.acked + 1)
+    (λ more. omega (arith, more, eqb-true other.acked (length other.sent) all, agreed.from_b.reliable.sent_only)))
+
+pub heard : (whole : IsHeardWhole) (from to : Setup) (slot : ℕ) (room : Bool) (sender facts : Facts) → AreOneLink from to
+    → 27 ≤ to.link.max_rx → IsShort (pdu_sent sender) → sender.event.channel ≡ facts.event.channel
+    → AreInAgreement sender.acknowledgement facts.acknowledgement
+    → (receiver_after from sender to slot room facts).acknowledgement ≡ heard_by sender room facts.acknowledgement
+heard whole from to slot room sender facts one fits short channel agreed =
+    ap (λ pdu. (facts_received slot room pdu facts).acknowledgement) (heard_good whole from to sender facts one fits short channel)
+    ∙ (λ i. received_by (has_acknowledged facts (header_read sender short i))
+    (is_accepted room (is_new (bits_of facts.acknowledgement) (header_read sender short i)) (pdu_read sender short i))
+    (pdu_read sender short i) facts.acknowledgement)
+    ∙ ap (λ acked. received_by acked (is_accepted room (is_new (bits_of facts.acknowledgement) (header_sent sender)) (pdu_sent sender))
+    (pdu_sent sender) facts.acknowledgement) (acknowledges_out sender facts agreed)
+
+receives : (sender : Facts) (room : Bool) (other : Acknowledgement) → AreInAgreement sender.acknowledgement other
+    → AreInAgreement (after_sending sender.outgoing.fixed sender.acknowledgement) (heard_by sender room other)
+receives sender room other agreed =
+    let one = sender.acknowledgement in
+    let next = sender.outgoing.fixed in
+    subst (λ e. AreInStep (end_of (after_sending next one)) e) (sym (received_end other (header_sent sender) (pdu_sent sender) room))
+    (received (end_of (after_sending next one)) (end_of other) (packet_of sender room)
+    (sent (end_of one) (end_of other) next agreed) (out (end_of one) (end_of other) next agreed))
 
 -- ---- what a packet tells that is received
 
-pub tells_acked : (whole : IsHeardWhole) (from to : Setup) (slot : ℕ) (sender facts : Facts) → AreOneLink from to
-    → sender.event.channel ≡ facts.event.channel → AreInAgreement sender.acknowledgement facts.acknowledgement
-    → (receiver_after from (sender_after from slot sender) to slot facts).acknowledgement.acked ≡ length sender.acknowledgement.accepted
-tells_acked whole from to slot sender facts one channel agreed =
-    ap (λ (a : Acknowledgement). a.acked) (heard whole from to slot (sender_after from slot sender) facts one channel)
-    ∙ acked_count (end_of sender.acknowledgement) (end_of facts.acknowledgement) plain_packet empty_pdu agreed.from_b
+pub tells_acked : (whole : IsHeardWhole) (from to : Setup) (slot : ℕ) (room : Bool) (sender facts : Facts) → AreOneLink from to
+    → 27 ≤ to.link.max_rx → IsShort (pdu_sent sender) → sender.event.channel ≡ facts.event.channel
+    → AreInAgreement sender.acknowledgement facts.acknowledgement
+    → (receiver_after from sender to slot room facts).acknowledgement.acked ≡ length sender.acknowledgement.accepted
+tells_acked whole from to slot room sender facts one fits short channel agreed =
+    ap (λ (a : Acknowledgement). a.acked) (heard whole from to slot room sender facts one fits short channel agreed)
+    ∙ acked_count (end_of sender.acknowledgement) (end_of facts.acknowledgement) (packet_of sender room) empty_pdu agreed.from_b
 
 counted : (fresh : Bool) (accepted : List Pdu) (pdu : Pdu) (count : ℕ) → fresh ≡ (count == length accepted + 1)
     → length accepted ≤ count → count ≤ length accepted + 1
-    → length (if fresh then accepted ++ pdu ∷ [] else accepted) ≡ count
+    → length (if fresh && true then accepted ++ pdu ∷ [] else accepted) ≡ count
 counted true accepted pdu count is low high = length-append accepted (pdu ∷ []) ∙ sym (eqb-true count (length accepted + 1) (sym is))
 counted false accepted pdu count is low high = let other = eqb-false count (length accepted + 1) (sym is) in omega (arith, other)
 
 pub tells_accepted : (whole : IsHeardWhole) (from to : Setup) (slot : ℕ) (sender facts : Facts) → AreOneLink from to
-    → sender.event.channel ≡ facts.event.channel → AreInAgreement sender.acknowledgement facts.acknowledgement
-    → length (receiver_after from (sender_after from slot sender) to slot facts).acknowledgement.accepted
+    → 27 ≤ to.link.max_rx → IsShort (pdu_sent sender) → sender.event.channel ≡ facts.event.channel
+    → AreInAgreement sender.acknowledgement facts.acknowledgement
+    → length (receiver_after from sender to slot true facts).acknowledgement.accepted
     ≡ length (sender_after from slot sender).acknowledgement.sent
-tells_accepted whole from to slot sender facts one channel agreed =
-    let ahead = (sent (end_of sender.acknowledgement) (end_of facts.acknowledgement) empty_pdu agreed).from_a.reliable in
-    ap (λ (a : Acknowledgement). length a.accepted) (heard whole from to slot (sender_after from slot sender) facts one channel)
-    ∙ counted _ facts.acknowledgement.accepted empty_pdu (length (sender_after from slot sender).acknowledgement.sent)
-    (says (end_of sender.acknowledgement) (end_of facts.acknowledgement) plain_packet agreed).fresh
+tells_accepted whole from to slot sender facts one fits short channel agreed =
+    let next = sender.outgoing.fixed in
+    let ahead = (sent (end_of sender.acknowledgement) (end_of facts.acknowledgement) next agreed).from_a.reliable in
+    ap (λ (a : Acknowledgement). length a.accepted) (heard whole from to slot true sender facts one fits short channel agreed)
+    ∙ counted _ facts.acknowledgement.accepted (pdu_sent sender) (length (sender_after from slot sender).acknowledgement.sent)
+    (says (end_of sender.acknowledgement) (end_of facts.acknowledgement) (packet_of sender true) agreed).fresh
     ahead.sent_only ahead.at_most_one_ahead
 
-listens : (whole : IsHeardWhole) (from to : Setup) (slot : ℕ) (sender facts : Facts) (heard_it : Bool) → AreOneLink from to
-    → (heard_it ≡ true → sender.event.channel ≡ facts.event.channel)
-    → AreAgreed sender.acknowledgement facts.acknowledgement → IsOut (end_of sender.acknowledgement)
-    → AreAgreed sender.acknowledgement
-    (if heard_it then facts_after to facts (PacketReceived slot (packet_sent from sender)) else facts).acknowledgement
-listens whole from to slot sender facts false one channel agreed is_out = agreed
-listens whole from to slot sender facts true one channel agreed is_out =
-    subst (λ (a : Acknowledgement). AreAgreed sender.acknowledgement a) (sym (heard whole from to slot sender facts one (channel refl)))
-    (receives sender.acknowledgement facts.acknowledgement sender refl agreed is_out)
+-- ---- over moves
+
+-- one end sends, and the other hears it or not
+listens : (whole : IsHeardWhole) (from to : Setup) (slot : ℕ) (room : Bool) (sender facts : Facts) (heard_it : Bool) → AreOneLink from to
+    → 27 ≤ to.link.max_rx → (heard_it ≡ true → sender.event.channel ≡ facts.event.channel) → AreAgreed sender facts
+    → AreAgreed (sender_after from slot sender) (if heard_it then receiver_after from sender to slot room facts else facts)
+listens whole from to slot room sender facts false one fits channel agreed =
+    record {
+      step = sent (end_of sender.acknowledgement) (end_of facts.acknowledgement) sender.outgoing.fixed agreed.step;
+      one_ready = step_short from sender (PacketSent slot) agreed.one_ready;
+      other_ready = agreed.other_ready;
+    }
+listens whole from to slot room sender facts true one fits channel agreed =
+    record {
+      step = subst (AreInAgreement (sender_after from slot sender).acknowledgement)
+          (sym (heard whole from to slot room sender facts one fits (sent_pdu_short sender agreed.one_ready) (channel refl) agreed.step))
+          (receives sender room facts.acknowledgement agreed.step);
+      one_ready = step_short from sender (PacketSent slot) agreed.one_ready;
+      other_ready = step_short to facts (PacketReceived slot (packet_sent from sender) room) agreed.other_ready;
+    }
 
 same_channel : (arrives : Bool) (one other : ℕ) → (arrives && (one == other)) ≡ true → one ≡ other
 same_channel true one other same = eqb-true one other same
 same_channel false one other same = absurd cc
 
--- one end sends, and the other hears it or not
-exchanges : (whole : IsHeardWhole) (from to : Setup) (slot : ℕ) (arrives : Bool) (sender facts : Facts) → AreOneLink from to
-    → AreAgreed sender.acknowledgement facts.acknowledgement
-    → AreAgreed (sender_after from slot sender).acknowledgement
-    (listener_after from (sender_after from slot sender) to slot arrives facts).acknowledgement
-exchanges whole from to slot arrives sender facts one agreed =
-    listens whole from to slot (sender_after from slot sender) facts (arrives && (sender.event.channel == facts.event.channel)) one
-    (same_channel arrives sender.event.channel facts.event.channel)
-    (sends sender.acknowledgement facts.acknowledgement agreed)
-    (out (end_of sender.acknowledgement) (end_of facts.acknowledgement) empty_pdu agreed.step)
+exchanges : (whole : IsHeardWhole) (from to : Setup) (slot : ℕ) (arrives room : Bool) (sender facts : Facts) → AreOneLink from to
+    → 27 ≤ to.link.max_rx → AreAgreed sender facts
+    → AreAgreed (sender_after from slot sender) (listener_after from sender to slot arrives room facts)
+exchanges whole from to slot arrives room sender facts one fits agreed =
+    listens whole from to slot room sender facts (arrives && (sender.event.channel == facts.event.channel)) one fits
+    (same_channel arrives sender.event.channel facts.event.channel) agreed
+
+-- what an end does alone leaves what was sent and accepted
+own_keeps : (setup : Setup) (facts : Facts) (own : Own) → (facts_after setup facts (own_step own)).acknowledgement ≡ facts.acknowledgement
+own_keeps setup facts (Given start body) = refl
+own_keeps setup facts (Enters slot) = refl
+own_keeps setup facts Fixes = refl
+own_keeps setup facts Reports = refl
+
+does : (setup : Setup) (one other : Facts) (own : Own) → AreAgreed one other → AreAgreed (facts_after setup one (own_step own)) other
+does setup one other own agreed =
+    record {
+      step = subst (λ (a : Acknowledgement). AreInAgreement a other.acknowledgement) (sym (own_keeps setup one own)) agreed.step;
+      one_ready = step_short setup one (own_step own) agreed.one_ready;
+      other_ready = agreed.other_ready;
+    }
 
 other_way : (one other : Setup) → AreOneLink one other → AreOneLink other one
 other_way one other link = record { fields = sym link.fields; two = sym link.two; opened = sym link.opened }
 
-move_agrees : (whole : IsHeardWhole) (c p : Setup) (pair : Pair) (move : Move) → AreOneLink c p
-    → AreAgreed pair.central.acknowledgement pair.peripheral.acknowledgement
-    → AreAgreed (pair_after c p pair move).central.acknowledgement (pair_after c p pair move).peripheral.acknowledgement
-move_agrees whole c p pair (CentralEnters slot) one agreed = agreed
-move_agrees whole c p pair (PeripheralEnters slot) one agreed = agreed
-move_agrees whole c p pair (CentralSends slot arrives) one agreed =
-    exchanges whole c p slot arrives pair.central pair.peripheral one agreed
-move_agrees whole c p pair (PeripheralSends slot arrives) one agreed =
-    let back = exchange pair.central.acknowledgement pair.peripheral.acknowledgement agreed in
-    exchange _ _ (exchanges whole p c slot arrives pair.peripheral pair.central (other_way c p one) back)
+module _ (whole : IsHeardWhole) (c p : Setup) (one : AreOneLink c p) (c_fits : 27 ≤ c.link.max_rx) (p_fits : 27 ≤ p.link.max_rx) where
+  move_agrees : (pair : Pair) (move : Move) → AreAgreed pair.central pair.peripheral
+      → AreAgreed (pair_after c p pair move).central (pair_after c p pair move).peripheral
+  move_agrees pair (CentralDoes own) agreed = does c pair.central pair.peripheral own agreed
+  move_agrees pair (PeripheralDoes own) agreed =
+      exchange _ _ (does p pair.peripheral pair.central own (exchange pair.central pair.peripheral agreed))
+  move_agrees pair (CentralSends slot arrives room) agreed =
+      exchanges whole c p slot arrives room pair.central pair.peripheral one p_fits agreed
+  move_agrees pair (PeripheralSends slot arrives room) agreed =
+      exchange _ _
+      (exchanges whole p c slot arrives room pair.peripheral pair.central (other_way c p one) c_fits
+      (exchange pair.central pair.peripheral agreed))
 
-moves_agree : (whole : IsHeardWhole) (c p : Setup) (pair : Pair) (moves : List Move) → AreOneLink c p
-    → AreAgreed pair.central.acknowledgement pair.peripheral.acknowledgement
-    → AreAgreed (fold (pair_after c p) pair moves).central.acknowledgement (fold (pair_after c p) pair moves).peripheral.acknowledgement
-moves_agree whole c p pair [] one agreed = agreed
-moves_agree whole c p pair (move ∷ moves) one agreed =
-    moves_agree whole c p (pair_after c p pair move) moves one (move_agrees whole c p pair move one agreed)
+  moves_agree : (pair : Pair) (moves : List Move) → AreAgreed pair.central pair.peripheral
+      → AreAgreed (fold (pair_after c p) pair moves).central (fold (pair_after c p) pair moves).peripheral
+  moves_agree pair [] agreed = agreed
+  moves_agree pair (move ∷ moves) agreed = moves_agree (pair_after c p pair move) moves (move_agrees pair move agreed)
 
 pub pair_agrees : (whole : IsHeardWhole) (c p : Setup) (moves : List Move) → AreOneLink c p
+    → 27 ≤ c.link.max_rx → 27 ≤ p.link.max_rx
     → AreInAgreement (pair_of c p moves).central.acknowledgement (pair_of c p moves).peripheral.acknowledgement
 unfolding pair_of
-pair_agrees whole c p moves one =
-    (moves_agree whole c p (first_pair c p) moves one
-    (record { step = begins empty_pdu empty_pdu; one_last = refl; other_last = refl })).step
+pair_agrees whole c p moves one c_fits p_fits =
+    (moves_agree whole c p one c_fits p_fits (first_pair c p) moves
+    (record { step = begins empty_pdu empty_pdu; one_ready = first_short c; other_ready = first_short p })).step

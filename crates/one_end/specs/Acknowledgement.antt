@@ -1,8 +1,7 @@
 -- The PDUs that an end has sent and accepted, and which of its own are acknowledged (Core 5.2, volume 6 part B, section
 -- 4.5.9).
 use Rattle.std.specs.Prelude.{ℕ, ◌+◌, ◌==◌, Bool, List, [], ◌∷◌, ◌++◌, length, if◌then◌else◌}
-use Rattle.data_pdu.specs.declared.header.DataHeader.{DataHeader}
-use Rattle.ack_bit.specs.AckBits.{AckBits, is_odd, is_new, acknowledges}
+use Rattle.ack_bit.specs.AckBits.{AckBits, is_odd}
 use Rattle.ack_bit.specs.AckLink.{End}
 
 -- a data channel PDU: its LLID and its payload (section 2.4)
@@ -53,15 +52,12 @@ next_sent is_acked next ack =
 abbrev pub after_sending : Pdu → Acknowledgement → Acknowledgement
 after_sending next ack = next_sent (is_acked ack) next ack
 
--- a packet that is received acknowledges the PDU that was sent last, or does not; its PDU is accepted where it is new
+-- a packet that is received acknowledges the PDU that was sent last, or does not; its PDU is accepted, or is not
 abbrev pub received_by : Bool → Bool → Pdu → Acknowledgement → Acknowledgement
-received_by acked fresh pdu ack =
+received_by acked accepted pdu ack =
     record {
       sent = ack.sent;
       last = ack.last;
       acked = (if acked then ack.acked + 1 else ack.acked);
-      accepted = (if fresh then ack.accepted ++ pdu ∷ [] else ack.accepted);
+      accepted = (if accepted then ack.accepted ++ pdu ∷ [] else ack.accepted);
     }
-
-abbrev pub after_receiving : DataHeader → Pdu → Acknowledgement → Acknowledgement
-after_receiving header pdu ack = received_by (acknowledges (bits_of ack) header) (is_new (bits_of ack) header) pdu ack

@@ -1,6 +1,6 @@
 -- The packets of one end of a link: what it sends, and its verdict on what reaches it (Core 5.2, volume 6 part B,
 -- sections 2.1, 2.4 and 4.5).
-use Rattle.std.specs.Prelude.{ℕ, ◌+◌, nat_le, Bool, false, List, length, drop, Option, Some, None, if◌then◌else◌}
+use Rattle.std.specs.Prelude.{ℕ, ◌+◌, nat_le, not, Bool, List, ◌++◌, length, drop, Option, Some, None, if◌then◌else◌}
 use Rattle.ble_base.specs.declared.verdicts.Verdict.{Verdict}
 use Rattle.ble_base.specs.declared.verdicts.Verdict.TheVariants.{Missed, Broken, Good}
 use Rattle.air_frame.specs.declared.Heard.{Heard}
@@ -11,17 +11,30 @@ use Rattle.data_pdu.specs.declared.header.DataHeader.{DataHeader}
 use Rattle.data_pdu.specs.Header.{header_in, octets_of}
 use Rattle.ack_bit.specs.AckBits.{header_of}
 use Rattle.one_end.specs.Setup.{Setup}
-use Rattle.one_end.specs.Acknowledgement.{Pdu, bits_of}
+use Rattle.one_end.specs.Acknowledgement.{Pdu, bits_of, is_acked}
+use Rattle.one_end.specs.Data.{is_empty}
 use Rattle.one_end.specs.Facts.{Facts}
 
--- the header of the packet that it sends, which carries an empty PDU; no further PDU waits, so MD is 0
+-- the PDU in the packet that it sends: the last one again until that is acknowledged, and then the fixed one (section
+-- 4.5.9)
+abbrev pub pdu_sent : Facts → Pdu
+pdu_sent facts = if is_acked facts.acknowledgement then facts.outgoing.fixed else facts.acknowledgement.last
+
+-- MD: a further PDU waited as the turn began. After one that is sent again, that is the fixed one, unless it is empty
+-- (section 4.5.6; when it is looked at is our choice)
+abbrev pub more_sent : Facts → Bool
+more_sent facts = if is_acked facts.acknowledgement then facts.outgoing.more else not (is_empty facts.outgoing.fixed)
+
+-- the header of that packet (section 2.4)
 abbrev pub header_sent : Facts → DataHeader
-header_sent facts = header_of (bits_of facts.acknowledgement) 1 false 0
+header_sent facts =
+    header_of (bits_of facts.acknowledgement) (pdu_sent facts).llid (more_sent facts) (length (pdu_sent facts).body)
 
 -- the packet that it sends, on the channel of the event (section 2.1)
 unfoldable pub packet_sent : Setup → Facts → List ℕ
 packet_sent setup facts =
-    on_air facts.event.channel setup.link.fields.access setup.link.fields.crc_init (octets_of (header_sent facts))
+    on_air facts.event.channel setup.link.fields.access setup.link.fields.crc_init
+    (octets_of (header_sent facts) ++ (pdu_sent facts).body)
 
 -- what it hears on the channel of the event: its access address, and a CRC from its CRCInit (sections 2.1.2 and 3.1.1)
 abbrev pub heard_of : Setup → Facts → List ℕ → Heard

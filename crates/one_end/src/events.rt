@@ -11,8 +11,11 @@ pub struct ConnectionEvent {
     pub channel: u8,
     /// The latency that was in force as it was entered, in connection events.
     pub latency: u16,
-    /// A good packet was received in its first exchange, and the MD bit of that packet is 1.
-    pub continues: bool,
+    /// A good packet was received in its first exchange.
+    pub heard: bool,
+    /// A packet that was sent in its first exchange, or a good one that was received, has an MD bit
+    /// of 1.
+    pub more: bool,
 }
 
 /// A good packet that an end received.

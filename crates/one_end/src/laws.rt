@@ -1,7 +1,7 @@
 //! Laws of one end of a link, and of both. The bodies only call the laws that they rest on: the
 //! contracts are the laws.
-ghost use Rattle.std.specs.Prelude.{◌≡◌, ◌≤◌, ◌+◌, ℕ, true, List, [], ◌∷◌, ◌++◌};
-ghost use Rattle.std.specs.Prelude.{Some, length, take};
+ghost use Rattle.std.specs.Prelude.{◌≡◌, ◌≤◌, ◌+◌, ℕ, Bool, true, List, [], ◌∷◌, ◌++◌};
+ghost use Rattle.std.specs.Prelude.{Some, false, length, take};
 ghost use Rattle.ble_base.specs.declared.roles.Role.TheVariants.{Central};
 ghost use Rattle.ble_base.specs.declared.verdicts.Verdict.TheVariants.{Good};
 ghost use Rattle.data_pdu.specs.Header.{header_in, octets_of};
@@ -9,8 +9,10 @@ ghost use Rattle.one_end.specs.Setup.{Setup};
 ghost use Rattle.one_end.specs.Step.{Step};
 ghost use Rattle.one_end.specs.Facts.{Facts};
 ghost use Rattle.one_end.specs.Acknowledgement.{Acknowledgement};
-ghost use Rattle.one_end.specs.Packets.{good_pdu, header_sent, packet_sent, verdict_of};
-ghost use Rattle.one_end.specs.Times.{wants_of};
+ghost use Rattle.one_end.specs.Packets.{good_pdu, header_sent, packet_sent, pdu_of, pdu_sent};
+ghost use Rattle.one_end.specs.Packets.{verdict_of};
+ghost use Rattle.one_end.specs.Delivery.{AreNumbered, IsDelivered, IsInOrder};
+ghost use Rattle.one_end.specs.Times.{has_nothing_to_send, wants_of};
 ghost use Rattle.one_end.specs.End.{facts_of, facts_after};
 ghost use Rattle.one_end.specs.Events.{IsInEvent, entries_in};
 ghost use Rattle.one_end.specs.Pair.{AreInAgreement, AreInOneEvent, AreOneLink, Move, pair_of};
@@ -42,27 +44,34 @@ pub fn ends_agree_in_each_event()
 {}
 
 /// The packet that an end sends is good at the other end of the link where that listens on its
-/// channel, and its header is read as it was sent.
+/// channel, and what is read in it is its header and its PDU. Each end receives payloads of at
+/// least 27 octets (Core 5.2, volume 6 part B, section 4.5.10), and none sends a longer one.
 pub fn a_packet_is_understood()
-    ensures good { (from to : Setup) (sender listener : Facts) → AreOneLink from to
-        → sender.event.channel ≡ listener.event.channel
-        → verdict_of to listener (packet_sent from sender) ≡ Good }
-    ensures pdu { (from to : Setup) (sender listener : Facts) → AreOneLink from to
-        → sender.event.channel ≡ listener.event.channel
-        → good_pdu to listener (packet_sent from sender) ≡ Some (octets_of (header_sent sender)) }
-    ensures header { (sender : Facts)
-        → header_in (octets_of (header_sent sender)) ≡ header_sent sender }
+    ensures good { (from to : Setup) (past : List Step) (listener : Facts) → AreOneLink from to
+        → 27 ≤ to.link.max_rx → (facts_of from past).event.channel ≡ listener.event.channel
+        → verdict_of to listener (packet_sent from (facts_of from past)) ≡ Good }
+    ensures pdu { (from to : Setup) (past : List Step) (listener : Facts) → AreOneLink from to
+        → 27 ≤ to.link.max_rx → (facts_of from past).event.channel ≡ listener.event.channel
+        → let sender = facts_of from past in
+        good_pdu to listener (packet_sent from sender)
+        ≡ Some (octets_of (header_sent sender) ++ (pdu_sent sender).body) }
+    ensures header { (from : Setup) (past : List Step) → let sender = facts_of from past in
+        header_in (octets_of (header_sent sender) ++ (pdu_sent sender).body)
+        ≡ header_sent sender }
+    ensures body { (from : Setup) (past : List Step) → let sender = facts_of from past in
+        pdu_of (octets_of (header_sent sender) ++ (pdu_sent sender).body) ≡ pdu_sent sender }
 {
     air_frame::laws::packet_tells_its_pdu();
 }
 
-/// Whatever packets are lost, and whenever each end enters its events: SN and NESN of each end are
-/// the numbers of its PDUs that are acknowledged and of those that it accepted, modulo 2. Each end
-/// accepts what the other sent, in order, all but at most the last PDU. It takes for acknowledged
-/// only what the other accepted.
+/// Whatever packets are lost, whatever the hosts give and whatever there is room for, and whenever
+/// each end enters its events: SN and NESN of each end are the numbers of its PDUs that are
+/// acknowledged and of those that it accepted, modulo 2. Each end accepts what the other sent, in
+/// order, all but at most the last PDU. It takes for acknowledged only what the other accepted.
 pub fn ends_stay_in_agreement()
     ensures agree { (central peripheral : Setup) (moves : List Move)
         → AreOneLink central peripheral
+        → 27 ≤ central.link.max_rx → 27 ≤ peripheral.link.max_rx
         → AreInAgreement (pair_of central peripheral moves).central.acknowledgement
         (pair_of central peripheral moves).peripheral.acknowledgement }
     ensures accepted { (one other : Acknowledgement) → AreInAgreement one other
@@ -78,29 +87,64 @@ pub fn ends_stay_in_agreement()
 }
 
 /// A packet that is received tells exactly what was accepted, and no bit is needed to say it: the
-/// end that received it then takes for acknowledged as many of its PDUs as the sender accepted, and
-/// has accepted as many as the sender sent (Core 5.2, volume 6 part B, section 4.5.9).
+/// end that received it then takes for acknowledged as many of its PDUs as the sender accepted.
+/// Where it has room, it has accepted as many as the sender sent (Core 5.2, volume 6 part B,
+/// section 4.5.9).
 pub fn a_packet_tells_what_was_accepted()
-    ensures acknowledged { (from to : Setup) (slot : ℕ) (sender listener : Facts)
-        → AreOneLink from to → sender.event.channel ≡ listener.event.channel
-        → AreInAgreement sender.acknowledgement listener.acknowledgement
-        → let sent = sender_after from slot sender in
-        (receiver_after from sent to slot listener).acknowledgement.acked
-        ≡ length sent.acknowledgement.accepted }
-    ensures accepted { (from to : Setup) (slot : ℕ) (sender listener : Facts)
-        → AreOneLink from to → sender.event.channel ≡ listener.event.channel
-        → AreInAgreement sender.acknowledgement listener.acknowledgement
-        → let sent = sender_after from slot sender in
-        length (receiver_after from sent to slot listener).acknowledgement.accepted
-        ≡ length sent.acknowledgement.sent }
+    ensures acknowledged { (from to : Setup) (past : List Step) (slot : ℕ) (room : Bool)
+        (listener : Facts) → AreOneLink from to → 27 ≤ to.link.max_rx
+        → (facts_of from past).event.channel ≡ listener.event.channel
+        → AreInAgreement (facts_of from past).acknowledgement listener.acknowledgement
+        → (receiver_after from (facts_of from past) to slot room listener).acknowledgement.acked
+        ≡ length (facts_of from past).acknowledgement.accepted }
+    ensures accepted { (from to : Setup) (past : List Step) (slot : ℕ) (listener : Facts)
+        → AreOneLink from to → 27 ≤ to.link.max_rx
+        → (facts_of from past).event.channel ≡ listener.event.channel
+        → AreInAgreement (facts_of from past).acknowledgement listener.acknowledgement
+        → let sender = facts_of from past in
+        length (receiver_after from sender to slot true listener).acknowledgement.accepted
+        ≡ length (sender_after from slot sender).acknowledgement.sent }
 {
     air_frame::laws::packet_tells_its_pdu();
 }
 
-/// A central wants every event, and so does a peripheral whose latency is 0.
+/// Whatever happens to an end, the octets that its host gave are sent or wait, in order, and each
+/// of them once; and the packets that it has counted as complete are those of which the last octet
+/// was acknowledged (Core 5.2, volume 4 part E, section 4.1).
+pub fn data_is_sent_in_order()
+    ensures { (setup : Setup) (past : List Step) → IsInOrder (facts_of setup past) }
+{}
+
+/// Whatever an end receives, it takes no PDU for acknowledged that it did not send, and sends none
+/// before the one before it is acknowledged.
+#[tactic(auto, using(crate::proofs::Sending::past_counted))]
+pub fn one_pdu_is_out_at_a_time()
+    ensures { (setup : Setup) (past : List Step) → let ack = (facts_of setup past).acknowledgement in
+        (ack.acked ≤ length ack.sent) × (length ack.sent ≤ ack.acked + 1) }
+{}
+
+/// Where two ends are in agreement, what one took of data is the first octets of what the host of
+/// the other gave, with the starts of messages where they were; and each packet that was reported
+/// as complete there was taken whole here.
+pub fn what_is_taken_was_given()
+    ensures { (setup : Setup) (past : List Step) (other : Facts)
+        → AreInAgreement (facts_of setup past).acknowledgement other.acknowledgement
+        → IsDelivered (facts_of setup past) other }
+{}
+
+/// What an end notes of the PDUs that it sends and of those that it takes are the PDUs that are not
+/// empty, each once and in order, with the numbers 1, 2 and so on in each direction.
+pub fn notes_are_numbered()
+    ensures { (setup : Setup) (past : List Step) → AreNumbered setup past }
+{}
+
+/// A central wants every event, and so does a peripheral whose latency is 0, or one that has a PDU
+/// to send: one with a payload that is not acknowledged yet, or data that waits.
 pub fn only_latency_skips_events()
     ensures central { (setup : Setup) (facts : Facts) → setup.link.role ≡ Central
         → wants_of setup facts ≡ true }
     ensures no_latency { (setup : Setup) (facts : Facts) → facts.event.latency ≡ 0
+        → wants_of setup facts ≡ true }
+    ensures data_waits { (setup : Setup) (facts : Facts) → has_nothing_to_send facts ≡ false
         → wants_of setup facts ≡ true }
 {}

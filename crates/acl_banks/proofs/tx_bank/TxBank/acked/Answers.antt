@@ -1,8 +1,8 @@
 -- The proof of `TxBank::acked`.
-use Rattle.std.proofs.Common.{◌≡◌, ◌+◌, get_or, sym, ap, subst, ◌∙◌, None, arith, length-set}
+use Rattle.std.proofs.Common.{◌≡◌, ◌+◌, get_or, length, sym, ap, subst, ◌∙◌, None, arith, if◌then◌else◌, length-set}
 use Rattle.acl_banks.specs.Packets.{IsInOrder}
-use Rattle.acl_banks.specs.Banks.{Bank, packet_out}
-use Rattle.acl_banks.proofs.Steps.{none_out-absurd, acked-whole, acked-part, acked-whole-in_order, acked-part-in_order, acked-none_out, count_read}
+use Rattle.acl_banks.specs.Banks.{Bank, credits_of, is_completed, packet_out}
+use Rattle.acl_banks.proofs.Steps.{none_out-absurd, acked-whole, acked-part, acked-whole-in_order, acked-part-in_order, acked-counted, acked-none_out, count_read}
 use Rattle.acl_banks.proofs.tx_bank.TxBank.acked.Goals as goal
 
 pub unreachable-requires : goal.unreachable-requires
@@ -37,6 +37,14 @@ returns-then-is_all_sent-clause-bank g c =
     rw (← c.self.view_is, c.remove.ensures.rest, c.from.ensures)
     (acked-whole bank c.args.handle c.in-Some.place c.get.result.now at c.get.ensures c.index_mut.result.now all counted)
 
+pub returns-then-is_all_sent-clause-counted : goal.returns-then-is_all_sent-clause-counted
+returns-then-is_all_sent-clause-counted g c =
+    let old = c.args.self.now in
+    let handle = c.args.handle in
+    let all = ap (λ (bank : Bank). length bank.counts) (sym c.self.view_is) ∙ c.self.invariant.0 in
+    subst (λ (bank : Bank). credits_of bank handle ≡ (if is_completed (packet_out old handle) then credits_of old handle + 1 else credits_of old handle))
+    (sym (returns-then-is_all_sent-clause-bank g c)) (acked-counted old handle (omega (arith, all)))
+
 pub returns-then-is_all_sent-clause-none_out : goal.returns-then-is_all_sent-clause-none_out
 returns-then-is_all_sent-clause-none_out g c =
     let at = sym c.place_of_piece_out.ensures ∙ c.in-Some.is in
@@ -51,6 +59,14 @@ returns-else-is_all_sent-clause-bank g c =
     let part = sym c.is_all_sent.ensures ∙ c.if-is_all_sent.false in
     rw (← c.self.view_is, c.acknowledge.ensures)
     (acked-part bank c.args.handle c.in-Some.place c.get.result.now at c.get.ensures c.get_mut.result.now c.get_mut.ensures.value part)
+
+pub returns-else-is_all_sent-clause-counted : goal.returns-else-is_all_sent-clause-counted
+returns-else-is_all_sent-clause-counted g c =
+    let old = c.args.self.now in
+    let handle = c.args.handle in
+    let all = ap (λ (bank : Bank). length bank.counts) (sym c.self.view_is) ∙ c.self.invariant.0 in
+    subst (λ (bank : Bank). credits_of bank handle ≡ (if is_completed (packet_out old handle) then credits_of old handle + 1 else credits_of old handle))
+    (sym (returns-else-is_all_sent-clause-bank g c)) (acked-counted old handle (omega (arith, all)))
 
 pub returns-else-is_all_sent-clause-none_out : goal.returns-else-is_all_sent-clause-none_out
 returns-else-is_all_sent-clause-none_out g c =
