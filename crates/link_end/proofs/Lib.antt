@@ -1,2 +1,4 @@
 -- The lemmas of this crate.
+pub mod Banked
+pub mod Tying
 pub mod Keeping

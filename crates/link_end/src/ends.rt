@@ -1,25 +1,26 @@
 //! One end of a link.
-ghost use Rattle.std.specs.Prelude.{◌≡◌, ◌+◌, ◌<◌, ◌≤◌, ◌^◌, List, [], ◌∷◌, ◌++◌};
+ghost use Rattle.std.specs.Prelude.{◌≡◌, ◌+◌, ◌<◌, ◌≤◌, ◌^◌, List, [], ◌∷◌, ◌++◌, None, length, nat_lt};
 ghost use Rattle.std.specs.Option.{option_map};
 ghost use Rattle.arrayvec.specs.ArrayVec.{array_vec_len};
-ghost use Rattle.ack_bit.specs.AckBits.{header_of};
+ghost use Rattle.acl_banks.specs.Banks.{Bank, credits_of, packet_out};
 ghost use Rattle.adv_pdu.specs.Ranges.{IsInRange};
-ghost use Rattle.chan_select.specs.Channel.{channel_of};
-ghost use Rattle.data_pdu.specs.Header.{header_in};
 ghost use Rattle.instants.specs.Track.{next_anchor_of};
 ghost use Rattle.one_end.specs.Setup.{Setup};
-ghost use Rattle.one_end.specs.Step.{Step, EventEntered, PacketSent, PacketReceived};
-ghost use Rattle.one_end.specs.Packets.{good_pdu, packet_sent, verdict_of};
-ghost use Rattle.one_end.specs.Times.{due_of, span_of, wants_of};
-ghost use Rattle.one_end.specs.End.{entry_notes, facts_of, replies_of};
-ghost use Rattle.link_end.specs.Held.{held_entered, held_hearing, held_received};
+ghost use Rattle.one_end.specs.Step.{Step, EventEntered, PacketReceived, PacketSent, PduFixed};
+ghost use Rattle.one_end.specs.Packets.{packet_sent, verdict_of};
+ghost use Rattle.one_end.specs.Times.{due_of, has_second_exchange, span_of, wants_of};
+ghost use Rattle.one_end.specs.End.{facts_of, replies_of};
+ghost use Rattle.one_end.specs.Kept.{kept_of};
 ghost use Rattle.link_end.specs.Knowing.{Goes, Knows};
+ghost use Rattle.link_end.specs.Tied.{HoldsData, IsBefore, IsTied, LeavesOthers};
 
-use crate::packets::{packet, verdict};
-use crate::steps::{first_anchor, first_params, selector};
+use crate::packets::verdict;
+use crate::pdus::Pdu;
+use crate::steps::{continues, first_anchor, first_params, selector};
 use ack_bit::AckEnd;
+use acl_banks::{RxBank, TxBank};
 use arrayvec::ArrayVec;
-use ble_base::{AIR_PACKET_OCTETS, ErrCode, Outbox, Role, SlotNo, Verdict};
+use ble_base::{AIR_PACKET_OCTETS, ErrCode, Outbox, SlotNo, Verdict};
 use chan_select::Selector;
 use instants::{ParamTrack, Params};
 use one_end::{ConnectionEvent, LinkSetup, Reception};
@@ -27,9 +28,6 @@ use std::marker::Model;
 
 /// The slots for which an event holds the radio, with one exchange in each (our choice).
 const SPAN: u8 = 2;
-
-/// LLID of an empty PDU.
-const EMPTY: u8 = 1;
 
 /// What an end does with a packet that it received.
 #[derive(Clone, Copy, Debug, PartialEq, Eq, Default)]
@@ -48,14 +46,23 @@ pub struct LinkEnd {
     pub(crate) selector: Selector,
     pub(crate) event: ConnectionEvent,
     pub(crate) acknowledgement: AckEnd,
+    /// The PDU that was sent last is acknowledged.
+    pub(crate) is_acked: bool,
+    /// The PDU that was sent last, and the one that is sent next.
+    pub(crate) last: Pdu,
+    pub(crate) fixed: Pdu,
+    /// A further piece waited as that was fixed.
+    pub(crate) more: bool,
+    /// How many PDUs that are not empty were sent and taken.
+    pub(crate) sent: u64,
+    pub(crate) taken: u64,
     pub(crate) last_good: Option<Reception>,
 }
 
 impl Model for LinkEnd {
-    ghost use Rattle.std.specs.Prelude.{◌≡◌, ◌<◌, ◌^◌, IfSome};
-    ghost use Rattle.adv_pdu.specs.Ranges.{IsInRange};
+    ghost use Rattle.std.specs.Prelude.{◌≡◌, ◌+◌, ◌<◌, ◌≤◌, ◌^◌, IfSome, if◌then◌else◌};
     ghost use Rattle.one_end.specs.Setup.{algorithm_of};
-    ghost use Rattle.link_end.specs.Held.{Held};
+    ghost use Rattle.link_end.specs.Held.{Held, heard_slots};
 
     ghost Value = { Held };
 
@@ -64,12 +71,22 @@ impl Model for LinkEnd {
       parameters = e.parameters;
       event = e.event;
       bits = e.acknowledgement;
+      is_acked = e.is_acked;
+      last = record { llid = e.last.llid; body = e.last.body.items };
+      fixed = record { llid = e.fixed.llid; body = e.fixed.body.items };
+      more = e.more;
+      sent = e.sent;
+      taken = e.taken;
       last_good = e.last_good;
     } };
 
+    // A PDU is taken, and the next one can be sent, only with a good packet in a later slot.
     ghost invariant = { λ e. (e.opened < 2 ^ 32) × (e.setup.fields.crc_init < 2 ^ 24)
-        × (e.event.channel < 37) × (e.event.number < 2 ^ 32) × (e.selector ≡ algorithm_of e.setup)
-        × IfSome e.last_good (λ good. (good.slot < 2 ^ 32) × (good.event < 2 ^ 32)) };
+        × (e.setup.max_rx ≤ 251) × (e.event.channel < 37) × (e.event.number < 2 ^ 32)
+        × (e.selector ≡ algorithm_of e.setup)
+        × IfSome e.last_good (λ good. (good.slot < 2 ^ 32) × (good.event < 2 ^ 32))
+        × (e.last.llid < 4) × (e.fixed.llid < 4) × (e.taken ≤ heard_slots e.last_good)
+        × ((if e.is_acked then 1 else 0) + e.sent ≤ heard_slots e.last_good) };
 }
 
 impl LinkEnd {
@@ -79,7 +96,11 @@ impl LinkEnd {
         requires crc_init { setup.fields.crc_init < 2 ^ 24 }
         requires max_rx { (27 ≤ setup.max_rx) × (setup.max_rx ≤ 251) }
         requires slot { slot.0 < 2 ^ 32 }
-        ensures { Knows (record { link = setup; opened = slot.0 }) result [] }
+        ensures knows { Knows (record { link = setup; opened = slot.0 }) result [] }
+        ensures handle { result.setup ≡ record { link = setup; opened = slot.0 } }
+        ensures last_good { result.last_good ≡ None }
+        ensures tied { (bank : Bank) → packet_out bank setup.handle ≡ None
+            → IsTied result bank }
     {
         LinkEnd {
             setup,
@@ -91,6 +112,12 @@ impl LinkEnd {
             selector: selector(&setup),
             event: ConnectionEvent::default(),
             acknowledgement: AckEnd::new(),
+            is_acked: false,
+            last: Pdu::empty(),
+            fixed: Pdu::empty(),
+            more: false,
+            sent: 0,
+            taken: 0,
             last_good: None,
         }
     }
@@ -138,13 +165,13 @@ impl LinkEnd {
     }
 
     /// Whether the event entered last has a second exchange, in the slot after its anchor: a good
-    /// packet with an MD bit of 1 was received in the first one (Core 5.2, volume 6 part B, section
-    /// 4.5.6).
+    /// packet was received in the first one, and a packet of that has an MD bit of 1 (Core 5.2,
+    /// volume 6 part B, section 4.5.6).
     pub fn again(&self) -> bool
         ensures { (setup : Setup) (past : List Step) → Knows setup self.now past
-            → result ≡ (facts_of setup past).event.continues }
+            → result ≡ has_second_exchange (facts_of setup past) }
     {
-        self.event.continues
+        continues(self.event)
     }
 
     /// The reason for which the link ends at the start of a turn in this slot: nothing good was
@@ -158,13 +185,14 @@ impl LinkEnd {
     }
 
     /// Whether it wants the radio for the event entered last. A central wants it for each event, a
-    /// peripheral for each that its latency does not let it skip (Core 5.2, volume 6 part B,
-    /// section 4.5.1).
-    pub fn wants(&self) -> bool
+    /// peripheral for each that its latency does not let it skip: it skips none while it has a PDU
+    /// to send (Core 5.2, volume 6 part B, section 4.5.1).
+    pub fn wants<const T: usize>(&self, tx: &TxBank<T>) -> bool
         ensures { (setup : Setup) (past : List Step) → Knows setup self.now past
+            → HoldsData setup.link.handle tx.now (facts_of setup past).outgoing
             → result ≡ wants_of setup (facts_of setup past) }
     {
-        !self.skips()
+        !self.skips(tx)
     }
 
     /// Enters the next event, whose anchor is in this slot, and notes it.
@@ -175,19 +203,59 @@ impl LinkEnd {
         ensures goes { (setup : Setup) (past : List Step) → Knows setup self.old past
             → Goes setup self.new past (EventEntered slot.0) out.old.items out.new.items }
         ensures few { array_vec_len out.new ≤ array_vec_len out.old + 5 }
+        ensures handle { self.new.setup ≡ self.old.setup }
+        ensures last_good { self.new.last_good ≡ self.old.last_good }
+        ensures tied { (bank : Bank) → IsTied self.old bank → IsTied self.new bank }
     {
         self.enter_event(slot.0, out);
     }
 
-    /// The packet that it sends in this slot: octets in the order of the air, without preamble.
-    pub fn to_send(&mut self, slot: SlotNo) -> ArrayVec<u8, AIR_PACKET_OCTETS>
-        requires { slot.0 < 2 ^ 32 }
+    /// Fixes the PDU that is sent next where the last one is acknowledged: the next piece of at most
+    /// 27 octets, or an empty PDU; and whether a further piece waits after it.
+    pub fn ready<const T: usize>(&mut self, tx: &TxBank<T>)
+        requires tied { IsTied self.old tx.now }
         ensures knows { (setup : Setup) (past : List Step) → Knows setup self.old past
-            → Knows setup self.new (past ++ PacketSent slot.0 ∷ []) }
+            → HoldsData setup.link.handle tx.now (facts_of setup past).outgoing
+            → Knows setup self.new (past ++ PduFixed ∷ []) }
+        ensures holds { (setup : Setup) (past : List Step)
+            → HoldsData setup.link.handle tx.now (facts_of setup past).outgoing
+            → HoldsData setup.link.handle tx.now (facts_of setup (past ++ PduFixed ∷ [])).outgoing }
+        ensures tied { IsTied self.new tx.now }
+        ensures handle { self.new.setup ≡ self.old.setup }
+        ensures last_good { self.new.last_good ≡ self.old.last_good }
+    {
+        self.fix(tx);
+    }
+
+    /// The packet that it sends in this slot: octets in the order of the air, without preamble. It
+    /// carries the last PDU again until that is acknowledged, and then the fixed one, which is
+    /// noted where it is not empty. A piece in that is out in the bank.
+    pub fn to_send<const T: usize>(
+        &mut self,
+        slot: SlotNo,
+        tx: &mut TxBank<T>,
+        out: &mut Outbox,
+    ) -> ArrayVec<u8, AIR_PACKET_OCTETS>
+        requires tied { IsTied self.old tx.old }
+        requires slot { slot.0 < 2 ^ 32 }
+        requires room { array_vec_len out.old ≤ 59 }
+        ensures goes { (setup : Setup) (past : List Step) → Knows setup self.old past
+            → Goes setup self.new past (PacketSent slot.0) out.old.items out.new.items }
+        ensures few { array_vec_len out.new ≤ array_vec_len out.old + 5 }
         ensures packet { (setup : Setup) (past : List Step) → Knows setup self.old past
             → result.items ≡ packet_sent setup (facts_of setup past) }
+        ensures holds { (setup : Setup) (past : List Step) → Knows setup self.old past
+            → HoldsData setup.link.handle tx.old (facts_of setup past).outgoing
+            → HoldsData setup.link.handle tx.new
+            (facts_of setup (past ++ PacketSent slot.0 ∷ [])).outgoing }
+        ensures tied { IsTied self.new tx.new }
+        ensures others { LeavesOthers self.old.setup.link.handle tx.old tx.new }
+        ensures handle { self.new.setup ≡ self.old.setup }
+        ensures last_good { self.new.last_good ≡ self.old.last_good }
     {
-        packet(self.place(), self.acknowledgement.header(EMPTY, false, 0))
+        let packet = self.next_packet();
+        self.send(slot.0, tx, out);
+        packet
     }
 
     /// What it makes of octets on its channel. They are in the order of the air, without preamble.
@@ -198,17 +266,44 @@ impl LinkEnd {
         verdict(self.place(), self.setup.max_rx, octets)
     }
 
-    /// Takes octets on its channel in this slot. Only a good packet changes anything.
-    pub fn heard(&mut self, octets: &[u8], slot: SlotNo) -> LinkStep
-        requires { slot.0 < 2 ^ 32 }
-        ensures knows { (setup : Setup) (past : List Step) → Knows setup self.old past
-            → Knows setup self.new (past ++ PacketReceived slot.0 octets.now ∷ []) }
+    /// Takes octets on its channel in this slot. Only a good packet changes anything: first what it
+    /// acknowledges, and then its PDU. New data is kept for the host where there is room; without
+    /// room it is not accepted. A new PDU that is not empty is noted as it is accepted.
+    pub fn heard<const T: usize, const R: usize>(
+        &mut self,
+        octets: &[u8],
+        slot: SlotNo,
+        tx: &mut TxBank<T>,
+        rx: &mut RxBank<R>,
+        out: &mut Outbox,
+    ) -> LinkStep
+        requires tied { IsTied self.old tx.old }
+        requires counts { credits_of tx.old self.old.setup.link.handle < 65535 }
+        requires before { IsBefore self.old slot.0 }
+        requires slot { slot.0 < 2 ^ 32 }
+        requires room { array_vec_len out.old ≤ 59 }
+        ensures goes { (setup : Setup) (past : List Step) → Knows setup self.old past
+            → Goes setup self.new past
+            (PacketReceived slot.0 octets.now (nat_lt (length rx.old) R))
+            out.old.items out.new.items }
+        ensures few { array_vec_len out.new ≤ array_vec_len out.old + 5 }
         ensures reply { (setup : Setup) (past : List Step) → Knows setup self.old past
             → result.reply ≡ replies_of setup (facts_of setup past) octets.now }
+        ensures kept { (setup : Setup) (past : List Step) → Knows setup self.old past
+            → rx.new ≡ rx.old
+            ++ kept_of setup (facts_of setup past) octets.now (nat_lt (length rx.old) R) }
+        ensures holds { (setup : Setup) (past : List Step) → Knows setup self.old past
+            → HoldsData setup.link.handle tx.old (facts_of setup past).outgoing
+            → HoldsData setup.link.handle tx.new (facts_of setup
+            (past ++ PacketReceived slot.0 octets.now (nat_lt (length rx.old) R) ∷ [])).outgoing }
+        ensures tied { IsTied self.new tx.new }
+        ensures others { LeavesOthers self.old.setup.link.handle tx.old tx.new }
+        ensures handle { self.new.setup ≡ self.old.setup }
+        ensures last_good { IsBefore self.new (slot.0 + 1) }
     {
-        let header = self.good_header(octets);
-        let reply = self.replies(header);
-        self.hear(header, slot.0);
+        let got = self.good(octets);
+        let reply = self.replies(&got);
+        self.hear(got, slot.0, tx, rx, out);
         LinkStep { reply }
     }
 }

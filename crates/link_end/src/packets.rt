@@ -1,15 +1,18 @@
 //! What an end of a link makes of octets on its channel, and the packet that it sends.
-ghost use Rattle.std.specs.Prelude.{◌≡◌, ◌<◌, ◌≤◌, ◌^◌, length};
+ghost use Rattle.std.specs.Prelude.{◌≡◌, ◌<◌, ◌≤◌, ◌^◌, ◌++◌, length};
 ghost use Rattle.std.specs.Option.{option_map};
 ghost use Rattle.air_frame.specs.Packet.{on_air};
 ghost use Rattle.air_frame.specs.Hearing.{heard_in};
-ghost use Rattle.data_pdu.specs.Header.{header_in, octets_of};
+ghost use Rattle.data_pdu.specs.Header.{octets_of};
 ghost use Rattle.one_end.specs.Packets.{good_in, verdict_by};
+ghost use Rattle.link_end.specs.Held.{got_of};
 
+use crate::pdus::Got;
 use air_frame::{Heard, build, unframe};
 use arrayvec::ArrayVec;
 use ble_base::{AIR_PACKET_OCTETS, Verdict};
-use data_pdu::{DataHeader, read_header, write_header};
+use data_pdu::{DataHeader, write_header};
+use wire_fields::put_octets;
 
 /// Where an end sends and listens: the channel, the access address of the link, and where its CRC
 /// begins.
@@ -23,20 +26,27 @@ pub(crate) struct Place {
 /// The octets of a header before its payload.
 const HEADER_OCTETS: usize = 2;
 
-/// The packet of an empty PDU with this header.
-pub(crate) fn packet(place: Place, header: DataHeader) -> ArrayVec<u8, AIR_PACKET_OCTETS>
+/// The most octets of a PDU that is sent.
+const PDU_OCTETS: usize = 253;
+
+/// The packet of the PDU with this header and this payload.
+pub(crate) fn packet(
+    place: Place,
+    header: DataHeader,
+    body: &[u8],
+) -> ArrayVec<u8, AIR_PACKET_OCTETS>
     requires channel { place.channel < 40 }
     requires init { place.crc_init < 2 ^ 24 }
     requires llid { header.llid < 4 }
-    requires empty { header.length ≡ 0 }
-    ensures { result.items ≡ on_air place.channel place.access place.crc_init (octets_of header) }
+    requires count { header.length ≡ length body.now }
+    requires fits { length body.now ≤ 251 }
+    ensures { result.items
+        ≡ on_air place.channel place.access place.crc_init (octets_of header ++ body.now) }
 {
-    build(
-        place.channel,
-        place.access,
-        place.crc_init,
-        &write_header(header),
-    )
+    let mut pdu: ArrayVec<u8, PDU_OCTETS> = ArrayVec::new();
+    put_octets(&mut pdu, &write_header(header));
+    put_octets(&mut pdu, body);
+    build(place.channel, place.access, place.crc_init, pdu.as_slice())
 }
 
 /// The verdict on octets at this place, of an end that receives payloads of at most `max_rx`
@@ -54,25 +64,18 @@ pub(crate) fn verdict(place: Place, max_rx: u16, octets: &[u8]) -> Verdict
     }
 }
 
-/// The header of the PDU of a good packet.
-pub(crate) fn good_header(place: Place, max_rx: u16, octets: &[u8]) -> Option<DataHeader>
+/// The PDU of a good packet.
+pub(crate) fn good(place: Place, max_rx: u16, octets: &[u8]) -> Option<Got>
     requires channel { place.channel < 40 }
     requires init { place.crc_init < 2 ^ 24 }
-    ensures { result ≡ option_map header_in
+    requires max_rx { max_rx ≤ 251 }
+    ensures { result ≡ option_map got_of
         (good_in max_rx (heard_in place.channel place.access place.crc_init octets.now)) }
 {
     match unframe(place.channel, place.access, place.crc_init, octets) {
         Heard::Whole(pdu) if pdu.len() <= HEADER_OCTETS + usize::from(max_rx) => {
-            Some(header(pdu.as_slice()))
+            Some(Got::new(pdu.as_slice()))
         }
         _ => None,
     }
-}
-
-/// The header at the beginning of a PDU.
-fn header(pdu: &[u8]) -> DataHeader
-    requires { 2 ≤ length pdu.now }
-    ensures { result ≡ header_in pdu.now }
-{
-    read_header([pdu[0], pdu[1]])
 }

@@ -1,26 +1,26 @@
 //! What one end of a link does, on what it holds.
-ghost use Rattle.std.specs.Prelude.{◌≡◌, ◌+◌, ◌<◌, ◌≤◌, ◌^◌, [], ◌∷◌, ◌++◌, IfSome};
+ghost use Rattle.std.specs.Prelude.{◌≡◌, ◌+◌, ◌<◌, ◌≤◌, ◌^◌, ◌==◌, ◌&&◌, ◌||◌, [], ◌∷◌, ◌++◌};
+ghost use Rattle.std.specs.Prelude.{IfSome, length};
 ghost use Rattle.std.specs.Option.{option_map};
 ghost use Rattle.arrayvec.specs.ArrayVec.{array_vec_len};
-ghost use Rattle.air_frame.specs.Hearing.{heard_in};
+ghost use Rattle.acl_banks.specs.Banks.{unsent_of};
 ghost use Rattle.chan_select.specs.Channel.{channel_of};
-ghost use Rattle.data_pdu.specs.Header.{header_in};
 ghost use Rattle.instants.specs.Track.{event_of, is_free, next_anchor_of, next_number};
 ghost use Rattle.instants.specs.Track.{track_after_enter};
-ghost use Rattle.one_end.specs.Packets.{good_in};
+ghost use Rattle.one_end.specs.Data.{is_empty};
 ghost use Rattle.one_end.specs.Setup.{algorithm_of, first_anchor, first_params};
 ghost use Rattle.one_end.specs.Times.{has_failed, has_timed_out, is_recent, reason_due, skips_by};
-ghost use Rattle.one_end.specs.End.{applied_notes, event_continued};
+ghost use Rattle.one_end.specs.End.{applied_notes};
 ghost use Rattle.one_end.specs.declared.setup.LinkSetup.{LinkSetup};
 ghost use Rattle.adv_pdu.specs.Ranges.{IsInRange};
 ghost use Rattle.ble_base.specs.declared.notes.Note.TheVariants.{Enter};
-ghost use Rattle.link_end.specs.Held.{held_entered, held_hearing, held_received, replies_to};
+ghost use Rattle.link_end.specs.Held.{held_entered};
 
 use crate::ends::LinkEnd;
-use crate::packets::{Place, good_header};
+use crate::packets::Place;
+use acl_banks::TxBank;
 use ble_base::{ChannelMap, ErrCode, EventNo, Note, Outbox, Role, SlotNo};
 use chan_select::Selector;
-use data_pdu::DataHeader;
 use instants::Params;
 use one_end::{ConnectionEvent, LinkSetup, Reception};
 
@@ -33,6 +33,9 @@ const FAILED_INTERVALS: u64 = 6;
 
 /// The slots in 10 ms, which is the unit of the supervision timeout.
 const TIMEOUT_SLOTS: u64 = 8;
+
+/// The most octets of a payload that is sent (Core 5.2, volume 6 part B, section 4.5.10).
+pub(crate) const MOST_OCTETS: u16 = 27;
 
 /// The first parameters of a link.
 pub(crate) fn first_params(setup: &LinkSetup) -> Params
@@ -99,6 +102,13 @@ fn is_recent(last_good: Option<Reception>, event: u64, latency: u16) -> bool
     }
 }
 
+/// Whether an event has a second exchange.
+pub(crate) fn continues(event: ConnectionEvent) -> bool
+    ensures { result ≡ (event.heard && event.more) }
+{
+    event.heard && event.more
+}
+
 impl LinkEnd {
     /// Where it sends and listens in the event entered last.
     pub(crate) fn place(&self) -> Place
@@ -123,16 +133,27 @@ impl LinkEnd {
         reason(self.opened, self.parameters.params(), self.last_good, slot)
     }
 
+    /// Whether it has nothing to send: the PDU that it sent last is acknowledged or empty, and no
+    /// data waits in the bank.
+    fn is_idle<const T: usize>(&self, tx: &TxBank<T>) -> bool
+        ensures { result ≡ ((self.now.is_acked || is_empty self.now.last)
+            && length (unsent_of tx.now self.now.setup.link.handle) == 0) }
+    {
+        (self.is_acked || self.last.is_empty()) && nothing_waits(self.setup.handle, tx)
+    }
+
     /// Whether it skips the event entered last.
-    pub(crate) fn skips(&self) -> bool
+    pub(crate) fn skips<const T: usize>(&self, tx: &TxBank<T>) -> bool
         ensures { result ≡ skips_by self.now.setup.link.role self.now.event self.now.last_good
-            (is_free self.now.parameters) }
+            (((self.now.is_acked || is_empty self.now.last)
+            && length (unsent_of tx.now self.now.setup.link.handle) == 0)
+            && is_free self.now.parameters) }
     {
         match self.setup.role {
             Role::Central => false,
             Role::Peripheral => {
                 is_recent(self.last_good, self.event.number, self.event.latency)
-                    && self.parameters.free()
+                    && (self.is_idle(tx) && self.parameters.free())
             }
         }
     }
@@ -151,7 +172,8 @@ impl LinkEnd {
             slot,
             channel: self.selector.channel(event, &self.parameters.params().map),
             latency,
-            continues: false,
+            heard: false,
+            more: false,
         };
         applied
     }
@@ -178,59 +200,13 @@ impl LinkEnd {
             channel: self.event.channel,
         });
     }
-
-    /// The header of the PDU of a good packet.
-    pub(crate) fn good_header(&self, octets: &[u8]) -> Option<DataHeader>
-        ensures { result ≡ option_map header_in (good_in self.now.setup.link.max_rx
-            (heard_in self.now.event.channel self.now.setup.link.fields.access
-            self.now.setup.link.fields.crc_init octets.now)) }
-    {
-        good_header(self.place(), self.setup.max_rx, octets)
-    }
-
-    /// Receives a packet in this slot: the header of its PDU, if it is good.
-    pub(crate) fn hear(&mut self, header: Option<DataHeader>, slot: u64)
-        requires { slot < 2 ^ 32 }
-        ensures { self.new ≡ held_hearing slot header self.old }
-    {
-        if let Some(header) = header {
-            self.receive(header, slot);
-        }
-    }
-
-    /// Receives a good packet in this slot, with this header.
-    fn receive(&mut self, header: DataHeader, slot: u64)
-        requires { slot < 2 ^ 32 }
-        ensures { self.new ≡ held_received slot header self.old }
-    {
-        self.event = continued(self.event, slot, header.md);
-        self.acknowledgement.receive(header, true);
-        self.last_good = Some(Reception {
-            slot,
-            event: self.event.number,
-        });
-    }
-
-    /// Whether it answers what it received: a peripheral answers each good packet.
-    pub(crate) fn replies(&self, header: Option<DataHeader>) -> bool
-        ensures { result ≡ replies_to self.now.setup.link.role header }
-    {
-        match self.setup.role {
-            Role::Central => false,
-            Role::Peripheral => header.is_some(),
-        }
-    }
 }
 
-/// An event after a good packet with this MD bit was received in a slot. The first exchange of an
-/// event is in the slot of its anchor.
-fn continued(event: ConnectionEvent, slot: u64, more: bool) -> ConnectionEvent
-    ensures { result ≡ event_continued slot more event }
+/// Whether no octet of the link waits to be sent.
+fn nothing_waits<const T: usize>(handle: u16, tx: &TxBank<T>) -> bool
+    ensures { result ≡ (length (unsent_of tx.now handle) == 0) }
 {
-    ConnectionEvent {
-        continues: event.continues || (slot == event.slot && more),
-        ..event
-    }
+    tx.peek(handle, MOST_OCTETS).is_none()
 }
 
 /// Notes the indication that is in force from an event on.

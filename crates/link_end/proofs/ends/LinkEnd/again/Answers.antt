@@ -1,8 +1,9 @@
 -- Proof of `ends::LinkEnd::again`.
-use Rattle.std.proofs.Common.{◌≡◌, refl, ap, sym, ◌∙◌}
+use Rattle.std.proofs.Common.{◌&&◌, ap, ◌∙◌}
 use Rattle.link_end.specs.Held.{Held}
 use Rattle.link_end.proofs.Keeping.{held_is}
 use Rattle.link_end.proofs.ends.LinkEnd.again.Goals as goal
 
 pub returns : goal.returns
-returns c = λ setup past knows. ap (λ (h : Held). h.event.continues) (c.self.view_is ∙ held_is setup c.args.self.now past knows)
+returns c = λ setup past knows.
+    c.continues.ensures ∙ ap (λ (h : Held). h.event.heard && h.event.more) (c.self.view_is ∙ held_is setup c.args.self.now past knows)

@@ -1,5 +1,5 @@
 -- Proof of `ends::LinkEnd::channel`.
-use Rattle.std.proofs.Common.{◌≡◌, refl, ap, sym, ◌∙◌}
+use Rattle.std.proofs.Common.{ap, ◌∙◌}
 use Rattle.link_end.specs.Held.{Held}
 use Rattle.link_end.proofs.Keeping.{held_is}
 use Rattle.link_end.proofs.ends.LinkEnd.channel.Goals as goal

@@ -1,5 +1,5 @@
 -- Proof of `ends::LinkEnd::due`.
-use Rattle.std.proofs.Common.{◌≡◌, refl, ap, sym, ◌∙◌}
+use Rattle.std.proofs.Common.{ap, ◌∙◌}
 use Rattle.one_end.specs.Times.{reason_due}
 use Rattle.link_end.specs.Held.{Held}
 use Rattle.link_end.proofs.Keeping.{held_is}

@@ -1,5 +1,5 @@
 -- Proof of `ends::LinkEnd::next_anchor`.
-use Rattle.std.proofs.Common.{◌≡◌, refl, ap, sym, ◌∙◌}
+use Rattle.std.proofs.Common.{ap, ◌∙◌}
 use Rattle.instants.specs.Track.{next_anchor_of}
 use Rattle.link_end.specs.Held.{Held}
 use Rattle.link_end.proofs.Keeping.{held_is}

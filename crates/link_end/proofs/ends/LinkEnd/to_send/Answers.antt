@@ -1,20 +1,20 @@
 -- Proof of `ends::LinkEnd::to_send`.
-use Rattle.std.proofs.Common.{false, ap, ◌∙◌}
-use Rattle.ack_bit.specs.AckBits.{header_of}
-use Rattle.air_frame.specs.Packet.{on_air}
-use Rattle.data_pdu.specs.declared.header.DataHeader.{DataHeader}
-use Rattle.data_pdu.specs.Header.{octets_of}
-use Rattle.link_end.specs.Held.{Held}
-use Rattle.link_end.proofs.Keeping.{packed, sent}
+use Rattle.link_end.proofs.Banked.{sent_leaves}
+use Rattle.link_end.proofs.Keeping.{packed, sent, sent_holds}
+use Rattle.link_end.proofs.Tying.{sent_tied}
 use Rattle.link_end.proofs.ends.LinkEnd.to_send.Goals as goal
 
-pub returns-clause-knows : goal.returns-clause-knows
-returns-clause-knows c = λ setup past knows. sent setup c.args.self.now past c.args.slot.0 knows
+pub returns-clause-goes : goal.returns-clause-goes
+returns-clause-goes g c = λ setup past knows. sent setup _ _ past c.args.slot.0 _ _ c.send.ensures.held c.send.ensures.notes knows
 
 pub returns-clause-packet : goal.returns-clause-packet
-returns-clause-packet c = λ setup past knows.
-    let header = c.header.ensures ∙ ap (λ (h : Held). header_of h.bits 1 false 0) c.self.view_is in
-    packed setup c.args.self.now past c.packet.result.items
-    (c.packet.ensures
-    ∙ (λ i. on_air (c.place.ensures.channel i) (c.place.ensures.access i) (c.place.ensures.crc_init i) (octets_of (header i))))
-    knows
+returns-clause-packet g c = λ setup past knows. packed setup c.args.self.now past _ c.next_packet-packet.ensures knows
+
+pub returns-clause-holds : goal.returns-clause-holds
+returns-clause-holds g c = λ setup past knows holds. sent_holds setup c.args.self.now past c.args.slot.0 c.args.tx.now _ c.send.ensures.bank knows holds
+
+pub returns-clause-tied : goal.returns-clause-tied
+returns-clause-tied g c = sent_tied c.args.slot.0 _ _ c.args.tx.now _ c.send.ensures.held c.send.ensures.bank c.requires.tied
+
+pub returns-clause-others : goal.returns-clause-others
+returns-clause-others g c = sent_leaves _ _ c.args.tx.now _ c.send.ensures.bank

@@ -1,0 +1,140 @@
+-- The calls on an end keep it tied to the bank.
+use Rattle.std.proofs.Common.{◌≡◌, ◌≢◌, ℕ, ◌<◌, ◌≤◌, IfSome, arith, Bool, true, false, not, ◌&&◌, ◌||◌, is_some, List, [], ◌∷◌, Option, Some, None, refl, ap, sym, ◌∙◌, subst, if◌then◌else◌}
+use Rattle.std.specs.List.{find}
+use Rattle.std.specs.Option.{option_map, option_or}
+use Rattle.std.proofs.lemmas.List.Folds.{find-append}
+use Rattle.ack_bit.specs.AckBits.{acknowledges}
+use Rattle.acl_banks.specs.Banks.{Bank, bank_after_credited, bank_after_offer, next_piece, packet_out}
+use Rattle.acl_banks.specs.Packets.{DataPacket, has_unsent, new_packet, piece_of}
+use Rattle.acl_banks.proofs.AllLinks.{out-offer, own-left, own-out}
+use Rattle.acl_banks.proofs.Order.{is_left, is_out}
+use Rattle.one_end.specs.declared.events.Reception.{Reception}
+use Rattle.one_end.specs.declared.setup.LinkSetup.{LinkSetup}
+use Rattle.one_end.specs.Acknowledgement.{Pdu, empty_pdu}
+use Rattle.one_end.specs.Data.{is_data, pdu_with}
+use Rattle.link_end.specs.declared.pdus.Got.{Got}
+use Rattle.link_end.specs.Held.{Held, acks_piece, carries_next, held_hearing, held_sent}
+use Rattle.link_end.specs.Tied.{IsAfterAck, IsBefore, IsTied, LeavesOthers, bank_went_if}
+use Rattle.link_end.proofs.Banked.{next_after_acked, next_is_some, went_is_out}
+
+-- ---- it sends
+
+out_sent : (handle : ℕ) (bank : Bank) (is_acked carries waits : Bool) (fixed last : Pdu) → is_data fixed ≡ carries → is_data last ≡ waits
+    → (carries ≡ true → is_some (next_piece bank handle 27) ≡ true)
+    → is_some (packet_out bank handle) ≡ (not is_acked && waits)
+    → is_some (packet_out (bank_went_if (is_acked && carries) bank handle) handle) ≡ is_data (if is_acked then fixed else last)
+out_sent handle bank true true waits fixed last is_fixed is_last next out = went_is_out bank handle (next refl) ∙ sym is_fixed
+out_sent handle bank true false waits fixed last is_fixed is_last next out = out ∙ sym is_fixed
+out_sent handle bank false carries waits fixed last is_fixed is_last next out = out ∙ sym is_last
+
+next_sent : (handle : ℕ) (bank : Bank) (is_acked carries : Bool) (fixed : Pdu)
+    → (is_data fixed ≡ true → pdu_with (next_piece bank handle 27) ≡ fixed)
+    → is_data (if is_acked then empty_pdu else fixed) ≡ true
+    → pdu_with (next_piece (bank_went_if (is_acked && carries) bank handle) handle 27) ≡ (if is_acked then empty_pdu else fixed)
+next_sent handle bank true carries fixed next holds = absurd cc
+next_sent handle bank false carries fixed next holds = next holds
+
+tied_sent : (slot : ℕ) (held : Held) (bank : Bank) → IsTied held bank
+    → IsTied (held_sent slot held) (bank_went_if (carries_next held) bank held.setup.link.handle)
+tied_sent slot held bank tied =
+    let handle = held.setup.link.handle in
+    record {
+      out = out_sent handle bank held.is_acked (is_data held.fixed) (is_data held.last) held.fixed held.last refl refl
+          (λ carries. next_is_some bank handle held.fixed carries (tied.next carries)) tied.out;
+      next = next_sent handle bank held.is_acked (is_data held.fixed) held.fixed tied.next;
+    }
+
+pub sent_tied : (slot : ℕ) (held new : Held) (before after : Bank) → new ≡ held_sent slot held
+    → after ≡ bank_went_if (carries_next held) before held.setup.link.handle → IsTied held before → IsTied new after
+sent_tied slot held new before after is bank tied =
+    subst (λ (h : Held). IsTied h after) (sym is)
+    (subst (IsTied (held_sent slot held)) (sym bank) (tied_sent slot held before tied))
+
+-- ---- it receives
+
+out_heard : (handle : ℕ) (before after : Bank) (says is_acked waits : Bool)
+    → IsAfterAck ((not is_acked && says) && waits) handle before after
+    → is_some (packet_out before handle) ≡ (not is_acked && waits)
+    → is_some (packet_out after handle) ≡ (not ((not is_acked && says) || is_acked) && waits)
+out_heard handle before after says true waits ack out = ap (λ (b : Bank). is_some (packet_out b handle)) ack.bank ∙ out
+out_heard handle before after false false waits ack out = ap (λ (b : Bank). is_some (packet_out b handle)) ack.bank ∙ out
+out_heard handle before after true false true ack out = ap is_some (ack.none_out refl)
+out_heard handle before after true false false ack out = ap (λ (b : Bank). is_some (packet_out b handle)) ack.bank ∙ out
+
+next_kept : (handle : ℕ) (before after : Bank) (acked : Bool) → IsAfterAck acked handle before after
+    → next_piece after handle 27 ≡ next_piece before handle 27
+next_kept handle before after true ack = ap (λ (b : Bank). next_piece b handle 27) ack.bank ∙ next_after_acked before handle 27
+next_kept handle before after false ack = ap (λ (b : Bank). next_piece b handle 27) ack.bank
+
+tied_heard : (slot : ℕ) (room : Bool) (got : Option Got) (held : Held) (before after : Bank) → IsTied held before
+    → IsAfterAck (acks_piece got held) held.setup.link.handle before after → IsTied (held_hearing slot room got held) after
+tied_heard slot room None held before after tied ack = subst (IsTied held) (sym ack.bank) tied
+tied_heard slot room (Some got) held before after tied ack =
+    let handle = held.setup.link.handle in
+    record {
+      out = out_heard handle before after (acknowledges held.bits got.header) held.is_acked (is_data held.last) ack tied.out;
+      next = λ holds. ap pdu_with (next_kept handle before after (acks_piece (Some got) held) ack) ∙ tied.next holds;
+    }
+
+pub heard_tied : (slot : ℕ) (room : Bool) (got : Option Got) (held new : Held) (before after : Bank) → new ≡ held_hearing slot room got held
+    → IsAfterAck (acks_piece got held) held.setup.link.handle before after → IsTied held before → IsTied new after
+heard_tied slot room got held new before after is ack tied =
+    subst (λ (h : Held). IsTied h after) (sym is) (tied_heard slot room got held before after tied ack)
+
+-- ---- what is done beside it
+
+-- a new end has nothing out and nothing fixed
+pub new_tied : (link : LinkSetup) (held : Held) (bank : Bank) → held.setup.link ≡ link → held.last ≡ empty_pdu → held.fixed ≡ empty_pdu
+    → packet_out bank link.handle ≡ None → IsTied held bank
+new_tied link held bank here last fixed none =
+    let is_none : is_some (packet_out bank held.setup.link.handle) ≡ false =
+    ap (λ (l : LinkSetup). is_some (packet_out bank l.handle)) here ∙ ap is_some none in
+    let no_last : is_data held.last ≡ false = ap is_data last in
+    let no_fixed : is_data held.fixed ≡ false = ap is_data fixed in
+    record {
+      out = is_none ∙ sym (nothing (not held.is_acked) (is_data held.last) no_last);
+      next = λ holds. absurd cc;
+    }
+  where
+    nothing : (b d : Bool) → d ≡ false → (b && d) ≡ false
+    nothing true d is = is
+    nothing false d is = refl
+
+pub others_tied : (held : Held) (handle : ℕ) (before after : Bank) → LeavesOthers handle before after
+    → held.setup.link.handle ≢ handle → IsTied held before → IsTied held after
+others_tied held handle before after leaves differs tied =
+    let own = held.setup.link.handle in
+    let same = (leaves own differs).0 in
+    let out_is : packet_out after own ≡ packet_out before own =
+    own-out after.packets own ∙ ap (find is_out) same ∙ sym (own-out before.packets own) in
+    let next_is : next_piece after own 27 ≡ next_piece before own 27 =
+    ap (option_map (piece_of 27)) (own-left after.packets own ∙ ap (find is_left) same ∙ sym (own-left before.packets own)) in
+    record { out = ap is_some out_is ∙ tied.out; next = λ holds. ap pdu_with next_is ∙ tied.next holds }
+
+stays_next : (found last : Option DataPacket) (fixed : Pdu) → is_data fixed ≡ true → pdu_with (option_map (piece_of 27) found) ≡ fixed
+    → pdu_with (option_map (piece_of 27) (option_or found last)) ≡ fixed
+stays_next None last fixed holds is = let no : is_data fixed ≡ false = ap is_data (sym is) in absurd cc
+stays_next (Some packet) last fixed holds is = is
+
+pub offer_tied : (held : Held) (bank : Bank) (handle : ℕ) (start : Bool) (body : List ℕ) → IsTied held bank
+    → IsTied held (bank_after_offer bank (new_packet handle start body))
+offer_tied held bank handle start body tied =
+    let own = held.setup.link.handle in
+    let packet = new_packet handle start body in
+    record {
+      out = ap is_some (out-offer bank.packets handle start body own) ∙ tied.out;
+      next = λ holds.
+          ap (λ found. pdu_with (option_map (piece_of 27) found)) (find-append (has_unsent own) bank.packets (packet ∷ []))
+          ∙ stays_next (find (has_unsent own) bank.packets) (find (has_unsent own) (packet ∷ [])) held.fixed holds (tied.next holds);
+    }
+
+pub credited_tied : (held : Held) (bank : Bank) (handle : ℕ) → IsTied held bank → IsTied held (bank_after_credited bank handle)
+credited_tied held bank handle tied = record { out = tied.out; next = tied.next }
+
+-- a later slot is after the last good packet too
+pub before_later : (held : Held) (slot later : ℕ) → slot ≤ later → IsBefore held slot → IsBefore held later
+before_later held slot later order before = by_last held.last_good before
+  where
+    by_last : (last : Option Reception) → IfSome last (λ good. good.slot < slot) → IfSome last (λ good. good.slot < later)
+    by_last None before = tt
+    by_last (Some good) before = omega (arith, order, before)

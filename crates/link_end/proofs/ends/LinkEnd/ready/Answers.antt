@@ -1,0 +1,9 @@
+-- Proof of `ends::LinkEnd::ready`.
+use Rattle.link_end.proofs.Keeping.{fixed, fixed_holds}
+use Rattle.link_end.proofs.ends.LinkEnd.ready.Goals as goal
+
+pub returns-clause-knows : goal.returns-clause-knows
+returns-clause-knows g c = λ setup past knows holds. fixed setup _ _ past c.args.tx.now c.fix.ensures knows holds
+
+pub returns-clause-holds : goal.returns-clause-holds
+returns-clause-holds g c = λ setup past holds. fixed_holds setup past c.args.tx.now holds

@@ -1,0 +1,176 @@
+//! What an end sends: the PDU that it fixes, its packet, and the notes of new PDUs.
+ghost use Rattle.std.specs.Prelude.{◌≡◌, ◌+◌, ◌<◌, ◌≤◌, ◌^◌, ◌++◌, true, not, IsSome, Some, None};
+ghost use Rattle.std.specs.Prelude.{length, nat_lt};
+ghost use Rattle.arrayvec.specs.ArrayVec.{array_vec_len};
+ghost use Rattle.ack_bit.specs.AckBits.{header_of};
+ghost use Rattle.acl_banks.specs.Banks.{next_length, next_piece, packet_out, unsent_of};
+ghost use Rattle.air_frame.specs.Packet.{on_air};
+ghost use Rattle.data_pdu.specs.Header.{octets_of};
+ghost use Rattle.one_end.specs.Data.{is_data, is_empty};
+ghost use Rattle.one_end.specs.End.{event_sent};
+ghost use Rattle.link_end.specs.Held.{carries_next, count_if, held_fixed, held_gone, held_sent};
+ghost use Rattle.link_end.specs.Held.{more_out, numbers_next, pdu_out, sent_note_if};
+ghost use Rattle.link_end.specs.Pdus.{pdu_value};
+ghost use Rattle.link_end.specs.Tied.{IsTied, bank_went_if};
+
+use crate::ends::LinkEnd;
+use crate::packets::packet;
+use crate::pdus::Pdu;
+use crate::steps::MOST_OCTETS;
+use acl_banks::TxBank;
+use arrayvec::ArrayVec;
+use ble_base::{AIR_PACKET_OCTETS, Note, Outbox};
+use one_end::ConnectionEvent;
+use std::mem;
+use wire_fields::put_octets;
+
+impl LinkEnd {
+    /// Fixes the PDU that it sends next, and whether a further piece waits after it.
+    pub(crate) fn fix<const T: usize>(&mut self, tx: &TxBank<T>)
+        ensures { self.new ≡ held_fixed (next_piece tx.now self.old.setup.link.handle 27)
+            (nat_lt (next_length tx.now self.old.setup.link.handle 27)
+            (length (unsent_of tx.now self.old.setup.link.handle))) self.old }
+    {
+        self.more = tx.waits(self.setup.handle, MOST_OCTETS);
+        self.fixed = Pdu::with(tx.peek(self.setup.handle, MOST_OCTETS));
+    }
+
+    /// Whether its packet says that more waits.
+    fn more_out(&self) -> bool
+        ensures { result ≡ more_out self.now }
+    {
+        if self.is_acked {
+            self.more
+        } else {
+            !self.fixed.is_empty()
+        }
+    }
+
+    /// The packet of a PDU.
+    fn packet_of(&self, pdu: &Pdu) -> ArrayVec<u8, AIR_PACKET_OCTETS>
+        requires { pdu.now.llid < 4 }
+        ensures { result.items ≡ on_air self.now.event.channel self.now.setup.link.fields.access
+            self.now.setup.link.fields.crc_init
+            (octets_of (header_of self.now.bits (pdu_value pdu.now).llid (more_out self.now)
+            (length (pdu_value pdu.now).body)) ++ (pdu_value pdu.now).body) }
+    {
+        let header = self
+            .acknowledgement
+            .header(pdu.llid, self.more_out(), pdu.body.len() as u8);
+        packet(self.place(), header, pdu.body.as_slice())
+    }
+
+    /// The packet that it sends: of the last PDU again until that is acknowledged, and of the fixed
+    /// one after that.
+    pub(crate) fn next_packet(&self) -> ArrayVec<u8, AIR_PACKET_OCTETS>
+        ensures { result.items ≡ on_air self.now.event.channel self.now.setup.link.fields.access
+            self.now.setup.link.fields.crc_init
+            (octets_of (header_of self.now.bits (pdu_out self.now).llid (more_out self.now)
+            (length (pdu_out self.now).body)) ++ (pdu_out self.now).body) }
+    {
+        if self.is_acked {
+            self.packet_of(&self.fixed)
+        } else {
+            self.packet_of(&self.last)
+        }
+    }
+
+    /// The fixed PDU is the last one then. It is noted where it is not empty, and its piece is out
+    /// where it is data.
+    fn send_fixed<const T: usize>(&mut self, tx: &mut TxBank<T>, out: &mut Outbox)
+        requires acked { self.old.is_acked ≡ true }
+        requires tied { IsTied self.old tx.old }
+        requires room { array_vec_len out.old ≤ 59 }
+        ensures held { self.new ≡ held_gone self.old }
+        ensures bank { tx.new
+            ≡ bank_went_if (is_data self.old.fixed) tx.old self.old.setup.link.handle }
+        ensures notes { out.new.items ≡ out.old.items ++ sent_note_if
+            (not (is_empty self.old.fixed)) self.old.setup.link.handle self.old.sent
+            self.old.fixed }
+        ensures few { array_vec_len out.new ≤ array_vec_len out.old + 1 }
+    {
+        let handle = self.setup.handle;
+        went_if(self.fixed.is_data(), handle, tx);
+        self.sent = note_sent(handle, self.sent, &self.fixed, out);
+        self.last = mem::replace(&mut self.fixed, Pdu::empty());
+        self.more = false;
+        self.is_acked = false;
+    }
+
+    /// Where the last PDU is acknowledged, the fixed one is sent.
+    fn go_out<const T: usize>(&mut self, tx: &mut TxBank<T>, out: &mut Outbox)
+        requires tied { IsTied self.old tx.old }
+        requires room { array_vec_len out.old ≤ 59 }
+        ensures held { self.new ≡ held_gone self.old }
+        ensures bank { tx.new
+            ≡ bank_went_if (carries_next self.old) tx.old self.old.setup.link.handle }
+        ensures notes { out.new.items ≡ out.old.items ++ sent_note_if (numbers_next self.old)
+            self.old.setup.link.handle self.old.sent self.old.fixed }
+        ensures few { array_vec_len out.new ≤ array_vec_len out.old + 1 }
+    {
+        if self.is_acked {
+            self.send_fixed(tx, out);
+        }
+    }
+
+    /// It sends its packet in this slot.
+    pub(crate) fn send<const T: usize>(&mut self, slot: u64, tx: &mut TxBank<T>, out: &mut Outbox)
+        requires tied { IsTied self.old tx.old }
+        requires room { array_vec_len out.old ≤ 59 }
+        ensures held { self.new ≡ held_sent slot self.old }
+        ensures bank { tx.new
+            ≡ bank_went_if (carries_next self.old) tx.old self.old.setup.link.handle }
+        ensures notes { out.new.items ≡ out.old.items ++ sent_note_if (numbers_next self.old)
+            self.old.setup.link.handle self.old.sent self.old.fixed }
+        ensures few { array_vec_len out.new ≤ array_vec_len out.old + 1 }
+    {
+        self.event = event_sent(self.event, slot, self.more_out());
+        self.go_out(tx, out);
+    }
+}
+
+/// An event after a packet with this MD bit was sent in a slot. The first exchange of an event is
+/// in the slot of its anchor.
+fn event_sent(event: ConnectionEvent, slot: u64, more: bool) -> ConnectionEvent
+    ensures { result ≡ event_sent slot more event }
+{
+    ConnectionEvent {
+        more: event.more || (slot == event.slot && more),
+        ..event
+    }
+}
+
+/// The next piece of a link is out, or none is.
+fn went_if<const T: usize>(went: bool, handle: u16, tx: &mut TxBank<T>)
+    requires next { went ≡ true → IsSome (next_piece tx.old handle 27) }
+    requires none_out { went ≡ true → packet_out tx.old handle ≡ None }
+    ensures { tx.new ≡ bank_went_if went tx.old handle }
+{
+    if went {
+        tx.went(handle, MOST_OCTETS);
+    }
+}
+
+/// Notes a new PDU with the next number where it is not empty, and gives the number of such PDUs
+/// then.
+fn note_sent(handle: u16, sent: u64, pdu: &Pdu, out: &mut Outbox) -> u64
+    requires count { sent < 2 ^ 33 }
+    requires room { array_vec_len out.old ≤ 59 }
+    ensures count { result ≡ count_if (not (is_empty (pdu_value pdu.now))) sent }
+    ensures notes { out.new.items ≡ out.old.items ++ sent_note_if
+        (not (is_empty (pdu_value pdu.now))) handle sent (pdu_value pdu.now) }
+    ensures few { array_vec_len out.new ≤ array_vec_len out.old + 1 }
+{
+    if pdu.is_empty() {
+        return sent;
+    }
+    let mut body = ArrayVec::new();
+    put_octets(&mut body, pdu.body.as_slice());
+    out.push(Note::Sent {
+        handle,
+        number: sent + 1,
+        llid: pdu.llid,
+        body,
+    });
+    sent + 1
+}
