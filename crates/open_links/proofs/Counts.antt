@@ -2,6 +2,7 @@
 use Rattle.std.proofs.Common.{◌≡◌, ℕ, suc, zero, ◌+◌, ◌==◌, Bool, true, false, [], ◌∷◌, length, replicate, Option, if◌then◌else◌, refl, ap}
 use Rattle.std.proofs.lemmas.List.{length-map}
 use Rattle.one_end.specs.Setup.{Setup}
+use Rattle.open_links.specs.Data.{links_reported}
 use Rattle.open_links.specs.OpenLinks.{Links, OpenLink, with_change, with_change_from, with_link, without_link, without_links}
 use Rattle.open_links.specs.Turns.{links_entered, links_staying}
 
@@ -38,5 +39,8 @@ count_entering slot links = length-map links _
 pub count_resetting : (links : Links) → length (without_links links) ≡ length links
 count_resetting links = length-map links _
 
+pub count_reporting : (links : Links) → length (links_reported links) ≡ length links
+count_reporting links = length-map links _
+
 -- the lemmas of the law, but for that on changes
-pub ruleset counts = (count_at_first, count_opening, count_shutting, count_ending, count_entering, count_resetting)
+pub ruleset counts = (count_at_first, count_opening, count_shutting, count_ending, count_entering, count_resetting, count_reporting)

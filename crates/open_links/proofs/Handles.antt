@@ -8,10 +8,10 @@ use Rattle.open_links.specs.OpenLinks.{Links, OpenLink, HasHandle, HaveHandles, 
 apart : (a b : ℕ) → a ≢ b → (a == b) ≡ false
 apart a b other = grind arith
 
-here : (first : ℕ) (place : Option OpenLink) (links : Links) → link_from first first (place ∷ links) ≡ place
+pub here : (first : ℕ) (place : Option OpenLink) (links : Links) → link_from first first (place ∷ links) ≡ place
 here first place links = rw (eq-eqb first first refl) refl
 
-later : (first handle : ℕ) (place : Option OpenLink) (links : Links) → first < handle
+pub later : (first handle : ℕ) (place : Option OpenLink) (links : Links) → first < handle
     → link_from first handle (place ∷ links) ≡ link_from (first + 1) handle links
 later first handle place links below = rw (apart first handle (omega (arith, below))) refl
 
@@ -147,7 +147,7 @@ opened_has setup links have = change_keeps (λ place. Some (new_link setup)) 0 s
 pub shut_have : (handle : ℕ) (links : Links) → HaveHandles 0 links → HaveHandles 0 (without_link handle links)
 shut_have handle links have = change_keeps (λ place. None) 0 handle links (λ place has. tt) have
 
-place_keeps : (change : OpenLink → OpenLink) → ((link : OpenLink) → (change link).setup ≡ link.setup) → (handle : ℕ)
+pub place_keeps : (change : OpenLink → OpenLink) → ((link : OpenLink) → (change link).setup ≡ link.setup) → (handle : ℕ)
     → (place : Option OpenLink) → HasHandle handle place → HasHandle handle (option_map change place)
 place_keeps change same handle None has = tt
 place_keeps change same handle (Some link) has = rw (same link) has

@@ -9,7 +9,7 @@ use Rattle.one_end.specs.End.{facts_of}
 use Rattle.one_end.specs.Events.{IsInEvent, anchor_of, count_entry, entries_in}
 use Rattle.open_links.specs.OpenLinks.{OpenLink, link_after, new_link}
 use Rattle.open_links.specs.Turns.{entered_if, is_anchor, link_entered}
-use Rattle.open_links.specs.Slots.{Exchange, Sends, Hears, IsOnTime, link_exchanging, link_through, step_of}
+use Rattle.open_links.specs.Slots.{Exchange, Given, Fixes, Sends, Hears, Reports, IsOnTime, link_exchanging, link_through, step_of}
 use Rattle.open_links.proofs.Ends.{entered_setup}
 
 -- an end is in the events of its CONNECT_IND
@@ -29,10 +29,13 @@ new_on_time setup =
 
 -- ---- a slot
 
--- what an end sends and hears enters no event
+-- what an end does besides enters no event
 exchange_enters_none : (slot : ℕ) (exchange : Exchange) (past : List Step) → entries_in (past ++ step_of slot exchange ∷ []) ≡ entries_in past
+exchange_enters_none slot (Given start body) past = fold-append count_entry 0 past (step_of slot (Given start body) ∷ [])
+exchange_enters_none slot Fixes past = fold-append count_entry 0 past (step_of slot Fixes ∷ [])
 exchange_enters_none slot Sends past = fold-append count_entry 0 past (step_of slot Sends ∷ [])
-exchange_enters_none slot (Hears octets) past = fold-append count_entry 0 past (step_of slot (Hears octets) ∷ [])
+exchange_enters_none slot (Hears octets room) past = fold-append count_entry 0 past (step_of slot (Hears octets room) ∷ [])
+exchange_enters_none slot Reports past = fold-append count_entry 0 past (step_of slot Reports ∷ [])
 
 -- a link that is elsewhere in no other way than by its past, with the same number of entries
 same_on_time : (slot : ℕ) (one other : OpenLink) → other.setup ≡ one.setup → entries_in other.past ≡ entries_in one.past

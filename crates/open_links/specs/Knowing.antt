@@ -1,11 +1,18 @@
--- Open links, as the code holds them, that know their pasts.
-use Rattle.std.specs.Prelude.{◌≡◌, ℕ, Bool, List, [], ◌∷◌, ◌++◌, Option, Some, None, ⊤}
+-- Open links, as the code holds them, that know their pasts, with the data of these in the banks.
+use Rattle.std.specs.Prelude.{◌≡◌, ℕ, ◌+◌, ◌<◌, ◌==◌, Bool, List, [], ◌∷◌, ◌++◌, Option, Some, None, ⊤, if◌then◌else◌}
+use Rattle.std.specs.List.{filter}
 use Rattle.ble_base.specs.declared.notes.Note.{Note}
+use Rattle.acl_banks.specs.declared.pieces.Piece.{Piece}
+use Rattle.acl_banks.specs.Packets.{is_of, new_packet}
+use Rattle.acl_banks.specs.Banks.{Bank, bank_after_offer, credits_of}
 use Rattle.slot_plan.specs.declared.Want.{Want}
 use Rattle.link_end.specs.Held.{Held}
 use Rattle.link_end.specs.Knowing.{Knows as KnowsEnd}
-use Rattle.open_links.specs.OpenLinks.{Links, OpenLink}
-use Rattle.open_links.specs.Turns.{is_anchor, link_entered, links_entered, notes_entering, notes_if, wants_entering, wants_from}
+use Rattle.link_end.specs.Tied.{HoldsData, IsBefore, IsTied, LeavesOthers}
+use Rattle.open_links.specs.declared.offers.Offer.{Offer}
+use Rattle.open_links.specs.declared.offers.Offer.TheVariants.{Kept}
+use Rattle.open_links.specs.OpenLinks.{Links, OpenLink, HaveHandles, facts_in, link_at}
+use Rattle.open_links.specs.Turns.{is_anchor, link_entered, links_entered, notes_entering, notes_if, want_if, wants_entering, wants_from}
 
 -- a link, as the code holds it
 pub record HeldLink : Type 0 where
@@ -27,8 +34,85 @@ KnowsPlaces [] [] = ⊤
 KnowsPlaces (held ∷ helds) (link ∷ links) = KnowsPlace held link × KnowsPlaces helds links
 KnowsPlaces helds links = ⊥
 
-unfoldable pub Knows : List (Option HeldLink) → Links → Type 0
-Knows helds links = KnowsPlaces helds links
+-- what is held under a handle, of the places from this handle on
+abbrev pub held_from : ℕ → ℕ → List (Option HeldLink) → Option HeldLink
+held_from first handle [] = None
+held_from first handle (place ∷ places) = if first == handle then place else held_from (first + 1) handle places
+
+-- ---- the links with their data
+
+pub record HeldLinks : Type 0 where
+  -- what is under each handle
+  pub places : List (Option HeldLink)
+  -- the packets of the host that wait, and the pieces that it has not received
+  pub bank : Bank
+  pub received : List (ℕ × Piece)
+  -- the slot before which all packets were received, and how often octets were taken since complete packets were
+  -- reported
+  pub heard_to : ℕ
+  pub unreported : ℕ
+
+-- a bank has nothing under a handle
+pub record HasNone (handle : ℕ) (bank : Bank) : Type 0 where
+  pub packets : filter (is_of handle) bank.packets ≡ []
+  pub complete : credits_of bank handle ≡ 0
+
+-- a bank has the data of the link that may be under a handle
+abbrev pub HoldsUnder : ℕ → Bank → Option OpenLink → Type 0
+HoldsUnder handle bank None = HasNone handle bank
+HoldsUnder handle bank (Some link) = HoldsData handle bank (facts_in link).outgoing
+
+pub record KnowsAll (held : HeldLinks) (links : Links) (received : List (ℕ × Piece)) : Type 0 where
+  pub places : KnowsPlaces held.places links
+  pub handles : HaveHandles 0 links
+  pub data_of : (handle : ℕ) → HoldsUnder handle held.bank (link_at handle links)
+  pub pieces : held.received ≡ received
+
+unfoldable pub Knows : HeldLinks → Links → List (ℕ × Piece) → Type 0
+Knows held links received = KnowsAll held links received
+
+-- a bank after a packet of the host, and what became of that
+abbrev pub bank_offered : Offer → ℕ → Bool → List ℕ → Bank → Bank
+bank_offered Kept handle start body bank = bank_after_offer bank (new_packet handle start body)
+bank_offered other handle start body bank = bank
+
+-- ---- a change of the link under a handle
+
+-- a bank after a change of a link: it has the data of the link then, and of others what it had
+pub record BankStep (change : OpenLink → OpenLink) (link : OpenLink) (before after : Bank) : Type 0 where
+  pub leaves : LeavesOthers link.setup.link.handle before after
+  pub holds : HoldsData link.setup.link.handle before (facts_in link).outgoing
+      → HoldsData link.setup.link.handle after (facts_in (change link)).outgoing
+
+abbrev pub BankGoes : (OpenLink → OpenLink) → Option OpenLink → Bank → Bank → Type 0
+BankGoes change None before after = after ≡ before
+BankGoes change (Some link) before after = BankStep change link before after
+
+-- what the calls on the end of a link need of the bank
+abbrev pub IsTiedIn : Bank → Option HeldLink → Type 0
+IsTiedIn bank None = ⊤
+IsTiedIn bank (Some held) = IsTied held.end bank
+
+-- what an end needs to take octets in a slot
+pub record CanHear (slot : ℕ) (bank : Bank) (held : Held) : Type 0 where
+  pub tied : IsTied held bank
+  pub counts : credits_of bank held.setup.link.handle < 65535
+  pub before : IsBefore held slot
+
+abbrev pub CanHearIn : ℕ → Bank → Option HeldLink → Type 0
+CanHearIn slot bank None = ⊤
+CanHearIn slot bank (Some held) = CanHear slot bank held.end
+
+-- ---- all links enter their events
+
+-- a bank has the data of a link, and of all links
+abbrev pub HoldsPlace : Bank → Option OpenLink → Type 0
+HoldsPlace bank None = ⊤
+HoldsPlace bank (Some link) = HoldsData link.setup.link.handle bank (facts_in link).outgoing
+
+abbrev pub HoldsPlaces : Bank → Links → Type 0
+HoldsPlaces bank [] = ⊤
+HoldsPlaces bank (place ∷ links) = HoldsPlace bank place × HoldsPlaces bank links
 
 -- a link as its slot begins: it knows its past, has added exactly these notes, and says whether it wants the radio
 pub record Enters (new : HeldLink) (link : OpenLink) (slot : ℕ) (before noted : List Note) (wants : Bool) : Type 0 where
@@ -36,7 +120,15 @@ pub record Enters (new : HeldLink) (link : OpenLink) (slot : ℕ) (before noted 
   pub notes : noted ≡ before ++ notes_if (is_anchor slot link) slot link
   pub wants_radio : wants ≡ wants_entering slot link
 
--- all of them, from this handle on, with what they add to the plan
+-- the same of the link that may be under a handle, with what it adds to the plan
+abbrev pub EntersPlace : Option OpenLink → Option HeldLink → ℕ → ℕ → List Note → List Note → List Want → List Want → Type 0
+EntersPlace None new slot handle before noted wanted wants = KnowsPlace new None × (noted ≡ before) × (wants ≡ wanted)
+EntersPlace (Some link) new slot handle before noted wanted wants =
+    KnowsPlace new (Some (link_entered slot link))
+    × (noted ≡ before ++ notes_if (is_anchor slot link) slot link)
+    × (wants ≡ wanted ++ want_if (wants_entering slot link) handle link.last_served)
+
+-- all of them, from this handle on
 pub record EnterAll (new : List (Option HeldLink)) (links : Links) (slot handle : ℕ) (before noted : List Note)
     (wanted wants : List Want) : Type 0 where
   pub know : KnowsPlaces new (links_entered slot links)

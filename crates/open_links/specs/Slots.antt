@@ -1,18 +1,25 @@
 -- A link slot after slot (Core 5.2, volume 6 part B, section 4.5.1).
-use Rattle.std.specs.Prelude.{ℕ, ◌+◌, ◌<◌, List, [], ◌∷◌}
-use Rattle.one_end.specs.Step.{Step, PacketSent, PacketReceived}
+use Rattle.std.specs.Prelude.{ℕ, ◌+◌, ◌<◌, Bool, List, [], ◌∷◌}
+use Rattle.one_end.specs.Step.{Step, DataGiven, PduFixed, PacketSent, PacketReceived, DataReported}
 use Rattle.one_end.specs.Events.{anchor_of, entries_in}
 use Rattle.open_links.specs.OpenLinks.{OpenLink, link_after}
 use Rattle.open_links.specs.Turns.{link_entered}
 
--- what an end does in a slot besides: it sends, or octets reach it
+-- what an end does in a slot besides: its host gives it data, it fixes its PDU, it sends, octets reach it, or complete
+-- packets are reported
 pub data Exchange : Type 0 where
+  Given : (start : Bool) (body : List ℕ) → Exchange
+  Fixes : Exchange
   Sends : Exchange
-  Hears : (octets : List ℕ) → Exchange
+  Hears : (octets : List ℕ) (room : Bool) → Exchange
+  Reports : Exchange
 
 abbrev pub step_of : ℕ → Exchange → Step
+step_of slot (Given start body) = DataGiven start body
+step_of slot Fixes = PduFixed
 step_of slot Sends = PacketSent slot
-step_of slot (Hears octets) = PacketReceived slot octets
+step_of slot (Hears octets room) = PacketReceived slot octets room
+step_of slot Reports = DataReported
 
 abbrev pub link_exchanging : ℕ → List Exchange → OpenLink → OpenLink
 link_exchanging slot [] link = link

@@ -1,11 +1,14 @@
-//! Links that end.
-ghost use Rattle.std.specs.Prelude.{◌≡◌, ◌<◌, ◌≤◌, ◌+◌, ◌^◌, ◌++◌, Option, length};
+//! Links that end, and their data.
+ghost use Rattle.std.specs.Prelude.{◌≡◌, ◌<◌, ◌≤◌, ◌==◌, ◌+◌, ◌^◌, ◌++◌, not, fold, map, Option, [], length, if◌then◌else◌};
+ghost use Rattle.acl_banks.specs.Banks.{bank_after_drop};
+ghost use Rattle.open_links.specs.Data.{received_ended, received_without};
 ghost use Rattle.open_links.specs.OpenLinks.{Links, OpenLink, handles_from, without_links};
 ghost use Rattle.open_links.specs.Turns.{end_by, ends_from, links_staying, reason_in, staying_by};
 ghost use Rattle.open_links.specs.Knowing.{KnowsLink, KnowsPlace, KnowsPlaces};
 
 use crate::LinkEnded;
 use crate::places::OpenEnd;
+use acl_banks::{RxBank, TxBank};
 use arrayvec::ArrayVec;
 use ble_base::SlotNo;
 
@@ -61,4 +64,50 @@ pub(crate) fn shut_from(
         handles.push(handle);
     }
     shut_from(rest, handle + 1, handles);
+}
+
+/// The data of the links that ended is dropped.
+pub(crate) fn drop_ended<const T: usize, const R: usize>(
+    ended: &[LinkEnded],
+    tx: &mut TxBank<T>,
+    rx: &mut RxBank<R>,
+)
+    ensures tx { tx.new ≡ fold bank_after_drop tx.old (map (λ one. one.handle) ended.now) }
+    ensures rx { rx.new ≡ received_ended ended.now rx.old }
+{
+    let Some((one, rest)) = ended.split_first() else {
+        return;
+    };
+    tx.drop_link(one.handle);
+    rx.drop_link(one.handle);
+    drop_ended(rest, tx, rx);
+}
+
+/// What waits to be sent on the links under these handles is dropped.
+pub(crate) fn drop_unsent<const T: usize>(handles: &[u16], tx: &mut TxBank<T>)
+    ensures { tx.new ≡ fold bank_after_drop tx.old handles.now }
+{
+    let Some((handle, rest)) = handles.split_first() else {
+        return;
+    };
+    tx.drop_link(*handle);
+    drop_unsent(rest, tx);
+}
+
+/// All that was received is dropped.
+pub(crate) fn drop_received<const R: usize>(rx: &mut RxBank<R>)
+    ensures { rx.new ≡ [] }
+{
+    if rx.hand_up().is_some() {
+        drop_received(rx);
+    }
+}
+
+/// What was received on a link is dropped, or is not.
+pub(crate) fn drop_received_if<const R: usize>(drops: bool, handle: u16, rx: &mut RxBank<R>)
+    ensures { rx.new ≡ (if drops then received_without handle rx.old else rx.old) }
+{
+    if drops {
+        rx.drop_link(handle);
+    }
 }

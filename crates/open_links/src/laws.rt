@@ -1,11 +1,16 @@
 //! Laws of the open links. The bodies only call the laws that they rest on: the contracts are the
 //! laws.
-ghost use Rattle.std.specs.Prelude.{◌≡◌, ◌≢◌, ◌<◌, ◌≤◌, ◌+◌, ◌==◌, ℕ, List, Option, length};
-ghost use Rattle.std.specs.Prelude.{Some, None, replicate};
+ghost use Rattle.std.specs.Prelude.{◌≡◌, ◌≢◌, ◌<◌, ◌≤◌, ◌+◌, ◌==◌, ℕ, Bool, List, Option};
+ghost use Rattle.std.specs.Prelude.{Some, None, length, replicate};
 ghost use Rattle.std.specs.Option.{option_map};
 ghost use Rattle.one_end.specs.Setup.{Setup};
-ghost use Rattle.one_end.specs.Step.{Step};
+ghost use Rattle.acl_banks.specs.declared.pieces.Piece.{Piece};
+ghost use Rattle.acl_banks.specs.Banks.{taken_buffers};
+ghost use Rattle.one_end.specs.Step.{DataGiven, PduFixed, Step};
 ghost use Rattle.one_end.specs.Events.{anchor_of, entries_in};
+ghost use Rattle.open_links.specs.Data.{buffers_taken, link_reported, links_fixed, links_given};
+ghost use Rattle.open_links.specs.Data.{links_reported};
+ghost use Rattle.open_links.specs.Knowing.{HeldLinks, Knows};
 ghost use Rattle.open_links.specs.OpenLinks.{Links, OpenLink, HaveHandles, IsFreeHandle, free_from};
 ghost use Rattle.open_links.specs.OpenLinks.{link_after, link_at, link_served, new_link};
 ghost use Rattle.open_links.specs.OpenLinks.{with_change, with_link, without_link, without_links};
@@ -31,6 +36,14 @@ pub fn a_change_leaves_other_links()
     ensures changed { (handle : ℕ) (change : OpenLink → OpenLink) (links : Links)
         → link_at handle (with_change handle change links)
         ≡ option_map change (link_at handle links) }
+    ensures given { (handle : ℕ) (start : Bool) (body : List ℕ) (links : Links)
+        → link_at handle (links_given handle start body links)
+        ≡ option_map (link_after (DataGiven start body)) (link_at handle links) }
+    ensures fixed { (handle : ℕ) (links : Links) → link_at handle (links_fixed handle links)
+        ≡ option_map (link_after PduFixed) (link_at handle links) }
+    ensures reported { (handle : ℕ) (links : Links)
+        → link_at handle (links_reported links)
+        ≡ option_map link_reported (link_at handle links) }
     ensures others_opening { (setup : Setup) (other : ℕ) (links : Links)
         → other ≢ setup.link.handle
         → link_at other (with_link setup links) ≡ link_at other links }
@@ -39,6 +52,11 @@ pub fn a_change_leaves_other_links()
     ensures others_changing { (handle other : ℕ) (change : OpenLink → OpenLink) (links : Links)
         → other ≢ handle
         → link_at other (with_change handle change links) ≡ link_at other links }
+    ensures others_giving { (handle other : ℕ) (start : Bool) (body : List ℕ) (links : Links)
+        → other ≢ handle
+        → link_at other (links_given handle start body links) ≡ link_at other links }
+    ensures others_fixing { (handle other : ℕ) (links : Links) → other ≢ handle
+        → link_at other (links_fixed handle links) ≡ link_at other links }
 {}
 
 /// The links that end at the start of a turn are given by ascending handle. Each link that is due is
@@ -71,6 +89,8 @@ pub fn each_link_has_its_own_handle()
         → HaveHandles 0 (links_staying slot links) }
     ensures entering { (slot : ℕ) (links : Links) → HaveHandles 0 links
         → HaveHandles 0 (links_entered slot links) }
+    ensures reporting { (links : Links) → HaveHandles 0 links
+        → HaveHandles 0 (links_reported links) }
 {}
 
 /// There are as many places as at first: each call keeps their number.
@@ -88,6 +108,14 @@ pub fn each_call_keeps_the_places()
     ensures entering { (slot : ℕ) (links : Links)
         → length (links_entered slot links) ≡ length links }
     ensures resetting { (links : Links) → length (without_links links) ≡ length links }
+    ensures reporting { (links : Links) → length (links_reported links) ≡ length links }
+{}
+
+/// A buffer is taken for each packet of an open link that is not complete, and for nothing else
+/// (Core 5.2, volume 4 part E, section 4.1).
+pub fn buffers_are_those_of_open_links()
+    ensures { (held : HeldLinks) (links : Links) (received : List (ℕ × Piece))
+        → Knows held links received → taken_buffers held.bank ≡ buffers_taken links }
 {}
 
 /// A link enters each event in the slot of its anchor, whether it wants the radio or not. At the

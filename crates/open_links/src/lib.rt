@@ -1,5 +1,5 @@
 //! The open links of a controller, each under its handle: which of them end, which enter an event,
-//! which want the radio, and what happens to each of them.
+//! which want the radio, what happens to each of them, and what waits of their data.
 #![tactic(auto)]
 
 mod ended;
@@ -7,16 +7,20 @@ mod ending;
 mod entering;
 mod laws;
 mod links;
+mod offers;
 mod places;
+mod reporting;
 mod using;
 
 pub use crate::ended::LinkEnded;
 pub use crate::ending::MOST_LINKS;
 pub use crate::laws::{
-    a_change_leaves_other_links, a_link_enters_each_event, each_call_keeps_the_places,
-    each_link_has_its_own_handle, links_end_where_due, new_handle_is_free_and_least,
+    a_change_leaves_other_links, a_link_enters_each_event, buffers_are_those_of_open_links,
+    each_call_keeps_the_places, each_link_has_its_own_handle, links_end_where_due,
+    new_handle_is_free_and_least,
 };
 pub use crate::links::OpenLinks;
+pub use crate::offers::{Completed, Offer};
 pub use link_end::{LinkEnd, LinkSetup, LinkStep};
 
 #[cfg(test)]

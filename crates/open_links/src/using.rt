@@ -1,16 +1,22 @@
 //! What happens to the link under one handle.
-ghost use Rattle.std.specs.Prelude.{◌≡◌, ◌<◌, ◌+◌, ◌^◌, Option, length};
+ghost use Rattle.std.specs.Prelude.{◌≡◌, ◌<◌, ◌≤◌, ◌+◌, ◌^◌, ◌++◌, Option, Some, length, nat_lt};
 ghost use Rattle.std.specs.Option.{option_map};
+ghost use Rattle.arrayvec.specs.ArrayVec.{array_vec_len};
 ghost use Rattle.one_end.specs.End.{replies_of};
 ghost use Rattle.one_end.specs.Packets.{packet_sent};
-ghost use Rattle.one_end.specs.Step.{PacketReceived, PacketSent};
+ghost use Rattle.one_end.specs.Step.{PacketReceived, PacketSent, PduFixed};
+ghost use Rattle.open_links.specs.Data.{kept_at, notes_at};
 ghost use Rattle.open_links.specs.OpenLinks.{Links, OpenLink, facts_in, link_after, link_from};
 ghost use Rattle.open_links.specs.OpenLinks.{link_served, with_change_from};
-ghost use Rattle.open_links.specs.Knowing.{KnowsLink, KnowsPlace, KnowsPlaces};
+ghost use Rattle.link_end.specs.Tied.{IsTied};
+ghost use Rattle.open_links.specs.Knowing.{BankGoes, BankStep, CanHear, CanHearIn, HoldsPlace};
+ghost use Rattle.open_links.specs.Knowing.{IsTiedIn, KnowsLink, KnowsPlace, KnowsPlaces};
+ghost use Rattle.open_links.specs.Knowing.{held_from};
 
 use crate::places::OpenEnd;
+use acl_banks::{RxBank, TxBank};
 use arrayvec::ArrayVec;
-use ble_base::{AIR_PACKET_OCTETS, SlotNo};
+use ble_base::{AIR_PACKET_OCTETS, Outbox, SlotNo};
 use link_end::LinkStep;
 
 /// Puts a link, or none, under a handle, of the places from this handle on.
@@ -76,77 +82,228 @@ fn serve(place: &mut Option<OpenEnd>, slot: SlotNo)
     }
 }
 
+/// The link under a handle fixes the PDU that it sends next.
+pub(crate) fn ready_from<const T: usize>(
+    places: &mut [Option<OpenEnd>],
+    first: u16,
+    handle: u16,
+    tx: &TxBank<T>,
+)
+    requires first { first + length places.old < 2 ^ 16 }
+    requires tied { IsTiedIn tx.now (held_from first handle places.old) }
+    ensures knows { (links : Links) → KnowsPlaces places.old links
+        → HoldsPlace tx.now (link_from first handle links) → KnowsPlaces places.new
+        (with_change_from first handle (option_map (link_after PduFixed)) links) }
+    ensures bank { (links : Links) → KnowsPlaces places.old links
+        → BankGoes (link_after PduFixed) (link_from first handle links) tx.now tx.now }
+    ensures places { length places.new ≡ length places.old }
+{
+    let Some((place, rest)) = places.split_first_mut() else {
+        return;
+    };
+    if first == handle {
+        ready(place, tx);
+    } else {
+        ready_from(rest, first + 1, handle, tx);
+    }
+}
+
+fn ready<const T: usize>(place: &mut Option<OpenEnd>, tx: &TxBank<T>)
+    requires { IsTiedIn tx.now place.old }
+    ensures knows { (link : Option OpenLink) → KnowsPlace place.old link → HoldsPlace tx.now link
+        → KnowsPlace place.new (option_map (link_after PduFixed) link) }
+    ensures bank { (link : Option OpenLink) → KnowsPlace place.old link
+        → BankGoes (link_after PduFixed) link tx.now tx.now }
+{
+    if let Some(link) = place {
+        link.end.ready(tx);
+    }
+}
+
 /// The packet that the link under a handle sends in this slot.
-pub(crate) fn send_from(
+pub(crate) fn send_from<const T: usize>(
     places: &mut [Option<OpenEnd>],
     first: u16,
     handle: u16,
     slot: SlotNo,
+    tx: &mut TxBank<T>,
+    out: &mut Outbox,
 ) -> Option<ArrayVec<u8, AIR_PACKET_OCTETS>>
     requires first { first + length places.old < 2 ^ 16 }
+    requires tied { IsTiedIn tx.old (held_from first handle places.old) }
     requires slot { slot.0 < 2 ^ 32 }
+    requires room { array_vec_len out.old ≤ 59 }
     ensures knows { (links : Links) → KnowsPlaces places.old links → KnowsPlaces places.new
         (with_change_from first handle (option_map (link_after (PacketSent slot.0))) links) }
+    ensures bank { (links : Links) → KnowsPlaces places.old links
+        → BankGoes (link_after (PacketSent slot.0)) (link_from first handle links) tx.old tx.new }
+    ensures notes { (links : Links) → KnowsPlaces places.old links → out.new.items
+        ≡ out.old.items ++ notes_at (PacketSent slot.0) (link_from first handle links) }
     ensures packet { (links : Links) → KnowsPlaces places.old links
         → option_map (λ packet. packet.items) result
         ≡ option_map (λ link. packet_sent link.setup (facts_in link))
         (link_from first handle links) }
+    ensures few { array_vec_len out.new ≤ array_vec_len out.old + 5 }
     ensures places { length places.new ≡ length places.old }
 {
     let (place, rest) = places.split_first_mut()?;
     if first == handle {
-        send(place, slot)
+        send(place, slot, tx, out)
     } else {
-        send_from(rest, first + 1, handle, slot)
+        send_from(rest, first + 1, handle, slot, tx, out)
     }
 }
 
-fn send(place: &mut Option<OpenEnd>, slot: SlotNo) -> Option<ArrayVec<u8, AIR_PACKET_OCTETS>>
-    requires { slot.0 < 2 ^ 32 }
+fn send<const T: usize>(
+    place: &mut Option<OpenEnd>,
+    slot: SlotNo,
+    tx: &mut TxBank<T>,
+    out: &mut Outbox,
+) -> Option<ArrayVec<u8, AIR_PACKET_OCTETS>>
+    requires tied { IsTiedIn tx.old place.old }
+    requires slot { slot.0 < 2 ^ 32 }
+    requires room { array_vec_len out.old ≤ 59 }
     ensures knows { (link : Option OpenLink) → KnowsPlace place.old link
         → KnowsPlace place.new (option_map (link_after (PacketSent slot.0)) link) }
+    ensures bank { (link : Option OpenLink) → KnowsPlace place.old link
+        → BankGoes (link_after (PacketSent slot.0)) link tx.old tx.new }
+    ensures notes { (link : Option OpenLink) → KnowsPlace place.old link
+        → out.new.items ≡ out.old.items ++ notes_at (PacketSent slot.0) link }
     ensures packet { (link : Option OpenLink) → KnowsPlace place.old link
         → option_map (λ packet. packet.items) result
         ≡ option_map (λ link. packet_sent link.setup (facts_in link)) link }
+    ensures few { array_vec_len out.new ≤ array_vec_len out.old + 5 }
 {
-    Some(place.as_mut()?.end.to_send(slot))
+    let Some(link) = place else {
+        return None;
+    };
+    Some(link.send(slot, tx, out))
 }
 
 /// The link under a handle takes octets in this slot.
-pub(crate) fn hear_from(
+pub(crate) fn hear_from<const T: usize, const R: usize>(
     places: &mut [Option<OpenEnd>],
     first: u16,
     handle: u16,
     octets: &[u8],
     slot: SlotNo,
+    tx: &mut TxBank<T>,
+    rx: &mut RxBank<R>,
+    out: &mut Outbox,
 ) -> Option<LinkStep>
     requires first { first + length places.old < 2 ^ 16 }
+    requires can { CanHearIn slot.0 tx.old (held_from first handle places.old) }
     requires slot { slot.0 < 2 ^ 32 }
+    requires room { array_vec_len out.old ≤ 59 }
     ensures knows { (links : Links) → KnowsPlaces places.old links
-        → KnowsPlaces places.new (with_change_from first handle
-        (option_map (link_after (PacketReceived slot.0 octets.now))) links) }
+        → KnowsPlaces places.new (with_change_from first handle (option_map (link_after
+        (PacketReceived slot.0 octets.now (nat_lt (length rx.old) R)))) links) }
+    ensures bank { (links : Links) → KnowsPlaces places.old links → BankGoes
+        (link_after (PacketReceived slot.0 octets.now (nat_lt (length rx.old) R)))
+        (link_from first handle links) tx.old tx.new }
+    ensures kept { (links : Links) → KnowsPlaces places.old links → rx.new ≡ rx.old
+        ++ kept_at octets.now (nat_lt (length rx.old) R) (link_from first handle links) }
+    ensures notes { (links : Links) → KnowsPlaces places.old links → out.new.items
+        ≡ out.old.items ++ notes_at (PacketReceived slot.0 octets.now (nat_lt (length rx.old) R))
+        (link_from first handle links) }
     ensures reply { (links : Links) → KnowsPlaces places.old links
         → option_map (λ step. step.reply) result
         ≡ option_map (λ link. replies_of link.setup (facts_in link) octets.now)
         (link_from first handle links) }
+    ensures few { array_vec_len out.new ≤ array_vec_len out.old + 5 }
     ensures places { length places.new ≡ length places.old }
 {
     let (place, rest) = places.split_first_mut()?;
     if first == handle {
-        hear(place, octets, slot)
+        hear(place, octets, slot, tx, rx, out)
     } else {
-        hear_from(rest, first + 1, handle, octets, slot)
+        hear_from(rest, first + 1, handle, octets, slot, tx, rx, out)
     }
 }
 
-fn hear(place: &mut Option<OpenEnd>, octets: &[u8], slot: SlotNo) -> Option<LinkStep>
-    requires { slot.0 < 2 ^ 32 }
+fn hear<const T: usize, const R: usize>(
+    place: &mut Option<OpenEnd>,
+    octets: &[u8],
+    slot: SlotNo,
+    tx: &mut TxBank<T>,
+    rx: &mut RxBank<R>,
+    out: &mut Outbox,
+) -> Option<LinkStep>
+    requires can { CanHearIn slot.0 tx.old place.old }
+    requires slot { slot.0 < 2 ^ 32 }
+    requires room { array_vec_len out.old ≤ 59 }
     ensures knows { (link : Option OpenLink) → KnowsPlace place.old link
-        → KnowsPlace place.new
-        (option_map (link_after (PacketReceived slot.0 octets.now)) link) }
+        → KnowsPlace place.new (option_map (link_after
+        (PacketReceived slot.0 octets.now (nat_lt (length rx.old) R))) link) }
+    ensures bank { (link : Option OpenLink) → KnowsPlace place.old link → BankGoes
+        (link_after (PacketReceived slot.0 octets.now (nat_lt (length rx.old) R)))
+        link tx.old tx.new }
+    ensures kept { (link : Option OpenLink) → KnowsPlace place.old link
+        → rx.new ≡ rx.old ++ kept_at octets.now (nat_lt (length rx.old) R) link }
+    ensures notes { (link : Option OpenLink) → KnowsPlace place.old link → out.new.items
+        ≡ out.old.items
+        ++ notes_at (PacketReceived slot.0 octets.now (nat_lt (length rx.old) R)) link }
     ensures reply { (link : Option OpenLink) → KnowsPlace place.old link
         → option_map (λ step. step.reply) result
         ≡ option_map (λ link. replies_of link.setup (facts_in link) octets.now) link }
+    ensures few { array_vec_len out.new ≤ array_vec_len out.old + 5 }
 {
-    Some(place.as_mut()?.end.heard(octets, slot))
+    let Some(link) = place else {
+        return None;
+    };
+    Some(link.hear(octets, slot, tx, rx, out))
+}
+
+impl OpenEnd {
+    /// The packet that it sends in this slot.
+    fn send<const T: usize>(
+        &mut self,
+        slot: SlotNo,
+        tx: &mut TxBank<T>,
+        out: &mut Outbox,
+    ) -> ArrayVec<u8, AIR_PACKET_OCTETS>
+        requires tied { IsTied self.old.end tx.old }
+        requires slot { slot.0 < 2 ^ 32 }
+        requires room { array_vec_len out.old ≤ 59 }
+        ensures knows { (link : OpenLink) → KnowsLink self.old link
+            → KnowsLink self.new (link_after (PacketSent slot.0) link) }
+        ensures bank { (link : OpenLink) → KnowsLink self.old link
+            → BankStep (link_after (PacketSent slot.0)) link tx.old tx.new }
+        ensures notes { (link : OpenLink) → KnowsLink self.old link → out.new.items
+            ≡ out.old.items ++ notes_at (PacketSent slot.0) (Some link) }
+        ensures packet { (link : OpenLink) → KnowsLink self.old link
+            → result.items ≡ packet_sent link.setup (facts_in link) }
+        ensures few { array_vec_len out.new ≤ array_vec_len out.old + 5 }
+    {
+        self.end.to_send(slot, tx, out)
+    }
+
+    /// It takes octets in this slot.
+    fn hear<const T: usize, const R: usize>(
+        &mut self,
+        octets: &[u8],
+        slot: SlotNo,
+        tx: &mut TxBank<T>,
+        rx: &mut RxBank<R>,
+        out: &mut Outbox,
+    ) -> LinkStep
+        requires can { CanHear slot.0 tx.old self.old.end }
+        requires slot { slot.0 < 2 ^ 32 }
+        requires room { array_vec_len out.old ≤ 59 }
+        ensures knows { (link : OpenLink) → KnowsLink self.old link → KnowsLink self.new
+            (link_after (PacketReceived slot.0 octets.now (nat_lt (length rx.old) R)) link) }
+        ensures bank { (link : OpenLink) → KnowsLink self.old link → BankStep
+            (link_after (PacketReceived slot.0 octets.now (nat_lt (length rx.old) R)))
+            link tx.old tx.new }
+        ensures kept { (link : OpenLink) → KnowsLink self.old link → rx.new
+            ≡ rx.old ++ kept_at octets.now (nat_lt (length rx.old) R) (Some link) }
+        ensures notes { (link : OpenLink) → KnowsLink self.old link → out.new.items
+            ≡ out.old.items
+            ++ notes_at (PacketReceived slot.0 octets.now (nat_lt (length rx.old) R)) (Some link) }
+        ensures reply { (link : OpenLink) → KnowsLink self.old link
+            → result.reply ≡ replies_of link.setup (facts_in link) octets.now }
+        ensures few { array_vec_len out.new ≤ array_vec_len out.old + 5 }
+    {
+        self.end.heard(octets, slot, tx, rx, out)
+    }
 }

@@ -4,4 +4,4 @@ use Rattle.open_links.proofs.using.+hear_from.Given as goal
 
 -- the places that are left
 abbrev pub decreases-hear_from : goal.decreases-hear_from
-decreases-hear_from l = length l.places.now
+decreases-hear_from g l = length l.places.now

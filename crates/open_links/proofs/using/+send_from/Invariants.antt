@@ -4,4 +4,4 @@ use Rattle.open_links.proofs.using.+send_from.Given as goal
 
 -- the places that are left
 abbrev pub decreases-send_from : goal.decreases-send_from
-decreases-send_from l = length l.places.now
+decreases-send_from g l = length l.places.now
