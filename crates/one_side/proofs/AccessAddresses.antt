@@ -27,8 +27,11 @@ use Rattle.one_side.specs.declared.doing.Doing.TheVariants.{Advertises, AwaitsRe
 use Rattle.one_side.specs.Step.{Step, HostOctet, TurnBegins, PacketHeard, NothingHeard, TurnEnds}
 use Rattle.one_side.specs.Facts.{Setup, Facts, first_facts}
 use Rattle.one_side.specs.Commands.{facts_accepted, facts_commanded, facts_known, initiator_after}
+use Rattle.open_links.specs.declared.offers.Offer.{Offer}
+use Rattle.open_links.specs.declared.offers.Offer.TheVariants.{NoLink, Empty, Overflow, Kept}
+use Rattle.one_side.specs.Data.{facts_offered, facts_ended_turn, offer_of}
 use Rattle.one_side.specs.Connecting.{SendsEach, SendsEachFrom, cuts_off}
-use Rattle.one_side.specs.Heard.{asks_if, heard, link_received, link_taken, opens, replies_in, reply_if, scanner_after, unheard, with_scanner}
+use Rattle.one_side.specs.Heard.{asks_if, has_room, heard, link_received, link_taken, opens, replies_in, reply_if, scanner_after, unheard, with_scanner}
 use Rattle.one_side.specs.Outcome.{Outcome, facts_passed, goes_on}
 use Rattle.one_side.specs.Side.{facts_after, facts_fed, facts_of, result_of, with_octet}
 use Rattle.one_side.proofs.Always.{IsKept, IsKeptAtStarts, always, initiator_stopped, opening_passes, start_keeps}
@@ -54,6 +57,7 @@ KnowsAddress setup facts = facts.view.has_address ≡ is_some (nth_access setup.
 address_kept : (setup : Setup) → IsKept setup (KnowsAddress setup) (KnowsAddress setup)
 address_kept setup = record {
   accepted = λ facts opcode octets command is accepted knows. address_after facts.view command ∙ knows;
+  given = λ facts handle count start octets is knows. knows;
   octet = λ facts octet knows. knows;
   turns = record {
     starts = record {
@@ -62,8 +66,10 @@ address_kept setup = record {
       begins = λ slot facts knows. knows;
       enters = λ slot facts knows. knows;
       wins = λ slot activity facts knows. knows;
+      fixes = λ doing facts knows. knows;
       does = λ doing facts may knows. knows;
     };
+    reports = λ facts knows. knows;
     passes = λ facts knows. record {
       rests = knows;
       awaits_request = λ channel doing. knows;
@@ -150,9 +156,17 @@ read_makes setup facts (Known command) may = known_makes (status_of facts.view c
 read_makes setup facts UnknownOpcode may = may
 read_makes setup facts BadLength may = may
 
+offered_makes : (offer : Offer) (handle : ℕ) (start : Bool) (octets : List ℕ) (facts : Facts) → MayMake facts
+    → MayMake (facts_offered offer handle start octets facts)
+offered_makes Kept handle start octets facts may = record { central = may.central; has_next = may.has_next }
+offered_makes NoLink handle start octets facts may = may
+offered_makes Empty handle start octets facts may = may
+offered_makes Overflow handle start octets facts may = may
+
 fed_makes : (setup : Setup) (facts : Facts) (fed : Fed) → MayMake facts → MayMake (facts_fed setup facts fed)
 fed_makes setup facts (Packet (HostCommand opcode body)) may = read_makes setup facts (command_of opcode body.items) may
-fed_makes setup facts (Packet (Acl handle start count body)) may = may
+fed_makes setup facts (Packet (Acl handle start count body)) may =
+    offered_makes (offer_of setup facts handle count) handle start body.items facts may
 fed_makes setup facts LostSync may = may
 fed_makes setup facts More may = may
 
@@ -164,6 +178,7 @@ next_starts = record {
   begins = λ slot facts next. next;
   enters = λ slot facts next. next;
   wins = λ slot activity facts next. next;
+  fixes = λ doing facts next. next;
   does = λ doing facts may next. next;
 }
 
@@ -180,6 +195,7 @@ central_starts = record {
   begins = λ slot facts any. tt;
   enters = λ slot facts any. tt;
   wins = λ slot activity facts any. tt;
+  fixes = λ doing facts any. tt;
   does = λ doing facts may any. begin_central doing may;
 }
 
@@ -208,7 +224,7 @@ phase_makes setup facts makes next = record {
       record { central = refl; has_next = λ makes. absurd makes };
   received = λ handle octets.
       let replies = replies_in (link_at handle facts.links) octets in
-      may_make (goes_on (link_received handle octets facts) (reply_if replies handle)) (reply_central replies handle) next;
+      may_make (goes_on (link_received handle (has_room setup facts) octets facts) (reply_if replies handle)) (reply_central replies handle) next;
 }
 
 -- a CONNECT_IND that is sent: its controller initiates no more
@@ -270,7 +286,7 @@ step_makes setup facts (TurnBegins slot on) uncut may =
 step_makes setup facts (PacketHeard octets) uncut may = heard_makes setup octets facts facts.turn.doing refl may
 step_makes setup facts NothingHeard uncut may = unheard_makes setup facts facts.turn.doing refl may
 step_makes setup facts TurnEnds uncut may =
-    may_make (goes_on facts Rests) tt (may.has_next (ends_uncut facts.turn.doing uncut))
+    may_make (goes_on (facts_ended_turn facts) Rests) tt (may.has_next (ends_uncut facts.turn.doing uncut))
 
 makes_from : (setup : Setup) (facts : Facts) (past : List Step) → SendsEachFrom setup facts past → MayMake facts
     → MayMake (fold (facts_after setup) facts past)

@@ -13,10 +13,15 @@ use Rattle.hci_evt.specs.declared.event.Event.{Event}
 use Rattle.host_view.specs.View.{View}
 use Rattle.host_view.specs.Changes.{view_after}
 use Rattle.host_view.specs.Unbuilt.{status_of}
-use Rattle.open_links.specs.OpenLinks.{Links}
+use Rattle.open_links.specs.Data.{buffers_taken, links_given}
+use Rattle.open_links.specs.OpenLinks.{Links, link_at}
 use Rattle.one_side.specs.Facts.{Setup, Facts, first_facts}
 use Rattle.one_side.specs.Answers.{accepted_answer, answer_with, complete_answer, has_status_answer, refused_fields, returned, status_answer}
 use Rattle.one_side.specs.Commands.{drawn_after, events_caused, facts_commanded, facts_known, links_after, notes_before, notes_commanded, notes_known}
+use Rattle.open_links.specs.declared.offers.Offer.{Offer}
+use Rattle.open_links.specs.declared.offers.Offer.TheVariants.{NoLink, Empty, Overflow, Kept}
+use Rattle.open_links.specs.Data.{offer_by}
+use Rattle.one_side.specs.Data.{facts_offered, offer_of}
 use Rattle.one_side.specs.Events.{notes_of_events}
 use Rattle.one_side.specs.Side.{facts_fed, notes_fed}
 
@@ -105,8 +110,27 @@ read_alike setup one other (Known command) alike =
 read_alike setup one other UnknownOpcode alike = alike
 read_alike setup one other BadLength alike = alike
 
+offer_same : (setup : Setup) (one other : Facts) (handle count : ℕ) → Alike one other
+    → offer_of setup one handle count ≡ offer_of setup other handle count
+offer_same setup one other handle count alike =
+    ap (λ (links : Links). offer_by (link_at handle links) count (buffers_taken links == setup.host_buffers)) alike.links_are
+
+offered_alike : (offer : Offer) (handle : ℕ) (start : Bool) (octets : List ℕ) (one other : Facts) → Alike one other
+    → Alike (facts_offered offer handle start octets one) (facts_offered offer handle start octets other)
+offered_alike Kept handle start octets one other alike = record {
+  view_is = alike.view_is;
+  drawn_is = alike.drawn_is;
+  links_are = ap (links_given handle start octets) alike.links_are;
+}
+offered_alike NoLink handle start octets one other alike = alike
+offered_alike Empty handle start octets one other alike = alike
+offered_alike Overflow handle start octets one other alike = alike
+
 pub fed_alike : (setup : Setup) (one other : Facts) (fed : Fed) → Alike one other → Alike (facts_fed setup one fed) (facts_fed setup other fed)
 fed_alike setup one other (Packet (HostCommand opcode body)) alike = read_alike setup one other (command_of opcode body.items) alike
-fed_alike setup one other (Packet (Acl handle start count body)) alike = alike
+fed_alike setup one other (Packet (Acl handle start count body)) alike =
+    subst (λ (offer : Offer). Alike (facts_offered (offer_of setup one handle count) handle start body.items one)
+    (facts_offered offer handle start body.items other)) (offer_same setup one other handle count alike)
+    (offered_alike (offer_of setup one handle count) handle start body.items one other alike)
 fed_alike setup one other LostSync alike = alike
 fed_alike setup one other More alike = alike

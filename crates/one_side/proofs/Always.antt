@@ -3,6 +3,7 @@ use Rattle.std.proofs.Common.{◌≡◌, ℕ, ◌+◌, ◌-◌, ◌/◌, ◌%◌
 use Rattle.std.specs.Prelude.{fold, nat_lt, slice_set, ⊤}
 use Rattle.std.proofs.lemmas.Bool.Decides.{eqb_tells, nat_tests}
 use Rattle.ble_base.specs.Bits.{has_bit}
+use Rattle.acl_banks.specs.declared.pieces.Piece.{Piece}
 use Rattle.ble_base.specs.declared.roles.Role.{Role}
 use Rattle.ble_base.specs.declared.roles.Role.TheVariants.{Central, Peripheral}
 use Rattle.h4_frames.specs.declared.packet.HostPacket.TheVariants.{Command as HostCommand, Acl}
@@ -25,8 +26,9 @@ use Rattle.slot_plan.specs.declared.Activity.{Activity}
 use Rattle.slot_plan.specs.declared.Activity.TheVariants.{Link, Advertise, Scan, Initiate}
 use Rattle.slot_plan.specs.Holding.{is_held_in, winner_of}
 use Rattle.one_end.specs.declared.setup.LinkSetup.{LinkSetup}
-use Rattle.one_end.specs.Times.{span_of}
+use Rattle.one_end.specs.Times.{has_second_exchange, span_of}
 use Rattle.open_links.specs.declared.ended.LinkEnded.{LinkEnded}
+use Rattle.open_links.specs.Data.{links_given, received_past}
 use Rattle.open_links.specs.OpenLinks.{Links, OpenLink, facts_in, link_at, link_served, with_change, with_link}
 use Rattle.open_links.specs.Turns.{links_staying}
 use Rattle.one_side.specs.declared.doing.Doing.{Doing}
@@ -34,17 +36,21 @@ use Rattle.one_side.specs.declared.doing.Doing.TheVariants.{Advertises, Scans, I
 use Rattle.one_side.specs.Step.{Step, HostOctet, TurnBegins, PacketHeard, NothingHeard, TurnEnds}
 use Rattle.one_side.specs.Facts.{Setup, Facts, Radio, first_facts, free_radio}
 use Rattle.one_side.specs.Commands.{facts_accepted, facts_commanded, facts_known}
+use Rattle.open_links.specs.declared.offers.Offer.{Offer}
+use Rattle.open_links.specs.declared.offers.Offer.TheVariants.{NoLink, Empty, Overflow, Kept}
+use Rattle.open_links.specs.Data.{received_without}
+use Rattle.one_side.specs.Data.{facts_ended_turn, facts_offered, offer_of}
 use Rattle.one_side.specs.Heard.{opens}
 use Rattle.one_side.specs.Links.{ends_in, facts_ending, facts_opened, facts_shut, note_opened, radio_without, stopped}
-use Rattle.one_side.specs.Outcome.{facts_passed}
+use Rattle.one_side.specs.Outcome.{Outcome, facts_passed, goes_on}
 use Rattle.one_side.specs.Packets.{facts_doing}
-use Rattle.one_side.specs.Radio.{advertises_at, advertises_on, doing_held, doing_won, exchange_begins, exchange_if, facts_entering, facts_won, first_exchange, initiates_on, initiator_channel, outcome_begun, plan_in, radio_held, radio_served, scanner_channel, scans_on, second_exchange, served, served_if_on, slots_since, turn_begins, winner_served}
+use Rattle.one_side.specs.Radio.{advertises_at, advertises_on, doing_held, doing_won, exchange_begins, exchange_if, facts_entering, facts_won, first_exchange, fixing, initiates_on, initiator_channel, links_fixing, outcome_begun, plan_in, radio_held, radio_served, scanner_channel, scans_on, second_exchange, served, served_if_on, slots_since, turn_begins, winner_served}
 use Rattle.one_side.specs.Side.{facts_after, facts_fed, facts_of, result_of, with_octet}
 use Rattle.one_side.proofs.Phases.{EachOutcome, heard_is, unheard_is}
 
 -- ---- links that end
 
--- the view and the radio after these links ended
+-- the view, the radio and what was received after these links ended
 abbrev pub links_shut : List (Option ViewLink) → List LinkEnded → List (Option ViewLink)
 links_shut links [] = links
 links_shut links (one ∷ ended) = links_shut (slice_set links one.handle None) ended
@@ -56,15 +62,23 @@ abbrev pub radio_shut : Radio → List LinkEnded → Radio
 radio_shut radio [] = radio
 radio_shut radio (one ∷ ended) = radio_shut (radio_without one.handle radio) ended
 
+abbrev pub received_shut : List (ℕ × Piece) → List LinkEnded → List (ℕ × Piece)
+received_shut received [] = received
+received_shut received (one ∷ ended) = received_shut (received_without one.handle received) ended
+
 abbrev pub facts_ended : ℕ → Facts → Facts
 facts_ended slot facts = record facts {
   view = view_shut facts.view (ends_in slot facts);
   radio = radio_shut facts.radio (ends_in slot facts);
   links = links_staying slot facts.links;
+  received = received_shut facts.received (ends_in slot facts);
 }
 
-shut_is : (facts : Facts) (ended : List LinkEnded)
-    → fold facts_shut facts ended ≡ record facts { view = view_shut facts.view ended; radio = radio_shut facts.radio ended }
+shut_is : (facts : Facts) (ended : List LinkEnded) → fold facts_shut facts ended ≡ record facts {
+  view = view_shut facts.view ended;
+  radio = radio_shut facts.radio ended;
+  received = received_shut facts.received ended;
+}
 unfolding view_noted
 shut_is facts [] = refl
 shut_is facts (one ∷ ended) = shut_is (facts_shut facts one) ended
@@ -148,6 +162,7 @@ abbrev pub facts_opening : LinkSetup → Facts → Facts
 facts_opening link facts = record facts {
   view = view_opened link facts.view;
   links = with_link (record { link = link; opened = facts.turn.slot }) facts.links;
+  received = received_past (link_at link.handle facts.links) link.handle facts.received;
   radio = radio_stopped link.role facts.radio;
   advertising = record facts.advertising { on = advertiser_stopped link.role facts.advertising.on };
   initiator = initiator_stopped link.role facts.initiator;
@@ -166,6 +181,7 @@ opening_is link facts =
     stopped_is link.role (record facts {
       view = view_noted facts.view (note_opened link);
       links = with_link (record { link = link; opened = facts.turn.slot }) facts.links;
+      received = received_past (link_at link.handle facts.links) link.handle facts.received;
     })
     ∙ (λ i. record (facts_opening link facts) { view = opened_view link facts.view i })
 
@@ -237,7 +253,7 @@ exchange_if_may false role handle = tt
 
 second_may : (handle : ℕ) (link : Option OpenLink) → MayBegin (second_exchange handle link)
 second_may handle None = tt
-second_may handle (Some link) = exchange_if_may (facts_in link).event.continues link.setup.link.role handle
+second_may handle (Some link) = exchange_if_may (has_second_exchange (facts_in link)) link.setup.link.role handle
 
 won_may : (slot : ℕ) (activity : Activity) (facts : Facts) → MayBegin (doing_won slot activity facts)
 won_may slot (Link handle) facts = first_may handle (link_at handle facts.links)
@@ -261,6 +277,10 @@ IsInTurn (PacketHeard octets) = ⊤
 IsInTurn NothingHeard = ⊤
 IsInTurn TurnEnds = ⊤
 
+-- a link that is to have an exchange fixes its PDU
+abbrev pub facts_fixing : Doing → Facts → Facts
+facts_fixing doing facts = record facts { links = links_fixing doing facts.links }
+
 -- each part of the beginning of a turn keeps what is left of it there, and what is done next makes it whole again
 pub record IsKeptAtStarts (weak fact : Facts → Type 0) : Type 0 where
   pub weakens : (facts : Facts) → fact facts → weak facts
@@ -268,17 +288,25 @@ pub record IsKeptAtStarts (weak fact : Facts → Type 0) : Type 0 where
   pub begins : (slot : ℕ) (facts : Facts) → weak facts → weak (turn_begins slot facts)
   pub enters : (slot : ℕ) (facts : Facts) → weak facts → weak (facts_entering slot facts)
   pub wins : (slot : ℕ) (activity : Activity) (facts : Facts) → weak facts → weak (facts_winning slot activity facts)
+  pub fixes : (doing : Doing) (facts : Facts) → weak facts → weak (facts_fixing doing facts)
   pub does : (doing : Doing) (facts : Facts) → MayBegin doing → weak facts → fact (facts_doing doing facts)
 
--- and so does what comes of a phase
+-- and so does what comes of a phase, and what the host receives as the turn ends
 pub record IsKeptInTurns (setup : Setup) (weak fact : Facts → Type 0) : Type 0 where
   pub starts : IsKeptAtStarts weak fact
+  pub reports : (facts : Facts) → weak facts → weak (facts_ended_turn facts)
   pub passes : (facts : Facts) → fact facts → EachOutcome setup facts (λ outcome. fact (facts_passed outcome))
 
--- and so does each command that is read and accepted
+-- a packet of the host is kept
+abbrev pub facts_given : ℕ → Bool → List ℕ → Facts → Facts
+facts_given handle start octets facts = record facts { links = links_given handle start octets facts.links }
+
+-- and so does each command that is read and accepted, and each packet that is kept
 pub record IsKept (setup : Setup) (weak fact : Facts → Type 0) : Type 0 where
   pub accepted : (facts : Facts) (opcode : ℕ) (octets : List ℕ) (command : Command) → command_of opcode octets ≡ Known command
       → status_of facts.view command ≡ 0 → fact facts → fact (facts_accepted setup facts command)
+  pub given : (facts : Facts) (handle count : ℕ) (start : Bool) (octets : List ℕ) → offer_of setup facts handle count ≡ Kept
+      → fact facts → fact (facts_given handle start octets facts)
   pub octet : (facts : Facts) (octet : ℕ) → fact facts → fact (with_octet octet facts)
   pub turns : IsKeptInTurns setup weak fact
 
@@ -300,31 +328,63 @@ holds_by setup fact false facts command later holds = holds
 
 -- ---- a turn
 
+-- what is done as a turn begins, whatever has the radio
+module _ (weak : Facts → Type 0)
+    (wins : (slot : ℕ) (activity : Activity) (facts : Facts) → weak facts → weak (facts_winning slot activity facts))
+    (P : Outcome → Type 0) (does : (doing : Doing) (facts : Facts) → MayBegin doing → weak facts → P (goes_on facts doing)) where
+  winner_is : (slot : ℕ) (winner : Option Activity) (facts : Facts) → weak facts → P (winner_served slot winner facts)
+  winner_is slot None facts holds = does Rests facts tt holds
+  winner_is slot (Some activity) facts holds =
+      does (doing_won slot activity facts) (facts_won slot activity facts) (won_may slot activity facts)
+      (subst weak (sym (winning_is slot activity facts)) (wins slot activity facts holds))
+
+  radio_is : (held : Bool) (slot : ℕ) (winner : Option Activity) (facts : Facts) → weak facts → P (radio_served held slot winner facts)
+  radio_is true slot winner facts holds =
+      does (doing_held slot facts.radio.holder facts) facts (held_may slot facts.radio.holder facts) holds
+  radio_is false slot winner facts holds = winner_is slot winner facts holds
+
+  pub served_is : (on : Bool) (slot : ℕ) (winner : Option Activity) (facts : Facts) → weak facts → P (served on slot winner facts)
+  served_is false slot winner facts holds = does Rests facts tt holds
+  served_is true slot winner facts holds = radio_is (is_held_in facts.radio.hold slot) slot winner facts holds
+
+-- what is held as the links enter their events, and what is left of a fact there
+abbrev pub facts_before_doing : ℕ → Facts → Facts
+facts_before_doing slot facts = facts_entering slot (turn_begins slot (facts_ending slot facts))
+
+abbrev pub winner_before_doing : ℕ → Facts → Option Activity
+winner_before_doing slot facts = winner_of (plan_in slot (turn_begins slot (facts_ending slot facts))) slot
+
+-- the same of what is left of a fact, without what is done next
+module _ (weak : Facts → Type 0) (ends : (slot : ℕ) (facts : Facts) → weak facts → weak (facts_ended slot facts))
+    (begins : (slot : ℕ) (facts : Facts) → weak facts → weak (turn_begins slot facts))
+    (enters : (slot : ℕ) (facts : Facts) → weak facts → weak (facts_entering slot facts))
+    (wins : (slot : ℕ) (activity : Activity) (facts : Facts) → weak facts → weak (facts_winning slot activity facts))
+    (fixes : (doing : Doing) (facts : Facts) → weak facts → weak (facts_fixing doing facts)) where
+  pub left_entering : (slot : ℕ) (facts : Facts) → weak facts → weak (facts_before_doing slot facts)
+  left_entering slot facts holds =
+      let ended = subst weak (sym (ending_is slot facts)) (ends slot facts holds) in
+      let begun = turn_begins slot (facts_ending slot facts) in
+      enters slot begun (begins slot (facts_ending slot facts) ended)
+
+  pub left_doing : (P : Doing → Facts → Type 0) → ((doing : Doing) (facts : Facts) → MayBegin doing → weak facts → P doing facts)
+      → (slot : ℕ) (on : Bool) (facts : Facts) → weak facts → P (outcome_begun slot on facts).next (outcome_begun slot on facts).facts
+  left_doing P does slot on facts holds =
+      served_is weak wins (λ outcome. P (fixing outcome).next (fixing outcome).facts)
+      (λ doing facts may holds. does doing (facts_fixing doing facts) may (fixes doing facts holds)) on slot
+      (winner_before_doing slot facts) (facts_before_doing slot facts) (left_entering slot facts holds)
+
 module _ (weak fact : Facts → Type 0) (kept : IsKeptAtStarts weak fact) where
-  holds_winner : (slot : ℕ) (winner : Option Activity) (facts : Facts) → weak facts
-      → fact (facts_passed (winner_served slot winner facts))
-  holds_winner slot None facts holds = kept.does Rests facts tt holds
-  holds_winner slot (Some activity) facts holds =
-      kept.does (doing_won slot activity facts) (facts_won slot activity facts) (won_may slot activity facts)
-      (subst weak (sym (winning_is slot activity facts)) (kept.wins slot activity facts holds))
+  pub left_before_doing : (slot : ℕ) (facts : Facts) → fact facts → weak (facts_before_doing slot facts)
+  left_before_doing slot facts holds =
+      left_entering weak kept.ends kept.begins kept.enters kept.wins kept.fixes slot facts (kept.weakens facts holds)
 
-  holds_radio : (held : Bool) (slot : ℕ) (winner : Option Activity) (facts : Facts) → weak facts
-      → fact (facts_passed (radio_served held slot winner facts))
-  holds_radio true slot winner facts holds =
-      kept.does (doing_held slot facts.radio.holder facts) facts (held_may slot facts.radio.holder facts) holds
-  holds_radio false slot winner facts holds = holds_winner slot winner facts holds
-
-  holds_served : (on : Bool) (slot : ℕ) (winner : Option Activity) (facts : Facts) → weak facts
-      → fact (facts_passed (served on slot winner facts))
-  holds_served false slot winner facts holds = kept.does Rests facts tt holds
-  holds_served true slot winner facts holds = holds_radio (is_held_in facts.radio.hold slot) slot winner facts holds
+  pub begun_doing : (P : Doing → Facts → Type 0) → ((doing : Doing) (facts : Facts) → MayBegin doing → weak facts → P doing facts)
+      → (slot : ℕ) (on : Bool) (facts : Facts) → fact facts → P (outcome_begun slot on facts).next (outcome_begun slot on facts).facts
+  begun_doing P does slot on facts holds =
+      left_doing weak kept.ends kept.begins kept.enters kept.wins kept.fixes P does slot on facts (kept.weakens facts holds)
 
   pub start_keeps : (slot : ℕ) (on : Bool) (facts : Facts) → fact facts → fact (facts_passed (outcome_begun slot on facts))
-  start_keeps slot on facts holds =
-      let ended = subst weak (sym (ending_is slot facts)) (kept.ends slot facts (kept.weakens facts holds)) in
-      let begun = turn_begins slot (facts_ending slot facts) in
-      holds_served on slot (winner_of (plan_in slot begun) slot) (facts_entering slot begun)
-      (kept.enters slot begun (kept.begins slot (facts_ending slot facts) ended))
+  start_keeps slot on facts holds = begun_doing (λ doing facts. fact (facts_doing doing facts)) kept.does slot on facts holds
 
 module _ (setup : Setup) (weak fact : Facts → Type 0) (kept : IsKeptInTurns setup weak fact) where
   pub turn_keeps : (facts : Facts) (step : Step) → IsInTurn step → fact facts → fact (facts_after setup facts step)
@@ -334,7 +394,8 @@ module _ (setup : Setup) (weak fact : Facts → Type 0) (kept : IsKeptInTurns se
       heard_is setup facts (λ outcome. fact (facts_passed outcome)) (kept.passes facts holds) facts.turn.doing octets refl
   turn_keeps facts NothingHeard turn holds =
       unheard_is setup facts (λ outcome. fact (facts_passed outcome)) (kept.passes facts holds) facts.turn.doing refl
-  turn_keeps facts TurnEnds turn holds = kept.starts.does Rests facts tt (kept.starts.weakens facts holds)
+  turn_keeps facts TurnEnds turn holds =
+      kept.starts.does Rests (facts_ended_turn facts) tt (kept.reports facts (kept.starts.weakens facts holds))
 
 -- ---- all steps
 
@@ -348,9 +409,17 @@ module _ (setup : Setup) (weak fact : Facts → Type 0) (kept : IsKept setup wea
   holds_read facts opcode octets UnknownOpcode is holds = holds
   holds_read facts opcode octets BadLength is holds = holds
 
+  holds_offered : (offer : Offer) (facts : Facts) (handle count : ℕ) (start : Bool) (octets : List ℕ) → offer_of setup facts handle count ≡ offer
+      → fact facts → fact (facts_offered offer handle start octets facts)
+  holds_offered Kept facts handle count start octets is holds = kept.given facts handle count start octets is holds
+  holds_offered NoLink facts handle count start octets is holds = holds
+  holds_offered Empty facts handle count start octets is holds = holds
+  holds_offered Overflow facts handle count start octets is holds = holds
+
   holds_fed : (facts : Facts) (fed : Fed) → fact facts → fact (facts_fed setup facts fed)
   holds_fed facts (Packet (HostCommand opcode body)) holds = holds_read facts opcode body.items (command_of opcode body.items) refl holds
-  holds_fed facts (Packet (Acl handle start count body)) holds = holds
+  holds_fed facts (Packet (Acl handle start count body)) holds =
+      holds_offered (offer_of setup facts handle count) facts handle count start body.items refl holds
   holds_fed facts LostSync holds = holds
   holds_fed facts More holds = holds
 

@@ -32,12 +32,15 @@ use Rattle.one_side.specs.Facts.{Setup, Facts}
 use Rattle.one_side.specs.Answers.{answer_to}
 use Rattle.one_side.specs.Commands.{events_caused, notes_before, notes_commanded, notes_known}
 use Rattle.one_side.specs.Entering.{IsEntered, begins_turn}
+use Rattle.one_side.specs.Data.{offer_of}
 use Rattle.one_side.specs.Events.{notes_of_events}
 use Rattle.one_side.specs.Links.{ends_in, facts_ending, note_shut, notes_ending}
+use Rattle.one_side.specs.Outcome.{notes_passed}
+use Rattle.one_side.specs.Radio.{outcome_begun}
 use Rattle.one_side.specs.Side.{facts_of, notes_after, notes_fed, result_of}
 use Rattle.one_side.proofs.Always.{ending_is}
 use Rattle.one_side.proofs.Handles.{own_handles}
-use Rattle.one_side.proofs.LinkNotes.{AreIn, IsOfOthers, all_in, ends_too, events_too, first_in, phase_too, rest_in}
+use Rattle.one_side.proofs.LinkNotes.{AreIn, IsOfOthers, all_in, doing_too, ended_turn_too, ends_too, events_too, first_in, offered_too, phase_too, rest_in}
 use Rattle.one_side.proofs.Phases.{heard_is, unheard_is}
 
 -- ---- a link that enters an event
@@ -136,7 +139,7 @@ module _ (P : Note → Type 0) (of : IsOfOthers P) (shut : (handle reason : ℕ)
 
   fed_too : (setup : Setup) (facts : Facts) (fed : Fed) → All P (notes_fed setup facts fed)
   fed_too setup facts (Packet (HostCommand opcode body)) = read_too setup facts opcode (command_of opcode body.items)
-  fed_too setup facts (Packet (Acl handle start count body)) = All-nil P
+  fed_too setup facts (Packet (Acl handle start count body)) = offered_too P of facts.view (offer_of setup facts handle count) handle
   fed_too setup facts LostSync = events_too P of facts.view (HardwareError 0x01 ∷ [])
   fed_too setup facts More = All-nil P
 
@@ -147,16 +150,20 @@ module _ (P : Note → Type 0) (of : IsOfOthers P) (shut : (handle reason : ℕ)
 
 -- the first part of what is noted as a turn begins, and the second
 others_pass : (slot : ℕ) (links : Links) → IsOfOthers (IsEntry slot links)
-others_pass slot links = record { up = λ event. tt; opened = λ link. tt }
+others_pass slot links = record { up = λ octets. tt; opened = λ link. tt; sent = λ handle number llid octets. tt; took = λ handle number llid octets. tt }
 
 begun_is : (slot : ℕ) (on : Bool) (setup : Setup) (facts : Facts) → HaveHandles 0 facts.links
     → All (IsEntry slot facts.links) (notes_after setup facts (TurnBegins slot on))
 begun_is slot on setup facts have =
     let P = IsEntry slot facts.links in
-    All-append P (notes_ending slot facts) (notes_entering slot (facts_ending slot facts).links)
+    let ends = notes_ending slot facts in
+    let enters = notes_entering slot (facts_ending slot facts).links in
+    All-append P (ends ++ enters) _
+    (All-append P ends enters
     (ending_too P (others_pass slot facts.links) (λ handle reason. tt) slot facts)
     (subst (λ (next : Facts). All P (notes_entering slot next.links)) (sym (ending_is slot facts))
-    (entries_are slot facts.links 0 facts.links have (all_in facts.links)))
+    (entries_are slot facts.links 0 facts.links have (all_in facts.links))))
+    (doing_too P (others_pass slot facts.links) (outcome_begun slot on facts).next (outcome_begun slot on facts).facts)
 
 -- a note of an event is noted only as a turn begins
 abbrev IsNoEntryUnless : Bool → Note → Type 0
@@ -164,7 +171,7 @@ IsNoEntryUnless begins (Enter handle event channel) = begins ≡ true
 IsNoEntryUnless begins other = ⊤
 
 others_let : (begins : Bool) → IsOfOthers (IsNoEntryUnless begins)
-others_let begins = record { up = λ event. tt; opened = λ link. tt }
+others_let begins = record { up = λ octets. tt; opened = λ link. tt; sent = λ handle number llid octets. tt; took = λ handle number llid octets. tt }
 
 begun_let : (notes : List Note) → All (IsNoEntryUnless true) notes
 begun_let [] = All-nil (IsNoEntryUnless true)
@@ -180,11 +187,11 @@ only_begun setup facts (HostOctet octet) =
 only_begun setup facts (TurnBegins slot on) = begun_let (notes_after setup facts (TurnBegins slot on))
 only_begun setup facts (PacketHeard octets) =
     let P = IsNoEntryUnless false in
-    heard_is setup facts (λ outcome. All P outcome.notes) (phase_too P (others_let false) setup facts) facts.turn.doing octets refl
+    heard_is setup facts (λ outcome. All P (notes_passed outcome)) (phase_too P (others_let false) setup facts) facts.turn.doing octets refl
 only_begun setup facts NothingHeard =
     let P = IsNoEntryUnless false in
-    unheard_is setup facts (λ outcome. All P outcome.notes) (phase_too P (others_let false) setup facts) facts.turn.doing refl
-only_begun setup facts TurnEnds = All-nil (IsNoEntryUnless false)
+    unheard_is setup facts (λ outcome. All P (notes_passed outcome)) (phase_too P (others_let false) setup facts) facts.turn.doing refl
+only_begun setup facts TurnEnds = ended_turn_too (IsNoEntryUnless false) (others_let false) facts
 
 pub enters_as_turns_begin : (setup : Setup) (past : List Step) (step : Step) (handle event channel : ℕ)
     → Contains (notes_after setup (facts_of setup past) step) (Enter handle (record { 0 = event }) channel) → begins_turn step ≡ true
@@ -259,7 +266,8 @@ enters_at_anchors setup past slot on handle event channel =
     let facts = facts_of setup past in
     let have = (own_handles setup past).handles in (
       λ noted. All-contains (IsEntry slot facts.links) (notes_after setup facts (TurnBegins slot on)) _ (begun_is slot on setup facts have) noted,
-      λ entered. Contains-append_right (notes_ending slot facts) (notes_entering slot (facts_ending slot facts).links) _
+      λ entered. Contains-append_left (notes_ending slot facts ++ notes_entering slot (facts_ending slot facts).links) _ _
+          (Contains-append_right (notes_ending slot facts) (notes_entering slot (facts_ending slot facts).links) _
           (subst (λ (next : Facts). Contains (notes_entering slot next.links) (Enter handle (record { 0 = event }) channel)) (sym (ending_is slot facts))
-          (noted_entering slot handle event channel facts.links have entered)),
+          (noted_entering slot handle event channel facts.links have entered))),
     )

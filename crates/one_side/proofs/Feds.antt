@@ -16,6 +16,9 @@ use Rattle.host_view.specs.Unbuilt.{status_of}
 use Rattle.one_side.specs.Step.{Step, HostOctet, TurnBegins, PacketHeard, NothingHeard, TurnEnds}
 use Rattle.one_side.specs.Facts.{Setup, Facts, first_facts}
 use Rattle.one_side.specs.Commands.{facts_commanded, facts_known}
+use Rattle.open_links.specs.declared.offers.Offer.{Offer}
+use Rattle.open_links.specs.declared.offers.Offer.TheVariants.{NoLink, Empty, Overflow, Kept}
+use Rattle.one_side.specs.Data.{facts_offered, offer_of}
 use Rattle.one_side.specs.Heard.{link_taken}
 use Rattle.one_side.specs.Side.{facts_after, facts_fed, first_result, result_of}
 use Rattle.one_side.proofs.Always.{IsInTurn, IsKeptInTurns, opening_passes, turn_keeps}
@@ -57,9 +60,16 @@ commanded_octets setup facts (Known command) = known_octets (status_of facts.vie
 commanded_octets setup facts UnknownOpcode = refl
 commanded_octets setup facts BadLength = refl
 
+offered_octets : (offer : Offer) (handle : ℕ) (start : Bool) (octets : List ℕ) (facts : Facts)
+    → (facts_offered offer handle start octets facts).octets ≡ facts.octets
+offered_octets Kept handle start octets facts = refl
+offered_octets NoLink handle start octets facts = refl
+offered_octets Empty handle start octets facts = refl
+offered_octets Overflow handle start octets facts = refl
+
 pub fed_octets : (setup : Setup) (facts : Facts) (fed : Fed) → (facts_fed setup facts fed).octets ≡ facts.octets
 fed_octets setup facts (Packet (HostCommand opcode body)) = commanded_octets setup facts (command_of opcode body.items)
-fed_octets setup facts (Packet (Acl handle start count body)) = refl
+fed_octets setup facts (Packet (Acl handle start count body)) = offered_octets (offer_of setup facts handle count) handle start body.items facts
 fed_octets setup facts LostSync = refl
 fed_octets setup facts More = refl
 
@@ -101,8 +111,10 @@ octets_kept setup octets = record {
     begins = λ slot facts is. is;
     enters = λ slot facts is. is;
     wins = λ slot activity facts is. is;
+    fixes = λ doing facts is. is;
     does = λ doing facts may is. is;
   };
+  reports = λ facts is. is;
   passes = λ facts is. record {
     rests = is;
     awaits_request = λ channel doing. is;

@@ -3,6 +3,7 @@ use Rattle.std.proofs.Common.{◌≡◌, ℕ, zero, suc, ◌+◌, ◌-◌, ◌<�
 use Rattle.std.specs.Prelude.{is_some, slice_set, ◌&&◌, ⊤, ◌⊎◌, IsSome}
 use Rattle.std.proofs.Math.ListN.{set}
 use Rattle.std.proofs.lemmas.List.{length-map, map-set, set-append_left}
+use Rattle.acl_banks.specs.declared.pieces.Piece.{Piece}
 use Rattle.ble_base.specs.declared.roles.Role.{Role}
 use Rattle.ble_base.specs.declared.roles.Role.TheVariants.{Central, Peripheral}
 use Rattle.ble_base.specs.declared.addresses.Address.{Address}
@@ -27,8 +28,9 @@ use Rattle.scan_init.specs.Reports.{ScannerFacts, does_ask, scan_answer}
 use Rattle.slot_plan.specs.declared.Activity.{Activity}
 use Rattle.slot_plan.specs.declared.Activity.TheVariants.{Link, Advertise, Scan, Initiate}
 use Rattle.one_end.specs.declared.setup.LinkSetup.{LinkSetup}
-use Rattle.one_end.specs.Step.{PacketReceived}
+use Rattle.one_end.specs.Step.{DataGiven, PacketReceived}
 use Rattle.open_links.specs.declared.ended.LinkEnded.{LinkEnded}
+use Rattle.open_links.specs.Data.{link_reported}
 use Rattle.open_links.specs.OpenLinks.{Links, OpenLink, free_from, link_after, link_at, new_link, with_link}
 use Rattle.open_links.specs.Turns.{link_entered}
 use Rattle.one_side.specs.declared.doing.Doing.{Doing}
@@ -36,15 +38,15 @@ use Rattle.one_side.specs.declared.doing.Doing.TheVariants.{Advertises, AwaitsRe
 use Rattle.one_side.specs.Step.{Step}
 use Rattle.one_side.specs.Facts.{Setup, Facts, first_facts}
 use Rattle.one_side.specs.Commands.{facts_accepted, links_after}
-use Rattle.one_side.specs.Heard.{asks_if, facts_connecting, fields_sent, link_made, link_received, link_taken, replies_in, reply_if, scanner_after, with_scanner}
+use Rattle.one_side.specs.Heard.{has_room, asks_if, facts_connecting, fields_sent, link_made, link_received, link_taken, replies_in, reply_if, scanner_after, with_scanner}
 use Rattle.one_side.specs.Links.{ends_in}
 use Rattle.one_side.specs.Outcome.{facts_passed}
 use Rattle.one_side.specs.Packets.{facts_doing}
-use Rattle.one_side.specs.Radio.{facts_entering, served_if_on, turn_begins}
+use Rattle.one_side.specs.Radio.{served_if_on, turn_begins}
 use Rattle.one_side.specs.Side.{facts_of, with_octet}
 use Rattle.one_side.proofs.Always.{IsKept, MayBegin, advertiser_stopped, advertiser_won, advertising_noted, always, facts_ended, facts_opening, facts_winning, initiating_noted, initiator_stopped, links_shut, opening_passes}
 use Rattle.one_side.proofs.Handles.{HaveOwnHandles, IsNew, free_is_new, handles_kept, own_handles}
-use Rattle.one_side.proofs.OpenPlaces.{changed_opens, ended_agree, first_opens, is_reset, many, many-append, many_full, many_none, many_opened, many_shut, mapped_opens, opened_opens, opens, reset_opens, sent_opens, view_opens, won_opens}
+use Rattle.one_side.proofs.OpenPlaces.{changed_opens, ended_agree, first_opens, fixed_opens, is_reset, many, many-append, many_full, many_none, many_opened, many_shut, mapped_opens, opened_opens, opens, reset_opens, sent_opens, view_opens, won_opens}
 use Rattle.one_side.proofs.Phases.{EachOutcome}
 use Rattle.one_side.proofs.Room.{HasRoom, KnowsAdvertising, OnKind, initiates_after, knows_after, limit_after, may_connect, room_after}
 
@@ -150,9 +152,9 @@ ended_known setup slot facts known = record {
 }
 
 -- where links are open as they were, all is known as it was
-links_known : (setup : Setup) (facts : Facts) (links : Links) → opens links ≡ opens facts.links → IsKnown setup facts
-    → IsKnown setup (record facts { links = links })
-links_known setup facts links same known = record {
+links_known : (setup : Setup) (facts : Facts) (links : Links) (received : List (ℕ × Piece)) → opens links ≡ opens facts.links → IsKnown setup facts
+    → IsKnown setup (record facts { links = links; received = received })
+links_known setup facts links received same known = record {
   limit = known.limit;
   places = known.places ∙ ap (λ (places : List Bool). places ++ spare setup) (sym same);
   advertising = known.advertising;
@@ -375,10 +377,11 @@ passes_in_step setup facts step =
           (doing_known setup (Connects channel link) (facts_connecting setup facts) (connecting_known setup facts known), refl);
       received = λ handle octets.
           let replies = replies_in (link_at handle facts.links) octets in
-          let change = link_after (PacketReceived facts.turn.slot octets) in
+          let room = has_room setup facts in
+          let change = link_after (PacketReceived facts.turn.slot octets room) in
           in_step setup _ (own.received handle octets) (
-            doing_known setup (reply_if replies handle) (link_received handle octets facts)
-                (links_known setup facts (link_received handle octets facts).links (changed_opens change handle facts.links) known),
+            doing_known setup (reply_if replies handle) (link_received handle room octets facts)
+                (links_known setup facts _ _ (changed_opens change handle facts.links) known),
             reply_central replies handle,
           );
     }
@@ -406,6 +409,9 @@ step_kept setup few = record {
   accepted = λ facts opcode octets command is accepted step.
       in_step setup _ ((handles_kept setup).accepted facts opcode octets command is accepted step.own)
       (accepted_known setup facts command few step.own.many accepted step.known, step.central);
+  given = λ facts handle count start octets is step.
+      in_step setup _ ((handles_kept setup).given facts handle count start octets is step.own)
+      (links_known setup facts _ facts.received (changed_opens (link_after (DataGiven start octets)) handle facts.links) step.known, step.central);
   octet = λ facts octet step.
       in_step setup _ ((handles_kept setup).octet facts octet step.own) (octet_known setup octet facts step.known, step.central);
   turns = record {
@@ -417,13 +423,19 @@ step_kept setup few = record {
           in_step setup _ ((handles_kept setup).turns.starts.begins slot facts step.own) (begins_known setup slot facts step.known, step.central);
       enters = λ slot facts step.
           in_step setup _ ((handles_kept setup).turns.starts.enters slot facts step.own)
-          (links_known setup facts (facts_entering slot facts).links (mapped_opens (link_entered slot) facts.links) step.known, step.central);
+          (links_known setup facts _ facts.received (mapped_opens (link_entered slot) facts.links) step.known, step.central);
       wins = λ slot activity facts step.
           in_step setup _ ((handles_kept setup).turns.starts.wins slot activity facts step.own) (won_known setup slot activity facts step.known, step.central);
+      fixes = λ doing facts step.
+          in_step setup _ ((handles_kept setup).turns.starts.fixes doing facts step.own)
+          (links_known setup facts _ facts.received (fixed_opens doing facts.links) step.known, step.central);
       does = λ doing facts may step.
           in_step setup _ ((handles_kept setup).turns.starts.does doing facts may step.own)
           (doing_known setup doing facts step.known, begin_central doing may);
     };
+    reports = λ facts step.
+        in_step setup _ ((handles_kept setup).turns.reports facts step.own)
+        (links_known setup facts _ [] (mapped_opens link_reported facts.links) step.known, step.central);
     passes = λ facts step. passes_in_step setup facts step;
   };
 }

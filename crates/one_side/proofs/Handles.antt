@@ -1,8 +1,9 @@
 -- The links of a controller: as many places as it can hold links, each link under its own handle, and a new one under a
 -- free handle.
-use Rattle.std.proofs.Common.{◌≡◌, ℕ, ◌+◌, ◌<◌, ◌==◌, Bool, true, false, Option, Some, None, List, [], ◌∷◌, length, map, refl, ap, sym, subst, ◌∙◌, arith}
-use Rattle.std.specs.Prelude.{⊤, ◌&&◌, if◌then◌else◌}
+use Rattle.std.proofs.Common.{◌≡◌, ℕ, suc, ◌+◌, ◌<◌, ◌==◌, Bool, true, false, Option, Some, None, List, [], ◌∷◌, length, map, refl, ap, sym, subst, ◌∙◌, arith}
+use Rattle.std.specs.Prelude.{⊤, IfSome, ◌&&◌, nat_lt, if◌then◌else◌}
 use Rattle.std.specs.Option.{option_map}
+use Rattle.std.proofs.lemmas.List.{length-map}
 use Rattle.hci_cmd.specs.declared.command.Command.{Command}
 use Rattle.hci_cmd.specs.declared.command.Command.TheVariants.{Reset}
 use Rattle.adv_pdu.specs.declared.pdu.AdvPdu.{AdvPdu}
@@ -10,22 +11,24 @@ use Rattle.adv_pdu.specs.Pdu.{sender_of}
 use Rattle.scan_init.specs.Reports.{does_ask, scan_answer}
 use Rattle.one_end.specs.declared.setup.LinkSetup.{LinkSetup}
 use Rattle.one_end.specs.Setup.{Setup as EndSetup}
-use Rattle.one_end.specs.Step.{PacketSent, PacketReceived}
+use Rattle.one_end.specs.Step.{DataGiven, DataReported, PduFixed, PacketSent, PacketReceived}
 use Rattle.slot_plan.specs.declared.Activity.{Activity}
 use Rattle.slot_plan.specs.declared.Activity.TheVariants.{Link, Advertise, Scan, Initiate}
-use Rattle.open_links.specs.OpenLinks.{Links, OpenLink, HaveHandles, IsFreeHandle, free_from, link_after, link_at, link_from, link_served, with_change, with_change_from, without_links}
-use Rattle.open_links.specs.Turns.{link_entered, links_entered, links_staying, place_staying}
-use Rattle.open_links.proofs.Counts.{count_at_first, count_changing, count_ending, count_entering, count_opening, count_resetting}
-use Rattle.open_links.proofs.Ends.{enter_with_handles, stay_with_handles, stays_where_not_due}
-use Rattle.open_links.proofs.Handles.{changed_have, free_is, none_have, opened_has}
+use Rattle.open_links.specs.Data.{complete_in, link_reported}
+use Rattle.open_links.specs.OpenLinks.{Links, OpenLink, HasHandle, HaveHandles, IsFreeHandle, free_from, link_after, link_at, link_from, link_served, with_change, with_change_from, without_links}
+use Rattle.open_links.specs.Turns.{is_anchor, link_entered, links_staying, place_staying}
+use Rattle.open_links.proofs.Counts.{count_at_first, count_changing, count_ending, count_opening, count_resetting}
+use Rattle.open_links.proofs.Ends.{entered_setup, stay_with_handles, stays_where_not_due}
+use Rattle.open_links.proofs.Handles.{changed_have, free_is, none_have, opened_has, place_keeps}
 use Rattle.one_side.specs.declared.doing.Doing.{Doing}
-use Rattle.one_side.specs.declared.doing.Doing.TheVariants.{Advertises, AwaitsRequest, Responds, Requests, AwaitsResponse, Connects, CentralSends, CentralListens, PeripheralSends, Rests}
+use Rattle.one_side.specs.declared.doing.Doing.TheVariants.{Advertises, AwaitsRequest, Responds, Requests, AwaitsResponse, Connects, CentralSends, CentralListens, PeripheralListens, PeripheralSends, Rests}
 use Rattle.one_side.specs.Step.{Step}
 use Rattle.one_side.specs.Facts.{Setup, Facts}
 use Rattle.one_side.specs.Commands.{links_after}
-use Rattle.one_side.specs.Heard.{asks_if, facts_connecting, fields_sent, link_made, link_received, link_taken, opens, replies_in, reply_if, scanner_after, with_scanner}
+use Rattle.one_side.specs.Heard.{asks_if, facts_connecting, fields_sent, has_room, link_made, link_received, link_taken, opens, replies_in, reply_if, scanner_after, with_scanner}
 use Rattle.one_side.specs.Packets.{facts_doing, links_sending}
 use Rattle.one_side.specs.Outcome.{facts_passed}
+use Rattle.one_side.specs.Radio.{links_fixing}
 use Rattle.one_side.specs.Side.{facts_of}
 use Rattle.one_side.proofs.Always.{IsKept, MayBegin, always, links_won, opening_passes}
 use Rattle.one_side.proofs.Phases.{EachOutcome}
@@ -72,12 +75,29 @@ staying_opens slot links = record {
   free = λ handle none. stays_where_not_due slot 0 handle links ∙ ap (place_staying slot) none;
 }
 
-entering_opens : (slot : ℕ) (links : Links) → OpensNone links (links_entered slot links)
-entering_opens slot links = record {
-  many = count_entering slot links;
-  handles = λ have. enter_with_handles slot 0 links have;
-  free = λ handle none. map_keeps (option_map (link_entered slot)) refl 0 handle links none;
+mapped_have : (change : OpenLink → OpenLink) → ((link : OpenLink) → (change link).setup ≡ link.setup) → (first : ℕ) (links : Links)
+    → HaveHandles first links → HaveHandles first (map (option_map change) links)
+mapped_have change same first [] have = tt
+mapped_have change same first (place ∷ links) have =
+    (place_keeps change same first place have.0, mapped_have change same (first + 1) links have.1)
+
+pub mapped_opens : (change : OpenLink → OpenLink) (links : Links) → ((link : OpenLink) → (change link).setup ≡ link.setup)
+    → OpensNone links (map (option_map change) links)
+mapped_opens change links same = record {
+  many = length-map links (option_map change);
+  handles = λ have. mapped_have change same 0 links have;
+  free = λ handle none. map_keeps (option_map change) refl 0 handle links none;
 }
+
+pub entered_same : (slot : ℕ) (link : OpenLink) → (link_entered slot link).setup ≡ link.setup
+entered_same slot link = entered_setup (is_anchor slot link) slot link
+
+reported_if : (reports : Bool) (link : OpenLink) → (if reports then link_after DataReported link else link).setup ≡ link.setup
+reported_if true link = refl
+reported_if false link = refl
+
+pub reported_same : (link : OpenLink) → (link_reported link).setup ≡ link.setup
+reported_same link = reported_if (nat_lt 0 (complete_in link)) link
 
 -- a change of one place
 change_free : (change : Option OpenLink → Option OpenLink) → change None ≡ None → (first handle other : ℕ) (links : Links)
@@ -102,6 +122,13 @@ change_opens handle change links same = record {
   handles = λ have. changed_have handle change links same have;
   free = λ other none. change_free (option_map change) refl 0 handle other links none;
 }
+
+-- a link that fixes its PDU
+pub fixing_opens : (doing : Doing) (links : Links) → OpensNone links (links_fixing doing links)
+fixing_opens (CentralSends handle) links = change_opens handle (link_after PduFixed) links (λ link. refl)
+fixing_opens (PeripheralListens handle) links = change_opens handle (link_after PduFixed) links (λ link. refl)
+fixing_opens (Advertises channel) links = nothing_opens links
+fixing_opens other links = nothing_opens links
 
 -- ---- what is true at any time
 
@@ -151,7 +178,7 @@ command_opens : (command : Command) (links : Links) → OpensNone links (links_a
 command_opens Reset links = reset_opens links
 command_opens other links = nothing_opens links
 
-won_opens : (slot : ℕ) (activity : Activity) (links : Links) → OpensNone links (links_won slot activity links)
+pub won_opens : (slot : ℕ) (activity : Activity) (links : Links) → OpensNone links (links_won slot activity links)
 won_opens slot (Link handle) links = change_opens handle (link_served slot) links (λ link. refl)
 won_opens slot Advertise links = nothing_opens links
 won_opens slot Scan links = nothing_opens links
@@ -187,11 +214,11 @@ reply_if_fits : (setup : Setup) (replies : Bool) (handle : ℕ) (facts : Facts) 
 reply_if_fits setup true handle facts many handles = fits_doing setup (PeripheralSends handle) facts many handles tt
 reply_if_fits setup false handle facts many handles = fits_doing setup Rests facts many handles tt
 
-reply_fits : (setup : Setup) (replies : Bool) (handle : ℕ) (octets : List ℕ) (facts : Facts) → HaveOwnHandles setup facts
-    → HaveOwnHandles setup (facts_doing (reply_if replies handle) (link_received handle octets facts))
-reply_fits setup replies handle octets facts fits =
-    let opens = change_opens handle (link_after (PacketReceived facts.turn.slot octets)) facts.links (λ link. refl) in
-    reply_if_fits setup replies handle (link_received handle octets facts) (opens.many ∙ fits.many) (opens.handles fits.handles)
+reply_fits : (setup : Setup) (replies room : Bool) (handle : ℕ) (octets : List ℕ) (facts : Facts) → HaveOwnHandles setup facts
+    → HaveOwnHandles setup (facts_doing (reply_if replies handle) (link_received handle room octets facts))
+reply_fits setup replies room handle octets facts fits =
+    let opens = change_opens handle (link_after (PacketReceived facts.turn.slot octets room)) facts.links (λ link. refl) in
+    reply_if_fits setup replies handle (link_received handle room octets facts) (opens.many ∙ fits.many) (opens.handles fits.handles)
 
 passes_fits : (setup : Setup) (facts : Facts) → HaveOwnHandles setup facts
     → EachOutcome setup facts (λ outcome. HaveOwnHandles setup (facts_passed outcome))
@@ -208,23 +235,28 @@ passes_fits setup facts fits = record {
   connects = λ channel octets pdu on access handle doing is_on hears answers next free in_range.
       fits_doing setup (Connects channel (link_made on.params.own pdu (fields_sent setup on access facts) handle)) (facts_connecting setup facts)
       fits.many fits.handles (free_is_new facts.links handle free);
-  received = λ handle octets. reply_fits setup (replies_in (link_at handle facts.links) octets) handle octets facts fits;
+  received = λ handle octets.
+      reply_fits setup (replies_in (link_at handle facts.links) octets) (has_room setup facts) handle octets facts fits;
 }
 
 pub handles_kept : (setup : Setup) → IsKept setup (HaveOwnHandles setup) (HaveOwnHandles setup)
 handles_kept setup = record {
   accepted = λ facts opcode octets command is accepted fits.
       fits_still setup facts _ (command_opens command facts.links) refl fits;
+  given = λ facts handle count start octets is fits.
+      fits_still setup facts _ (change_opens handle (link_after (DataGiven start octets)) facts.links (λ link. refl)) refl fits;
   octet = λ facts octet fits. record { many = fits.many; handles = fits.handles; new = fits.new };
   turns = record {
     starts = record {
       weakens = λ facts fits. fits;
       ends = λ slot facts fits. fits_still setup facts _ (staying_opens slot facts.links) refl fits;
       begins = λ slot facts fits. record { many = fits.many; handles = fits.handles; new = fits.new };
-      enters = λ slot facts fits. fits_still setup facts _ (entering_opens slot facts.links) refl fits;
+      enters = λ slot facts fits. fits_still setup facts _ (mapped_opens (link_entered slot) facts.links (entered_same slot)) refl fits;
       wins = λ slot activity facts fits. fits_still setup facts _ (won_opens slot activity facts.links) refl fits;
+      fixes = λ doing facts fits. fits_still setup facts _ (fixing_opens doing facts.links) refl fits;
       does = λ doing facts may fits. fits_doing setup doing facts fits.many fits.handles (begin_new facts.links doing may);
     };
+    reports = λ facts fits. fits_still setup facts _ (mapped_opens link_reported facts.links reported_same) refl fits;
     passes = λ facts fits. passes_fits setup facts fits;
   };
 }
@@ -233,6 +265,32 @@ pub own_handles : (setup : Setup) (past : List Step) → HaveOwnHandles setup (f
 own_handles setup past =
     always setup (HaveOwnHandles setup) (HaveOwnHandles setup) (handles_kept setup)
     (record { many = count_at_first setup.links None; handles = none_have 0 setup.links; new = tt }) past
+
+-- a link that is open is under its own handle
+below_from : (first handle : ℕ) (links : Links) → HaveHandles first links
+    → IfSome (link_from first handle links) (λ link. link.setup.link.handle < first + length links)
+below_from first handle [] have = tt
+below_from first handle (place ∷ links) have =
+    at (first == handle) place have.0 (later (link_from (first + 1) handle links) (below_from (first + 1) handle links have.1))
+  where
+    later : (found : Option OpenLink) → IfSome found (λ link. link.setup.link.handle < first + 1 + length links)
+        → IfSome found (λ link. link.setup.link.handle < first + suc (length links))
+    later None below = tt
+    later (Some link) below = omega (arith, below)
+
+    here : (place : Option OpenLink) → HasHandle first place → IfSome place (λ link. link.setup.link.handle < first + suc (length links))
+    here None has = tt
+    here (Some link) has = omega (arith, has)
+
+    at : (test : Bool) (place : Option OpenLink) → HasHandle first place
+        → IfSome (link_from (first + 1) handle links) (λ link. link.setup.link.handle < first + suc (length links))
+        → IfSome (if test then place else link_from (first + 1) handle links) (λ link. link.setup.link.handle < first + suc (length links))
+    at true place has rest = here place has
+    at false place has rest = rest
+
+pub below_at : (handle : ℕ) (links : Links) → HaveHandles 0 links
+    → IfSome (link_at handle links) (λ link. link.setup.link.handle < 0 + length links)
+below_at handle links have = below_from 0 handle links have
 
 -- the handle of a link that is to be opened
 pub new_handle : (setup : Setup) (past : List Step) (channel : ℕ) (link : LinkSetup)

@@ -1,5 +1,5 @@
 -- The commands of a host are answered in order.
-use Rattle.std.proofs.Common.{◌≡◌, ℕ, ◌+◌, ◌*◌, ◌/◌, ◌%◌, ◌==◌, ◌||◌, Bool, true, false, List, [], ◌∷◌, ◌++◌, map, cond, inl, inr, refl, ap, sym, ◌∙◌, subst, append-nil, arith}
+use Rattle.std.proofs.Common.{◌≡◌, ℕ, ◌+◌, ◌*◌, ◌/◌, ◌%◌, ◌==◌, ◌||◌, Bool, true, false, Option, None, List, [], ◌∷◌, ◌++◌, map, cond, inl, inr, refl, ap, sym, ◌∙◌, subst, append-nil, arith}
 use Rattle.std.specs.Prelude.{◌&&◌, not, All}
 use Rattle.std.proofs.lemmas.Bool.Decides.{eqb_tells}
 use Rattle.std.proofs.lemmas.List.Elements.{All-head, All-tail}
@@ -18,14 +18,18 @@ use Rattle.hci_cmd.specs.declared.command.CmdRead.TheVariants.{Known, UnknownOpc
 use Rattle.hci_cmd.specs.Command.{command_of, layout_of, layouts}
 use Rattle.hci_evt.specs.Event.{written}
 use Rattle.hci_evt.specs.declared.event.Event.{Event}
-use Rattle.hci_evt.specs.declared.event.Event.TheVariants.{DisconnectionComplete, HardwareError, ConnectionComplete, AdvertisingReport, EnhancedConnection, ChannelSelection}
+use Rattle.hci_evt.specs.declared.event.Event.TheVariants.{DisconnectionComplete, HardwareError, CompletedPackets, BufferOverflow, ConnectionComplete, AdvertisingReport, EnhancedConnection, ChannelSelection}
 use Rattle.host_view.specs.View.{View}
 use Rattle.host_view.specs.Unbuilt.{status_of}
-use Rattle.open_links.specs.OpenLinks.{handles_from}
+use Rattle.open_links.specs.OpenLinks.{OpenLink, handles_from, link_at}
 use Rattle.one_side.specs.Step.{Step, HostOctet, TurnBegins, PacketHeard, NothingHeard, TurnEnds}
 use Rattle.one_side.specs.Facts.{Setup, Facts, first_facts}
 use Rattle.one_side.specs.Answers.{accepted_answer, answer_to, complete_answer, has_status_answer, is_host_completed, refused_fields, returned, status_answer}
 use Rattle.one_side.specs.Commands.{events_caused, notes_before, notes_commanded, notes_known}
+use Rattle.open_links.specs.declared.offers.Offer.{Offer}
+use Rattle.open_links.specs.declared.offers.Offer.TheVariants.{NoLink, Empty, Overflow, Kept}
+use Rattle.open_links.specs.Data.{offer_by}
+use Rattle.one_side.specs.Data.{is_full, notes_offered, offer_of}
 use Rattle.one_side.specs.Events.{notes_of_events}
 use Rattle.one_side.specs.Links.{connection_failed, note_shut, wants_enhanced}
 use Rattle.one_side.specs.Side.{facts_after, facts_of, notes_after, notes_fed, notes_from, notes_of, result_of}
@@ -157,6 +161,7 @@ none_among (note ∷ notes) are =
 turn_event : (event : Event) → IsOfTurn event → answers_noted (Up (record { items = written event })) ≡ []
 unfolding little_endian
 turn_event (DisconnectionComplete status handle reason) is = refl
+turn_event (CompletedPackets handle count) is = refl
 turn_event (ConnectionComplete status handle role peer_kind peer interval latency timeout accuracy) is = refl
 turn_event (AdvertisingReport kind address_kind address report rssi) is = refl
 turn_event (EnhancedConnection status handle role peer_kind peer local other interval latency timeout accuracy) is = refl
@@ -166,10 +171,13 @@ turn_event other is = absurd is
 each_silent : (most : ℕ) → EachNote most IsNoAnswer
 each_silent most = record {
   up = turn_event;
+  received = λ piece. refl;
   opened = λ link below. refl;
   shut = λ handle reason below. refl;
   applied = λ handle number event below. refl;
   entered = λ handle event channel below. refl;
+  sent = λ handle number llid octets below. refl;
+  took = λ handle number llid octets below. refl;
 }
 
 shut_say : (handles : List ℕ) → answers_among (map (λ handle. note_shut handle 0) handles) ≡ []
@@ -213,10 +221,23 @@ command_says setup facts opcode (Known command) starter =
 command_says setup facts opcode UnknownOpcode starter = read_says setup facts facts.view opcode UnknownOpcode starter
 command_says setup facts opcode BadLength starter = read_says setup facts facts.view opcode BadLength starter
 
+overflow_says : (passed : Bool)
+    → answers_among (map (λ event. Up (record { items = written event })) (cond passed (BufferOverflow 1 ∷ []) [])) ≡ []
+unfolding little_endian
+overflow_says true = refl
+overflow_says false = refl
+
+pub offered_says : (view : View) (offer : Offer) (handle : ℕ) → answers_among (notes_offered view offer handle) ≡ []
+unfolding little_endian
+offered_says view NoLink handle = refl
+offered_says view Empty handle = refl
+offered_says view Overflow handle = overflow_says (has_bit view.mask 25)
+offered_says view Kept handle = refl
+
 fed_says : (setup : Setup) (facts : Facts) (fed : Fed) → answers_among (notes_fed setup facts fed) ≡ said (commands_in facts fed)
 fed_says setup facts (Packet (HostCommand opcode body)) =
     command_says setup facts opcode (command_of opcode body.items) (starts_other body.items opcode)
-fed_says setup facts (Packet (Acl handle start count body)) = refl
+fed_says setup facts (Packet (Acl handle start count body)) = offered_says facts.view (offer_of setup facts handle count) handle
 fed_says setup facts LostSync = loss_says (has_bit facts.view.mask 15)
 fed_says setup facts More = refl
 
@@ -233,7 +254,7 @@ step_says setup facts (HostOctet octet) own = fed_says setup facts (result_of fa
 step_says setup facts (TurnBegins slot on) own = turn_says setup facts (TurnBegins slot on) own tt
 step_says setup facts (PacketHeard octets) own = turn_says setup facts (PacketHeard octets) own tt
 step_says setup facts NothingHeard own = turn_says setup facts NothingHeard own tt
-step_says setup facts TurnEnds own = refl
+step_says setup facts TurnEnds own = turn_says setup facts TurnEnds own tt
 
 said_keep : (b : Bool) (x : ℕ) (xs ys zs : List (ℕ × Bool)) → said zs ≡ said xs ++ said ys
     → map one_further (map as_two_octets (opcodes_of (cond b ((x, b) ∷ with_answer zs) (with_answer zs))))
@@ -258,3 +279,10 @@ says_from setup facts (step ∷ past) own =
 pub says : (setup : Setup) (past : List Step) → answers_among (notes_of setup past) ≡ said (commands_of setup past)
 unfolding notes_of commands_of facts_of
 says setup past = says_from setup (first_facts setup) past (own_handles setup [])
+
+-- ---- ACL data
+
+pub none_offered : (setup : Setup) (facts : Facts) (handle count : ℕ) (start : Bool) (octets : List ℕ) → link_at handle facts.links ≡ None
+    → notes_fed setup facts (Packet (Acl handle start count (record { items = octets }))) ≡ []
+none_offered setup facts handle count start octets none =
+    ap (λ (found : Option OpenLink). notes_offered facts.view (offer_by found count (is_full setup facts)) handle) none

@@ -18,10 +18,10 @@ use Rattle.one_side.specs.declared.doing.Doing.{Doing}
 use Rattle.one_side.specs.Facts.{Facts, Radio}
 use Rattle.one_side.specs.Links.{facts_ending}
 use Rattle.one_side.specs.Outcome.{facts_passed}
-use Rattle.one_side.specs.Radio.{advertiser_served, advertiser_wants, advertises_at, doing_held, facts_entering, initiates_on, initiator_channel, plan_in, radio_held, radio_served, scanner_channel, scans_on, served, served_if_on, turn_begins, want_if, wants_in}
+use Rattle.one_side.specs.Radio.{advertiser_served, advertiser_wants, advertises_at, doing_held, facts_entering, fixing, initiates_on, initiator_channel, plan_in, radio_held, radio_served, scanner_channel, scans_on, served, served_if_on, turn_begins, want_if, wants_in}
 use Rattle.one_side.specs.Intervals.{IsLeftOn, doing_at, doing_between, facts_in_turn, place_within, scans_or, turns_from}
-use Rattle.one_side.proofs.Always.{IsKeptAtStarts, ending_is, view_shut, radio_shut, start_keeps}
-use Rattle.one_side.proofs.NoLinks.{AreNone, none_end, none_map, none_sent, none_stay, none_won}
+use Rattle.one_side.proofs.Always.{ending_is, radio_shut, received_shut, start_keeps, view_shut}
+use Rattle.one_side.proofs.NoLinks.{AreNone, HasNone, none_end, none_kept, none_map, none_stay}
 
 -- ---- places in an interval
 
@@ -61,6 +61,7 @@ nothing_ends slot facts none =
       view = view_shut facts.view (none_end slot 0 facts.links none i);
       radio = radio_shut facts.radio (none_end slot 0 facts.links none i);
       links = none_stay slot facts.links none i;
+      received = received_shut facts.received (none_end slot 0 facts.links none i);
     })
 
 nothing_enters : (slot : ℕ) (facts : Facts) → AreNone facts.links → facts_entering slot facts ≡ facts
@@ -82,15 +83,15 @@ only_others_want slot facts none =
 
 -- the first phase of a turn, with what has the radio in it
 abbrev served_with : (held : Bool) → ℕ → Option Activity → Facts → Facts
-served_with held slot winner facts = facts_passed (radio_served held slot (cond held None winner) facts)
+served_with held slot winner facts = facts_passed (fixing (radio_served held slot (cond held None winner) facts))
 
 quiet_turn : (slot : ℕ) (facts : Facts) → AreNone facts.links
     → facts_in_turn slot facts
     ≡ served_with (is_held_in facts.radio.hold slot) slot (first_wanting slot (turn_begins slot facts)) (turn_begins slot facts)
 quiet_turn slot facts none =
-    ap (λ (ended : Facts). facts_passed (served true slot (winner_of (plan_in slot (turn_begins slot ended)) slot) (facts_entering slot (turn_begins slot ended))))
+    ap (λ (ended : Facts). facts_passed (fixing (served true slot (winner_of (plan_in slot (turn_begins slot ended)) slot) (facts_entering slot (turn_begins slot ended)))))
     (nothing_ends slot facts none)
-    ∙ ap (λ (entering : Facts). facts_passed (served true slot (winner_of (plan_in slot (turn_begins slot facts)) slot) entering))
+    ∙ ap (λ (entering : Facts). facts_passed (fixing (served true slot (winner_of (plan_in slot (turn_begins slot facts)) slot) entering)))
     (nothing_enters slot (turn_begins slot facts) none)
     ∙ ap (λ (winner : Option Activity). served_with (is_held_in facts.radio.hold slot) slot winner (turn_begins slot facts))
     (only_others_want slot (turn_begins slot facts) none)
@@ -318,19 +319,6 @@ nothing_open : (links : Links) → AreNone links → list_any is_some links ≡ 
 nothing_open [] none = refl
 nothing_open (None ∷ links) none = nothing_open links none
 nothing_open (Some link ∷ links) none = absurd none
-
-abbrev HasNone : Facts → Type 0
-HasNone facts = AreNone facts.links
-
-none_kept : IsKeptAtStarts HasNone HasNone
-none_kept = record {
-  weakens = λ facts none. none;
-  ends = λ slot facts none. subst AreNone (sym (none_stay slot facts.links none)) none;
-  begins = λ slot facts none. none;
-  enters = λ slot facts none. subst AreNone (sym (none_map (option_map (link_entered slot)) refl facts.links none)) none;
-  wins = λ slot activity facts none. subst AreNone (sym (none_won slot activity facts.links none)) none;
-  does = λ doing facts may none. subst AreNone (sym (none_sent facts.turn.slot doing facts.links none)) none;
-}
 
 turns_none : (start : ℕ) (facts : Facts) (n : ℕ) → HasNone facts → HasNone (turns_from start facts n)
 turns_none start facts zero none = none

@@ -76,6 +76,7 @@ long_kept : (setup : Setup) → IsKept setup IsLong IsLong
 long_kept setup = record {
   accepted = λ facts opcode octets command is accepted long.
       long_accepted setup facts.view facts.turn.begun command facts.advertising accepted long;
+  given = λ facts handle count start octets is long. long;
   octet = λ facts octet long. long;
   turns = record {
     starts = record {
@@ -85,8 +86,10 @@ long_kept setup = record {
       enters = λ slot facts long. long;
       wins = λ slot activity facts long.
           record { params_long = long.params_long; on_long = won_long slot activity facts.advertising.on long.on_long };
+      fixes = λ doing facts long. long;
       does = λ doing facts may long. long;
     };
+    reports = λ facts long. long;
     passes = λ facts long. record {
       rests = long;
       awaits_request = λ channel doing. long;

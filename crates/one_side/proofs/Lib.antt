@@ -3,6 +3,9 @@ pub mod Pasts
 pub mod Phases
 pub mod Always
 pub mod Handles
+pub mod Places
+pub mod Buffers
+pub mod BetweenTurns
 pub mod TurnNotes
 pub mod NotedLinks
 pub mod AnsweredOnce
@@ -29,6 +32,16 @@ pub mod FreeHandles
 pub mod AccessAddresses
 pub mod Answering
 pub mod LinkNotes
+pub mod OtherNotes
+pub mod Books
+pub mod BookSteps
+pub mod BookEnds
+pub mod PiecesBelow
+pub mod BooksAlways
+pub mod NoteBooks
+pub mod DataBooks
+pub mod ReportBooks
+pub mod OpenNotes
 pub mod Entries
 pub mod Shuts
 pub mod Resets

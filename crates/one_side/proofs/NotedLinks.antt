@@ -12,7 +12,7 @@ use Rattle.hci_cmd.specs.declared.command.CmdRead.{CmdRead}
 use Rattle.hci_cmd.specs.declared.command.CmdRead.TheVariants.{Known, UnknownOpcode, BadLength}
 use Rattle.hci_cmd.specs.Command.{command_of}
 use Rattle.hci_evt.specs.declared.event.Event.{Event}
-use Rattle.hci_evt.specs.declared.event.Event.TheVariants.{HardwareError}
+use Rattle.hci_evt.specs.declared.event.Event.TheVariants.{HardwareError, CompletedPackets, BufferOverflow}
 use Rattle.hci_evt.specs.Event.{mask_bit_of, written}
 use Rattle.host_view.specs.View.{View}
 use Rattle.host_view.specs.Unbuilt.{status_of}
@@ -20,6 +20,9 @@ use Rattle.one_side.specs.Step.{Step, HostOctet, TurnBegins, PacketHeard, Nothin
 use Rattle.one_side.specs.Facts.{Setup, Facts, first_facts}
 use Rattle.one_side.specs.Answers.{answer_to}
 use Rattle.one_side.specs.Commands.{events_caused, notes_before, notes_commanded, notes_known}
+use Rattle.open_links.specs.declared.offers.Offer.{Offer}
+use Rattle.open_links.specs.declared.offers.Offer.TheVariants.{NoLink, Empty, Overflow, Kept}
+use Rattle.one_side.specs.Data.{notes_offered, offer_of}
 use Rattle.one_side.specs.Events.{notes_of_events, passes}
 use Rattle.one_side.specs.Side.{facts_after, facts_of, notes_after, notes_fed, notes_from, notes_of, result_of}
 use Rattle.one_side.specs.Notes.{HasHandleBelow}
@@ -30,10 +33,13 @@ use Rattle.one_side.proofs.TurnNotes.{EachNote, shut_noted, turn_noted}
 each_named : (most : ℕ) → EachNote most (HasHandleBelow most)
 each_named most = record {
   up = λ event is. tt;
+  received = λ piece. tt;
   opened = λ link below. below;
   shut = λ handle reason below. below;
   applied = λ handle number event below. below;
   entered = λ handle event channel below. below;
+  sent = λ handle number llid octets below. below;
+  took = λ handle number llid octets below. below;
 }
 
 -- ---- a packet of the host
@@ -69,10 +75,17 @@ command_named setup facts opcode (Known command) many =
 command_named setup facts opcode UnknownOpcode many = events_named setup.links facts.view (answer_to setup facts opcode UnknownOpcode)
 command_named setup facts opcode BadLength many = events_named setup.links facts.view (answer_to setup facts opcode BadLength)
 
+offered_named : (most : ℕ) (view : View) (offer : Offer) (handle : ℕ) → All (HasHandleBelow most) (notes_offered view offer handle)
+offered_named most view NoLink handle = All-nil (HasHandleBelow most)
+offered_named most view Empty handle = events_named most view (CompletedPackets handle 1 ∷ [])
+offered_named most view Overflow handle = events_named most view (BufferOverflow 1 ∷ [])
+offered_named most view Kept handle = All-nil (HasHandleBelow most)
+
 fed_named : (setup : Setup) (facts : Facts) (fed : Fed) → length facts.links ≡ setup.links
     → All (HasHandleBelow setup.links) (notes_fed setup facts fed)
 fed_named setup facts (Packet (HostCommand opcode body)) many = command_named setup facts opcode (command_of opcode body.items) many
-fed_named setup facts (Packet (Acl handle start count body)) many = All-nil (HasHandleBelow setup.links)
+fed_named setup facts (Packet (Acl handle start count body)) many =
+    offered_named setup.links facts.view (offer_of setup facts handle count) handle
 fed_named setup facts LostSync many = events_named setup.links facts.view (HardwareError 0x01 ∷ [])
 fed_named setup facts More many = All-nil (HasHandleBelow setup.links)
 
@@ -84,7 +97,7 @@ step_named setup facts (HostOctet octet) own = fed_named setup facts (result_of 
 step_named setup facts (TurnBegins slot on) own = turn_noted setup.links _ (each_named setup.links) setup facts (TurnBegins slot on) refl own tt
 step_named setup facts (PacketHeard octets) own = turn_noted setup.links _ (each_named setup.links) setup facts (PacketHeard octets) refl own tt
 step_named setup facts NothingHeard own = turn_noted setup.links _ (each_named setup.links) setup facts NothingHeard refl own tt
-step_named setup facts TurnEnds own = All-nil (HasHandleBelow setup.links)
+step_named setup facts TurnEnds own = turn_noted setup.links _ (each_named setup.links) setup facts TurnEnds refl own tt
 
 pub step_names_links : (setup : Setup) (past : List Step) (step : Step)
     → All (HasHandleBelow setup.links) (notes_after setup (facts_of setup past) step)

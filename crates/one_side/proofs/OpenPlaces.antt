@@ -14,14 +14,15 @@ use Rattle.host_view.specs.declared.links.Link.{Link as ViewLink}
 use Rattle.host_view.specs.View.{View}
 use Rattle.host_view.specs.Changes.{after_count, after_counts, changed_at, view_after}
 use Rattle.host_view.specs.Links.{link_in}
-use Rattle.one_end.specs.Step.{PacketSent}
+use Rattle.one_end.specs.Step.{PacketSent, PduFixed}
 use Rattle.slot_plan.specs.declared.Activity.{Activity}
 use Rattle.slot_plan.specs.declared.Activity.TheVariants.{Link, Advertise, Scan, Initiate}
 use Rattle.open_links.specs.OpenLinks.{Links, OpenLink, free_from, link_after, link_served, with_change, with_change_from, without_links}
 use Rattle.open_links.specs.Turns.{end_by, ends_from, links_staying, reason_in, staying_by}
 use Rattle.one_side.specs.declared.doing.Doing.{Doing}
-use Rattle.one_side.specs.declared.doing.Doing.TheVariants.{Advertises, CentralSends, PeripheralSends}
+use Rattle.one_side.specs.declared.doing.Doing.TheVariants.{Advertises, CentralSends, PeripheralListens, PeripheralSends}
 use Rattle.one_side.specs.Packets.{links_sending}
+use Rattle.one_side.specs.Radio.{links_fixing}
 use Rattle.one_side.proofs.Always.{links_shut, links_won}
 
 -- by handle, whether a link is open
@@ -110,6 +111,12 @@ won_opens slot (Link handle) links = changed_opens (link_served slot) handle lin
 won_opens slot Advertise links = refl
 won_opens slot Scan links = refl
 won_opens slot Initiate links = refl
+
+pub fixed_opens : (doing : Doing) (links : Links) → opens (links_fixing doing links) ≡ opens links
+fixed_opens (CentralSends handle) links = changed_opens (link_after PduFixed) handle links
+fixed_opens (PeripheralListens handle) links = changed_opens (link_after PduFixed) handle links
+fixed_opens (Advertises channel) links = refl
+fixed_opens other links = refl
 
 pub sent_opens : (slot : ℕ) (doing : Doing) (links : Links) → opens (links_sending slot doing links) ≡ opens links
 sent_opens slot (CentralSends handle) links = changed_opens (link_after (PacketSent slot)) handle links

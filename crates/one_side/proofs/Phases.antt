@@ -43,7 +43,7 @@ pub record EachOutcome (setup : Setup) (facts : Facts) (P : Outcome → Type 0) 
       → free_from 0 facts.links ≡ Some handle → is_in_range (fields_sent setup on access facts) ≡ true
       → P (goes_on (facts_connecting setup facts)
       (Connects channel (link_made on.params.own pdu (fields_sent setup on access facts) handle)))
-  pub received : (handle : ℕ) (octets : List ℕ) → P (link_heard handle octets facts)
+  pub received : (handle : ℕ) (octets : List ℕ) → P (link_heard setup handle octets facts)
 
 module _ (setup : Setup) (facts : Facts) (P : Outcome → Type 0) (each : EachOutcome setup facts P) where
   by_pdu : (found : Option AdvPdu) (outcome : AdvPdu → Outcome) → ((pdu : AdvPdu) → found ≡ Some pdu → P (outcome pdu))

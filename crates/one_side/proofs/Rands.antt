@@ -18,6 +18,9 @@ use Rattle.one_side.specs.Step.{Step, HostOctet, TurnBegins, PacketHeard, Nothin
 use Rattle.one_side.specs.Facts.{Setup, Facts, first_facts}
 use Rattle.one_side.specs.Answers.{complete_answer, next_word}
 use Rattle.one_side.specs.Commands.{drawn_after, facts_commanded, facts_known}
+use Rattle.open_links.specs.declared.offers.Offer.{Offer}
+use Rattle.open_links.specs.declared.offers.Offer.TheVariants.{NoLink, Empty, Overflow, Kept}
+use Rattle.one_side.specs.Data.{facts_offered, offer_of}
 use Rattle.one_side.specs.Heard.{link_taken}
 use Rattle.one_side.specs.Side.{facts_after, facts_fed, facts_of, notes_after, notes_fed, result_of}
 use Rattle.one_side.proofs.Always.{IsInTurn, IsKeptInTurns, opening_passes, turn_keeps}
@@ -57,9 +60,16 @@ drawn_read setup facts (Known command) = drawn_known (status_of facts.view comma
 drawn_read setup facts UnknownOpcode = grow_by facts.connections facts.drawn facts.drawn 0 (no_more facts.drawn)
 drawn_read setup facts BadLength = grow_by facts.connections facts.drawn facts.drawn 0 (no_more facts.drawn)
 
+drawn_offered : (offer : Offer) (handle : ℕ) (start : Bool) (octets : List ℕ) (facts : Facts)
+    → GrowBy facts 0 (facts_offered offer handle start octets facts)
+drawn_offered Kept handle start octets facts = grow_by facts.connections facts.drawn facts.drawn 0 (no_more facts.drawn)
+drawn_offered NoLink handle start octets facts = grow_by facts.connections facts.drawn facts.drawn 0 (no_more facts.drawn)
+drawn_offered Empty handle start octets facts = grow_by facts.connections facts.drawn facts.drawn 0 (no_more facts.drawn)
+drawn_offered Overflow handle start octets facts = grow_by facts.connections facts.drawn facts.drawn 0 (no_more facts.drawn)
+
 drawn_fed : (setup : Setup) (facts : Facts) (fed : Fed) → GrowBy facts (rands (commands_accepted_in facts fed)) (facts_fed setup facts fed)
 drawn_fed setup facts (Packet (HostCommand opcode body)) = drawn_read setup facts (command_of opcode body.items)
-drawn_fed setup facts (Packet (Acl handle start count body)) = grow_by facts.connections facts.drawn facts.drawn 0 (no_more facts.drawn)
+drawn_fed setup facts (Packet (Acl handle start count body)) = drawn_offered (offer_of setup facts handle count) handle start body.items facts
 drawn_fed setup facts LostSync = grow_by facts.connections facts.drawn facts.drawn 0 (no_more facts.drawn)
 drawn_fed setup facts More = grow_by facts.connections facts.drawn facts.drawn 0 (no_more facts.drawn)
 
@@ -72,8 +82,10 @@ drawn_kept setup facts = record {
     begins = λ slot next grow. grow;
     enters = λ slot next grow. grow;
     wins = λ slot activity next grow. grow;
+    fixes = λ doing next grow. grow;
     does = λ doing next may grow. grow;
   };
+  reports = λ next grow. grow;
   passes = λ next grow. record {
     rests = grow;
     awaits_request = λ channel doing. grow;

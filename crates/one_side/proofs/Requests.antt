@@ -83,6 +83,7 @@ asks_kept setup = record {
     map_is = map_after facts.view command accepted may.map_is;
     request = asks_after setup facts.view facts.turn.begun command facts.initiator accepted may.request;
   };
+  given = λ facts handle count start octets is may. record { map_is = may.map_is; request = may.request };
   octet = λ facts octet may. record { map_is = may.map_is; request = may.request };
   turns = record {
     starts = record {
@@ -92,8 +93,10 @@ asks_kept setup = record {
       begins = λ slot facts may. record { map_is = may.map_is; request = may.request };
       enters = λ slot facts may. record { map_is = may.map_is; request = may.request };
       wins = λ slot activity facts may. record { map_is = may.map_is; request = may.request };
+      fixes = λ doing facts may. record { map_is = may.map_is; request = may.request };
       does = λ doing facts begins may. record { map_is = may.map_is; request = may.request };
     };
+    reports = λ facts may. record { map_is = may.map_is; request = may.request };
     passes = λ facts may. record {
       rests = record { map_is = may.map_is; request = may.request };
       awaits_request = λ channel doing. record { map_is = may.map_is; request = may.request };

@@ -1,5 +1,5 @@
 -- What a controller sends is the packet of a PDU on an advertising channel, or that of a link on a data channel.
-use Rattle.std.proofs.Common.{◌≡◌, ℕ, ◌+◌, ◌≤◌, ◌==◌, Bool, true, false, Option, Some, None, inl, inr, List, [], ◌∷◌, cond, length, refl, sym, ap, subst, ◌∙◌, arith}
+use Rattle.std.proofs.Common.{◌≡◌, ℕ, ◌+◌, ◌≤◌, ◌==◌, Bool, true, false, Option, Some, None, inl, inr, List, [], ◌∷◌, ◌++◌, cond, length, refl, sym, ap, subst, ◌∙◌, append-nil, append_assoc, arith}
 use Rattle.std.specs.Prelude.{◌&&◌, ⊤, ◌⊎◌, IfSome}
 use Rattle.std.specs.Option.{option_map}
 use Rattle.std.proofs.lemmas.List.{length-take}
@@ -20,26 +20,30 @@ use Rattle.scan_init.specs.declared.scanner.ScanParams.{ScanParams}
 use Rattle.scan_init.specs.Initiating.{InitiatorFacts}
 use Rattle.scan_init.specs.Reports.{ScannerFacts, does_ask, scan_answer}
 use Rattle.one_end.specs.declared.setup.LinkSetup.{LinkSetup}
-use Rattle.one_end.specs.Step.{PacketSent}
+use Rattle.one_end.specs.Step.{Step as EndStep, DataGiven, EventEntered, PduFixed, PacketSent, PacketReceived, DataReported}
 use Rattle.slot_plan.specs.declared.Activity.{Activity}
 use Rattle.slot_plan.specs.declared.Activity.TheVariants.{Link, Advertise, Scan, Initiate}
+use Rattle.open_links.specs.Data.{links_given}
 use Rattle.open_links.specs.OpenLinks.{Links, OpenLink, link_after, link_at, link_from, with_change, without_links}
 use Rattle.open_links.proofs.Handles.{changed_is}
 use Rattle.one_side.specs.declared.doing.Doing.{Doing}
+use Rattle.one_side.specs.declared.doing.Turn.{Turn}
 use Rattle.one_side.specs.declared.doing.Doing.TheVariants.{Advertises, AwaitsRequest, Responds, Scans, Requests, AwaitsResponse, Initiates, Connects, CentralSends, CentralListens, PeripheralListens, PeripheralSends, Rests}
 use Rattle.one_side.specs.Step.{Step}
 use Rattle.one_side.specs.Facts.{Setup, Facts, Advertising, Scanning, Use, Sends, Listens, Idle}
 use Rattle.one_side.specs.Commands.{advertiser_enabled, advertiser_turned_on, advertising_after, facts_accepted, initiator_after, links_after, own_address, random_or_public, scanner_enabled, scanner_turned_on, scanning_after}
-use Rattle.one_side.specs.Heard.{asks_if, facts_connecting, fields_sent, link_made, link_received, link_taken, opens, replies_in, reply_if, scanner_after, with_scanner}
+use Rattle.one_side.specs.Data.{facts_ended_turn}
+use Rattle.one_side.specs.Heard.{asks_if, facts_connecting, fields_sent, has_room, link_made, link_received, link_taken, opens, replies_in, reply_if, scanner_after, with_scanner}
 use Rattle.one_side.specs.Outcome.{facts_passed}
 use Rattle.one_side.specs.Packets.{advertisement_sent, connect_sent, facts_doing, listens_on, request_sent, response_sent, sends_on, sends_pdu, use_for}
-use Rattle.one_side.specs.Radio.{served_if_on}
+use Rattle.one_side.specs.Radio.{facts_entering, served_if_on, turn_begins}
 use Rattle.one_side.specs.Side.{facts_of, with_octet}
-use Rattle.one_side.specs.Sent.{IsAdvertisingPacket, IsLinkPacket}
-use Rattle.one_side.proofs.Always.{IsAdvertisingChannel, IsKept, MayBegin, advertiser_stopped, advertiser_won, always, facts_opening, initiator_stopped, opening_passes}
+use Rattle.one_side.specs.Sent.{AreGiven, HasOnlyBeenGiven, IsAdvertisingPacket, IsLinkPacket, SendsOn}
+use Rattle.one_side.proofs.Always.{IsAdvertisingChannel, IsKept, MayBegin, advertiser_stopped, advertiser_won, always, facts_ended, facts_fixing, facts_given, facts_opening, initiator_stopped, opening_passes}
 use Rattle.one_side.proofs.DataChannels.{link_channel}
 use Rattle.one_side.proofs.LinkFields.{connection_fits}
 use Rattle.one_side.proofs.Phases.{EachOutcome}
+use Rattle.one_side.proofs.Places.{at_changed}
 use Rattle.one_side.proofs.Accepted.{data_short, response_short}
 use Rattle.one_side.proofs.SixOctets.{SixOf, six_heard, six_known}
 
@@ -73,6 +77,15 @@ pub record CanSend (facts : Facts) : Type 0 where
   pub advertising : AdvertisingFits facts.advertising
   pub scanner : ScannerFits facts.scanning.on
   pub initiator : InitiatorFits facts.initiator
+
+can_still : (before after : Facts) → before.view.random ≡ after.view.random → before.advertising ≡ after.advertising
+    → before.scanning ≡ after.scanning → before.initiator ≡ after.initiator → CanSend before → CanSend after
+can_still before after random advertising scanning initiator can = record {
+  random = subst SixHeld random can.random;
+  advertising = subst AdvertisingFits advertising can.advertising;
+  scanner = subst (λ (of : Scanning). ScannerFits of.on) scanning can.scanner;
+  initiator = subst InitiatorFits initiator can.initiator;
+}
 
 -- what it is to do can be done
 abbrev pub DoingFits : Doing → Type 0
@@ -160,16 +173,19 @@ pdu_wanted facts channel None is fits = tt
 pdu_wanted facts channel (Some pdu) is fits =
     inl (record { pdu = pdu; is_pdu = fits; packet = refl; channel_from = is.0; channel_to = is.1 })
 
-last_is : (change : OpenLink → OpenLink) (link : OpenLink) (found : Option OpenLink) → found ≡ option_map change (Some link)
-    → IfSome found (λ after. after ≡ change link)
-last_is change link None is = absurd cc
-last_is change link (Some after) is = cc
+none_given : (link : OpenLink) → HasOnlyBeenGiven link link
+none_given link = record {
+  given = [];
+  are_given = tt;
+  link_is = ap (λ (past : List EndStep). record link { past = past }) (sym (append-nil link.past));
+}
 
 sending_last : (slot handle : ℕ) (links : Links) (link : OpenLink) → link_at handle links ≡ Some link
-    → IfSome (link_at handle (with_change handle (link_after (PacketSent slot)) links)) (λ after. after ≡ link_after (PacketSent slot) link)
+    → IfSome (link_at handle (with_change handle (link_after (PacketSent slot)) links)) (HasOnlyBeenGiven (link_after (PacketSent slot) link))
 sending_last slot handle links link at =
     let change = link_after (PacketSent slot) in
-    last_is change link (link_at handle (with_change handle change links)) (changed_is (option_map change) 0 handle links refl ∙ ap (option_map change) at)
+    subst (λ (found : Option OpenLink). IfSome found (HasOnlyBeenGiven (change link)))
+    (sym (changed_is (option_map change) 0 handle links refl ∙ ap (option_map change) at)) (none_given (change link))
 
 central_wanted : (facts : Facts) (handle : ℕ) (found : Option OpenLink) → link_at handle facts.links ≡ found
     → IsWanted (facts_doing (CentralSends handle) facts) (sends_on found)
@@ -222,7 +238,7 @@ wanted_is Rests facts can fits = tt
 -- what is done next
 sends_doing : (doing : Doing) (facts : Facts) → CanSend facts → DoingFits doing → SendsWell (facts_doing doing facts)
 sends_doing doing facts can fits = record {
-  can = record { random = can.random; advertising = can.advertising; scanner = can.scanner; initiator = can.initiator };
+  can = can_still facts (facts_doing doing facts) refl refl refl refl can;
   does = fits;
   wanted = wanted_is doing facts can fits;
 }
@@ -327,38 +343,55 @@ last_after : (command : Command) (links : Links) (handle : ℕ) (P : OpenLink �
 last_after Reset links handle P last = subst (λ (found : Option OpenLink). IfSome found P) (sym (shut_last links handle)) tt
 last_after other links handle P last = last
 
-wanted_after : (setup : Setup) (command : Command) (facts : Facts) (wanted : Use) → IsWanted facts wanted
-    → IsWanted (facts_accepted setup facts command) wanted
-wanted_after setup command facts (Sends channel octets) is = elim is [
-  | inl packet ↦ inl packet
-  | inr packet ↦ inr (record {
-    handle = packet.handle;
-    sends = packet.sends;
-    link = packet.link;
-    packet = packet.packet;
-    channel_is = packet.channel_is;
-    data_channel = packet.data_channel;
-    last = last_after command facts.links packet.handle _ packet.last;
-  })
-]
-wanted_after setup command facts (Listens channel) is = tt
-wanted_after setup command facts Idle is = tt
+-- what is left of the link on which it sends, of two controllers in one turn
+abbrev StillLast : Links → Links → Type 0
+StillLast before after = (handle : ℕ) (link : OpenLink) → IfSome (link_at handle before) (HasOnlyBeenGiven link)
+    → IfSome (link_at handle after) (HasOnlyBeenGiven link)
 
-wanted_octet : (octet : ℕ) (facts : Facts) (wanted : Use) → IsWanted facts wanted → IsWanted (with_octet octet facts) wanted
-wanted_octet octet facts (Sends channel octets) is = elim is [
+wanted_still : (before after : Facts) (wanted : Use) → before.turn ≡ after.turn → StillLast before.links after.links
+    → IsWanted before wanted → IsWanted after wanted
+wanted_still before after (Sends channel octets) turn still is = elim is [
   | inl packet ↦ inl packet
   | inr packet ↦ inr (record {
     handle = packet.handle;
-    sends = packet.sends;
+    sends = subst (λ (of : Turn). SendsOn packet.handle of.doing) turn packet.sends;
     link = packet.link;
     packet = packet.packet;
     channel_is = packet.channel_is;
     data_channel = packet.data_channel;
-    last = packet.last;
+    last = still packet.handle (link_after (PacketSent after.turn.slot) packet.link)
+        (subst (λ (of : Turn). IfSome (link_at packet.handle before.links) (HasOnlyBeenGiven (link_after (PacketSent of.slot) packet.link)))
+        turn packet.last);
   })
 ]
-wanted_octet octet facts (Listens channel) is = tt
-wanted_octet octet facts Idle is = tt
+wanted_still before after (Listens channel) turn still is = tt
+wanted_still before after Idle turn still is = tt
+
+-- the host gives more
+given_more : (given : List EndStep) (start : Bool) (octets : List ℕ) → AreGiven given → AreGiven (given ++ DataGiven start octets ∷ [])
+given_more [] start octets are = tt
+given_more (DataGiven first body ∷ given) start octets are = given_more given start octets are
+given_more (EventEntered slot ∷ given) start octets are = absurd are
+given_more (PduFixed ∷ given) start octets are = absurd are
+given_more (PacketSent slot ∷ given) start octets are = absurd are
+given_more (PacketReceived slot heard room ∷ given) start octets are = absurd are
+given_more (DataReported ∷ given) start octets are = absurd are
+
+given_place : (link : OpenLink) (start : Bool) (octets : List ℕ) (found : Option OpenLink) → IfSome found (HasOnlyBeenGiven link)
+    → IfSome (option_map (link_after (DataGiven start octets)) found) (HasOnlyBeenGiven link)
+given_place link start octets None is = tt
+given_place link start octets (Some after) is = record {
+  given = is.given ++ DataGiven start octets ∷ [];
+  are_given = given_more is.given start octets is.are_given;
+  link_is =
+      ap (link_after (DataGiven start octets)) is.link_is
+      ∙ ap (λ (past : List EndStep). record link { past = past }) (append_assoc link.past is.given (DataGiven start octets ∷ []));
+}
+
+given_last : (handle : ℕ) (start : Bool) (octets : List ℕ) (links : Links) → StillLast links (links_given handle start octets links)
+given_last handle start octets links other link is =
+    at_changed (λ (found : Option OpenLink). IfSome found (HasOnlyBeenGiven link)) handle other (link_after (DataGiven start octets)) links is
+    (λ same. given_place link start octets (link_at other links) is)
 
 -- ---- each part of a turn
 
@@ -437,23 +470,14 @@ passes_well setup facts well = record {
   connects = λ channel octets pdu on access handle doing is_on hears answers next free in_range.
       let initiator = subst InitiatorFits is_on well.can.initiator in
       sends_doing (Connects channel (link_made on.params.own pdu (fields_sent setup on access facts) handle)) (facts_connecting setup facts)
-      (record {
-        random = well.can.random;
-        advertising = well.can.advertising;
-        scanner = well.can.scanner;
-        initiator = well.can.initiator;
-      }) (
+      (can_still facts (facts_connecting setup facts) refl refl refl refl well.can) (
         subst DoingFits doing well.does,
         connection_fits setup on access facts on.params.own (sender_of pdu) initiator.0 (six_heard channel octets pdu hears) initiator.1 next in_range,
       );
   received = λ handle octets.
-      sends_doing (reply_if (replies_in (link_at handle facts.links) octets) handle) (link_received handle octets facts)
-      (record {
-        random = well.can.random;
-        advertising = well.can.advertising;
-        scanner = well.can.scanner;
-        initiator = well.can.initiator;
-      })
+      sends_doing (reply_if (replies_in (link_at handle facts.links) octets) handle)
+      (link_received handle (has_room setup facts) octets facts)
+      (can_still facts (link_received handle (has_room setup facts) octets facts) refl refl refl refl well.can)
       (reply_fits (replies_in (link_at handle facts.links) octets) handle);
 }
 
@@ -470,39 +494,28 @@ well_kept setup six = record {
           initiator = initiator_fits setup facts.view facts.turn.begun command facts.initiator six well.can.random well.can.initiator;
         };
         does = well.does;
-        wanted = wanted_after setup command facts facts.wanted well.wanted;
+        wanted =
+            wanted_still facts (facts_accepted setup facts command) facts.wanted refl
+            (λ handle link last. last_after command facts.links handle (HasOnlyBeenGiven link) last) well.wanted;
       };
-  octet = λ facts octet well. record {
-    can = record {
-      random = well.can.random;
-      advertising = well.can.advertising;
-      scanner = well.can.scanner;
-      initiator = well.can.initiator;
-    };
+  given = λ facts handle count start octets is well. record {
+    can = can_still facts (facts_given handle start octets facts) refl refl refl refl well.can;
     does = well.does;
-    wanted = wanted_octet octet facts facts.wanted well.wanted;
+    wanted =
+        wanted_still facts (facts_given handle start octets facts) facts.wanted refl
+        (given_last handle start octets facts.links) well.wanted;
+  };
+  octet = λ facts octet well. record {
+    can = can_still facts (with_octet octet facts) refl refl refl refl well.can;
+    does = well.does;
+    wanted = wanted_still facts (with_octet octet facts) facts.wanted refl (λ handle link last. last) well.wanted;
   };
   turns = record {
     starts = record {
       weakens = λ facts well. well.can;
-      ends = λ slot facts can. record {
-        random = can.random;
-        advertising = can.advertising;
-        scanner = can.scanner;
-        initiator = can.initiator;
-      };
-      begins = λ slot facts can. record {
-        random = can.random;
-        advertising = can.advertising;
-        scanner = can.scanner;
-        initiator = can.initiator;
-      };
-      enters = λ slot facts can. record {
-        random = can.random;
-        advertising = can.advertising;
-        scanner = can.scanner;
-        initiator = can.initiator;
-      };
+      ends = λ slot facts can. can_still facts (facts_ended slot facts) refl refl refl refl can;
+      begins = λ slot facts can. can_still facts (turn_begins slot facts) refl refl refl refl can;
+      enters = λ slot facts can. can_still facts (facts_entering slot facts) refl refl refl refl can;
       wins = λ slot activity facts can. record {
         random = can.random;
         advertising = record {
@@ -514,8 +527,10 @@ well_kept setup six = record {
         scanner = can.scanner;
         initiator = can.initiator;
       };
+      fixes = λ doing facts can. can_still facts (facts_fixing doing facts) refl refl refl refl can;
       does = λ doing facts may can. sends_doing doing facts can (begin_fits doing may);
     };
+    reports = λ facts can. can_still facts (facts_ended_turn facts) refl refl refl refl can;
     passes = λ facts well. passes_well setup facts well;
   };
 }

@@ -31,12 +31,15 @@ use Rattle.one_side.specs.Step.{Step, HostOctet, TurnBegins, PacketHeard, Nothin
 use Rattle.one_side.specs.Facts.{Setup, Facts}
 use Rattle.one_side.specs.Answers.{answer_to}
 use Rattle.one_side.specs.Commands.{events_caused, notes_before, notes_commanded, notes_known}
+use Rattle.one_side.specs.Data.{offer_of}
 use Rattle.one_side.specs.Events.{notes_of_events}
 use Rattle.one_side.specs.Host.{commands_accepted_after, commands_accepted_by, commands_accepted_in}
 use Rattle.one_side.specs.Links.{ends_in, facts_ending, note_shut, notes_ended, notes_ending, notes_reset}
 use Rattle.one_side.specs.Shutting.{IsOverdue, not_established, timed_out, IsShut, overdue, reset}
+use Rattle.one_side.specs.Outcome.{notes_passed}
+use Rattle.one_side.specs.Radio.{outcome_begun}
 use Rattle.one_side.specs.Side.{facts_of, notes_after, notes_fed, result_of}
-use Rattle.one_side.proofs.LinkNotes.{AreIn, IsOfOthers, all_in, ends_too, events_too, first_in, phase_too, rest_in}
+use Rattle.one_side.proofs.LinkNotes.{AreIn, IsOfOthers, all_in, doing_too, ended_turn_too, ends_too, events_too, first_in, offered_too, phase_too, rest_in}
 use Rattle.one_side.proofs.Phases.{heard_is, unheard_is}
 
 -- ---- the reason for which a link ends
@@ -135,14 +138,22 @@ entering_too slot whole (Some link ∷ links) =
     All-append (IsOfOverdue slot whole) (notes_if (is_anchor slot link) slot link) (notes_entering slot links)
     (entry_too (is_anchor slot link) slot whole link) (entering_too slot whole links)
 
+others_overdue : (slot : ℕ) (links : Links) → IsOfOthers (IsOfOverdue slot links)
+others_overdue slot links = record { up = λ octets. tt; opened = λ link. tt; sent = λ handle number llid octets. tt; took = λ handle number llid octets. tt }
+
 overdue_noted : (slot : ℕ) (on : Bool) (setup : Setup) (facts : Facts)
     → All (IsOfOverdue slot facts.links) (notes_after setup facts (TurnBegins slot on))
 overdue_noted slot on setup facts =
     let P = IsOfOverdue slot facts.links in
-    All-append P (notes_ending slot facts) (notes_entering slot (facts_ending slot facts).links)
-    (ends_too P (record { up = λ event. tt; opened = λ link. tt }) facts.view (ends_in slot facts)
+    let of = others_overdue slot facts.links in
+    let ends = notes_ending slot facts in
+    let enters = notes_entering slot (facts_ending slot facts).links in
+    All-append P (ends ++ enters) _
+    (All-append P ends enters
+    (ends_too P of facts.view (ends_in slot facts)
     (each_overdue slot facts.links 0 facts.links (all_in facts.links)))
-    (entering_too slot facts.links (facts_ending slot facts).links)
+    (entering_too slot facts.links (facts_ending slot facts).links))
+    (doing_too P of (outcome_begun slot on facts).next (outcome_begun slot on facts).facts)
 
 -- ---- in any other step: each such note is of a link that is open as a Reset is completed
 
@@ -157,7 +168,7 @@ IsOfReset commands links (Shut handle reason) = IsReset commands links handle re
 IsOfReset commands links other = ⊤
 
 others_too : (commands : List Command) (links : Links) → IsOfOthers (IsOfReset commands links)
-others_too commands links = record { up = λ event. tt; opened = λ link. tt }
+others_too commands links = record { up = λ octets. tt; opened = λ link. tt; sent = λ handle number llid octets. tt; took = λ handle number llid octets. tt }
 
 open_noted : (whole : Links) (first : ℕ) (links : Links) → AreIn whole first links
     → All (IsOfReset (Reset ∷ []) whole) (map (λ handle. note_shut handle 0) (handles_from first links))
@@ -194,7 +205,8 @@ read_too setup facts opcode BadLength =
 
 fed_too : (setup : Setup) (facts : Facts) (fed : Fed) → All (IsOfReset (commands_accepted_in facts fed) facts.links) (notes_fed setup facts fed)
 fed_too setup facts (Packet (HostCommand opcode body)) = read_too setup facts opcode (command_of opcode body.items)
-fed_too setup facts (Packet (Acl handle start count body)) = All-nil (IsOfReset [] facts.links)
+fed_too setup facts (Packet (Acl handle start count body)) =
+    offered_too (IsOfReset [] facts.links) (others_too [] facts.links) facts.view (offer_of setup facts handle count) handle
 fed_too setup facts LostSync = events_too (IsOfReset [] facts.links) (others_too [] facts.links) facts.view (HardwareError 0x01 ∷ [])
 fed_too setup facts More = All-nil (IsOfReset [] facts.links)
 
@@ -217,15 +229,15 @@ step_shuts setup facts (TurnBegins slot on) handle reason noted =
 step_shuts setup facts (PacketHeard octets) handle reason noted =
     let P = IsOfReset [] facts.links in
     reset_shuts facts (PacketHeard octets) handle reason _
-    (heard_is setup facts (λ outcome. All P outcome.notes) (phase_too P (others_too [] facts.links) setup facts) facts.turn.doing octets refl)
+    (heard_is setup facts (λ outcome. All P (notes_passed outcome)) (phase_too P (others_too [] facts.links) setup facts) facts.turn.doing octets refl)
     noted
 step_shuts setup facts NothingHeard handle reason noted =
     let P = IsOfReset [] facts.links in
     reset_shuts facts NothingHeard handle reason _
-    (unheard_is setup facts (λ outcome. All P outcome.notes) (phase_too P (others_too [] facts.links) setup facts) facts.turn.doing refl)
+    (unheard_is setup facts (λ outcome. All P (notes_passed outcome)) (phase_too P (others_too [] facts.links) setup facts) facts.turn.doing refl)
     noted
 step_shuts setup facts TurnEnds handle reason noted =
-    reset_shuts facts TurnEnds handle reason [] (All-nil (IsOfReset [] facts.links)) noted
+    reset_shuts facts TurnEnds handle reason _ (ended_turn_too (IsOfReset [] facts.links) (others_too [] facts.links) facts) noted
 
 -- ---- each such link is noted
 
@@ -245,8 +257,9 @@ due_noted slot on setup facts handle reason link is_open due =
     let reason_at_it = ap (reason_at slot) is_open ∙ reason_is slot link reason due in
     let among : Contains (ends_in slot facts) one =
     subst (λ (reason : Option ℕ). IsAmong handle reason (ends_in slot facts)) reason_at_it (due_is_among slot 0 handle facts.links) in
-    Contains-append_left (notes_ending slot facts) (notes_entering slot (facts_ending slot facts).links) _
-    (in_flat_map (notes_ended facts.view) (ends_in slot facts) one (Shut handle (record { 0 = reason })) among (zero, omega arith, refl))
+    Contains-append_left (notes_ending slot facts ++ notes_entering slot (facts_ending slot facts).links) _ _
+    (Contains-append_left (notes_ending slot facts) (notes_entering slot (facts_ending slot facts).links) _
+    (in_flat_map (notes_ended facts.view) (ends_in slot facts) one (Shut handle (record { 0 = reason })) among (zero, omega arith, refl)))
 
 -- at a Reset
 later_noted : (place : Option OpenLink) (first : ℕ) (links : Links) (note : Note)

@@ -1,36 +1,49 @@
 -- What is noted in turns, note by note: links that are opened, enter events and are shut, and events for the host.
-use Rattle.std.proofs.Common.{◌≡◌, ℕ, ◌+◌, ◌<◌, ◌≤◌, Bool, true, false, Option, Some, None, List, [], ◌∷◌, ◌++◌, length, map, cond, refl, sym, subst, arith}
-use Rattle.std.specs.Prelude.{All, ⊤, flat_map}
+use Rattle.std.proofs.Common.{◌≡◌, ℕ, ◌+◌, ◌<◌, ◌≤◌, Bool, true, false, Option, Some, None, List, [], ◌∷◌, ◌++◌, length, map, cond, refl, sym, subst, ◌∙◌, arith}
+use Rattle.std.specs.Prelude.{◌&&◌, All, IfSome, ⊤, flat_map}
 use Rattle.std.proofs.lemmas.List.Elements.{All-append, All-cons, All-nil}
+use Rattle.acl_banks.specs.declared.pieces.Piece.{Piece}
 use Rattle.ble_base.specs.declared.notes.Note.{Note}
-use Rattle.ble_base.specs.declared.notes.Note.TheVariants.{Up, Applied, Enter}
+use Rattle.ble_base.specs.declared.notes.Note.TheVariants.{Up, Applied, Enter, Sent, Took}
 use Rattle.adv_pdu.specs.declared.pdu.AdvPdu.{AdvPdu}
 use Rattle.hci_evt.specs.declared.event.Event.{Event}
-use Rattle.hci_evt.specs.declared.event.Event.TheVariants.{DisconnectionComplete, ConnectionComplete, AdvertisingReport, EnhancedConnection, ChannelSelection}
+use Rattle.hci_evt.specs.declared.event.Event.TheVariants.{DisconnectionComplete, CompletedPackets, ConnectionComplete, AdvertisingReport, EnhancedConnection, ChannelSelection}
 use Rattle.hci_evt.specs.Event.{mask_bit_of, written}
 use Rattle.host_view.specs.View.{View}
 use Rattle.instants.specs.Track.{next_number}
 use Rattle.one_end.specs.declared.setup.LinkSetup.{LinkSetup}
-use Rattle.one_end.specs.End.{applied_notes}
+use Rattle.one_end.specs.Acknowledgement.{Pdu}
+use Rattle.one_end.specs.Facts.{Facts as EndFacts}
+use Rattle.one_end.specs.Packets.{good_pdu, pdu_of}
+use Rattle.one_end.specs.Step.{PacketReceived}
+use Rattle.one_end.specs.End.{applied_notes, sent_notes_if, took_notes, took_notes_if}
 use Rattle.scan_init.specs.declared.reports.ReportKind.{ReportKind}
 use Rattle.scan_init.specs.declared.scanner.ScanAnswer.{ScanAnswer}
-use Rattle.scan_init.specs.Reports.{kind_of, scan_answer}
+use Rattle.scan_init.specs.Reports.{does_ask, kind_of, scan_answer}
 use Rattle.open_links.specs.declared.ended.LinkEnded.{LinkEnded}
-use Rattle.open_links.specs.OpenLinks.{Links, OpenLink, HaveHandles, facts_in, handles_from}
+use Rattle.open_links.specs.declared.offers.Completed.{Completed}
+use Rattle.open_links.specs.Data.{completed_from}
+use Rattle.open_links.specs.OpenLinks.{Links, OpenLink, HaveHandles, facts_in, handles_from, link_after, link_at}
 use Rattle.open_links.specs.Turns.{end_by, ends_from, is_anchor, links_staying, notes_entering, notes_if, reason_in}
 use Rattle.one_side.specs.Step.{Step, HostOctet, TurnBegins, PacketHeard, NothingHeard, TurnEnds}
 use Rattle.one_side.specs.Facts.{Setup, Facts}
 use Rattle.one_side.specs.Events.{notes_of_events, passes}
-use Rattle.one_side.specs.Heard.{does_report, events_reported, link_taken, report_event, report_events}
+use Rattle.one_side.specs.declared.doing.Doing.{Doing}
+use Rattle.one_side.specs.declared.doing.Doing.TheVariants.{Advertises, CentralSends, PeripheralSends}
+use Rattle.one_side.specs.Data.{event_completed, note_received}
+use Rattle.one_side.specs.Heard.{asks_if, does_report, events_reported, has_room, link_received, link_taken, notes_taken, replies_in, reply_if, report_event, report_events, scanner_after, with_scanner}
 use Rattle.one_side.specs.Links.{connection_complete, facts_ending, note_opened, note_shut, notes_ended, notes_ending, notes_opened, wants_enhanced}
+use Rattle.one_side.specs.Outcome.{notes_passed}
+use Rattle.one_side.specs.Packets.{notes_doing, notes_sent}
 use Rattle.one_side.specs.Side.{notes_after}
-use Rattle.one_side.proofs.Always.{IsInTurn, ending_is}
-use Rattle.one_side.proofs.Handles.{HaveOwnHandles, IsNew, free_is_new, staying_opens}
+use Rattle.one_side.proofs.Always.{IsInTurn, begun_doing, ending_is}
+use Rattle.one_side.proofs.Handles.{HaveOwnHandles, IsNew, below_at, change_opens, free_is_new, handles_kept, staying_opens}
 use Rattle.one_side.proofs.Phases.{EachOutcome, heard_is, unheard_is}
 
 -- the events that a turn can cause
 abbrev pub IsOfTurn : Event → Type 0
 IsOfTurn (DisconnectionComplete status handle reason) = ⊤
+IsOfTurn (CompletedPackets handle count) = ⊤
 IsOfTurn (ConnectionComplete status handle role peer_kind peer interval latency timeout accuracy) = ⊤
 IsOfTurn (AdvertisingReport kind address_kind address report rssi) = ⊤
 IsOfTurn (EnhancedConnection status handle role peer_kind peer local other interval latency timeout accuracy) = ⊤
@@ -40,10 +53,13 @@ IsOfTurn other = ⊥
 -- a fact of each note of a turn
 pub record EachNote (most : ℕ) (P : Note → Type 0) : Type 0 where
   pub up : (event : Event) → IsOfTurn event → P (Up (record { items = written event }))
+  pub received : (piece : ℕ × Piece) → P (note_received piece)
   pub opened : (link : LinkSetup) → link.handle < most → P (note_opened link)
   pub shut : (handle reason : ℕ) → handle < most → P (note_shut handle reason)
   pub applied : (handle number event : ℕ) → handle < most → P (Applied handle number (record { 0 = event }))
   pub entered : (handle event channel : ℕ) → handle < most → P (Enter handle (record { 0 = event }) channel)
+  pub sent : (handle number llid : ℕ) (octets : List ℕ) → handle < most → P (Sent handle number llid (record { items = octets }))
+  pub took : (handle number llid : ℕ) (octets : List ℕ) → handle < most → P (Took handle number llid (record { items = octets }))
 
 module _ (most : ℕ) (P : Note → Type 0) (each : EachNote most P) where
   both : (xs ys : List Note) → All P xs → All P ys → All P (xs ++ ys)
@@ -112,6 +128,51 @@ module _ (most : ℕ) (P : Note → Type 0) (each : EachNote most P) where
       (entry_noted (is_anchor slot link) slot link (subst (λ n. n < most) (sym have.0) below))
       (entering_noted slot (first + 1) links (omega arith) have.1)
 
+  -- ---- data
+
+  sent_if : (noted : Bool) (handle : ℕ) (facts : EndFacts) → handle < most → All P (sent_notes_if noted handle facts)
+  sent_if true handle facts below = All-cons P _ [] (each.sent handle _ _ _ below) (All-nil P)
+  sent_if false handle facts below = All-nil P
+
+  sent_noted : (slot : ℕ) (found : Option OpenLink) → IfSome found (λ link. link.setup.link.handle < most) → All P (notes_sent slot found)
+  sent_noted slot None below = All-nil P
+  sent_noted slot (Some link) below = sent_if _ link.setup.link.handle (facts_in link) below
+
+  took_if : (noted : Bool) (handle : ℕ) (pdu : Pdu) (facts : EndFacts) → handle < most → All P (took_notes_if noted handle pdu facts)
+  took_if true handle pdu facts below = All-cons P _ [] (each.took handle _ _ _ below) (All-nil P)
+  took_if false handle pdu facts below = All-nil P
+
+  took_by : (handle : ℕ) (room : Bool) (found : Option (List ℕ)) (facts : EndFacts) → handle < most → All P (took_notes handle room found facts)
+  took_by handle room None facts below = All-nil P
+  took_by handle room (Some pdu) facts below = took_if _ handle (pdu_of pdu) facts below
+
+  took_noted : (slot : ℕ) (room : Bool) (found : Option OpenLink) (octets : List ℕ) → IfSome found (λ link. link.setup.link.handle < most)
+      → All P (notes_taken slot room found octets)
+  took_noted slot room None octets below = All-nil P
+  took_noted slot room (Some link) octets below = took_by link.setup.link.handle room (good_pdu link.setup (facts_in link) octets) (facts_in link) below
+
+  below_most : (handle : ℕ) (links : Links) → HaveHandles 0 links → length links ≡ most
+      → IfSome (link_at handle links) (λ link. link.setup.link.handle < most)
+  below_most handle links have many =
+      subst (λ n. IfSome (link_at handle links) (λ link. link.setup.link.handle < n)) (let same : 0 + length links ≡ most = omega (arith, many) in same)
+      (below_at handle links have)
+
+  doing_noted : (doing : Doing) (facts : Facts) → HaveHandles 0 facts.links → length facts.links ≡ most → All P (notes_doing doing facts)
+  doing_noted (CentralSends handle) facts have many =
+      sent_noted facts.turn.slot (link_at handle facts.links) (below_most handle facts.links have many)
+  doing_noted (PeripheralSends handle) facts have many =
+      sent_noted facts.turn.slot (link_at handle facts.links) (below_most handle facts.links have many)
+  doing_noted (Advertises channel) facts have many = All-nil P
+  doing_noted other facts have many = All-nil P
+
+  pieces_noted : (pieces : List (ℕ × Piece)) → All P (map note_received pieces)
+  pieces_noted [] = All-nil P
+  pieces_noted (piece ∷ pieces) = All-cons P _ _ (each.received piece) (pieces_noted pieces)
+
+  completed_noted : (view : View) (completed : List Completed) → All P (notes_of_events view (map event_completed completed))
+  completed_noted view [] = All-nil P
+  completed_noted view (one ∷ completed) = All-cons P _ _ (each.up (event_completed one) tt) (completed_noted view completed)
+
   -- ---- a link that is opened
 
   complete_is : (enhanced : Bool) (link : LinkSetup) → IsOfTurn (connection_complete enhanced link)
@@ -143,7 +204,7 @@ module _ (most : ℕ) (P : Note → Type 0) (each : EachNote most P) where
   -- ---- a phase
 
   phase_noted : (setup : Setup) (facts : Facts) → setup.links ≡ most → HaveOwnHandles setup facts
-      → EachOutcome setup facts (λ outcome. All P outcome.notes)
+      → EachOutcome setup facts (λ outcome. All P (notes_passed outcome))
   phase_noted setup facts is own =
       let nothing = All-nil P in
       let many : length facts.links ≡ most = cc (own.many, is) in
@@ -154,17 +215,30 @@ module _ (most : ℕ) (P : Note → Type 0) (each : EachNote most P) where
         central_listens = λ handle doing. nothing;
         sent = λ channel link doing.
             let new = subst (IsNew facts.links) doing own.new in
-            opened_noted facts.view link (subst (λ n. link.handle < n) many new.0);
+            both (notes_opened facts.view link) [] (opened_noted facts.view link (subst (λ n. link.handle < n) many new.0)) nothing;
         responds = λ channel on doing is_on. nothing;
         taken = λ channel octets pdu on fields handle is_on hears takes free.
-            opened_noted facts.view (link_taken on.params.own pdu fields handle)
-            (subst (λ n. handle < n) many (free_is_new facts.links handle free).0);
+            let link = link_taken on.params.own pdu fields handle in
+            both (notes_opened facts.view link) []
+            (opened_noted facts.view link (subst (λ n. handle < n) many (free_is_new facts.links handle free).0)) nothing;
         scanned = λ channel octets pdu on doing is_on hears.
-            answer_noted facts.view (scan_answer on.params facts.view.accepted on.recent pdu) pdu;
+            let answer = scan_answer on.params facts.view.accepted on.recent pdu in
+            both (notes_of_events facts.view (events_reported answer pdu)) _ (answer_noted facts.view answer pdu)
+            (doing_noted (asks_if (true && does_ask answer) channel pdu) (with_scanner (scanner_after on facts.view.accepted pdu) facts)
+            own.handles many);
         answered = λ channel octets pdu on doing is_on hears.
-            answer_noted facts.view (scan_answer on.params facts.view.accepted on.recent pdu) pdu;
+            let answer = scan_answer on.params facts.view.accepted on.recent pdu in
+            both (notes_of_events facts.view (events_reported answer pdu)) _ (answer_noted facts.view answer pdu)
+            (doing_noted (asks_if (false && does_ask answer) channel pdu) (with_scanner (scanner_after on facts.view.accepted pdu) facts)
+            own.handles many);
         connects = λ channel octets pdu on access handle doing is_on hears answers next free in_range. nothing;
-        received = λ handle octets. nothing;
+        received = λ handle octets.
+            let room = has_room setup facts in
+            let after = link_received handle room octets facts in
+            let opens = change_opens handle (link_after (PacketReceived facts.turn.slot octets room)) facts.links (λ link. refl) in
+            both (notes_taken facts.turn.slot room (link_at handle facts.links) octets) _
+            (took_noted facts.turn.slot room (link_at handle facts.links) octets (below_most handle facts.links own.handles many))
+            (doing_noted (reply_if (replies_in (link_at handle facts.links) octets) handle) after (opens.handles own.handles) (opens.many ∙ many));
       }
 
   -- ---- step by step
@@ -174,12 +248,16 @@ module _ (most : ℕ) (P : Note → Type 0) (each : EachNote most P) where
   turn_noted setup facts (HostOctet octet) is own turn = absurd turn
   turn_noted setup facts (TurnBegins slot on) is own turn =
       let stay = staying_opens slot facts.links in
-      both (notes_ending slot facts) (notes_entering slot (facts_ending slot facts).links)
+      both (notes_ending slot facts ++ notes_entering slot (facts_ending slot facts).links) _
+      (both (notes_ending slot facts) (notes_entering slot (facts_ending slot facts).links)
       (ends_noted facts.view slot 0 facts.links (omega (arith, own.many, is)))
       (subst (λ (next : Facts). All P (notes_entering slot next.links)) (sym (ending_is slot facts))
-      (entering_noted slot 0 (links_staying slot facts.links) (omega (arith, own.many, stay.many, is)) (stay.handles own.handles)))
+      (entering_noted slot 0 (links_staying slot facts.links) (omega (arith, own.many, stay.many, is)) (stay.handles own.handles))))
+      (begun_doing (HaveOwnHandles setup) (HaveOwnHandles setup) (handles_kept setup).turns.starts (λ doing facts. All P (notes_doing doing facts))
+      (λ doing facts may own. doing_noted doing facts own.handles (own.many ∙ is)) slot on facts own)
   turn_noted setup facts (PacketHeard octets) is own turn =
-      heard_is setup facts (λ outcome. All P outcome.notes) (phase_noted setup facts is own) facts.turn.doing octets refl
+      heard_is setup facts (λ outcome. All P (notes_passed outcome)) (phase_noted setup facts is own) facts.turn.doing octets refl
   turn_noted setup facts NothingHeard is own turn =
-      unheard_is setup facts (λ outcome. All P outcome.notes) (phase_noted setup facts is own) facts.turn.doing refl
-  turn_noted setup facts TurnEnds is own turn = All-nil P
+      unheard_is setup facts (λ outcome. All P (notes_passed outcome)) (phase_noted setup facts is own) facts.turn.doing refl
+  turn_noted setup facts TurnEnds is own turn =
+      both (map note_received facts.received) _ (pieces_noted facts.received) (completed_noted facts.view (completed_from 0 facts.links))

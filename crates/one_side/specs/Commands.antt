@@ -3,6 +3,7 @@
 use Rattle.std.specs.Prelude.{ℕ, ◌+◌, ◌==◌, Bool, true, false, List, [], ◌∷◌, ◌++◌, take, Option, Some, None, if◌then◌else◌}
 use Rattle.ble_base.specs.declared.addresses.Address.{Address}
 use Rattle.ble_base.specs.declared.notes.Note.{Note}
+use Rattle.acl_banks.specs.declared.pieces.Piece.{Piece}
 use Rattle.hci_cmd.specs.declared.command.Command.{Command}
 use Rattle.hci_cmd.specs.declared.command.Command.TheVariants.{Reset, LeSetAdvParams, LeSetAdvData, LeSetScanResponse, LeSetAdvEnable, LeSetScanParams, LeSetScanEnable, LeCreateConnection, LeCreateCancel, LeRand}
 use Rattle.hci_cmd.specs.declared.command.CmdRead.{CmdRead}
@@ -162,6 +163,11 @@ abbrev pub links_after : Command → Links → Links
 links_after Reset links = without_links links
 links_after other links = links
 
+-- and what was taken on them is not received any more
+abbrev pub received_after : Command → List (ℕ × Piece) → List (ℕ × Piece)
+received_after Reset received = []
+received_after other received = received
+
 abbrev pub drawn_after : Command → ℕ → ℕ
 drawn_after LeRand drawn = drawn + 1
 drawn_after other drawn = drawn
@@ -175,6 +181,7 @@ facts_accepted setup facts command = record facts {
   scanning = scanning_after setup facts.view facts.turn.begun command facts.scanning;
   initiator = initiator_after setup facts.view facts.turn.begun command facts.initiator;
   links = links_after command facts.links;
+  received = received_after command facts.received;
 }
 
 -- a refused command changes nothing, and neither does what is no command

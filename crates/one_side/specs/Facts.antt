@@ -2,6 +2,7 @@
 -- and of its links (our choice).
 use Rattle.std.specs.Prelude.{ℕ, Bool, true, false, List, [], Option, None, replicate}
 use Rattle.ble_base.specs.declared.Config.{Config}
+use Rattle.acl_banks.specs.declared.pieces.Piece.{Piece}
 use Rattle.host_view.specs.View.{View, first_view}
 use Rattle.advertise.specs.declared.params.AdvParams.{AdvParams}
 use Rattle.advertise.specs.Advertising.{AdvertiserFacts}
@@ -83,6 +84,8 @@ pub record Facts : Type 0 where
   pub scanning : Scanning
   pub initiator : Option InitiatorFacts
   pub links : Links
+  -- the pieces of data that links took and the host has not received, in order, each with its handle
+  pub received : List (ℕ × Piece)
 
 -- as a controller starts, and after a Reset (sections 7.8.5 and 7.8.10)
 abbrev pub free_radio : Radio
@@ -110,4 +113,5 @@ first_facts setup = record {
   scanning = first_scanning;
   initiator = None;
   links = replicate setup.links None;
+  received = [];
 }

@@ -1,8 +1,10 @@
 -- What a controller makes of a phase: of a packet that it heard, or of none (Core 5.2, volume 6 part B, sections 4.4.2
 -- to 4.4.4 and 4.5, and volume 4 part E, section 7.7.65.2).
-use Rattle.std.specs.Prelude.{ℕ, ◌+◌, ◌&&◌, not, Bool, true, false, List, [], ◌∷◌, Option, Some, None, is_some, if◌then◌else◌}
+use Rattle.std.specs.Prelude.{ℕ, ◌+◌, ◌&&◌, nat_lt, not, Bool, true, false, List, [], ◌∷◌, ◌++◌, length, Option, Some, None, is_some, if◌then◌else◌}
 use Rattle.ble_base.specs.declared.addresses.Address.{Address}
+use Rattle.ble_base.specs.declared.notes.Note.{Note}
 use Rattle.ble_base.specs.declared.roles.Role.TheVariants.{Central, Peripheral}
+use Rattle.acl_banks.specs.declared.pieces.Piece.{Piece}
 use Rattle.adv_pdu.specs.declared.pdu.AdvPdu.{AdvPdu}
 use Rattle.adv_pdu.specs.declared.pdu.ConnectFields.{ConnectFields}
 use Rattle.adv_pdu.specs.Pdu.{body_of, ch_sel_of, sender_of}
@@ -15,7 +17,8 @@ use Rattle.hci_evt.specs.declared.event.Event.{Event}
 use Rattle.hci_evt.specs.declared.event.Event.TheVariants.{AdvertisingReport}
 use Rattle.one_end.specs.declared.setup.LinkSetup.{LinkSetup}
 use Rattle.one_end.specs.Step.{PacketReceived}
-use Rattle.one_end.specs.End.{replies_of}
+use Rattle.one_end.specs.End.{notes_after as end_notes, replies_of}
+use Rattle.one_end.specs.Kept.{kept_of}
 use Rattle.scan_init.specs.declared.reports.ReportKind.{ReportKind}
 use Rattle.scan_init.specs.declared.scanner.ScanAnswer.{ScanAnswer}
 use Rattle.scan_init.specs.declared.scanner.ScanAnswer.TheVariants.{Ignore as Ignores, Report, Ask, ReportAndAsk}
@@ -211,14 +214,34 @@ abbrev pub reply_if : Bool → ℕ → Doing
 reply_if true handle = PeripheralSends handle
 reply_if false handle = Rests
 
-abbrev pub link_received : ℕ → List ℕ → Facts → Facts
-link_received handle octets facts =
-    record facts { links = with_change handle (link_after (PacketReceived facts.turn.slot octets)) facts.links }
+-- there is room for one more piece of data for the host
+abbrev pub has_room : Setup → Facts → Bool
+has_room setup facts = nat_lt (length facts.received) setup.air_buffers
 
-abbrev pub link_heard : ℕ → List ℕ → Facts → Outcome
-link_heard handle octets facts =
-    goes_on (link_received handle octets facts)
-    (reply_if (replies_in (link_at handle facts.links) octets) handle)
+-- the piece of data that a link takes, under its handle, and what it notes
+abbrev pub piece_taken : Bool → Option OpenLink → List ℕ → List (ℕ × Piece)
+piece_taken room None octets = []
+piece_taken room (Some link) octets = kept_of link.setup (facts_in link) octets room
+
+abbrev pub notes_taken : ℕ → Bool → Option OpenLink → List ℕ → List Note
+notes_taken slot room None octets = []
+notes_taken slot room (Some link) octets = end_notes link.setup (facts_in link) (PacketReceived slot octets room)
+
+abbrev pub link_received : ℕ → Bool → List ℕ → Facts → Facts
+link_received handle room octets facts = record facts {
+  links = with_change handle (link_after (PacketReceived facts.turn.slot octets room)) facts.links;
+  received = facts.received ++ piece_taken room (link_at handle facts.links) octets;
+}
+
+abbrev pub link_hearing : ℕ → Bool → List ℕ → Facts → Outcome
+link_hearing handle room octets facts = record {
+  facts = link_received handle room octets facts;
+  notes = notes_taken facts.turn.slot room (link_at handle facts.links) octets;
+  next = reply_if (replies_in (link_at handle facts.links) octets) handle;
+}
+
+abbrev pub link_heard : Setup → ℕ → List ℕ → Facts → Outcome
+link_heard setup handle octets facts = link_hearing handle (has_room setup facts) octets facts
 
 -- ---- a phase in which a packet is heard
 
@@ -236,7 +259,7 @@ heard setup (AwaitsResponse channel) octets facts =
     if_pdu (pdu_heard channel octets) facts (λ pdu. scanner_heard facts.scanning.on false channel pdu facts)
 heard setup (Initiates channel) octets facts =
     if_pdu (pdu_heard channel octets) facts (λ pdu. initiator_heard facts.initiator setup channel pdu facts)
-heard setup (CentralListens handle) octets facts = link_heard handle octets facts
-heard setup (PeripheralListens handle) octets facts = link_heard handle octets facts
+heard setup (CentralListens handle) octets facts = link_heard setup handle octets facts
+heard setup (PeripheralListens handle) octets facts = link_heard setup handle octets facts
 -- where it does not listen nothing is heard
 heard setup doing octets facts = unheard doing facts

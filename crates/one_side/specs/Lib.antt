@@ -1,6 +1,7 @@
 -- The definitions of this crate.
 pub mod Step
 pub mod Facts
+pub mod Data
 pub mod Answers
 pub mod Commands
 pub mod Events
@@ -15,6 +16,8 @@ pub mod Intervals
 pub mod Connecting
 pub mod Host
 pub mod Notes
+pub mod Between
+pub mod Since
 pub mod Rows
 pub mod Entering
 pub mod Shutting

@@ -15,7 +15,8 @@ use Rattle.one_end.specs.declared.setup.LinkSetup.{LinkSetup}
 use Rattle.slot_plan.specs.declared.Activity.{Activity}
 use Rattle.slot_plan.specs.declared.Activity.TheVariants.{Link, Advertise, Scan, Initiate}
 use Rattle.open_links.specs.declared.ended.LinkEnded.{LinkEnded}
-use Rattle.open_links.specs.OpenLinks.{handles_from, with_link}
+use Rattle.open_links.specs.Data.{received_past, received_without}
+use Rattle.open_links.specs.OpenLinks.{handles_from, link_at, with_link}
 use Rattle.open_links.specs.Turns.{ends_from, links_staying}
 use Rattle.one_side.specs.Events.{notes_of_events}
 use Rattle.one_side.specs.Facts.{Facts, Radio, free_radio}
@@ -69,11 +70,13 @@ stopped Central facts = record facts { initiator = None }
 stopped Peripheral facts =
     record facts { advertising = record facts.advertising { on = None }; radio = free_radio }
 
+-- no link has the handle yet; what was taken on one that has it would not be received any more
 abbrev pub facts_opened : LinkSetup → Facts → Facts
 facts_opened link facts =
     stopped link.role (record facts {
       view = view_noted facts.view (note_opened link);
       links = with_link (record { link = link; opened = facts.turn.slot }) facts.links;
+      received = received_past (link_at link.handle facts.links) link.handle facts.received;
     })
 
 -- ---- a link is shut
@@ -101,6 +104,7 @@ abbrev pub facts_shut : Facts → LinkEnded → Facts
 facts_shut facts ended = record facts {
   view = view_noted facts.view (note_shut ended.handle ended.reason.0);
   radio = radio_without ended.handle facts.radio;
+  received = received_without ended.handle facts.received;
 }
 
 -- the links that end by themselves at the start of a turn in this slot, by ascending handle

@@ -1,9 +1,9 @@
 -- What comes of a phase, or of the beginning of a turn (our choice).
-use Rattle.std.specs.Prelude.{List, []}
+use Rattle.std.specs.Prelude.{List, [], ◌++◌}
 use Rattle.ble_base.specs.declared.notes.Note.{Note}
 use Rattle.one_side.specs.declared.doing.Doing.{Doing}
 use Rattle.one_side.specs.Facts.{Facts}
-use Rattle.one_side.specs.Packets.{facts_doing}
+use Rattle.one_side.specs.Packets.{facts_doing, notes_doing}
 
 pub record Outcome : Type 0 where
   -- what is held then
@@ -17,6 +17,9 @@ pub record Outcome : Type 0 where
 abbrev pub goes_on : Facts → Doing → Outcome
 goes_on facts doing = record { facts = facts; notes = []; next = doing }
 
--- what is held as the next phase comes
+-- what is held as the next phase comes, and all that is noted until then
 abbrev pub facts_passed : Outcome → Facts
 facts_passed outcome = facts_doing outcome.next outcome.facts
+
+abbrev pub notes_passed : Outcome → List Note
+notes_passed outcome = outcome.notes ++ notes_doing outcome.next outcome.facts

@@ -1,8 +1,9 @@
 -- What a controller sends, and what it hears: the packets of the advertising channels, and those of links (Core 5.2,
 -- volume 6 part B, sections 2.1 to 2.4).
-use Rattle.std.specs.Prelude.{ℕ, true, List, Option, Some, None}
+use Rattle.std.specs.Prelude.{ℕ, true, List, [], Option, Some, None}
 use Rattle.std.specs.Option.{option_and_then, option_map}
 use Rattle.ble_base.specs.declared.addresses.Address.{Address}
+use Rattle.ble_base.specs.declared.notes.Note.{Note}
 use Rattle.ble_base.specs.declared.verdicts.Verdict.{Verdict}
 use Rattle.ble_base.specs.declared.verdicts.Verdict.TheVariants.{Missed, Broken, Good}
 use Rattle.adv_pdu.specs.declared.pdu.AdvPdu.{AdvPdu}
@@ -16,6 +17,7 @@ use Rattle.air_frame.specs.declared.advertising.TheConstants.{ADVERTISING_ACCESS
 use Rattle.air_frame.specs.Hearing.{heard_in}
 use Rattle.air_frame.specs.Packet.{on_air}
 use Rattle.one_end.specs.declared.setup.LinkSetup.{LinkSetup}
+use Rattle.one_end.specs.End.{notes_after as end_notes}
 use Rattle.one_end.specs.Packets.{packet_sent, verdict_of as verdict_of_end}
 use Rattle.one_end.specs.Step.{PacketSent}
 use Rattle.open_links.specs.OpenLinks.{Links, OpenLink, facts_in, link_after, link_at, with_change}
@@ -81,6 +83,16 @@ abbrev pub links_sending : ℕ → Doing → Links → Links
 links_sending slot (CentralSends handle) links = with_change handle (link_after (PacketSent slot)) links
 links_sending slot (PeripheralSends handle) links = with_change handle (link_after (PacketSent slot)) links
 links_sending slot other links = links
+
+-- a new PDU that is not empty is noted as it is sent first
+abbrev pub notes_sent : ℕ → Option OpenLink → List Note
+notes_sent slot None = []
+notes_sent slot (Some link) = end_notes link.setup (facts_in link) (PacketSent slot)
+
+abbrev pub notes_doing : Doing → Facts → List Note
+notes_doing (CentralSends handle) facts = notes_sent facts.turn.slot (link_at handle facts.links)
+notes_doing (PeripheralSends handle) facts = notes_sent facts.turn.slot (link_at handle facts.links)
+notes_doing other facts = []
 
 -- what a controller holds as it is to do this in the phase that comes next
 abbrev pub facts_doing : Doing → Facts → Facts

@@ -5,7 +5,7 @@ use Rattle.ble_base.specs.declared.roles.Role.{Role}
 use Rattle.ble_base.specs.declared.roles.Role.TheVariants.{Central, Peripheral}
 use Rattle.ble_base.specs.declared.notes.Note.{Note}
 use Rattle.advertise.specs.Advertising.{AdvertiserFacts, due_after, event_channel}
-use Rattle.one_end.specs.Times.{span_of}
+use Rattle.one_end.specs.Times.{has_second_exchange, span_of}
 use Rattle.scan_init.specs.Initiating.{InitiatorFacts}
 use Rattle.scan_init.specs.Reports.{ScannerFacts}
 use Rattle.scan_init.specs.Windows.{scan_channel}
@@ -14,7 +14,8 @@ use Rattle.slot_plan.specs.declared.Activity.TheVariants.{Link, Advertise, Scan,
 use Rattle.slot_plan.specs.declared.Want.{Want}
 use Rattle.slot_plan.specs.declared.plan.Hold.{Hold}
 use Rattle.slot_plan.specs.Holding.{PlanFacts, is_held_in, winner_of}
-use Rattle.open_links.specs.OpenLinks.{OpenLink, facts_in, link_at, link_served, with_change}
+use Rattle.open_links.specs.Data.{links_fixed}
+use Rattle.open_links.specs.OpenLinks.{Links, OpenLink, facts_in, link_at, link_served, with_change}
 use Rattle.open_links.specs.Turns.{links_entered, notes_entering, wants_from}
 use Rattle.one_side.specs.declared.doing.Doing.{Doing}
 use Rattle.one_side.specs.declared.doing.Doing.TheVariants.{Advertises, Scans, Initiates, CentralSends, PeripheralListens, Rests}
@@ -72,7 +73,7 @@ first_exchange handle (Some link) = exchange_begins link.setup.link.role handle
 -- there is a second one where the event continues
 abbrev pub second_exchange : ℕ → Option OpenLink → Doing
 second_exchange handle None = Rests
-second_exchange handle (Some link) = exchange_if (facts_in link).event.continues link.setup.link.role handle
+second_exchange handle (Some link) = exchange_if (has_second_exchange (facts_in link)) link.setup.link.role handle
 
 abbrev pub advertises_on : Option ℕ → Doing
 advertises_on None = Rests
@@ -165,10 +166,20 @@ entered on slot facts =
 abbrev pub turn_begins : ℕ → Facts → Facts
 turn_begins slot facts = record facts { turn = record facts.turn { begun = slot + 1; slot = slot } }
 
+-- a link that has the radio fixes the PDU that it sends next
+abbrev pub links_fixing : Doing → Links → Links
+links_fixing (CentralSends handle) links = links_fixed handle links
+links_fixing (PeripheralListens handle) links = links_fixed handle links
+links_fixing other links = links
+
+abbrev pub fixing : Outcome → Outcome
+fixing outcome =
+    record outcome { facts = record outcome.facts { links = links_fixing outcome.next outcome.facts.links } }
+
 -- what comes of the beginning of a turn: first the links end that are due, and then the others enter their events
 abbrev pub outcome_after_ends : Bool → ℕ → List Note → Facts → Outcome
 outcome_after_ends on slot notes facts =
-    record (entered on slot facts) { notes = notes ++ (entered on slot facts).notes }
+    record (fixing (entered on slot facts)) { notes = notes ++ (entered on slot facts).notes }
 
 abbrev pub outcome_begun : ℕ → Bool → Facts → Outcome
 outcome_begun slot on facts =

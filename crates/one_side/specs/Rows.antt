@@ -117,3 +117,12 @@ peripheral_listens = peripheral_sends ++ NothingHeard ∷ []
 
 abbrev pub peripheral_linked : List Step
 peripheral_linked = peripheral_listens ++ PacketHeard connection ∷ []
+
+-- ---- data of a host
+
+-- a packet of no octet on the link, and one of one octet
+abbrev pub empty_given : List Step
+empty_given = fed (0x02 ∷ 0x00 ∷ 0x20 ∷ 0x00 ∷ 0x00 ∷ [])
+
+abbrev pub octet_given : List Step
+octet_given = fed (0x02 ∷ 0x00 ∷ 0x20 ∷ 0x01 ∷ 0x00 ∷ 0xAA ∷ [])

@@ -1,9 +1,9 @@
 -- Octets that a controller sends (Core 5.2, volume 6 part B, sections 2.1 to 2.4).
-use Rattle.std.specs.Prelude.{◌≡◌, ℕ, ◌≤◌, ◌<◌, List, IfSome}
+use Rattle.std.specs.Prelude.{◌≡◌, ℕ, ◌≤◌, ◌<◌, List, [], ◌∷◌, ◌++◌, IfSome, ⊤}
 use Rattle.adv_pdu.specs.declared.pdu.AdvPdu.{AdvPdu}
 use Rattle.adv_pdu.specs.Pdu.{IsPdu}
 use Rattle.one_end.specs.Packets.{packet_sent}
-use Rattle.one_end.specs.Step.{PacketSent}
+use Rattle.one_end.specs.Step.{Step, DataGiven, PacketSent}
 use Rattle.open_links.specs.OpenLinks.{OpenLink, facts_in, link_after, link_at}
 use Rattle.one_side.specs.declared.doing.Doing.{Doing}
 use Rattle.one_side.specs.declared.doing.Doing.TheVariants.{CentralSends, PeripheralSends}
@@ -24,8 +24,19 @@ SendsOn handle (CentralSends other) = other ≡ handle
 SendsOn handle (PeripheralSends other) = other ≡ handle
 SendsOn handle other = ⊥
 
+-- its host gave a link these packets of data, and nothing else happened to it
+abbrev pub AreGiven : List Step → Type 0
+AreGiven [] = ⊤
+AreGiven (DataGiven start body ∷ steps) = AreGiven steps
+AreGiven (step ∷ steps) = ⊥
+
+pub record HasOnlyBeenGiven (before after : OpenLink) : Type 0 where
+  pub given : List Step
+  pub are_given : AreGiven given
+  pub link_is : after ≡ record before { past = before.past ++ given }
+
 -- they are the packet of the link on which it is to send, on a data channel; to that link, if it is still open, nothing
--- happened after that packet
+-- happened after that packet but that its host gave it data
 pub record IsLinkPacket (facts : Facts) (channel : ℕ) (octets : List ℕ) : Type 0 where
   pub handle : ℕ
   pub sends : SendsOn handle facts.turn.doing
@@ -33,4 +44,4 @@ pub record IsLinkPacket (facts : Facts) (channel : ℕ) (octets : List ℕ) : Ty
   pub packet : octets ≡ packet_sent link.setup (facts_in link)
   pub channel_is : channel ≡ (facts_in link).event.channel
   pub data_channel : channel < 37
-  pub last : IfSome (link_at handle facts.links) (λ after. after ≡ link_after (PacketSent facts.turn.slot) link)
+  pub last : IfSome (link_at handle facts.links) (HasOnlyBeenGiven (link_after (PacketSent facts.turn.slot) link))

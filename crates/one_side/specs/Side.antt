@@ -11,9 +11,10 @@ use Rattle.one_side.specs.declared.doing.Doing.TheVariants.{Rests}
 use Rattle.one_side.specs.Step.{Step, HostOctet, TurnBegins, PacketHeard, NothingHeard, TurnEnds}
 use Rattle.one_side.specs.Facts.{Setup, Facts, first_facts}
 use Rattle.one_side.specs.Commands.{facts_commanded, notes_commanded}
+use Rattle.one_side.specs.Data.{facts_ended_turn, facts_offered, notes_ended_turn, notes_offered, offer_of}
 use Rattle.one_side.specs.Events.{notes_of_events}
 use Rattle.one_side.specs.Heard.{heard, unheard}
-use Rattle.one_side.specs.Outcome.{Outcome, facts_passed}
+use Rattle.one_side.specs.Outcome.{Outcome, facts_passed, notes_passed}
 use Rattle.one_side.specs.Packets.{facts_doing}
 use Rattle.one_side.specs.Radio.{outcome_begun}
 
@@ -27,10 +28,11 @@ first_result (entry ∷ entries) = entry.1
 unfoldable pub result_of : List ℕ → ℕ → Fed
 result_of before octet = first_result (drop (length (frames before)) (frames (before ++ octet ∷ [])))
 
--- links carry no data yet, so ACL data is dropped
+-- a command is carried out, and a packet of data is kept, or is not
 abbrev pub facts_fed : Setup → Facts → Fed → Facts
 facts_fed setup facts (Packet (Command opcode body)) = facts_commanded setup facts (command_of opcode body.items)
-facts_fed setup facts (Packet (Acl handle start count body)) = facts
+facts_fed setup facts (Packet (Acl handle start count body)) =
+    facts_offered (offer_of setup facts handle count) handle start body.items facts
 facts_fed setup facts LostSync = facts
 facts_fed setup facts More = facts
 
@@ -38,7 +40,8 @@ facts_fed setup facts More = facts
 abbrev pub notes_fed : Setup → Facts → Fed → List Note
 notes_fed setup facts (Packet (Command opcode body)) =
     notes_commanded setup facts opcode (command_of opcode body.items)
-notes_fed setup facts (Packet (Acl handle start count body)) = []
+notes_fed setup facts (Packet (Acl handle start count body)) =
+    notes_offered facts.view (offer_of setup facts handle count) handle
 notes_fed setup facts LostSync = notes_of_events facts.view (HardwareError 0x01 ∷ [])
 notes_fed setup facts More = []
 
@@ -60,15 +63,15 @@ facts_after setup facts (HostOctet octet) = with_octet octet (facts_fed setup fa
 facts_after setup facts (TurnBegins slot on) = facts_passed (outcome_begun slot on facts)
 facts_after setup facts (PacketHeard octets) = facts_passed (outcome_heard setup octets facts)
 facts_after setup facts NothingHeard = facts_passed (outcome_unheard facts)
-facts_after setup facts TurnEnds = facts_doing Rests facts
+facts_after setup facts TurnEnds = facts_doing Rests (facts_ended_turn facts)
 
 -- what it notes in a step
 abbrev pub notes_after : Setup → Facts → Step → List Note
 notes_after setup facts (HostOctet octet) = notes_fed setup facts (result_of facts.octets octet)
-notes_after setup facts (TurnBegins slot on) = (outcome_begun slot on facts).notes
-notes_after setup facts (PacketHeard octets) = (outcome_heard setup octets facts).notes
-notes_after setup facts NothingHeard = (outcome_unheard facts).notes
-notes_after setup facts TurnEnds = []
+notes_after setup facts (TurnBegins slot on) = notes_passed (outcome_begun slot on facts)
+notes_after setup facts (PacketHeard octets) = notes_passed (outcome_heard setup octets facts)
+notes_after setup facts NothingHeard = notes_passed (outcome_unheard facts)
+notes_after setup facts TurnEnds = notes_ended_turn facts
 
 -- ---- all steps so far
 

@@ -101,8 +101,9 @@ pub fn commands_are_answered_in_order()
 
 /// A host is answered as if no turn came between its octets, packet by packet. While nothing was
 /// heard the controller notes nothing else; after that, while no link was opened and none was to be
-/// made, it notes LE events besides. ACL data has no answer, and a loss of synchronisation is
-/// reported as Hardware Error 01 exactly where bit 15 of the mask is set.
+/// made, it notes LE events besides. ACL data has no answer, and nothing is noted of it where its
+/// link is not open. A loss of synchronisation is reported as Hardware Error 01 exactly where bit
+/// 15 of the mask is set.
 pub fn a_host_is_answered_whatever_the_turns()
     ensures alone { (setup : Setup) (past : List Step) → HeardNothing past
         → notes_of setup past ≡ notes_of setup (map HostOctet (host_octets past)) }
@@ -113,6 +114,10 @@ pub fn a_host_is_answered_whatever_the_turns()
         → notes_of setup (map HostOctet octets) ≡ answers_of setup (frames octets) }
     ensures acl { (setup : Setup) (facts : Facts) (handle count : ℕ) (start : Bool)
         (octets : List ℕ)
+        → answers_among (notes_fed setup facts
+        (Packet (Acl handle start count (record { items = octets })))) ≡ [] }
+    ensures no_link { (setup : Setup) (facts : Facts) (handle count : ℕ) (start : Bool)
+        (octets : List ℕ) → link_at handle facts.links ≡ None
         → notes_fed setup facts (Packet (Acl handle start count (record { items = octets })))
         ≡ [] }
     ensures loss { (setup : Setup) (facts : Facts)
@@ -167,7 +172,7 @@ pub fn a_pdu_is_understood()
 
 /// What a controller wants to send is the packet of a PDU on one of the advertising channels, or
 /// that of the link on which it is to send, on a data channel; if its public address has six
-/// octets.
+/// octets. Nothing happened to that link since, but that its host gave it data.
 pub fn what_is_sent_is_a_pdu()
     ensures { (setup : Setup) (past : List Step) (channel : ℕ) (octets : List ℕ)
         → length setup.public ≡ 6 → (facts_of setup past).wanted ≡ Sends channel octets

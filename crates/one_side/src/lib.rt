@@ -2,10 +2,15 @@
 //! the calls on it. They are facts of the standard's words, and none of them names code.
 #![tactic(auto)]
 
+mod delivery;
 mod doing;
 mod laws;
 mod rows;
 
+pub use crate::delivery::{
+    a_link_notes_its_pdus, complete_packets_are_reported, data_is_handed_up_in_order,
+    no_more_than_its_buffers, nothing_waits_between_turns, only_open_links_have_notes,
+};
 pub use crate::doing::{Doing, Turn};
 pub use crate::laws::{
     a_controller_opens_links_as_it_may, a_host_is_answered_whatever_the_turns, a_pdu_is_understood,
@@ -15,5 +20,5 @@ pub use crate::laws::{
     random_words_go_round, refused_command_changes_nothing, what_is_sent_is_a_pdu,
 };
 pub use crate::rows::{
-    worked_advertisement, worked_answers, worked_connection, worked_link, worked_rows,
+    worked_advertisement, worked_answers, worked_connection, worked_data, worked_link, worked_rows,
 };

@@ -1,19 +1,22 @@
 //! Worked examples, which the definitions compute.
-ghost use Rattle.std.specs.Prelude.{◌≡◌, true, [], ◌∷◌, ◌++◌};
+ghost use Rattle.std.specs.Prelude.{◌≡◌, true, [], ◌∷◌, ◌++◌, replicate};
 ghost use Rattle.ble_base.specs.declared.Verdict.TheVariants.{Missed, Broken, Good};
 ghost use Rattle.ble_base.specs.declared.notes.Note.TheVariants.{Opened, Shut, Enter};
 ghost use Rattle.ble_base.specs.declared.roles.Role.TheVariants.{Central, Peripheral};
+ghost use Rattle.h4_frames.specs.declared.packet.HostPacket.TheVariants.{Acl};
+ghost use Rattle.h4_frames.specs.declared.packet.Fed.TheVariants.{Packet};
 ghost use Rattle.one_side.specs.Facts.{Listens, Sends};
 ghost use Rattle.one_side.specs.Host.{commands_of};
 ghost use Rattle.one_side.specs.Notes.{answers_among};
 ghost use Rattle.one_side.specs.Packets.{use_of, verdict_of};
 ghost use Rattle.one_side.specs.Rows.{address_a, address_b, advertisement_b, advertisement_ending};
 ghost use Rattle.one_side.specs.Rows.{advertiser_in_turn, central_answers, central_linked};
-ghost use Rattle.one_side.specs.Rows.{central_listens, connection, fed, first_packet};
+ghost use Rattle.one_side.specs.Rows.{central_listens, connection, empty_given, fed};
+ghost use Rattle.one_side.specs.Rows.{first_packet, octet_given};
 ghost use Rattle.one_side.specs.Rows.{peripheral_linked, peripheral_listens, peripheral_sends};
 ghost use Rattle.one_side.specs.Rows.{public, scanner_heard_it, scanner_in_turn, setup_a};
 ghost use Rattle.one_side.specs.Rows.{setup_b, up};
-ghost use Rattle.one_side.specs.Side.{facts_of, notes_after, notes_of};
+ghost use Rattle.one_side.specs.Side.{facts_of, notes_after, notes_fed, notes_from, notes_of};
 ghost use Rattle.one_side.specs.Step.{TurnBegins};
 
 /// What hosts are answered: an HCI_Reset; an opcode that is no command; a Reset of another length;
@@ -116,4 +119,18 @@ pub fn worked_link()
     ensures shut { notes_after setup_a (facts_of setup_a central_linked) (TurnBegins 144 true)
         ≡ Shut 0 (record { 0 = 0x3E })
         ∷ up (0x04 ∷ 0x05 ∷ 0x04 ∷ 0x00 ∷ 0x00 ∷ 0x00 ∷ 0x3E ∷ []) ∷ [] }
+{}
+
+/// Packets of a host: one for a handle whose link is not open, which is not noted; one of 252
+/// octets on an open link, which is reported as Data Buffer Overflow; one of no octet, which is
+/// complete at once; and one of one octet, which is kept to be sent.
+pub fn worked_data()
+    ensures no_link { notes_fed setup_a (facts_of setup_a central_linked)
+        (Packet (Acl 1 true 1 (record { items = 0xAA ∷ [] }))) ≡ [] }
+    ensures too_long { notes_fed setup_a (facts_of setup_a central_linked)
+        (Packet (Acl 0 true 252 (record { items = replicate 251 0xAA })))
+        ≡ up (0x04 ∷ 0x1A ∷ 0x01 ∷ 0x01 ∷ []) ∷ [] }
+    ensures empty { notes_from setup_a (facts_of setup_a central_linked) empty_given
+        ≡ up (0x04 ∷ 0x13 ∷ 0x05 ∷ 0x01 ∷ 0x00 ∷ 0x00 ∷ 0x01 ∷ 0x00 ∷ []) ∷ [] }
+    ensures kept { notes_from setup_a (facts_of setup_a central_linked) octet_given ≡ [] }
 {}

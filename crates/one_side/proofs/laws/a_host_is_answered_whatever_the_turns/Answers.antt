@@ -1,6 +1,8 @@
 -- Proof of `laws::a_host_is_answered_whatever_the_turns`.
 use Rattle.one_side.proofs.Alone.{alone, beside}
 use Rattle.one_side.proofs.ByFrames.{by_frames}
+use Rattle.one_side.specs.Data.{offer_of}
+use Rattle.one_side.proofs.InOrder.{none_offered, offered_says}
 use Rattle.one_side.proofs.laws.a_host_is_answered_whatever_the_turns.Goals as goal
 
 pub returns-clause-alone : goal.returns-clause-alone
@@ -11,3 +13,9 @@ returns-clause-beside c = beside
 
 pub returns-clause-by_frames : goal.returns-clause-by_frames
 returns-clause-by_frames c = by_frames
+
+pub returns-clause-acl : goal.returns-clause-acl
+returns-clause-acl c = λ setup facts handle count start octets. offered_says facts.view (offer_of setup facts handle count) handle
+
+pub returns-clause-no_link : goal.returns-clause-no_link
+returns-clause-no_link c = none_offered
