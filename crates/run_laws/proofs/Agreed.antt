@@ -1,19 +1,22 @@
 -- The ends of one link stay in agreement as either sends, and as it receives what the other sent.
-use Rattle.std.proofs.Common.{◌≡◌, ℕ, ◌<◌, Bool, true, false, List, [], ◌∷◌, length, refl, sym, ap, subst, ◌∙◌, arith}
-use Rattle.std.proofs.lemmas.Bool.{eqb-true, eqb-false}
+use Rattle.std.proofs.Common.{◌≡◌, ℕ, ◌+◌, ◌<◌, ◌≤◌, ◌&&◌, ◌||◌, not, Bool, true, false, List, [], ◌∷◌, length, refl, sym, ap, subst, ◌∙◌, arith}
+use Rattle.std.proofs.lemmas.Bool.{eqb-true, eqb-false, ne_eqb}
 use Rattle.std.proofs.lemmas.List.{length_push}
 use Rattle.std.proofs.lemmas.List.Sums.{fold-append}
-use Rattle.ack_bit.specs.InStep.{IsOut}
-use Rattle.ack_bit.proofs.Links.{begins}
-use Rattle.one_end.specs.Acknowledgement.{Acknowledgement, after_sending, empty_pdu, end_of, first_acknowledgement, is_acked, next_sent}
-use Rattle.one_end.specs.End.{facts_after, facts_of, facts_sent}
+use Rattle.ack_bit.specs.AckBits.{acknowledges, is_new}
+use Rattle.ack_bit.specs.AckLink.{Packet}
+use Rattle.ack_bit.specs.InStep.{AreInStep, IsOut}
+use Rattle.ack_bit.proofs.Links.{begins, exchanged, received, says, sent}
+use Rattle.one_end.specs.Acknowledgement.{Acknowledgement, Pdu, after_sending, bits_of, empty_pdu, end_of, first_acknowledgement, is_acked, next_sent, received_by}
+use Rattle.one_end.specs.Data.{is_data}
+use Rattle.one_end.specs.End.{facts_after, facts_of, facts_received, has_acknowledged, is_accepted}
 use Rattle.one_end.specs.Facts.{Facts, first_facts}
-use Rattle.one_end.specs.Packets.{packet_sent}
-use Rattle.one_end.specs.Pair.{AreOneLink}
+use Rattle.one_end.specs.Packets.{header_sent, more_sent, packet_sent, pdu_sent}
+use Rattle.one_end.specs.Pair.{AreInAgreement, AreOneLink, receiver_after}
 use Rattle.one_end.specs.Setup.{Setup}
-use Rattle.one_end.specs.Step.{Step, EventEntered, PacketSent, PacketReceived}
-use Rattle.one_end.proofs.Pairs.{AreAgreed, exchange, heard, receives, sends}
-use Rattle.one_end.proofs.Received.{IsHeardWhole}
+use Rattle.one_end.specs.Step.{Step, DataGiven, EventEntered, PduFixed, PacketSent, PacketReceived, DataReported}
+use Rattle.one_end.proofs.Payloads.{IsShort, past_pdu_short}
+use Rattle.one_end.proofs.Received.{IsHeardWhole, header_read, heard_good, pdu_read, received_end}
 use Rattle.open_links.specs.OpenLinks.{OpenLink, facts_in, link_after, link_served, new_link}
 use Rattle.open_links.specs.Turns.{entered_if, is_anchor, link_entered}
 use Rattle.run_laws.specs.Ends.{HaveOneConnectInd}
@@ -23,7 +26,10 @@ ack_of link = (facts_in link).acknowledgement
 
 -- two ends that have one CONNECT_IND
 abbrev pub Agree : OpenLink → OpenLink → Type 0
-Agree one other = HaveOneConnectInd one.setup other.setup → AreAgreed (ack_of one) (ack_of other)
+Agree one other = HaveOneConnectInd one.setup other.setup → AreInAgreement (ack_of one) (ack_of other)
+
+pub exchange : (one other : Acknowledgement) → AreInAgreement one other → AreInAgreement other one
+exchange one other agreed = exchanged (end_of one) (end_of other) agreed
 
 pub other_way : (one other : OpenLink) → Agree one other → Agree other one
 other_way one other agree = λ same. exchange (ack_of one) (ack_of other) (agree (record { fields = sym same.fields; opened = sym same.opened }))
@@ -34,10 +40,38 @@ pub step_facts : (link : OpenLink) (step : Step) → facts_in (link_after step l
 unfolding facts_of
 step_facts link step = fold-append (facts_after link.setup) (first_facts link.setup) link.past (step ∷ [])
 
+-- in most steps it neither sends nor accepts
+ack_kept : (step : Step) (link : OpenLink) → (facts_after link.setup (facts_in link) step).acknowledgement ≡ ack_of link
+    → ack_of (link_after step link) ≡ ack_of link
+ack_kept step link keeps = ap (λ (f : Facts). f.acknowledgement) (step_facts link step) ∙ keeps
+
+pub ack_given : (start : Bool) (body : List ℕ) (link : OpenLink) → ack_of (link_after (DataGiven start body) link) ≡ ack_of link
+ack_given start body link = ack_kept (DataGiven start body) link refl
+
+pub ack_reported : (link : OpenLink) → ack_of (link_after DataReported link) ≡ ack_of link
+ack_reported link = ack_kept DataReported link refl
+
+pub ack_fixed : (link : OpenLink) → ack_of (link_after PduFixed link) ≡ ack_of link
+ack_fixed link = ack_kept PduFixed link refl
+
+agree_by : (one after other : OpenLink) → after.setup ≡ one.setup → ack_of after ≡ ack_of one → Agree one other → Agree after other
+agree_by one after other setup same agree = λ both.
+    subst (λ a. AreInAgreement a (ack_of other)) (sym same)
+    (agree (subst (λ s. HaveOneConnectInd s other.setup) setup both))
+
+pub agree_given : (start : Bool) (body : List ℕ) (one other : OpenLink) → Agree one other → Agree (link_after (DataGiven start body) one) other
+agree_given start body one other agree = agree_by one (link_after (DataGiven start body) one) other refl (ack_given start body one) agree
+
+pub agree_reported : (one other : OpenLink) → Agree one other → Agree (link_after DataReported one) other
+agree_reported one other agree = agree_by one (link_after DataReported one) other refl (ack_reported one) agree
+
+pub agree_fixed : (one other : OpenLink) → Agree one other → Agree (link_after PduFixed one) other
+agree_fixed one other agree = agree_by one (link_after PduFixed one) other refl (ack_fixed one) agree
+
 entered_by : (anchor : Bool) (slot : ℕ) (one other : OpenLink) → Agree one other → Agree (entered_if anchor slot one) other
 entered_by false slot one other agree = agree
-entered_by true slot one other agree = λ same.
-    subst (λ a. AreAgreed a (ack_of other)) (sym (ap (λ (f : Facts). f.acknowledgement) (step_facts one (EventEntered slot)))) (agree same)
+entered_by true slot one other agree =
+    agree_by one (link_after (EventEntered slot) one) other refl (ack_kept (EventEntered slot) one refl) agree
 
 pub agree_entered : (slot : ℕ) (one other : OpenLink) → Agree one other → Agree (link_entered slot one) other
 agree_entered slot one other agree = entered_by (is_anchor slot one) slot one other agree
@@ -45,70 +79,134 @@ agree_entered slot one other agree = entered_by (is_anchor slot one) slot one ot
 pub agree_served : (slot : ℕ) (one other : OpenLink) → Agree one other → Agree (link_served slot one) other
 agree_served slot one other agree = agree
 
-pub ack_sent : (slot : ℕ) (link : OpenLink) → ack_of (link_after (PacketSent slot) link) ≡ after_sending empty_pdu (ack_of link)
+-- what an end has sent and accepted when it has sent its packet
+abbrev pub sent_ack : Facts → Acknowledgement
+sent_ack sender = after_sending sender.outgoing.fixed sender.acknowledgement
+
+pub ack_sent : (slot : ℕ) (link : OpenLink) → ack_of (link_after (PacketSent slot) link) ≡ sent_ack (facts_in link)
 ack_sent slot link = ap (λ (f : Facts). f.acknowledgement) (step_facts link (PacketSent slot))
 
 pub agree_sent : (slot : ℕ) (one other : OpenLink) → Agree one other → Agree (link_after (PacketSent slot) one) other
 agree_sent slot one other agree = λ same.
-    subst (λ a. AreAgreed a (ack_of other)) (sym (ack_sent slot one)) (sends (ack_of one) (ack_of other) (agree same))
+    subst (λ a. AreInAgreement a (ack_of other)) (sym (ack_sent slot one))
+    (sent (end_of (ack_of one)) (end_of (ack_of other)) (facts_in one).outgoing.fixed (agree same))
 
 -- ---- as a link begins
 
-pub first_ack : (setup : Setup) (past : List Step) → past ≡ [] → (facts_of setup past).acknowledgement ≡ first_acknowledgement
+pub first_ack : (setup : Setup) → ack_of (new_link setup) ≡ first_acknowledgement
 unfolding facts_of
-first_ack setup past none = ap (λ steps. (facts_of setup steps).acknowledgement) none
+first_ack setup = refl
 
-pub agree_new : (setup : Setup) (other : OpenLink) → (setup.opened ≡ other.setup.opened → other.past ≡ []) → Agree (new_link setup) other
+pub agree_new : (setup : Setup) (other : OpenLink) → (setup.opened ≡ other.setup.opened → ack_of other ≡ first_acknowledgement)
+    → Agree (new_link setup) other
 agree_new setup other fresh = λ same.
-    subst (λ a. AreAgreed a (ack_of other)) (sym (first_ack setup [] refl))
-    (subst (λ a. AreAgreed first_acknowledgement a) (sym (first_ack other.setup other.past (fresh same.opened)))
-    (record { step = begins empty_pdu empty_pdu; one_last = refl; other_last = refl }))
+    subst (λ a. AreInAgreement a (ack_of other)) (sym (first_ack setup))
+    (subst (λ a. AreInAgreement first_acknowledgement a) (sym (fresh same.opened)) (begins empty_pdu empty_pdu))
 
 -- ---- one of them receives what the other sent
 
 -- an end that has just sent has heard no acknowledgement of that
-out_by : (acked : Bool) (ack other : Acknowledgement) → is_acked ack ≡ acked → AreAgreed (next_sent acked empty_pdu ack) other
-    → ack.acked < length (next_sent acked empty_pdu ack).sent
-out_by true ack other is agreed =
+out_by : (acked : Bool) (next : Pdu) (ack other : Acknowledgement) → is_acked ack ≡ acked → AreInAgreement (next_sent acked next ack) other
+    → ack.acked < length (next_sent acked next ack).sent
+out_by true next ack other is agreed =
     let all = eqb-true ack.acked (length ack.sent) is in
-    let more = length_push ack.sent empty_pdu in
+    let more = length_push ack.sent next in
     omega (arith, all, more)
-out_by false ack other is agreed =
+out_by false next ack other is agreed =
     let some = eqb-false ack.acked (length ack.sent) is in
-    let low = agreed.step.from_a.reliable.acked_is_accepted in
-    let high = agreed.step.from_a.reliable.sent_only in
+    let low = agreed.from_a.reliable.acked_is_accepted in
+    let high = agreed.from_a.reliable.sent_only in
     omega (arith, some, low, high)
 
-pub out_after : (ack other : Acknowledgement) → AreAgreed (after_sending empty_pdu ack) other → IsOut (end_of (after_sending empty_pdu ack))
-out_after ack other agreed = out_by (is_acked ack) ack other refl agreed
+pub out_after : (sender : Facts) (other : Acknowledgement) → AreInAgreement (sent_ack sender) other → IsOut (end_of (sent_ack sender))
+out_after sender other agreed = out_by (is_acked sender.acknowledgement) sender.outgoing.fixed sender.acknowledgement other refl agreed
 
--- the packet is the same before and after that it is sent; only the fields of the link count in it
-abbrev pub as_other : Setup → Setup → Setup
+-- the packet that it sent, with room at the other end or with none for data
+abbrev pub packet_of : Facts → Bool → Packet Pdu
+packet_of sender room = record {
+  next = sender.outgoing.fixed;
+  llid = (pdu_sent sender).llid;
+  md = more_sent sender;
+  length = length (pdu_sent sender).body;
+  arrives = true;
+  room = room || not (is_data (pdu_sent sender));
+}
+
+-- what the other end holds when it received that
+abbrev pub heard_by : Facts → Bool → Acknowledgement → Acknowledgement
+heard_by sender room ack =
+    received_by (acknowledges (bits_of ack) (header_sent sender))
+    (is_accepted room (is_new (bits_of ack) (header_sent sender)) (pdu_sent sender)) (pdu_sent sender) ack
+
+unless_acked : (all says : Bool) → (all ≡ true → says ≡ false) → (not all && says) ≡ says
+unless_acked true says none = sym (none refl)
+unless_acked false says none = refl
+
+-- what the packet acknowledges is out
+acknowledges_out : (sender facts : Facts) → AreInAgreement (sent_ack sender) facts.acknowledgement
+    → has_acknowledged facts (header_sent sender) ≡ acknowledges (bits_of facts.acknowledgement) (header_sent sender)
+acknowledges_out sender facts agreed =
+    let other = facts.acknowledgement in
+    unless_acked (is_acked other) (acknowledges (bits_of other) (header_sent sender))
+    (λ all. (says (end_of (sent_ack sender)) (end_of other) (packet_of sender true) agreed).acked
+    ∙ ne_eqb (length sender.acknowledgement.accepted) (other.acked + 1)
+    (λ more. omega (arith, more, eqb-true other.acked (length other.sent) all, agreed.from_b.reliable.sent_only)))
+
+heard : IsHeardWhole → (from to : Setup) (slot : ℕ) (room : Bool) (sender facts : Facts) → AreOneLink from to → 27 ≤ to.link.max_rx
+    → IsShort (pdu_sent sender) → sender.event.channel ≡ facts.event.channel → AreInAgreement (sent_ack sender) facts.acknowledgement
+    → (receiver_after from sender to slot room facts).acknowledgement ≡ heard_by sender room facts.acknowledgement
+heard whole from to slot room sender facts one fits short channel agreed =
+    ap (λ pdu. (facts_received slot room pdu facts).acknowledgement) (heard_good whole from to sender facts one fits short channel)
+    ∙ (λ i. received_by (has_acknowledged facts (header_read sender short i))
+    (is_accepted room (is_new (bits_of facts.acknowledgement) (header_read sender short i)) (pdu_read sender short i))
+    (pdu_read sender short i) facts.acknowledgement)
+    ∙ ap (λ acked. received_by acked (is_accepted room (is_new (bits_of facts.acknowledgement) (header_sent sender)) (pdu_sent sender))
+    (pdu_sent sender) facts.acknowledgement) (acknowledges_out sender facts agreed)
+
+receives : (sender : Facts) (room : Bool) (other : Acknowledgement) → AreInAgreement (sent_ack sender) other
+    → AreInAgreement (sent_ack sender) (heard_by sender room other)
+receives sender room other agreed =
+    subst (λ e. AreInStep (end_of (sent_ack sender)) e) (sym (received_end other (header_sent sender) (pdu_sent sender) room))
+    (received (end_of (sent_ack sender)) (end_of other) (packet_of sender room) agreed (out_after sender other agreed))
+
+-- only the fields of the link count in a packet
+abbrev as_other : Setup → Setup → Setup
 as_other from to = record { link = record to.link { fields = from.link.fields }; opened = to.opened }
 
-same_packet : (from to : Setup) (facts : Facts) → packet_sent from facts ≡ packet_sent (as_other from to) (facts_sent facts)
+same_packet : (from to : Setup) (facts : Facts) → packet_sent from facts ≡ packet_sent (as_other from to) facts
 unfolding packet_sent
 same_packet from to facts = refl
 
-received_ack : IsHeardWhole → (slot : ℕ) (one from : OpenLink) (octets : List ℕ) → one.setup.link.fields ≡ from.setup.link.fields
+pub heard_ack : IsHeardWhole → (slot : ℕ) (room : Bool) (one from : OpenLink) (octets : List ℕ) → 27 ≤ one.setup.link.max_rx
+    → one.setup.link.fields ≡ from.setup.link.fields
     → octets ≡ packet_sent from.setup (facts_in from) → (facts_in from).event.channel ≡ (facts_in one).event.channel
-    → AreAgreed (after_sending empty_pdu (ack_of from)) (ack_of one) → AreAgreed (after_sending empty_pdu (ack_of from)) (ack_of (link_after (PacketReceived slot octets) one))
-received_ack whole slot one from octets fields packet channel agreed =
-    let sender = facts_sent (facts_in from) in
+    → AreInAgreement (sent_ack (facts_in from)) (ack_of one)
+    → ack_of (link_after (PacketReceived slot octets room) one) ≡ heard_by (facts_in from) room (ack_of one)
+heard_ack whole slot room one from octets fits fields packet channel agreed =
+    let sender = facts_in from in
     let alike = as_other from.setup one.setup in
     let is_one : AreOneLink alike one.setup = record { fields = sym fields; two = refl; opened = refl } in
-    let taken = receives sender.acknowledgement (ack_of one) sender refl agreed (out_after (ack_of from) (ack_of one) agreed) in
-    subst (λ a. AreAgreed sender.acknowledgement a)
-    (sym (ap (λ (f : Facts). f.acknowledgement) (step_facts one (PacketReceived slot octets))
-    ∙ ap (λ xs. (facts_after one.setup (facts_in one) (PacketReceived slot xs)).acknowledgement) (packet ∙ same_packet from.setup one.setup (facts_in from))
-    ∙ heard whole alike one.setup slot sender (facts_in one) is_one channel)) taken
+    ap (λ (f : Facts). f.acknowledgement) (step_facts one (PacketReceived slot octets room))
+    ∙ ap (λ xs. (facts_after one.setup (facts_in one) (PacketReceived slot xs room)).acknowledgement) (packet ∙ same_packet from.setup one.setup sender)
+    ∙ heard whole alike one.setup slot room sender (facts_in one) is_one fits (past_pdu_short from.setup from.past) channel agreed
 
-pub agree_received : IsHeardWhole → (slot now : ℕ) (one from : OpenLink) (octets : List ℕ) → octets ≡ packet_sent from.setup (facts_in from)
-    → (facts_in from).event.channel ≡ (facts_in one).event.channel → Agree one (link_after (PacketSent now) from)
-    → Agree (link_after (PacketReceived slot octets) one) (link_after (PacketSent now) from)
-agree_received whole slot now one from octets packet channel agree = λ same.
+received_ack : IsHeardWhole → (slot : ℕ) (room : Bool) (one from : OpenLink) (octets : List ℕ) → 27 ≤ one.setup.link.max_rx
+    → one.setup.link.fields ≡ from.setup.link.fields
+    → octets ≡ packet_sent from.setup (facts_in from) → (facts_in from).event.channel ≡ (facts_in one).event.channel
+    → AreInAgreement (sent_ack (facts_in from)) (ack_of one)
+    → AreInAgreement (sent_ack (facts_in from)) (ack_of (link_after (PacketReceived slot octets room) one))
+received_ack whole slot room one from octets fits fields packet channel agreed =
+    subst (λ a. AreInAgreement (sent_ack (facts_in from)) a) (sym (heard_ack whole slot room one from octets fits fields packet channel agreed))
+    (receives (facts_in from) room (ack_of one) agreed)
+
+pub agree_received : IsHeardWhole → (slot now : ℕ) (room : Bool) (one from : OpenLink) (octets : List ℕ) → 27 ≤ one.setup.link.max_rx
+    → octets ≡ packet_sent from.setup (facts_in from) → (facts_in from).event.channel ≡ (facts_in one).event.channel
+    → Agree one (link_after (PacketSent now) from)
+    → Agree (link_after (PacketReceived slot octets room) one) (link_after (PacketSent now) from)
+agree_received whole slot now room one from octets fits packet channel agree = λ same.
+    let after = link_after (PacketReceived slot octets room) one in
     let before = exchange (ack_of one) (ack_of (link_after (PacketSent now) from)) (agree same) in
-    let sent = subst (λ a. AreAgreed a (ack_of one)) (ack_sent now from) before in
-    let taken = received_ack whole slot one from octets same.fields packet channel sent in
-    exchange (ack_of (link_after (PacketSent now) from)) (ack_of (link_after (PacketReceived slot octets) one))
-    (subst (λ a. AreAgreed a (ack_of (link_after (PacketReceived slot octets) one))) (sym (ack_sent now from)) taken)
+    let agreed = subst (λ a. AreInAgreement a (ack_of one)) (ack_sent now from) before in
+    let taken = received_ack whole slot room one from octets fits same.fields packet channel agreed in
+    exchange (ack_of (link_after (PacketSent now) from)) (ack_of after)
+    (subst (λ a. AreInAgreement a (ack_of after)) (sym (ack_sent now from)) taken)

@@ -10,7 +10,7 @@ use Rattle.advertise.specs.declared.answers.AdvAnswer.TheVariants.{Ignore, Respo
 use Rattle.advertise.specs.declared.params.AdvParams.{AdvParams}
 use Rattle.advertise.specs.Answers.{advertiser_answer, is_scan_answered}
 use Rattle.one_end.specs.Setup.{Setup as EndSetup}
-use Rattle.one_end.specs.Step.{Step as EndStep, PacketSent, PacketReceived}
+use Rattle.one_end.specs.Step.{Step as EndStep, DataGiven, PduFixed, PacketSent, PacketReceived, DataReported}
 use Rattle.one_end.specs.Events.{anchor_of, count_entry, entries_in}
 use Rattle.one_end.proofs.InEvents.{past_in}
 use Rattle.open_links.proofs.Ends.{entered_setup}
@@ -35,7 +35,7 @@ use Rattle.runs.specs.Run.{Given, facts_at, run_of, setup_at, history_of}
 use Rattle.runs.proofs.LinkEnds.{AreTaken}
 use Rattle.runs.proofs.Stations.{is_in}
 use Rattle.run_laws.specs.Ends.{HaveOneConnectInd}
-use Rattle.run_laws.proofs.OpenSteps.{EachOpen, IsKeptOpen, MayOpen, begin_open, end_open, none_open, octet_open, open_has, phase_open, IsKeptServed}
+use Rattle.run_laws.proofs.OpenSteps.{EachOpen, IsKeptOpen, MayOpen, begin_open, end_open, none_open, octet_open, open_has, phase_open, IsKeptByHosts, IsKeptServed}
 use Rattle.run_laws.proofs.TurnPlaces.{Between, IsTurned, Stage, Within, stands_in_run, turned}
 use Rattle.run_laws.proofs.TurnSteps.{FitsChannel, FitsFirst, IsListening, begins_listening, may_fit, phase_fits, phase_listens, initiates, pending, MakesWell, begins_begun, begins_make, begins_may, begins_slot, octet_turn, phase_makes, phase_turn}
 
@@ -139,18 +139,27 @@ other_step slot link step none entering = record {
   earlier = entering.earlier;
 }
 
+entering_hosts : (slot : ℕ) → IsKeptByHosts (IsEntering slot)
+entering_hosts slot = record {
+  given = λ start body link entering.
+      other_step slot link (DataGiven start body) (fold-append count_entry 0 link.past (DataGiven start body ∷ [])) entering;
+  reported = λ link entering. other_step slot link DataReported (fold-append count_entry 0 link.past (DataReported ∷ [])) entering;
+}
+
 entering_served : (slot : ℕ) → IsKeptServed (IsEntering slot)
 entering_served slot = record {
+  hosts = entering_hosts slot;
   served = λ now link entering.
       record { on_time = same_on_time slot link (link_served now link) refl refl entering.on_time; some = entering.some; earlier = entering.earlier };
+  fixed = λ link entering. other_step slot link PduFixed (fold-append count_entry 0 link.past (PduFixed ∷ [])) entering;
   sent = λ now link entering. other_step slot link (PacketSent now) (fold-append count_entry 0 link.past (PacketSent now ∷ [])) entering;
 }
 
 entering_open : (slot : ℕ) → IsKeptOpen (IsEntering slot)
 entering_open slot = record {
   serving = entering_served slot;
-  received = λ now octets link entering.
-      other_step slot link (PacketReceived now octets) (fold-append count_entry 0 link.past (PacketReceived now octets ∷ [])) entering;
+  received = λ now octets room link entering.
+      other_step slot link (PacketReceived now octets room) (fold-append count_entry 0 link.past (PacketReceived now octets room ∷ [])) entering;
 }
 
 entered_next : (slot : ℕ) (link : OpenLink) → IsEntering slot link → IsEntering (slot + 1) (link_entered slot link)
@@ -190,7 +199,7 @@ entering_kept : AreTaken → (setup : Setup) → IsTurned setup (AreEntering set
 entering_kept taken setup = record {
   feeds = λ begun octet facts are. record {
     in_turn = (turn_kept setup).feeds begun octet facts are.in_turn;
-    each = octet_open (IsEntering begun) setup facts octet are.each;
+    each = octet_open (IsEntering begun) (entering_hosts begun) setup facts octet are.each;
   };
   begins = λ begun on facts are. record {
     in_turn = (turn_kept setup).begins begun on facts are.in_turn;
@@ -202,7 +211,7 @@ entering_kept taken setup = record {
   };
   ends = λ begun facts are. record {
     in_turn = (turn_kept setup).ends begun facts are.in_turn;
-    each = end_open (IsEntering begun) (entering_served begun) setup facts are.each;
+    each = end_open (IsEntering begun) (entering_hosts begun) setup facts are.each;
   };
 }
 

@@ -4,7 +4,8 @@ use Rattle.std.specs.Prelude.{if◌then◌else◌}
 use Rattle.std.specs.Option.{option_map}
 use Rattle.std.proofs.lemmas.Bool.{eqb-true, eqb-false, false_from_ne_true}
 use Rattle.one_end.specs.Setup.{Setup as EndSetup}
-use Rattle.one_end.specs.Step.{PacketSent, PacketReceived}
+use Rattle.one_end.specs.Acknowledgement.{first_acknowledgement}
+use Rattle.one_end.specs.Step.{DataGiven, PduFixed, PacketSent, PacketReceived, DataReported}
 use Rattle.one_end.specs.Pair.{AreInAgreement}
 use Rattle.one_end.proofs.Received.{IsHeardWhole}
 use Rattle.open_links.specs.OpenLinks.{Links, OpenLink, facts_in, link_after, link_at, link_from, link_served, new_link, with_change, with_change_from}
@@ -25,14 +26,14 @@ use Rattle.runs.specs.LinkEnds.{HaveAddresses}
 use Rattle.runs.specs.Run.{Given, facts_at, history_of, run_of, setup_at, step_of}
 use Rattle.runs.proofs.Stations.{is_in}
 use Rattle.run_laws.specs.Ends.{AreEnds, IsOpen, OpenEnd}
-use Rattle.run_laws.proofs.Agreed.{Agree, ack_of, agree_entered, agree_new, agree_received, agree_sent, agree_served, other_way}
+use Rattle.run_laws.proofs.Agreed.{Agree, ack_given, ack_of, ack_reported, agree_entered, agree_fixed, agree_given, agree_new, agree_received, agree_reported, agree_sent, agree_served, first_ack, other_way}
 use Rattle.run_laws.proofs.ByCalls.{IsCalled, IsKeptByCalls, always_by_calls}
 use Rattle.run_laws.proofs.Entering.{IsInTurn}
 use Rattle.run_laws.proofs.Hearings.{IsOnAir}
 use Rattle.run_laws.proofs.LinkPasses.{IsPassing, Leaves, Opens, Receives, is_on_link, phase_passes}
-use Rattle.run_laws.proofs.OpenSteps.{AtOpen, EachOpen, IsKeptServed, begin_open, changed, none_open, octet_open, open_has, open_more, opened, sends}
+use Rattle.run_laws.proofs.OpenSteps.{AtOpen, EachOpen, IsKeptByHosts, IsKeptOpen, IsKeptServed, MayOpen, begin_open, changed, end_open, none_open, octet_open, phase_open, open_has, open_more, opened, sends}
 use Rattle.run_laws.proofs.TurnPlaces.{Within}
-use Rattle.run_laws.proofs.TurnSteps.{begins_begun, begins_slot, octet_turn, phase_turn}
+use Rattle.run_laws.proofs.TurnSteps.{MakesWell, begins_begun, begins_slot, octet_turn, phase_turn}
 use Rattle.run_laws.proofs.SameEvent.{one_connect_ind, two_stations}
 use Rattle.radio_replay.specs.Script.{Script}
 use Rattle.runs.specs.Pair.{given_of}
@@ -49,19 +50,58 @@ pub record IsPair (given : Given) : Type 0 where
 abbrev pub OpenedBefore : ℕ → OpenLink → Type 0
 OpenedBefore slot link = link.setup.opened < slot
 
--- nothing happened yet to one that was opened in this slot
+-- one that was opened in this slot has sent and accepted nothing yet
 abbrev pub IsFresh : ℕ → OpenLink → Type 0
-IsFresh slot link = link.setup.opened ≡ slot → link.past ≡ []
+IsFresh slot link = link.setup.opened ≡ slot → ack_of link ≡ first_acknowledgement
+
+-- it receives payloads of 27 octets, and longer ones
+abbrev pub TakesShort : OpenLink → Type 0
+TakesShort link = 27 ≤ link.setup.link.max_rx
 
 pub record IsStation (setup : Setup) (facts : Facts) : Type 0 where
   pub own : HaveOwnHandles setup facts
   pub earlier : EachOpen (OpenedBefore facts.turn.begun) facts.links
   pub fresh : EachOpen (IsFresh facts.turn.slot) facts.links
+  pub short : EachOpen TakesShort facts.links
   -- while it sends or listens on one, all were opened before
   pub old : is_on_link facts.turn.doing ≡ true → EachOpen (OpenedBefore facts.turn.slot) facts.links
 
+before_hosts : (slot : ℕ) → IsKeptByHosts (OpenedBefore slot)
+before_hosts slot = record { given = λ start body link is. is; reported = λ link is. is }
+
 before_served : (slot : ℕ) → IsKeptServed (OpenedBefore slot)
-before_served slot = record { served = λ now link is. is; sent = λ now link is. is }
+before_served slot = record {
+  hosts = before_hosts slot;
+  served = λ now link is. is;
+  fixed = λ link is. is;
+  sent = λ now link is. is;
+}
+
+fresh_hosts : (slot : ℕ) → IsKeptByHosts (IsFresh slot)
+fresh_hosts slot = record {
+  given = λ start body link fresh. λ same. ack_given start body link ∙ fresh same;
+  reported = λ link fresh. λ same. ack_reported link ∙ fresh same;
+}
+
+short_served : IsKeptServed TakesShort
+short_served = record {
+  hosts = record { given = λ start body link is. is; reported = λ link is. is };
+  served = λ now link is. is;
+  fixed = λ link is. is;
+  sent = λ now link is. is;
+}
+
+short_open : IsKeptOpen TakesShort
+short_open = record { serving = short_served; received = λ now octets room link is. is }
+
+short_entered : (now : ℕ) (link : OpenLink) → TakesShort link → TakesShort (link_entered now link)
+short_entered now link is = subst (λ (s : EndSetup). 27 ≤ s.link.max_rx) (sym (entered_setup (is_anchor now link) now link)) is
+
+may_short : (setup : Setup) (phases turns : ℕ) (facts : Facts) → IsInTurn setup (Within phases) turns facts → MayOpen TakesShort short_open facts
+may_short setup phases turns facts in_turn = record {
+  made = λ channel link doing. let made = subst (MakesWell setup facts.connections) doing in_turn.makes in made.receives;
+  taken = λ pdu on fields handle takes. omega arith;
+}
 
 before_entered : (slot now : ℕ) (link : OpenLink) → OpenedBefore slot link → OpenedBefore slot (link_entered now link)
 before_entered slot now link is = subst (λ (s : EndSetup). s.opened < slot) (sym (entered_setup (is_anchor now link) now link)) is
@@ -80,10 +120,11 @@ station_fed setup facts octet is =
     let same = (octet_turn setup facts octet).turn in
     let after = facts_after setup facts (HostOctet octet) in record {
       own = own_step setup facts (HostOctet octet) is.own;
-      earlier = subst (λ (turn : Turn). EachOpen (OpenedBefore turn.begun) after.links) (sym same) (octet_open (OpenedBefore facts.turn.begun) setup facts octet is.earlier);
-      fresh = subst (λ (turn : Turn). EachOpen (IsFresh turn.slot) after.links) (sym same) (octet_open (IsFresh facts.turn.slot) setup facts octet is.fresh);
+      earlier = subst (λ (turn : Turn). EachOpen (OpenedBefore turn.begun) after.links) (sym same) (octet_open (OpenedBefore facts.turn.begun) (before_hosts facts.turn.begun) setup facts octet is.earlier);
+      fresh = subst (λ (turn : Turn). EachOpen (IsFresh turn.slot) after.links) (sym same) (octet_open (IsFresh facts.turn.slot) (fresh_hosts facts.turn.slot) setup facts octet is.fresh);
+      short = octet_open TakesShort short_served.hosts setup facts octet is.short;
       old = subst (λ (turn : Turn). is_on_link turn.doing ≡ true → EachOpen (OpenedBefore turn.slot) after.links) (sym same)
-          (λ on. octet_open (OpenedBefore facts.turn.slot) setup facts octet (is.old on));
+          (λ on. octet_open (OpenedBefore facts.turn.slot) (before_hosts facts.turn.slot) setup facts octet (is.old on));
     }
 
 station_begins : (setup : Setup) (facts : Facts) (slot : ℕ) (on : Bool) → facts.turn.begun ≡ slot → IsStation setup facts → IsStation setup (facts_after setup facts (TurnBegins slot on))
@@ -97,23 +138,25 @@ station_begins setup facts slot on begun is =
       earlier = subst (λ n. EachOpen (OpenedBefore n) after.links) (sym (begins_begun setup slot on facts))
           (open_more (OpenedBefore slot) (OpenedBefore (slot + 1)) after.links (before_next slot) before);
       fresh = subst (λ n. EachOpen (IsFresh n) after.links) now (open_more (OpenedBefore slot) (IsFresh slot) after.links (before_fresh slot) before);
+      short = begin_open TakesShort TakesShort short_served setup slot on facts (short_entered slot) is.short;
       old = λ does. subst (λ n. EachOpen (OpenedBefore n) after.links) now before;
     }
 
 station_ends : (setup : Setup) (facts : Facts) → IsStation setup facts → IsStation setup (facts_after setup facts TurnEnds)
 station_ends setup facts is = record {
   own = own_step setup facts TurnEnds is.own;
-  earlier = is.earlier;
-  fresh = is.fresh;
+  earlier = end_open (OpenedBefore facts.turn.begun) (before_hosts facts.turn.begun) setup facts is.earlier;
+  fresh = end_open (IsFresh facts.turn.slot) (fresh_hosts facts.turn.slot) setup facts is.fresh;
+  short = end_open TakesShort short_served.hosts setup facts is.short;
   old = λ does. absurd cc;
 }
 
 -- what receives, and may send after that, was opened before
-received_before : (slot now handle : ℕ) (octets : List ℕ) (replies : Bool) (links : Links) → EachOpen (OpenedBefore slot) links
-    → EachOpen (OpenedBefore slot) (links_sending now (reply_if replies handle) (with_change handle (link_after (PacketReceived now octets)) links))
-received_before slot now handle octets replies links each =
+received_before : (slot now handle : ℕ) (octets : List ℕ) (room replies : Bool) (links : Links) → EachOpen (OpenedBefore slot) links
+    → EachOpen (OpenedBefore slot) (links_sending now (reply_if replies handle) (with_change handle (link_after (PacketReceived now octets room)) links))
+received_before slot now handle octets room replies links each =
     sends (OpenedBefore slot) (before_served slot) now (reply_if replies handle) _
-    (changed (OpenedBefore slot) handle (link_after (PacketReceived now octets)) links (λ link is. is) each)
+    (changed (OpenedBefore slot) handle (link_after (PacketReceived now octets room)) links (λ link is. is) each)
 
 now_before : (slot begun : ℕ) → slot + 1 ≡ begun → slot < begun
 now_before slot begun is = omega (arith, is)
@@ -127,27 +170,28 @@ passing_before facts after received begun now (Leaves same on) each = subst (Eac
 passing_before facts after received begun now (Opens link is none) each =
     subst (EachOpen (OpenedBefore begun)) (sym is)
     (opened (OpenedBefore begun) (record { link = link; opened = facts.turn.slot }) facts.links (now_before facts.turn.slot begun now) each)
-passing_before facts after received begun now (Receives handle octets is wanted on replies links_are) each =
-    subst (EachOpen (OpenedBefore begun)) (sym links_are) (received_before begun facts.turn.slot handle octets replies facts.links each)
+passing_before facts after received begun now (Receives handle octets is wanted on room replies links_are) each =
+    subst (EachOpen (OpenedBefore begun)) (sym links_are) (received_before begun facts.turn.slot handle octets room replies facts.links each)
 
 passing_fresh : (setup : Setup) (facts after : Facts) (received : Option (List ℕ)) → IsStation setup facts → IsPassing facts received after
     → EachOpen (IsFresh facts.turn.slot) after.links
 passing_fresh setup facts after received station (Leaves same on) = subst (EachOpen (IsFresh facts.turn.slot)) (sym same) station.fresh
 passing_fresh setup facts after received station (Opens link is none) =
     subst (EachOpen (IsFresh facts.turn.slot)) (sym is)
-    (opened (IsFresh facts.turn.slot) (record { link = link; opened = facts.turn.slot }) facts.links (λ same. refl) station.fresh)
-passing_fresh setup facts after received station (Receives handle octets is wanted on replies links_are) =
+    (opened (IsFresh facts.turn.slot) (record { link = link; opened = facts.turn.slot }) facts.links
+    (λ same. first_ack (record { link = link; opened = facts.turn.slot })) station.fresh)
+passing_fresh setup facts after received station (Receives handle octets is wanted on room replies links_are) =
     let slot = facts.turn.slot in
     subst (EachOpen (IsFresh slot)) (sym links_are)
-    (open_more (OpenedBefore slot) (IsFresh slot) _ (before_fresh slot) (received_before slot slot handle octets replies facts.links (station.old on)))
+    (open_more (OpenedBefore slot) (IsFresh slot) _ (before_fresh slot) (received_before slot slot handle octets room replies facts.links (station.old on)))
 
 passing_old : (setup : Setup) (facts after : Facts) (received : Option (List ℕ)) → IsStation setup facts → IsPassing facts received after
     → is_on_link after.turn.doing ≡ true → EachOpen (OpenedBefore facts.turn.slot) after.links
 passing_old setup facts after received station (Leaves same on) does = subst (EachOpen (OpenedBefore facts.turn.slot)) (sym same) (station.old (on does))
 passing_old setup facts after received station (Opens link is none) does = no_link _ (is_on_link after.turn.doing) none does
-passing_old setup facts after received station (Receives handle octets is wanted on replies links_are) does =
+passing_old setup facts after received station (Receives handle octets is wanted on room replies links_are) does =
     subst (EachOpen (OpenedBefore facts.turn.slot)) (sym links_are)
-    (received_before facts.turn.slot facts.turn.slot handle octets replies facts.links (station.old on))
+    (received_before facts.turn.slot facts.turn.slot handle octets room replies facts.links (station.old on))
 
 station_passes : (setup : Setup) (facts : Facts) (phases turns : ℕ) (received : Option (List ℕ)) → IsInTurn setup (Within phases) turns facts → IsStation setup facts
     → IsStation setup (facts_after setup facts (step_of received))
@@ -159,6 +203,7 @@ station_passes setup facts phases turns received in_turn is =
       own = own_step setup facts (step_of received) is.own;
       earlier = subst (λ n. EachOpen (OpenedBefore n) after.links) (sym turn.begun) (passing_before facts after received facts.turn.begun now passing is.earlier);
       fresh = subst (λ n. EachOpen (IsFresh n) after.links) (sym turn.slot) (passing_fresh setup facts after received is passing);
+      short = phase_open TakesShort short_open setup facts received (may_short setup phases turns facts in_turn) is.short;
       old = λ does. subst (λ n. EachOpen (OpenedBefore n) after.links) (sym turn.slot) (passing_old setup facts after received is passing does);
     }
 
@@ -181,8 +226,18 @@ WithAll others one = EachOpen (λ other. Agree one other) others
 all_entered : (others : Links) (slot : ℕ) (one : OpenLink) → WithAll others one → WithAll others (link_entered slot one)
 all_entered others slot one all = open_more (λ other. Agree one other) (λ other. Agree (link_entered slot one) other) others (λ other agree. agree_entered slot one other agree) all
 
+all_hosts : (others : Links) → IsKeptByHosts (WithAll others)
+all_hosts others = record {
+  given = λ start body one all. open_more (λ other. Agree one other) (λ other. Agree (link_after (DataGiven start body) one) other) others
+      (λ other agree. agree_given start body one other agree) all;
+  reported = λ one all. open_more (λ other. Agree one other) (λ other. Agree (link_after DataReported one) other) others
+      (λ other agree. agree_reported one other agree) all;
+}
+
 all_served : (others : Links) → IsKeptServed (WithAll others)
 all_served others = record {
+  hosts = all_hosts others;
+  fixed = λ one all. open_more (λ other. Agree one other) (λ other. Agree (link_after PduFixed one) other) others (λ other agree. agree_fixed one other agree) all;
   served = λ slot one all. open_more (λ other. Agree one other) (λ other. Agree (link_served slot one) other) others (λ other agree. agree_served slot one other agree) all;
   sent = λ slot one all. open_more (λ other. Agree one other) (λ other. Agree (link_after (PacketSent slot) one) other) others (λ other agree. agree_sent slot one other agree) all;
 }
@@ -230,15 +285,15 @@ listens_where (Some other) link channel wanted is at listens =
     equal ∙ ap (λ (l : OpenLink). (facts_in l).event.channel) same
 
 -- what it receives on a link is what the other station sent on its own
-heard_agree : IsHeardWhole → (slot : ℕ) (octets : List ℕ) (one : OpenLink) (facts : Facts) (channel : ℕ) → length facts.links ≤ 1
-    → channel ≡ (facts_in one).event.channel → IsOnAir facts channel octets → WithAll facts.links one → WithAll facts.links (link_after (PacketReceived slot octets) one)
-heard_agree whole slot octets one facts channel few is (inl sent) all =
+heard_agree : IsHeardWhole → (slot : ℕ) (room : Bool) (octets : List ℕ) (one : OpenLink) (facts : Facts) (channel : ℕ) → length facts.links ≤ 1
+    → TakesShort one → channel ≡ (facts_in one).event.channel → IsOnAir facts channel octets → WithAll facts.links one → WithAll facts.links (link_after (PacketReceived slot octets room) one)
+heard_agree whole slot room octets one facts channel few fits is (inl sent) all =
     let below : channel < 37 = subst (λ (n : ℕ). n < 37) (sym is) (link_channel one) in
     let from = sent.on_channel.0 in absurd (omega (arith, below, from))
-heard_agree whole slot octets one facts channel few is (inr sent) all =
+heard_agree whole slot room octets one facts channel few fits is (inr sent) all =
     let from = link_after (PacketSent sent.slot) sent.link in
-    one_open (λ other. Agree (link_after (PacketReceived slot octets) one) other) sent.handle facts.links from few sent.is_open
-    (agree_received whole slot sent.slot one sent.link octets sent.packet (sym sent.channel_is ∙ is)
+    one_open (λ other. Agree (link_after (PacketReceived slot octets room) one) other) sent.handle facts.links from few sent.is_open
+    (agree_received whole slot sent.slot room one sent.link octets fits sent.packet (sym sent.channel_is ∙ is)
     (open_has (λ other. Agree one other) 0 sent.handle facts.links from all sent.is_open))
 
 record HasChannel (facts : Facts) : Type 0 where
@@ -246,24 +301,24 @@ record HasChannel (facts : Facts) : Type 0 where
   is : facts.wanted ≡ Listens channel
 
 passing_agree : IsHeardWhole → (given : Given) → (others : Facts) (facts after : Facts) (received : Option (List ℕ)) → length others.links ≤ 1
-    → EachOpen (IsFresh others.turn.slot) others.links → others.turn.slot ≡ facts.turn.slot
+    → EachOpen TakesShort facts.links → EachOpen (IsFresh others.turn.slot) others.links → others.turn.slot ≡ facts.turn.slot
     → ((octets : List ℕ) (channel : ℕ) → received ≡ Some octets → facts.wanted ≡ Listens channel → IsOnAir others channel octets)
     → ((octets : List ℕ) → received ≡ Some octets → HasChannel facts) → IsPassing facts received after
     → AllAgree facts.links others.links → AllAgree after.links others.links
-passing_agree whole given others facts after received few fresh slot heard listens (Leaves same on) all =
+passing_agree whole given others facts after received few short fresh slot heard listens (Leaves same on) all =
     subst (λ links. AllAgree links others.links) (sym same) all
-passing_agree whole given others facts after received few fresh slot heard listens (Opens link is none) all =
+passing_agree whole given others facts after received few short fresh slot heard listens (Opens link is none) all =
     let end : EndSetup = record { link = link; opened = facts.turn.slot } in
     subst (λ links. AllAgree links others.links) (sym is)
     (opened (WithAll others.links) end facts.links
     (open_more (IsFresh others.turn.slot) (λ other. Agree (new_link end) other) others.links
     (λ other new. agree_new end other (λ same. new (sym same ∙ sym slot))) fresh) all)
-passing_agree whole given others facts after received few fresh slot heard listens (Receives handle octets is wanted on replies links_are) all =
+passing_agree whole given others facts after received few short fresh slot heard listens (Receives handle octets is wanted on room replies links_are) all =
     let channel = listens octets is in
     subst (λ links. AllAgree links others.links) (sym links_are)
     (sends (WithAll others.links) (all_served others.links) facts.turn.slot (reply_if replies handle) _
-    (changed_at (WithAll others.links) 0 handle (link_after (PacketReceived facts.turn.slot octets)) facts.links
-    (λ one at each. heard_agree whole facts.turn.slot octets one others channel.channel few
+    (changed_at (WithAll others.links) 0 handle (link_after (PacketReceived facts.turn.slot octets room)) facts.links
+    (λ one at each. heard_agree whole facts.turn.slot room octets one others channel.channel few (open_has TakesShort 0 handle facts.links one short at)
     (listens_where (link_at handle facts.links) one channel.channel facts.wanted wanted at channel.is)
     (heard octets channel.channel is channel.is) each) all))
 
@@ -323,7 +378,7 @@ agreement_kept whole given pair = record {
       let setup = setup_at given station in
       let is = called.is_one in
       stations_called given station (HostOctet octet) before after called (station_fed setup (before station) octet (are.each station is))
-      (λ other is_too differs. octet_open (WithAll (before other).links) setup (before station) octet (are.agree station other is is_too differs)) are;
+      (λ other is_too differs. octet_open (WithAll (before other).links) (all_hosts (before other).links) setup (before station) octet (are.agree station other is is_too differs)) are;
   begins = λ station slot on before after called in_turn are.
       let setup = setup_at given station in
       let is = called.is_one in
@@ -335,7 +390,7 @@ agreement_kept whole given pair = record {
       let is = called.is_one in
       stations_called given station (step_of received) before after called (station_passes setup (before station) phases turns received in_turn (are.each station is))
       (λ other is_too differs. passing_agree whole given (before other) (before station) _ received (few_links given pair other (before other) (are.each other is_too))
-      (are.each other is_too).fresh (one_slot _ _ turns (slots other is_too) in_turn.slot_is)
+      (are.each station is).short (are.each other is_too).fresh (one_slot _ _ turns (slots other is_too) in_turn.slot_is)
       (λ octets channel was wanted. let heard = sent octets was in
       subst (λ n. IsOnAir (before n) channel octets) (pair.only station other heard.sender is is_too heard.is_one differs heard.differs)
       (subst (λ n. IsOnAir (before heard.sender) n octets) (one_channel heard.channel channel (sym heard.listens ∙ wanted)) heard.sent))
@@ -345,7 +400,8 @@ agreement_kept whole given pair = record {
       let setup = setup_at given station in
       let is = called.is_one in
       stations_called given station TurnEnds before after called (station_ends setup (before station) (are.each station is))
-      (λ other is_too differs. are.agree station other is is_too differs) are;
+      (λ other is_too differs. end_open (WithAll (before other).links) (all_hosts (before other).links) setup (before station)
+      (are.agree station other is is_too differs)) are;
 }
 
 -- ---- the run
@@ -356,6 +412,7 @@ first_station setup = record {
   own = own_handles setup [];
   earlier = none_open (OpenedBefore 0) setup.links;
   fresh = none_open (IsFresh 0) setup.links;
+  short = none_open TakesShort setup.links;
   old = λ on. absurd cc;
 }
 
@@ -373,7 +430,7 @@ stays_in_agreement whole given pair before rest central peripheral distinct six 
     let all = are.agree central.station peripheral.station is is_too (false_from_ne_true (central.station == peripheral.station) (λ same. differs (eqb-true central.station peripheral.station same))) in
     let others = (facts_at given peripheral.station before).links in
     let each = open_has (WithAll others) 0 central.handle (facts_at given central.station before).links central.link all is_open in
-    (open_has (λ other. Agree central.link other) 0 peripheral.handle others peripheral.link each is_open_too (one_connect_ind before central peripheral ends)).step
+    (open_has (λ other. Agree central.link other) 0 peripheral.handle others peripheral.link each is_open_too (one_connect_ind before central peripheral ends))
 
 -- ---- a pair
 

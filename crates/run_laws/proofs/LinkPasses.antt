@@ -16,7 +16,7 @@ use Rattle.open_links.specs.OpenLinks.{free_from, link_after, link_at, with_chan
 use Rattle.one_side.specs.declared.doing.Doing.{Doing}
 use Rattle.one_side.specs.declared.doing.Doing.TheVariants.{Advertises, AwaitsRequest, Scans, Requests, AwaitsResponse, Initiates, Connects, CentralSends, CentralListens, PeripheralListens, PeripheralSends}
 use Rattle.one_side.specs.Facts.{Setup, Facts}
-use Rattle.one_side.specs.Heard.{advertiser_answers, advertiser_heard, asks_if, connects, heard, if_pdu, initiator_heard, link_taken, link_to, opens, replies_in, reply_if, scanner_after, scanner_heard, taken_if, taken_under, unheard, with_scanner}
+use Rattle.one_side.specs.Heard.{advertiser_answers, advertiser_heard, asks_if, connects, has_room, heard, if_pdu, initiator_heard, link_taken, link_to, opens, replies_in, reply_if, scanner_after, scanner_heard, taken_if, taken_under, unheard, with_scanner}
 use Rattle.one_side.specs.Outcome.{Outcome, facts_passed}
 use Rattle.one_side.specs.Packets.{facts_doing, links_sending, listens_on, pdu_heard}
 use Rattle.one_side.specs.Side.{facts_after}
@@ -37,8 +37,8 @@ pub data IsPassing (facts : Facts) (received : Option (List ℕ)) (after : Facts
   Opens : (link : LinkSetup) → after.links ≡ with_link (record { link = link; opened = facts.turn.slot }) facts.links
       → is_on_link after.turn.doing ≡ false → IsPassing facts received after
   Receives : (handle : ℕ) (octets : List ℕ) → received ≡ Some octets → facts.wanted ≡ listens_on (link_at handle facts.links)
-      → is_on_link facts.turn.doing ≡ true → (replies : Bool)
-      → after.links ≡ links_sending facts.turn.slot (reply_if replies handle) (with_change handle (link_after (PacketReceived facts.turn.slot octets)) facts.links)
+      → is_on_link facts.turn.doing ≡ true → (room replies : Bool)
+      → after.links ≡ links_sending facts.turn.slot (reply_if replies handle) (with_change handle (link_after (PacketReceived facts.turn.slot octets room)) facts.links)
       → IsPassing facts received after
 
 module _ (facts : Facts) (received : Option (List ℕ)) where
@@ -107,9 +107,9 @@ heard_passes setup facts octets (AwaitsResponse channel) is listens =
 heard_passes setup facts octets (Initiates channel) is listens =
     pdu_passes facts (Some octets) (pdu_heard channel octets) _ (λ pdu. initiator_passes facts (Some octets) facts.initiator setup channel pdu)
 heard_passes setup facts octets (CentralListens handle) is listens =
-    Receives handle octets refl listens (ap is_on_link is) (replies_in (link_at handle facts.links) octets) refl
+    Receives handle octets refl listens (ap is_on_link is) (has_room setup facts) (replies_in (link_at handle facts.links) octets) refl
 heard_passes setup facts octets (PeripheralListens handle) is listens =
-    Receives handle octets refl listens (ap is_on_link is) (replies_in (link_at handle facts.links) octets) refl
+    Receives handle octets refl listens (ap is_on_link is) (has_room setup facts) (replies_in (link_at handle facts.links) octets) refl
 heard_passes setup facts octets (Advertises channel) is listens = unheard_passes facts (Some octets) (Advertises channel) is
 heard_passes setup facts octets doing is listens = unheard_passes facts (Some octets) doing is
 

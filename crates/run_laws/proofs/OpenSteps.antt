@@ -1,6 +1,6 @@
 -- The open links of a controller after each call on it.
 use Rattle.std.proofs.Common.{◌≡◌, ℕ, zero, suc, ◌+◌, ◌==◌, Bool, true, false, Option, Some, None, List, [], ◌∷◌, replicate, refl, sym, subst}
-use Rattle.std.specs.Prelude.{⊤, if◌then◌else◌, ◌&&◌}
+use Rattle.std.specs.Prelude.{⊤, nat_lt, if◌then◌else◌, ◌&&◌}
 use Rattle.std.specs.Option.{option_map}
 use Rattle.adv_pdu.specs.declared.pdu.AdvPdu.{AdvPdu}
 use Rattle.adv_pdu.specs.declared.pdu.ConnectFields.{ConnectFields}
@@ -17,24 +17,28 @@ use Rattle.hci_cmd.specs.declared.command.CmdRead.TheVariants.{Known, UnknownOpc
 use Rattle.hci_cmd.specs.Command.{command_of}
 use Rattle.host_view.specs.Unbuilt.{status_of}
 use Rattle.one_end.specs.Setup.{Setup as EndSetup}
-use Rattle.one_end.specs.Step.{PacketSent, PacketReceived}
+use Rattle.one_end.specs.Step.{DataGiven, PduFixed, PacketSent, PacketReceived, DataReported}
 use Rattle.one_end.specs.declared.setup.LinkSetup.{LinkSetup}
 use Rattle.slot_plan.specs.declared.Activity.{Activity}
 use Rattle.slot_plan.specs.declared.Activity.TheVariants.{Link, Advertise, Scan, Initiate}
 use Rattle.slot_plan.specs.Holding.{is_held_in, winner_of}
+use Rattle.open_links.specs.Data.{complete_in, links_reported}
 use Rattle.open_links.specs.OpenLinks.{Links, OpenLink, link_after, link_at, link_from, link_served, new_link, with_change, with_change_from, with_link, without_links}
 use Rattle.open_links.specs.Turns.{link_entered, links_entered, links_staying, reason_in, staying_by}
 use Rattle.scan_init.specs.Reports.{does_ask, scan_answer}
 use Rattle.one_side.specs.declared.doing.Doing.{Doing}
-use Rattle.one_side.specs.declared.doing.Doing.TheVariants.{Advertises, Connects, CentralSends, PeripheralSends, Rests}
+use Rattle.one_side.specs.declared.doing.Doing.TheVariants.{Advertises, Connects, CentralSends, PeripheralListens, PeripheralSends, Rests}
 use Rattle.one_side.specs.Step.{HostOctet, TurnBegins, TurnEnds}
 use Rattle.one_side.specs.Facts.{Setup, Facts}
 use Rattle.one_side.specs.Commands.{facts_commanded, facts_known, links_after}
-use Rattle.one_side.specs.Heard.{asks_if, link_taken, opens, replies_in, reply_if}
+use Rattle.open_links.specs.declared.offers.Offer.{Offer}
+use Rattle.open_links.specs.declared.offers.Offer.TheVariants.{NoLink, Empty, Overflow, Kept}
+use Rattle.one_side.specs.Data.{facts_offered, offer_of}
+use Rattle.one_side.specs.Heard.{asks_if, has_room, link_taken, opens, replies_in, reply_if}
 use Rattle.one_side.specs.Links.{facts_ending}
 use Rattle.one_side.specs.Outcome.{Outcome, facts_passed}
 use Rattle.one_side.specs.Packets.{links_sending}
-use Rattle.one_side.specs.Radio.{facts_entering, outcome_begun, plan_in, served, radio_served, turn_begins, winner_served}
+use Rattle.one_side.specs.Radio.{facts_entering, links_fixing, outcome_begun, plan_in, served, radio_served, turn_begins, winner_served}
 use Rattle.one_side.specs.Side.{facts_after, facts_fed, result_of}
 use Rattle.one_side.proofs.Always.{ending_is, links_won, opening_passes, winning_is}
 use Rattle.one_side.proofs.Phases.{EachOutcome, heard_is, unheard_is}
@@ -79,15 +83,22 @@ enter_open P Q slot [] more each = tt
 enter_open P Q slot (None ∷ links) more each = (tt, enter_open P Q slot links more each.1)
 enter_open P Q slot (Some link ∷ links) more each = (more link each.0, enter_open P Q slot links more each.1)
 
--- what gets the radio and sends keeps the fact
+-- what its host gives, and what is reported to it, keeps the fact
+pub record IsKeptByHosts (P : OpenLink → Type 0) : Type 0 where
+  pub given : (start : Bool) (body : List ℕ) (link : OpenLink) → P link → P (link_after (DataGiven start body) link)
+  pub reported : (link : OpenLink) → P link → P (link_after DataReported link)
+
+-- and what gets the radio, fixes its PDU and sends
 pub record IsKeptServed (P : OpenLink → Type 0) : Type 0 where
+  pub hosts : IsKeptByHosts P
   pub served : (slot : ℕ) (link : OpenLink) → P link → P (link_served slot link)
+  pub fixed : (link : OpenLink) → P link → P (link_after PduFixed link)
   pub sent : (slot : ℕ) (link : OpenLink) → P link → P (link_after (PacketSent slot) link)
 
 -- and what receives
 pub record IsKeptOpen (P : OpenLink → Type 0) : Type 0 where
   pub serving : IsKeptServed P
-  pub received : (slot : ℕ) (octets : List ℕ) (link : OpenLink) → P link → P (link_after (PacketReceived slot octets) link)
+  pub received : (slot : ℕ) (octets : List ℕ) (room : Bool) (link : OpenLink) → P link → P (link_after (PacketReceived slot octets room) link)
 
 module _ (P : OpenLink → Type 0) where
   changed_from : (first handle : ℕ) (change : Option OpenLink → Option OpenLink) (links : Links)
@@ -140,14 +151,37 @@ module _ (P : OpenLink → Type 0) where
   read_open setup facts UnknownOpcode each = each
   read_open setup facts BadLength each = each
 
-  fed_open : (setup : Setup) (facts : Facts) (fed : Fed) → EachOpen P facts.links → EachOpen P (facts_fed setup facts fed).links
-  fed_open setup facts (Packet (HostCommand opcode body)) each = read_open setup facts (command_of opcode body.items) each
-  fed_open setup facts (Packet (Acl handle start count body)) each = each
-  fed_open setup facts LostSync each = each
-  fed_open setup facts More each = each
+  module _ (kept : IsKeptByHosts P) where
+    offered_open : (offer : Offer) (handle : ℕ) (start : Bool) (octets : List ℕ) (facts : Facts) → EachOpen P facts.links
+        → EachOpen P (facts_offered offer handle start octets facts).links
+    offered_open Kept handle start octets facts each = changed handle (link_after (DataGiven start octets)) facts.links (kept.given start octets) each
+    offered_open NoLink handle start octets facts each = each
+    offered_open Empty handle start octets facts each = each
+    offered_open Overflow handle start octets facts each = each
 
-  pub octet_open : (setup : Setup) (facts : Facts) (octet : ℕ) → EachOpen P facts.links → EachOpen P (facts_after setup facts (HostOctet octet)).links
-  octet_open setup facts octet each = fed_open setup facts (result_of facts.octets octet) each
+    fed_open : (setup : Setup) (facts : Facts) (fed : Fed) → EachOpen P facts.links → EachOpen P (facts_fed setup facts fed).links
+    fed_open setup facts (Packet (HostCommand opcode body)) each = read_open setup facts (command_of opcode body.items) each
+    fed_open setup facts (Packet (Acl handle start count body)) each =
+        offered_open (offer_of setup facts handle count) handle start body.items facts each
+    fed_open setup facts LostSync each = each
+    fed_open setup facts More each = each
+
+    pub octet_open : (setup : Setup) (facts : Facts) (octet : ℕ) → EachOpen P facts.links → EachOpen P (facts_after setup facts (HostOctet octet)).links
+    octet_open setup facts octet each = fed_open setup facts (result_of facts.octets octet) each
+
+    -- ---- a turn ends
+
+    reports : (links : Links) → EachOpen P links → EachOpen P (links_reported links)
+    reports [] each = tt
+    reports (None ∷ links) each = (tt, reports links each.1)
+    reports (Some link ∷ links) each = (by (nat_lt 0 (complete_in link)), reports links each.1)
+      where
+        by : (complete : Bool) → P (if complete then link_after DataReported link else link)
+        by true = kept.reported link each.0
+        by false = each.0
+
+    pub end_open : (setup : Setup) (facts : Facts) → EachOpen P facts.links → EachOpen P (facts_after setup facts TurnEnds).links
+    end_open setup facts each = reports facts.links each
 
   module _ (kept : IsKeptServed P) where
     wins : (slot : ℕ) (activity : Activity) (links : Links) → EachOpen P links → EachOpen P (links_won slot activity links)
@@ -162,7 +196,13 @@ module _ (P : OpenLink → Type 0) where
     sends slot (Advertises channel) links each = each
     sends slot other links each = each
 
-    -- ---- a turn begins, and ends
+    fixes : (doing : Doing) (links : Links) → EachOpen P links → EachOpen P (links_fixing doing links)
+    fixes (CentralSends handle) links each = changed handle (link_after PduFixed) links kept.fixed each
+    fixes (PeripheralListens handle) links each = changed handle (link_after PduFixed) links kept.fixed each
+    fixes (Advertises channel) links each = each
+    fixes other links each = each
+
+    -- ---- a turn begins
 
     won_open : (slot : ℕ) (winner : Option Activity) (facts : Facts) → EachOpen P facts.links → EachOpen P (winner_served slot winner facts).facts.links
     won_open slot None facts each = each
@@ -179,9 +219,6 @@ module _ (P : OpenLink → Type 0) where
 
     passed_open : (outcome : Outcome) → EachOpen P outcome.facts.links → EachOpen P (facts_passed outcome).links
     passed_open outcome each = sends outcome.facts.turn.slot outcome.next outcome.facts.links each
-
-    pub end_open : (setup : Setup) (facts : Facts) → EachOpen P facts.links → EachOpen P (facts_after setup facts TurnEnds).links
-    end_open setup facts each = sends facts.turn.slot Rests facts.links each
 
   -- ---- a phase
 
@@ -219,7 +256,8 @@ module _ (P : OpenLink → Type 0) where
       connects = λ channel octets pdu on access handle doing is_on hears answers next free in_range. each;
       received = λ handle octets.
           sends kept.serving facts.turn.slot (reply_if (replies_in (link_at handle facts.links) octets) handle) _
-          (changed handle (link_after (PacketReceived facts.turn.slot octets)) facts.links (kept.received facts.turn.slot octets) each);
+          (changed handle (link_after (PacketReceived facts.turn.slot octets (has_room setup facts))) facts.links
+          (kept.received facts.turn.slot octets (has_room setup facts)) each);
     }
 
     pub phase_open : (setup : Setup) (facts : Facts) (received : Option (List ℕ)) → MayOpen facts → EachOpen P facts.links
@@ -233,5 +271,8 @@ pub begin_open : (P Q : OpenLink → Type 0) → IsKeptServed Q → (setup : Set
 begin_open P Q kept setup slot on facts enters each =
     let begun = turn_begins slot (facts_ending slot facts) in
     let stayed : EachOpen P begun.links = subst (λ ended. EachOpen P ended.links) (sym (ending_is slot facts)) (stays P slot facts.links each) in
+    let winner = winner_of (plan_in slot begun) slot in
+    let outcome = served on slot winner (facts_entering slot begun) in
     passed_open Q kept (outcome_begun slot on facts)
-    (served_open Q kept on slot (winner_of (plan_in slot begun) slot) (facts_entering slot begun) (enter_open P Q slot begun.links enters stayed))
+    (fixes Q kept outcome.next outcome.facts.links
+    (served_open Q kept on slot winner (facts_entering slot begun) (enter_open P Q slot begun.links enters stayed)))

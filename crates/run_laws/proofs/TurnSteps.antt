@@ -1,5 +1,5 @@
 -- The turn of a controller after each call on it: its slot, what is done next, and how many access addresses were taken.
-use Rattle.std.proofs.Common.{◌≡◌, ℕ, zero, suc, ◌+◌, Bool, true, false, Option, Some, None, List, refl, sym, ap, ◌∙◌, arith, subst}
+use Rattle.std.proofs.Common.{◌≡◌, ℕ, zero, suc, ◌+◌, ◌≤◌, Bool, true, false, Option, Some, None, List, refl, sym, ap, ◌∙◌, arith, subst}
 use Rattle.std.specs.Prelude.{⊤, ◌&&◌, ◌==◌}
 use Rattle.adv_pdu.specs.declared.pdu.AdvPdu.{AdvPdu}
 use Rattle.adv_pdu.specs.Ranges.{is_in_range}
@@ -23,7 +23,10 @@ use Rattle.one_side.specs.declared.doing.Turn.{Turn}
 use Rattle.one_side.specs.Step.{HostOctet, TurnBegins}
 use Rattle.one_side.specs.Facts.{Setup, Facts, Listens}
 use Rattle.one_side.specs.Commands.{facts_commanded, facts_known}
-use Rattle.one_side.specs.Heard.{access_found, asks_if, link_received, link_taken, opens, replies_in, reply_if, scanner_after, with_scanner, unheard, heard}
+use Rattle.open_links.specs.declared.offers.Offer.{Offer}
+use Rattle.open_links.specs.declared.offers.Offer.TheVariants.{NoLink, Empty, Overflow, Kept}
+use Rattle.one_side.specs.Data.{facts_offered, offer_of}
+use Rattle.one_side.specs.Heard.{access_found, asks_if, has_room, link_received, link_taken, opens, replies_in, reply_if, scanner_after, with_scanner, unheard, heard}
 use Rattle.one_side.specs.Links.{facts_ending}
 use Rattle.one_side.specs.Outcome.{facts_passed}
 use Rattle.one_side.specs.Packets.{facts_doing, listens_on}
@@ -52,9 +55,15 @@ read_turn setup facts (Known command) = known_turn (status_of facts.view command
 read_turn setup facts UnknownOpcode = same_turn facts
 read_turn setup facts BadLength = same_turn facts
 
+offered_turn : (offer : Offer) (handle : ℕ) (start : Bool) (octets : List ℕ) (facts : Facts) → IsSameTurn facts (facts_offered offer handle start octets facts)
+offered_turn Kept handle start octets facts = record { turn = refl; connections = refl; wanted = refl }
+offered_turn NoLink handle start octets facts = same_turn facts
+offered_turn Empty handle start octets facts = same_turn facts
+offered_turn Overflow handle start octets facts = same_turn facts
+
 fed_turn : (setup : Setup) (facts : Facts) (fed : Fed) → IsSameTurn facts (facts_fed setup facts fed)
 fed_turn setup facts (Packet (HostCommand opcode body)) = read_turn setup facts (command_of opcode body.items)
-fed_turn setup facts (Packet (Acl handle start count body)) = same_turn facts
+fed_turn setup facts (Packet (Acl handle start count body)) = offered_turn (offer_of setup facts handle count) handle start body.items facts
 fed_turn setup facts LostSync = same_turn facts
 fed_turn setup facts More = same_turn facts
 
@@ -98,6 +107,7 @@ may_kept slot = record {
   begins = λ slot facts any. tt;
   enters = λ slot facts any. tt;
   wins = λ slot activity facts any. tt;
+  fixes = λ doing facts any. tt;
   does = λ doing facts may any. λ once. may;
 }
 
@@ -114,6 +124,7 @@ count_kept number = record {
   begins = λ slot facts is. is;
   enters = λ slot facts is. is;
   wins = λ slot activity facts is. is;
+  fixes = λ doing facts is. is;
   does = λ doing facts may is. is;
 }
 
@@ -196,7 +207,7 @@ passes_each setup facts = record {
     last = λ first. absurd (let h : true ≡ false = ap initiates (sym doing) ∙ first in absurd cc);
   };
   received = λ handle octets.
-      reply_on facts (link_received handle octets facts) (replies_in (link_at handle facts.links) octets) handle refl refl;
+      reply_on facts (link_received handle (has_room setup facts) octets facts) (replies_in (link_at handle facts.links) octets) handle refl refl;
 }
 
 pub phase_turn : (setup : Setup) (facts : Facts) (received : Option (List ℕ)) → IsPassed facts (facts_after setup facts (step_of received))
@@ -215,6 +226,8 @@ pub record IsMade (setup : Setup) (connections : ℕ) (link : LinkSetup) : Type 
   pub counted : connections ≡ number + 1
   pub access : access_found (nth_access setup.cursor number) ≡ Some link.fields.access
   pub in_range : is_in_range link.fields ≡ true
+  -- it receives payloads of 27 octets, and longer ones
+  pub receives : 27 ≤ link.max_rx
 
 abbrev pub MakesWell : Setup → ℕ → Doing → Type 0
 MakesWell setup connections (Connects channel link) = IsMade setup connections link
@@ -250,7 +263,7 @@ passes_making setup facts = record {
   answered = λ channel octets pdu on doing is_on hears.
       asks_make setup facts.connections (false && does_ask (scan_answer on.params facts.view.accepted on.recent pdu)) channel pdu;
   connects = λ channel octets pdu on access handle doing is_on hears answers next free in_range.
-      record { number = facts.connections; counted = refl; access = next; in_range = in_range };
+      record { number = facts.connections; counted = refl; access = next; in_range = in_range; receives = omega arith };
   received = λ handle octets. reply_makes setup facts.connections (replies_in (link_at handle facts.links) octets) handle;
 }
 

@@ -5,7 +5,7 @@ use Rattle.ble_base.specs.declared.roles.Role.{Role}
 use Rattle.ble_base.specs.declared.roles.Role.TheVariants.{Central, Peripheral}
 use Rattle.adv_pdu.specs.declared.pdu.ConnectFields.{ConnectFields}
 use Rattle.one_end.specs.Setup.{Setup}
-use Rattle.one_end.specs.Step.{EventEntered, PacketSent, PacketReceived}
+use Rattle.one_end.specs.Step.{EventEntered, PduFixed, PacketSent, PacketReceived}
 use Rattle.one_side.specs.Rows.{address_a, address_b}
 use Rattle.runs.specs.History.{Event}
 use Rattle.runs.specs.Rows.{first_packet, first_reply, one_event}
@@ -54,7 +54,7 @@ central_end = record {
   handle = 0;
   link = record {
     setup = end_with Central address_b address_a;
-    past = EventEntered 2 ∷ PacketSent 2 ∷ PacketReceived 2 first_reply ∷ [];
+    past = EventEntered 2 ∷ PduFixed ∷ PacketSent 2 ∷ PacketReceived 2 first_reply true ∷ [];
     last_served = 2;
   };
 }
@@ -65,7 +65,7 @@ peripheral_end = record {
   handle = 0;
   link = record {
     setup = end_with Peripheral address_a address_b;
-    past = EventEntered 2 ∷ PacketReceived 2 first_packet ∷ PacketSent 2 ∷ [];
+    past = EventEntered 2 ∷ PduFixed ∷ PacketReceived 2 first_packet true ∷ PacketSent 2 ∷ [];
     last_served = 2;
   };
 }

@@ -1,7 +1,8 @@
-//! Acknowledgement on the links of a pair in each run. The body only calls the laws that it rests
-//! on: the contract is the law.
+//! Acknowledgement and data on the links of a pair in each run. The bodies only call the laws that
+//! they rest on: the contracts are the laws.
 ghost use Rattle.std.specs.Prelude.{◌≡◌, ◌++◌, ℕ, List, length};
 ghost use Rattle.std.specs.List.{Contains};
+ghost use Rattle.one_end.specs.Delivery.{IsDelivered};
 ghost use Rattle.one_end.specs.Pair.{AreInAgreement};
 ghost use Rattle.open_links.specs.OpenLinks.{facts_in};
 ghost use Rattle.radio_replay.specs.Script.{Script};
@@ -26,6 +27,27 @@ pub fn ends_stay_in_agreement_in_every_run()
         → IsOpen (given_of a b script) before peripheral
         → AreInAgreement (facts_in central.link).acknowledgement
         (facts_in peripheral.link).acknowledgement }
+{
+    air_frame::laws::packet_tells_its_pdu();
+}
+
+/// At any time of a run of a pair, with both ends of a link open, what each end took of data is the
+/// first octets of what the host of the other one gave, in order and each of them once, with the
+/// starts of messages where they were; and each packet of data that was reported to a host as
+/// complete was taken whole at the other end. So it is whatever the radio loses or changes, and
+/// whatever each host does (Core 5.2, volume 4 part E, section 4.1; volume 6 part B, section
+/// 4.5.9).
+pub fn what_is_taken_was_given_in_every_run()
+    ensures { (a b : List ℕ) (script : Script) (before rest : List Event)
+        (central peripheral : OpenEnd)
+        → length script.a.public ≡ 6 → length script.b.public ≡ 6
+        → Contains (given_of a b script).stations central.station
+        → Contains (given_of a b script).stations peripheral.station
+        → history_of (run_of (given_of a b script)) ≡ before ++ rest
+        → AreEnds before central peripheral → IsOpen (given_of a b script) before central
+        → IsOpen (given_of a b script) before peripheral
+        → IsDelivered (facts_in central.link) (facts_in peripheral.link)
+        × IsDelivered (facts_in peripheral.link) (facts_in central.link) }
 {
     air_frame::laws::packet_tells_its_pdu();
 }

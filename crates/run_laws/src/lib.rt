@@ -8,7 +8,9 @@ mod entries;
 mod rows;
 
 pub use crate::access::access_addresses_are_taken_in_order;
-pub use crate::agreement::ends_stay_in_agreement_in_every_run;
+pub use crate::agreement::{
+    ends_stay_in_agreement_in_every_run, what_is_taken_was_given_in_every_run,
+};
 pub use crate::ends::{
     each_end_enters_its_events, ends_of_one_link_agree, ends_of_one_link_have_one_connect_ind,
 };

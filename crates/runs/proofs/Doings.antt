@@ -9,7 +9,7 @@ use Rattle.one_side.specs.declared.doing.Doing.{Doing}
 use Rattle.one_side.specs.declared.doing.Doing.TheVariants.{Advertises, AwaitsRequest, Scans, Initiates, Connects, CentralSends, PeripheralListens, Rests}
 use Rattle.one_side.specs.Step.{Step}
 use Rattle.one_side.specs.Facts.{Setup, Facts, Use, Sends, Listens}
-use Rattle.one_side.specs.Heard.{asks_if, link_received, link_taken, replies_in, reply_if, scanner_after, with_scanner}
+use Rattle.one_side.specs.Heard.{asks_if, has_room, link_received, link_taken, replies_in, reply_if, scanner_after, with_scanner}
 use Rattle.one_side.specs.Packets.{advertising_packet, facts_doing}
 use Rattle.one_side.specs.Outcome.{facts_passed}
 use Rattle.one_side.specs.Side.{facts_of}
@@ -60,12 +60,13 @@ passes_wanting setup facts = record {
   answered = λ channel octets pdu on doing is_on hears.
       asks_wants (false && does_ask (scan_answer on.params facts.view.accepted on.recent pdu)) channel pdu (with_scanner (scanner_after on facts.view.accepted pdu) facts);
   connects = λ channel octets pdu on access handle doing is_on hears answers next free in_range. (refl, refl);
-  received = λ handle octets. reply_wants (replies_in (link_at handle facts.links) octets) handle (link_received handle octets facts);
+  received = λ handle octets. reply_wants (replies_in (link_at handle facts.links) octets) handle (link_received handle (has_room setup facts) octets facts);
 }
 
 wanting_kept : (setup : Setup) → IsKept setup Any WantsIt
 wanting_kept setup = record {
   accepted = λ facts opcode octets command is accepted wants. wants;
+  given = λ facts handle count start octets is wants. wants;
   octet = λ facts octet wants. wants;
   turns = record {
     starts = record {
@@ -74,8 +75,10 @@ wanting_kept setup = record {
       begins = λ slot facts any. tt;
       enters = λ slot facts any. tt;
       wins = λ slot activity facts any. tt;
+      fixes = λ doing facts any. tt;
       does = λ doing facts may any. begin_wants doing facts may;
     };
+    reports = λ facts any. tt;
     passes = λ facts wants. passes_wanting setup facts;
   };
 }

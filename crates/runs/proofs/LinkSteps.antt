@@ -1,6 +1,6 @@
 -- The links of a controller after a step, and the slot of its turn.
 use Rattle.std.proofs.Common.{◌≡◌, ℕ, zero, suc, ◌+◌, ◌==◌, Bool, true, false, Option, Some, None, List, [], ◌∷◌, replicate, refl, sym, ap, subst, ◌∙◌}
-use Rattle.std.specs.Prelude.{⊤, if◌then◌else◌}
+use Rattle.std.specs.Prelude.{⊤, nat_lt, if◌then◌else◌}
 use Rattle.std.specs.Option.{option_map}
 use Rattle.ble_base.specs.declared.addresses.Address.{Address}
 use Rattle.adv_pdu.specs.declared.pdu.AdvPdu.{AdvPdu}
@@ -20,13 +20,14 @@ use Rattle.hci_cmd.specs.declared.command.CmdRead.TheVariants.{Known, UnknownOpc
 use Rattle.hci_cmd.specs.Command.{command_of}
 use Rattle.host_view.specs.Unbuilt.{status_of}
 use Rattle.one_end.specs.Setup.{Setup as EndSetup}
-use Rattle.one_end.specs.Step.{PacketSent, PacketReceived}
+use Rattle.one_end.specs.Step.{DataGiven, PduFixed, PacketSent, PacketReceived, DataReported}
 use Rattle.one_end.specs.declared.setup.LinkSetup.{LinkSetup}
 use Rattle.scan_init.specs.Initiating.{InitiatorFacts}
 use Rattle.scan_init.specs.Reports.{ScannerFacts}
 use Rattle.slot_plan.specs.declared.Activity.{Activity}
 use Rattle.slot_plan.specs.declared.Activity.TheVariants.{Link, Advertise, Scan, Initiate}
 use Rattle.slot_plan.specs.Holding.{is_held_in, winner_of}
+use Rattle.open_links.specs.Data.{complete_in, links_reported}
 use Rattle.open_links.specs.OpenLinks.{Links, OpenLink, free_from, link_after, link_at, link_from, link_served, with_change, with_change_from, with_link, without_links}
 use Rattle.open_links.specs.Turns.{is_anchor, entered_if, links_entered, links_staying, reason_in, staying_by}
 use Rattle.one_side.specs.declared.doing.Doing.{Doing}
@@ -34,11 +35,14 @@ use Rattle.one_side.specs.declared.doing.Doing.TheVariants.{Advertises, AwaitsRe
 use Rattle.one_side.specs.Step.{Step, HostOctet, TurnBegins, PacketHeard, NothingHeard, TurnEnds}
 use Rattle.one_side.specs.Facts.{Setup, Facts}
 use Rattle.one_side.specs.Commands.{facts_commanded, facts_known, links_after}
-use Rattle.one_side.specs.Heard.{advertiser_answers, advertiser_heard, connects, heard, if_pdu, initiator_heard, is_new_between, link_heard, link_taken, link_to, opens, scanner_heard, taken_if, taken_under, unheard}
+use Rattle.open_links.specs.declared.offers.Offer.{Offer}
+use Rattle.open_links.specs.declared.offers.Offer.TheVariants.{NoLink, Empty, Overflow, Kept}
+use Rattle.one_side.specs.Data.{facts_offered, offer_of}
+use Rattle.one_side.specs.Heard.{advertiser_answers, advertiser_heard, connects, has_room, heard, if_pdu, initiator_heard, is_new_between, link_heard, link_taken, link_to, opens, scanner_heard, taken_if, taken_under, unheard}
 use Rattle.one_side.specs.Links.{facts_ending}
 use Rattle.one_side.specs.Outcome.{Outcome, facts_passed}
 use Rattle.one_side.specs.Packets.{links_sending, pdu_heard}
-use Rattle.one_side.specs.Radio.{facts_entering, outcome_begun, plan_in, served, radio_served, turn_begins, winner_served}
+use Rattle.one_side.specs.Radio.{facts_entering, links_fixing, outcome_begun, plan_in, served, radio_served, turn_begins, winner_served}
 use Rattle.one_side.specs.Side.{facts_after, facts_fed, result_of}
 use Rattle.one_side.proofs.Always.{ending_is, links_won, opening_is, winning_is}
 use Rattle.one_side.proofs.LinkNotes.{AreIn, first_in, rest_in}
@@ -126,6 +130,21 @@ module _ (P : EndSetup → Type 0) where
       by true = each.0
       by false = each.0
 
+  fixes : (doing : Doing) (links : Links) → EachLink P links → EachLink P (links_fixing doing links)
+  fixes (CentralSends handle) links each = changed handle (link_after PduFixed) links (λ link. refl) each
+  fixes (PeripheralListens handle) links each = changed handle (link_after PduFixed) links (λ link. refl) each
+  fixes (Advertises channel) links each = each
+  fixes other links each = each
+
+  reports : (links : Links) → EachLink P links → EachLink P (links_reported links)
+  reports [] each = tt
+  reports (None ∷ links) each = (tt, reports links each.1)
+  reports (Some link ∷ links) each = (by (nat_lt 0 (complete_in link)), reports links each.1)
+    where
+      by : (complete : Bool) → P (if complete then link_after DataReported link else link).setup
+      by true = each.0
+      by false = each.0
+
   resets : (links : Links) → EachLink P (without_links links)
   resets [] = tt
   resets (place ∷ links) = (tt, resets links)
@@ -158,9 +177,17 @@ module _ (P : EndSetup → Type 0) where
   read_linked setup facts UnknownOpcode each = each
   read_linked setup facts BadLength each = each
 
+  offered_linked : (offer : Offer) (handle : ℕ) (start : Bool) (octets : List ℕ) (facts : Facts) → EachLink P facts.links
+      → EachLink P (facts_offered offer handle start octets facts).links
+  offered_linked Kept handle start octets facts each = changed handle (link_after (DataGiven start octets)) facts.links (λ link. refl) each
+  offered_linked NoLink handle start octets facts each = each
+  offered_linked Empty handle start octets facts each = each
+  offered_linked Overflow handle start octets facts each = each
+
   fed_linked : (setup : Setup) (facts : Facts) (fed : Fed) → EachLink P facts.links → EachLink P (facts_fed setup facts fed).links
   fed_linked setup facts (Packet (HostCommand opcode body)) each = read_linked setup facts (command_of opcode body.items) each
-  fed_linked setup facts (Packet (Acl handle start count body)) each = each
+  fed_linked setup facts (Packet (Acl handle start count body)) each =
+      offered_linked (offer_of setup facts handle count) handle start body.items facts each
   fed_linked setup facts LostSync each = each
   fed_linked setup facts More each = each
 
@@ -185,8 +212,10 @@ module _ (P : EndSetup → Type 0) where
   begun_linked : (slot : ℕ) (on : Bool) (facts : Facts) → EachLink P facts.links → EachLink P (outcome_begun slot on facts).facts.links
   begun_linked slot on facts each =
       let begun = turn_begins slot (facts_ending slot facts) in
-      served_linked on slot (winner_of (plan_in slot begun) slot) (facts_entering slot begun)
-      (enters slot begun.links (ended_linked slot facts each))
+      let winner = winner_of (plan_in slot begun) slot in
+      let outcome = served on slot winner (facts_entering slot begun) in
+      fixes outcome.next outcome.facts.links
+      (served_linked on slot winner (facts_entering slot begun) (enters slot begun.links (ended_linked slot facts each)))
 
   -- ---- a phase
 
@@ -272,9 +301,10 @@ module _ (P : EndSetup → Type 0) where
   pdu_linked None facts outcome each some = each
   pdu_linked (Some pdu) facts outcome each some = some pdu refl
 
-  received_linked : (handle : ℕ) (octets : List ℕ) (facts : Facts) → EachLink P facts.links → EachLink P (link_heard handle octets facts).facts.links
-  received_linked handle octets facts each =
-      changed handle (link_after (PacketReceived facts.turn.slot octets)) facts.links (λ link. refl) each
+  received_linked : (setup : Setup) (handle : ℕ) (octets : List ℕ) (facts : Facts) → EachLink P facts.links
+      → EachLink P (link_heard setup handle octets facts).facts.links
+  received_linked setup handle octets facts each =
+      changed handle (link_after (PacketReceived facts.turn.slot octets (has_room setup facts))) facts.links (λ link. refl) each
 
   heard_linked : (setup : Setup) (facts : Facts) (octets : List ℕ) (doing : Doing) → facts.turn.doing ≡ doing → MayOpenNew facts (PacketHeard octets)
       → EachLink P facts.links → EachLink P (heard setup doing octets facts).facts.links
@@ -287,8 +317,8 @@ module _ (P : EndSetup → Type 0) where
       pdu_linked (pdu_heard channel octets) facts _ each (λ pdu found. scanner_linked facts.scanning.on false channel pdu facts each)
   heard_linked setup facts octets (Initiates channel) is may each =
       pdu_linked (pdu_heard channel octets) facts _ each (λ pdu found. initiator_linked facts.initiator setup channel pdu facts each)
-  heard_linked setup facts octets (CentralListens handle) is may each = received_linked handle octets facts each
-  heard_linked setup facts octets (PeripheralListens handle) is may each = received_linked handle octets facts each
+  heard_linked setup facts octets (CentralListens handle) is may each = received_linked setup handle octets facts each
+  heard_linked setup facts octets (PeripheralListens handle) is may each = received_linked setup handle octets facts each
   heard_linked setup facts octets doing is may each =
       unheard_linked facts doing (λ channel link same. may.made channel link refl (is ∙ same)) each
 
@@ -304,7 +334,7 @@ module _ (P : EndSetup → Type 0) where
       passed_linked (heard setup facts.turn.doing octets facts) (heard_linked setup facts octets facts.turn.doing refl may each)
   step_opens setup facts NothingHeard may each =
       passed_linked (unheard facts.turn.doing facts) (unheard_linked facts facts.turn.doing (λ channel link is. may.made channel link refl is) each)
-  step_opens setup facts TurnEnds may each = sends facts.turn.slot Rests facts.links each
+  step_opens setup facts TurnEnds may each = sends facts.turn.slot Rests (links_reported facts.links) (reports facts.links each)
 
   pub step_linked : (setup : Setup) (facts : Facts) (step : Step) → MayOpen facts step → EachLink P facts.links → EachLink P (facts_after setup facts step).links
   step_linked setup facts step may each = step_opens setup facts step (record {

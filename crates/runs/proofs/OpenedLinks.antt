@@ -16,9 +16,10 @@ use Rattle.scan_init.specs.Reports.{scan_answer}
 use Rattle.one_side.specs.Step.{Step, HostOctet, TurnBegins, PacketHeard, NothingHeard, TurnEnds}
 use Rattle.one_side.specs.Facts.{Facts, Setup}
 use Rattle.one_side.specs.Events.{notes_of_events, passes}
-use Rattle.one_side.specs.Heard.{events_reported, link_taken, opens}
+use Rattle.one_side.specs.Heard.{events_reported, has_room, link_heard, link_taken, notes_taken, opens, scanner_heard}
 use Rattle.one_side.specs.Links.{events_opened}
-use Rattle.one_side.specs.Outcome.{Outcome, facts_passed}
+use Rattle.one_side.specs.Outcome.{Outcome, facts_passed, notes_passed}
+use Rattle.one_side.specs.Packets.{notes_doing}
 use Rattle.one_side.specs.Side.{facts_after, notes_after}
 use Rattle.one_side.proofs.Always.{opening_is}
 use Rattle.one_side.proofs.Handles.{HaveOwnHandles, IsNew, free_is_new, own_handles}
@@ -35,7 +36,7 @@ use Rattle.runs.proofs.LinkEnds.{IsLast}
 use Rattle.runs.proofs.LinkSteps.{MayOpen, each_in, link_has, step_opens}
 use Rattle.runs.proofs.Linked.{numbered_more}
 use Rattle.runs.proofs.LinksKnown.{last_by_call}
-use Rattle.runs.proofs.OpenedNotes.{is_opened, opens_under, outside_open}
+use Rattle.runs.proofs.OpenedNotes.{doing_open, is_opened, opens_under, outside_open, taken_open}
 
 -- a link that is noted as opened is open after the step, under a handle that was free
 record IsOpenNow (facts : Facts) (links : Places) (handle : ℕ) (role : Role) : Type 0 where
@@ -73,12 +74,24 @@ events_now : (facts : Facts) (links : Places) (view : View) (events : List HciEv
 events_now facts links view events = packets_now facts links (filter (λ event. passes view (mask_bit_of event)) events)
 
 abbrev NotesNow : Facts → Outcome → Type 0
-NotesNow facts outcome = AllByRecursion (OpensNow facts (facts_passed outcome).links) outcome.notes
+NotesNow facts outcome = AllByRecursion (OpensNow facts (facts_passed outcome).links) (notes_passed outcome)
+
+both_now : (facts : Facts) (links : Places) (notes more : List Note) → AllByRecursion (OpensNow facts links) notes
+    → AllByRecursion (OpensNow facts links) more → AllByRecursion (OpensNow facts links) (notes ++ more)
+both_now facts links [] more all rest = rest
+both_now facts links (note ∷ notes) more all rest = (all.0, both_now facts links notes more all.1 rest)
+
+passed_now : (facts : Facts) (outcome : Outcome) → AllByRecursion (OpensNow facts (facts_passed outcome).links) outcome.notes → NotesNow facts outcome
+passed_now facts outcome all =
+    let links = (facts_passed outcome).links in
+    let sent = notes_doing outcome.next outcome.facts in
+    both_now facts links outcome.notes sent all (none_now facts links sent (λ handle. doing_open handle outcome.next outcome.facts))
 
 opened_now : (facts : Facts) (link : LinkSetup) → link.handle < length facts.links → link_at link.handle facts.links ≡ None → NotesNow facts (opens link facts)
 opened_now facts link within free =
     let end : EndSetup = record { link = link; opened = facts.turn.slot } in
-    let links = (facts_passed (opens link facts)).links in (
+    let links = (facts_passed (opens link facts)).links in
+    passed_now facts (opens link facts) (
       record {
         link = link;
         handle_is = refl;
@@ -100,11 +113,16 @@ phase_now setup facts own = record {
   taken = λ channel octets pdu on fields handle is_on hears takes free.
       let new = free_is_new facts.links handle free in opened_now facts (link_taken on.params.own pdu fields handle) new.0 new.1;
   scanned = λ channel octets pdu on doing is_on hears.
-      events_now facts _ facts.view (events_reported (scan_answer on.params facts.view.accepted on.recent pdu) pdu);
+      passed_now facts (scanner_heard (Some on) true channel pdu facts)
+      (events_now facts _ facts.view (events_reported (scan_answer on.params facts.view.accepted on.recent pdu) pdu));
   answered = λ channel octets pdu on doing is_on hears.
-      events_now facts _ facts.view (events_reported (scan_answer on.params facts.view.accepted on.recent pdu) pdu);
+      passed_now facts (scanner_heard (Some on) false channel pdu facts)
+      (events_now facts _ facts.view (events_reported (scan_answer on.params facts.view.accepted on.recent pdu) pdu));
   connects = λ channel octets pdu on access handle doing is_on hears answers next free in_range. tt;
-  received = λ handle octets. tt;
+  received = λ handle octets.
+      let taken = notes_taken facts.turn.slot (has_room setup facts) (link_at handle facts.links) octets in
+      passed_now facts (link_heard setup handle octets facts)
+      (none_now facts _ taken (λ other. taken_open other facts.turn.slot (has_room setup facts) (link_at handle facts.links) octets));
 }
 
 step_now : (setup : Setup) (facts : Facts) (step : Step) → HaveOwnHandles setup facts
@@ -115,7 +133,8 @@ step_now setup facts (TurnBegins slot on) own =
     none_now facts _ (notes_after setup facts (TurnBegins slot on)) (λ handle. outside_open handle setup facts (TurnBegins slot on) refl)
 step_now setup facts (PacketHeard octets) own = heard_is setup facts (NotesNow facts) (phase_now setup facts own) facts.turn.doing octets refl
 step_now setup facts NothingHeard own = unheard_is setup facts (NotesNow facts) (phase_now setup facts own) facts.turn.doing refl
-step_now setup facts TurnEnds own = tt
+step_now setup facts TurnEnds own =
+    none_now facts _ (notes_after setup facts TurnEnds) (λ handle. outside_open handle setup facts TurnEnds refl)
 
 -- ---- a call
 
