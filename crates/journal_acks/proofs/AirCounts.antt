@@ -8,12 +8,15 @@ use Rattle.ble_base.specs.declared.roles.Role.TheVariants.{Central, Peripheral}
 use Rattle.ble_base.specs.declared.roles.Side.{Side}
 use Rattle.ble_base.specs.declared.roles.Side.TheVariants.{A, B}
 use Rattle.air_frame.specs.Packet.{access_octets}
-use Rattle.one_end.proofs.Pairs.{AreAgreed}
+use Rattle.one_end.specs.Packets.{pdu_sent}
+use Rattle.one_end.specs.Data.{is_empty}
+use Rattle.one_end.specs.Pair.{AreInAgreement}
+use Rattle.one_end.proofs.Payloads.{past_pdu_short}
 use Rattle.one_end.proofs.Received.{IsHeardWhole}
 use Rattle.one_end.specs.Step.{PacketSent, PacketReceived}
 use Rattle.open_links.specs.OpenLinks.{OpenLink, facts_in, link_after, link_at}
 use Rattle.one_side.specs.declared.doing.Turn.{Turn}
-use Rattle.one_side.specs.Facts.{Facts, Sends}
+use Rattle.one_side.specs.Facts.{Facts, Sends, Listens}
 use Rattle.one_side.proofs.Always.{IsAdvertisingChannel}
 use Rattle.one_side.proofs.DataChannels.{link_channel}
 use Rattle.one_side.proofs.Sent.{sends_well}
@@ -34,7 +37,7 @@ use Rattle.run_laws.proofs.Agreed.{Agree, ack_of}
 use Rattle.run_laws.proofs.ByCalls.{Holds}
 use Rattle.run_laws.proofs.ConnectInds.{on_channel}
 use Rattle.run_laws.proofs.Hearings.{use_sent_at, wanted_is}
-use Rattle.run_laws.proofs.InAgreement.{AreStations, IsPair, WithAll, differs_back, few_links}
+use Rattle.run_laws.proofs.InAgreement.{AreStations, IsPair, TakesShort, WithAll, differs_back, few_links}
 use Rattle.run_laws.proofs.OpenSteps.{open_has}
 use Rattle.run_laws.proofs.SentPackets.{IsUseSent}
 use Rattle.run_laws.proofs.TurnPlaces.{Within}
@@ -45,14 +48,15 @@ use Rattle.journal_packets.specs.Senders.{IsOfSendersLink}
 use Rattle.journal_packets.proofs.Replies.{sent_begins}
 use Rattle.journal_acks.specs.Counted.{IsCounted}
 use Rattle.journal_acks.specs.Exchange.{Exchanged, after_packet, carries_empty, with_heard, with_sent}
-use Rattle.journal_acks.proofs.Acks.{hears_counted, told}
-use Rattle.journal_acks.proofs.Counting.{AreCountedSo, AreKnown, IsBegun, IsEndCounted, ahead_if, facts_event, moved, plain, taking_if}
+use Rattle.journal_acks.proofs.Acks.{IsTold, hears_counted, told}
+use Rattle.journal_acks.proofs.Counting.{AreCountedSo, AreKnown, AreToTake, IsBegun, IsEndCounted, IsToTake, ahead_if, facts_event, moved, none_to_take, plain, taking_if}
 use Rattle.journal_acks.proofs.Exchanging.{exchange_at, number_at, number_sent}
 use Rattle.journal_acks.proofs.FirstCounts.{IsFirst, first_event_at, first_old}
 use Rattle.journal_acks.proofs.LinkPhases.{IsPhased}
 use Rattle.journal_acks.proofs.LinkUses.{listens_under, sends_under}
-use Rattle.journal_acks.proofs.Standing.{AreOne, listener_role, listener_sends, one_link, other_listens, other_sends, phased_at, sender_role, sends_on}
-use Rattle.journal_acks.proofs.TwoStations.{IsListening, IsOfTwo, after_air, air_of_link, air_quiet, good_begins, hearing_of, judged, link_listens, one_hearing, other_is, other_of, own_received, other_received, own_differs, sent_empty, side_differs, side_other, side_same, unchanged}
+use Rattle.journal_acks.proofs.SentLines.{air_line}
+use Rattle.journal_acks.proofs.Standing.{AreOne, listener_role, listener_sends, listens_wanted, one_link, other_listens, other_sends, phased_at, sender_role, sends_on}
+use Rattle.journal_acks.proofs.TwoStations.{IsListening, IsOfTwo, after_air, air_of_link, air_quiet, good_begins, hearing_of, judged, link_listens, one_hearing, other_is, other_of, other_received, own_differs, own_received, same_number, sent_empty, side_differs, side_other, side_same, unchanged}
 
 -- ---- the counts of a side after a packet
 
@@ -70,9 +74,6 @@ other_after good empty station ends =
 deaf_after : (ours empty : Bool) (station : ℕ) (ends : Side → Exchanged) → after_air ours (side_of station) false empty ends (side_of (other_of station)) ≡ ends (side_of (other_of station))
 deaf_after true empty station ends = other_after false empty station ends
 deaf_after false empty station ends = refl
-
-same_number : (n : ℕ) → (n == n) ≡ true
-same_number n = grind arith
 
 -- ---- one side, by what is sent and taken
 
@@ -106,7 +107,7 @@ sent_counted received handle turn link end on off is =
 
 -- a packet that it is to take is on the air
 takes : (unsent : Bool) (octets : List ℕ) (handle : ℕ) (turn : Turn) (link : OpenLink) (end : Exchanged) → listens_under handle turn.doing ≡ true → sends_under handle turn.doing ≡ false
-    → IsCounted end (ack_of (link_after (PacketReceived turn.slot octets) link)) → IsEndCounted unsent (Some octets) handle turn link end
+    → IsCounted end (ack_of (link_after (PacketReceived turn.slot octets false) link)) → IsEndCounted unsent (Some octets) handle turn link end
 takes unsent octets handle turn link end on none is =
     any_sending false unsent (Some octets) handle turn link end none
     (subst (λ b. IsCounted end (ack_of (taking_if b (Some octets) turn.slot link))) (sym on) is)
@@ -151,9 +152,18 @@ pub first_aired : (number own station channel : ℕ) (octets : List ℕ) (histor
 first_aired number own station channel octets history hearings hearing link has off belongs is later first true same =
     first_old number history (Transmitted station channel octets hearings) link (ap (λ n. link_numbered n (journal_of history)) (sym (eqb-true own number same)) ∙ is) later
 first_aired number own station channel octets history hearings hearing link has off belongs is later first false same =
-    first_event_at number history (Transmitted station channel octets hearings)
-    (air_of_link number own station channel octets history hearings hearing has off belongs
-    ∙ ap (λ b. after_air b (side_of station) (is_good hearing.verdict) (carries_empty (link_numbered number (journal_of history)) channel octets) (exchange_at number history)) same) first
+    first_event_at number history (Transmitted station channel octets hearings) (record {
+      exchange = air_of_link number own station channel octets history hearings hearing has off belongs
+          ∙ ap (λ b. after_air b (side_of station) (is_good hearing.verdict) (carries_empty (link_numbered number (journal_of history)) channel octets) (exchange_at number history)) same;
+      lines = air_line number history station channel octets hearings;
+    }) first
+
+-- the sender of a packet has the other end of the link open on which a station takes it
+pub record IsFar (given : Given) (history : List Event) (station other handle : ℕ) : Type 0 where
+  pub far_handle : ℕ
+  pub far : OpenLink
+  pub is_open : link_at far_handle (facts_at given station history).links ≡ Some far
+  pub same : number_at station far_handle history ≡ number_at other handle history
 
 -- ---- a packet is on the air
 
@@ -330,7 +340,7 @@ module _ (whole : IsHeardWhole) (given : Given) (Q : Place → List Event → Ty
         connect_ind : HaveOneConnectInd link_sent.setup link.setup
         connect_ind = one_begun history own_number (number_at other handle history) station other link_sent link one_number (known.begun here history q station sent.handle link_sent is sent.is_open) begun
 
-        agreed : AreAgreed (ack_of link_sent) (ack_of link)
+        agreed : AreInAgreement (ack_of link_sent) (ack_of link)
         agreed =
             let all = holds.so_far.last.agree station other is is_too (differs_back other station differs) in
             let each = open_has (WithAll (facts other).links) 0 sent.handle (facts station).links link_sent all sent.is_open in
@@ -341,27 +351,48 @@ module _ (whole : IsHeardWhole) (given : Given) (Q : Place → List Event → Ty
             plain (not (is_in other done)) (packet_received other history) handle (facts other).turn link (exchange_at (number_at other handle history) history (side_of other))
             (listener_sends handle (facts other).turn.doing listens) (λ on. silent other is_too differs) (counted other handle link is_too is_open)
 
-        empty_is : carries_empty (link_numbered (number_at other handle history) (journal_of history)) channel octets ≡ true
+        empty_is : carries_empty (link_numbered (number_at other handle history) (journal_of history)) channel octets ≡ is_empty (pdu_sent (facts_in sent.link))
         empty_is =
             ap (λ may. carries_empty may channel octets) begun.is_link
-            ∙ sent_empty whole sent.link.setup (facts_in sent.link) begun.link channel octets (begun.fields ∙ sym connect_ind.fields) sent.channel_is sent.packet
+            ∙ sent_empty whole sent.link.setup (facts_in sent.link) begun.link channel octets (past_pdu_short sent.link.setup sent.link.past)
+            (begun.fields ∙ sym connect_ind.fields) sent.channel_is sent.packet
+
+        abbrev taken : Bool → OpenLink
+        taken room = link_after (PacketReceived (facts other).turn.slot octets room) link
+
+        -- what it tells the other end, with room for data or with none
+        tells : IsTold (ack_of link_sent) (ack_of link) (pdu_sent (facts_in sent.link)) (ack_of (taken true)) (ack_of (taken false))
+        tells =
+            let fits = open_has TakesShort 0 handle (facts other).links link (holds.so_far.last.each other is_too).short is_open in
+            told whole (facts other).turn.slot sent.slot link sent.link octets fits connect_ind.fields sent.packet
+            (sym sent.channel_is ∙ listening.channel_is ∙ ap (λ (l : OpenLink). (facts_in l).event.channel) (sym one.links)) agreed
+
+        sent_as : IsCounted (with_sent (exchange_at (number_at other handle history) history (side_of station))) (ack_of link_sent)
+        sent_as = subst (λ n. IsCounted (with_sent (exchange_at n history (side_of station))) (ack_of link_sent)) one_number sender_counted
 
         taken_counted : IsEndCounted (not (is_in other done)) (Some octets) handle (facts other).turn link (exchange_at (number_at other handle history) after (side_of other))
         taken_counted =
             let number = number_at other handle history in
-            let slot = (facts other).turn.slot in
             let before = exchange_at number history in
-            let tells = told whole slot sent.slot link sent.link octets connect_ind.fields sent.packet
-            (sym sent.channel_is ∙ listening.channel_is ∙ ap (λ (l : OpenLink). (facts_in l).event.channel) (sym one.links)) agreed in
-            let from = subst (λ n. IsCounted (with_sent (exchange_at n history (side_of station))) (ack_of link_sent)) one_number sender_counted in
-            let next = hears_counted (before (side_of other)) (with_sent (before (side_of station))) (ack_of link) (ack_of link_sent) (ack_of (link_after (PacketReceived slot octets) link)) before_taken from tells in
+            let empty = is_empty (pdu_sent (facts_in sent.link)) in
+            let next = hears_counted (before (side_of other)) (with_sent (before (side_of station))) (ack_of link) (ack_of link_sent) (ack_of (taken true)) (ack_of (taken false))
+            (pdu_sent (facts_in sent.link)) before_taken sent_as tells in
             subst (λ e. IsEndCounted (not (is_in other done)) (Some octets) handle (facts other).turn link e)
             (sym (exchanged number one_number (side_of other)
             ∙ other_after (is_good hearing.verdict) (carries_empty (link_numbered number (journal_of history)) channel octets) station before
             ∙ ap (λ b. if b then with_heard (carries_empty (link_numbered number (journal_of history)) channel octets) (with_sent (before (side_of station))) (before (side_of other)) else before (side_of other)) good
             ∙ ap (λ b. with_heard b (with_sent (before (side_of station))) (before (side_of other))) empty_is))
-            (takes (not (is_in other done)) octets handle (facts other).turn link (with_heard true (with_sent (before (side_of station))) (before (side_of other))) listens
+            (takes (not (is_in other done)) octets handle (facts other).turn link (with_heard empty (with_sent (before (side_of station))) (before (side_of other))) listens
             (listener_sends handle (facts other).turn.doing listens) next)
+
+        -- it is to take as many PDUs as the other one sent
+        is_to_take : (exchange_at (number_at other handle history) after (other_side (side_of other))).sent ≡ length (ack_of (taken true)).accepted
+        is_to_take =
+            let number = number_at other handle history in
+            ap (λ s. (exchange_at number after s).sent) (ap other_side (side_other station) ∙ central_back (side_of station))
+            ∙ ap (λ (e : Exchanged). e.sent) (exchanged number one_number (side_of station)
+            ∙ own_after (is_good hearing.verdict) (carries_empty (link_numbered number (journal_of history)) channel octets) station (exchange_at number history))
+            ∙ sent_as.sent ∙ sym tells.accepted
 
       other_sent : (received : Bool) → is_good hearing.verdict ≡ received → (handle : ℕ) (link : OpenLink) → link_at handle (facts other).links ≡ Some link
           → IsEndCounted (not (is_in other done)) (if received then Some octets else packet_received other history) handle (facts other).turn link
@@ -423,3 +454,85 @@ module _ (whole : IsHeardWhole) (given : Given) (Q : Place → List Event → Ty
           (ap (λ n. exchange_at n after (side_of other)) (number_sent other handle history station channel octets hearings))
           (other_aired (is_advertising channel) refl (subst (λ n. is_in n given.stations ≡ true) equal in_it) unlike seen silent handle link
           (subst (λ n. link_at handle (facts_at given n history).links ≡ Some link) equal is_open)))
+
+  -- ---- what is still to be taken
+
+  none_listens : (handle : ℕ) (link : OpenLink) → link_at handle (facts station).links ≡ Some link → listens_under handle (facts station).turn.doing ≡ true → ⊥
+  none_listens handle link is_open listens =
+      let wanted_too = listens_wanted (facts station) handle link (facts station).turn.doing listens (phased station is).uses.in_turn.listens is_open in
+      let h : Sends channel octets ≡ Listens (facts_in link).event.channel = sym wants ∙ wanted_too in absurd cc
+
+  heard_to_take : (on : Bool) → is_advertising channel ≡ on → is_in other given.stations ≡ true → (other == station) ≡ false → unseen_in octets hearings ≡ None
+      → ((one : ℕ) → is_in one given.stations ≡ true → (one == station) ≡ false → packet_received one history ≡ None) → has_received other hearings ≡ true
+      → (handle : ℕ) (link : OpenLink) → link_at handle (facts other).links ≡ Some link
+      → IsToTake (Some octets) handle (facts other).turn link (exchange_at (number_at other handle history) after (other_side (side_of other)))
+  heard_to_take true on is_too differs seen silent got handle link is_open = λ heard listens same.
+      let off = other_listens (facts other) handle channel link (phased other is_too).uses.in_turn.listens is_open
+      (wanted_is given other history ∙ (is_listener given fates channel octets history station other got).listens) on in
+      absurd (let h : true ≡ false = sym listens ∙ off in absurd cc)
+  heard_to_take false off is_too differs seen silent got handle link is_open = λ heard listens same.
+      let equal : octets ≡ heard = cc in
+      let good = sym (heard_it off is_too differs seen silent) ∙ got in
+      is_to_take off is_too differs seen silent good handle link is_open
+      ∙ ap (λ xs. length (ack_of (link_after (PacketReceived (facts other).turn.slot xs true) link)).accepted) equal
+
+  other_to_take : (received : Bool) → has_received other hearings ≡ received → is_in other given.stations ≡ true → (other == station) ≡ false → unseen_in octets hearings ≡ None
+      → ((one : ℕ) → is_in one given.stations ≡ true → (one == station) ≡ false → packet_received one history ≡ None) → (handle : ℕ) (link : OpenLink)
+      → link_at handle (facts other).links ≡ Some link
+      → IsToTake (if received then Some octets else packet_received other history) handle (facts other).turn link
+      (exchange_at (number_at other handle history) after (other_side (side_of other)))
+  other_to_take true got is_too differs seen silent handle link is_open = heard_to_take (is_advertising channel) refl is_too differs seen silent got handle link is_open
+  other_to_take false got is_too differs seen silent handle link is_open =
+      none_to_take (packet_received other history) handle (facts other).turn link (exchange_at (number_at other handle history) after (other_side (side_of other)))
+      (silent other is_too differs)
+
+  pub packet_to_take : unseen_in octets hearings ≡ None → ((one : ℕ) → is_in one given.stations ≡ true → (one == station) ≡ false → packet_received one history ≡ None)
+      → AreToTake given after
+  packet_to_take seen silent = λ one handle link in_it is_open. by one handle link in_it (ap (λ (f : Facts). link_at handle f.links) (sym (same_facts one)) ∙ is_open) (one == station) refl
+    where
+      same_facts : (one : ℕ) → facts_at given one (history ++ Transmitted station channel octets (hearings_of given fates station channel octets history) ∷ []) ≡ facts_at given one history
+      same_facts one = facts_event given one history (Transmitted station channel octets (hearings_of given fates station channel octets history)) refl
+
+      by : (one handle : ℕ) (link : OpenLink) → is_in one given.stations ≡ true → link_at handle (facts_at given one history).links ≡ Some link → (same : Bool) → (one == station) ≡ same
+          → IsToTake (packet_received one (history ++ Transmitted station channel octets (hearings_of given fates station channel octets history) ∷ [])) handle
+          (facts_at given one (history ++ Transmitted station channel octets (hearings_of given fates station channel octets history) ∷ [])).turn link
+          (exchange_at (number_at one handle (history ++ Transmitted station channel octets (hearings_of given fates station channel octets history) ∷ []))
+          (history ++ Transmitted station channel octets (hearings_of given fates station channel octets history) ∷ []) (other_side (side_of one)))
+      by one handle link in_it is_open true same = λ heard listens some.
+          let equal = eqb-true one station same in
+          absurd (none_listens handle link (subst (λ n. link_at handle (facts_at given n history).links ≡ Some link) equal is_open)
+          (ap (λ n. listens_under handle (facts_at given n history).turn.doing) (sym equal) ∙ ap (λ (f : Facts). listens_under handle f.turn.doing) (sym (same_facts one)) ∙ listens))
+      by one handle link in_it is_open false differs = λ heard listens some.
+          let equal = other_is given are_two station one is in_it differs in
+          let take = subst (λ n. IsToTake (if has_received n hearings then Some octets else packet_received n history) handle (facts n).turn link
+          (exchange_at (number_at n handle history) after (other_side (side_of n)))) (sym equal)
+          (other_to_take (has_received other hearings) refl (subst (λ n. is_in n given.stations ≡ true) equal in_it) (subst (λ n. (n == station) ≡ false) equal differs) seen silent handle link
+          (subst (λ n. link_at handle (facts_at given n history).links ≡ Some link) equal is_open)) in
+          ap (λ n. (exchange_at n after (other_side (side_of one))).sent) (number_sent one handle history station channel octets hearings)
+          ∙ take heard (ap (λ (f : Facts). listens_under handle f.turn.doing) (sym (same_facts one)) ∙ listens)
+          (sym (received_event one history (Transmitted station channel octets hearings)) ∙ some)
+          ∙ ap (λ (f : Facts). length (ack_of (link_after (PacketReceived f.turn.slot heard true) link)).accepted) (sym (same_facts one))
+
+  -- ---- the other end of the link
+
+  far_by : (on : Bool) → is_advertising channel ≡ on → is_in other given.stations ≡ true → (other == station) ≡ false → unseen_in octets hearings ≡ None
+      → ((one : ℕ) → is_in one given.stations ≡ true → (one == station) ≡ false → packet_received one history ≡ None) → has_received other hearings ≡ true
+      → (handle : ℕ) (link : OpenLink) → link_at handle (facts other).links ≡ Some link → listens_under handle (facts other).turn.doing ≡ true
+      → IsFar given history station other handle
+  far_by true on is_too differs seen silent got handle link is_open listens =
+      let off = other_listens (facts other) handle channel link (phased other is_too).uses.in_turn.listens is_open
+      (wanted_is given other history ∙ (is_listener given fates channel octets history station other got).listens) on in
+      absurd (let h : true ≡ false = sym listens ∙ off in absurd cc)
+  far_by false off is_too differs seen silent got handle link is_open listens = record {
+    far_handle = (sent off).handle;
+    far = link_sent off;
+    is_open = (sent off).is_open;
+    same = one_number off is_too differs seen silent (sym (heard_it off is_too differs seen silent) ∙ got) handle link is_open;
+  }
+
+  pub packet_far : is_in other given.stations ≡ true → (other == station) ≡ false → unseen_in octets hearings ≡ None
+      → ((one : ℕ) → is_in one given.stations ≡ true → (one == station) ≡ false → packet_received one history ≡ None) → has_received other hearings ≡ true
+      → (handle : ℕ) (link : OpenLink) → link_at handle (facts other).links ≡ Some link → listens_under handle (facts other).turn.doing ≡ true
+      → IsFar given history station other handle
+  packet_far is_too differs seen silent got handle link is_open listens =
+      far_by (is_advertising channel) refl is_too differs seen silent got handle link is_open listens

@@ -1,9 +1,10 @@
--- What a controller notes in each kind of call, and that no note says that a PDU is taken.
-use Rattle.std.proofs.Common.{◌≡◌, ℕ, ◌==◌, Bool, true, false, Option, Some, None, List, [], ◌∷◌, ◌++◌, map, refl}
+-- What a controller notes in each kind of call, and in which of them no note says that a PDU is taken.
+use Rattle.std.proofs.Common.{◌≡◌, ℕ, ◌==◌, ◌&&◌, not, Bool, true, false, Option, Some, None, List, [], ◌∷◌, ◌++◌, map, refl}
 use Rattle.std.specs.Prelude.{flat_map, filter, All}
-use Rattle.std.proofs.lemmas.List.Elements.{All-append, All-cons, All-nil}
+use Rattle.std.proofs.lemmas.List.Elements.{All-append, All-cons, All-head, All-nil, All-tail}
+use Rattle.acl_banks.specs.declared.pieces.Piece.{Piece}
 use Rattle.ble_base.specs.declared.notes.Note.{Note}
-use Rattle.ble_base.specs.declared.notes.Note.TheVariants.{Up, Took, Applied, Enter}
+use Rattle.ble_base.specs.declared.notes.Note.TheVariants.{Up, Sent, Took, Applied, Enter}
 use Rattle.h4_frames.specs.declared.packet.HostPacket.TheVariants.{Command as HostCommand, Acl}
 use Rattle.h4_frames.specs.declared.packet.Fed.{Fed}
 use Rattle.h4_frames.specs.declared.packet.Fed.TheVariants.{More, Packet, LostSync}
@@ -13,42 +14,70 @@ use Rattle.hci_cmd.specs.declared.command.CmdRead.{CmdRead}
 use Rattle.hci_cmd.specs.declared.command.CmdRead.TheVariants.{Known, UnknownOpcode, BadLength}
 use Rattle.hci_cmd.specs.Command.{command_of}
 use Rattle.hci_evt.specs.declared.event.Event.{Event}
-use Rattle.hci_evt.specs.declared.event.Event.TheVariants.{DisconnectionComplete, HardwareError}
+use Rattle.hci_evt.specs.declared.event.Event.TheVariants.{DisconnectionComplete, HardwareError, CompletedPackets, BufferOverflow}
 use Rattle.hci_evt.specs.Event.{mask_bit_of, written}
 use Rattle.host_view.specs.View.{View}
 use Rattle.host_view.specs.Unbuilt.{status_of}
 use Rattle.instants.specs.Track.{next_number}
-use Rattle.one_end.specs.End.{applied_notes}
-use Rattle.one_end.specs.declared.setup.LinkSetup.{LinkSetup}
+use Rattle.one_end.specs.Acknowledgement.{is_acked}
+use Rattle.one_end.specs.Data.{is_empty}
+use Rattle.one_end.specs.End.{applied_notes, sent_notes_if}
+use Rattle.one_end.specs.Facts.{Facts as EndFacts}
 use Rattle.open_links.specs.declared.ended.LinkEnded.{LinkEnded}
-use Rattle.open_links.specs.OpenLinks.{Links, OpenLink, facts_in, handles_from}
+use Rattle.open_links.specs.declared.offers.Offer.{Offer}
+use Rattle.open_links.specs.declared.offers.Offer.TheVariants.{NoLink, Empty, Overflow, Kept}
+use Rattle.open_links.specs.Data.{completed_from}
+use Rattle.open_links.specs.OpenLinks.{Links, OpenLink, facts_in, handles_from, link_at}
 use Rattle.open_links.specs.Turns.{is_anchor, notes_entering, notes_if}
-use Rattle.one_side.specs.Step.{Step, HostOctet, TurnBegins, PacketHeard, NothingHeard, TurnEnds}
+use Rattle.one_side.specs.declared.doing.Doing.{Doing}
+use Rattle.one_side.specs.declared.doing.Doing.TheVariants.{Advertises, CentralSends, PeripheralSends}
+use Rattle.one_side.specs.Step.{HostOctet, TurnBegins, TurnEnds}
 use Rattle.one_side.specs.Facts.{Setup, Facts}
 use Rattle.one_side.specs.Answers.{answer_to}
 use Rattle.one_side.specs.Commands.{events_caused, notes_before, notes_commanded, notes_known}
+use Rattle.one_side.specs.Data.{acl_packet, event_completed, note_received, notes_offered, offer_of}
 use Rattle.one_side.specs.Events.{notes_of_events, passes}
-use Rattle.one_side.specs.Links.{ends_in, facts_ending, note_opened, note_shut, notes_ended, notes_ending}
+use Rattle.one_side.specs.Links.{ends_in, facts_ending, note_shut, notes_ended, notes_ending}
+use Rattle.one_side.specs.Packets.{notes_doing, notes_sent}
+use Rattle.one_side.specs.Radio.{outcome_begun}
 use Rattle.one_side.specs.Side.{notes_after, notes_fed, result_of}
-use Rattle.one_side.proofs.LinkNotes.{phase_too}
-use Rattle.one_side.proofs.Phases.{heard_is, unheard_is}
 
 abbrev pub is_taking : Note → Bool
 is_taking (Took handle number llid body) = true
 is_taking other = false
 
+abbrev pub is_sending : Note → Bool
+is_sending (Sent handle number llid body) = true
+is_sending other = false
+
+abbrev pub TakesNone : Note → Type 0
+TakesNone note = is_taking note ≡ false
+
+abbrev pub SendsNone : Note → Type 0
+SendsNone note = is_sending note ≡ false
+
+-- a note of no PDU
+pub record HasNoData (note : Note) : Type 0 where
+  pub takes : TakesNone note
+  pub sends : SendsNone note
+
+pub all_more : (P Q : Note → Type 0) → ((note : Note) → P note → Q note) → (notes : List Note) → All P notes → All Q notes
+all_more P Q more [] all = All-nil Q
+all_more P Q more (note ∷ notes) all =
+    All-cons Q note notes (more note (All-head P note notes all)) (all_more P Q more notes (All-tail P note notes all))
+
 -- ---- a fact of all that is noted as a host sends
 
 pub record IsOfFeeds (P : Note → Type 0) : Type 0 where
-  pub up : (event : Event) → P (Up (record { items = written event }))
+  pub up : (octets : List ℕ) → P (Up (record { items = octets }))
   pub shut : (handle reason : ℕ) → P (note_shut handle reason)
 
 module _ (P : Note → Type 0) (of : IsOfFeeds P) where
   packets_noted : (events : List Event) → All P (map (λ event. Up (record { items = written event })) events)
   packets_noted [] = All-nil P
-  packets_noted (event ∷ events) = All-cons P _ _ (of.up event) (packets_noted events)
+  packets_noted (event ∷ events) = All-cons P _ _ (of.up (written event)) (packets_noted events)
 
-  events_noted : (view : View) (events : List Event) → All P (notes_of_events view events)
+  pub events_noted : (view : View) (events : List Event) → All P (notes_of_events view events)
   events_noted view events = packets_noted (filter (λ event. passes view (mask_bit_of event)) events)
 
   handles_shut : (handles : List ℕ) → All P (map (λ handle. note_shut handle 0) handles)
@@ -74,9 +103,15 @@ module _ (P : Note → Type 0) (of : IsOfFeeds P) where
   read_noted setup facts opcode UnknownOpcode = events_noted facts.view (answer_to setup facts opcode UnknownOpcode)
   read_noted setup facts opcode BadLength = events_noted facts.view (answer_to setup facts opcode BadLength)
 
+  offered_noted : (view : View) (offer : Offer) (handle : ℕ) → All P (notes_offered view offer handle)
+  offered_noted view NoLink handle = All-nil P
+  offered_noted view Empty handle = events_noted view (CompletedPackets handle 1 ∷ [])
+  offered_noted view Overflow handle = events_noted view (BufferOverflow 1 ∷ [])
+  offered_noted view Kept handle = All-nil P
+
   fed_noted : (setup : Setup) (facts : Facts) (fed : Fed) → All P (notes_fed setup facts fed)
   fed_noted setup facts (Packet (HostCommand opcode body)) = read_noted setup facts opcode (command_of opcode body.items)
-  fed_noted setup facts (Packet (Acl handle start count body)) = All-nil P
+  fed_noted setup facts (Packet (Acl handle start count body)) = offered_noted facts.view (offer_of setup facts handle count) handle
   fed_noted setup facts LostSync = events_noted facts.view (HardwareError 0x01 ∷ [])
   fed_noted setup facts More = All-nil P
 
@@ -92,14 +127,47 @@ module _ (P : Note → Type 0) (of : IsOfFeeds P) where
   pub ending_noted : (slot : ℕ) (facts : Facts) → All P (notes_ending slot facts)
   ending_noted slot facts = ends_noted facts.view (ends_in slot facts)
 
+  -- as a turn ends
+  pieces_noted : (pieces : List (ℕ × Piece)) → All P (map note_received pieces)
+  pieces_noted [] = All-nil P
+  pieces_noted (piece ∷ pieces) = All-cons P _ _ (of.up (acl_packet piece)) (pieces_noted pieces)
+
+  pub end_noted : (setup : Setup) (facts : Facts) → All P (notes_after setup facts TurnEnds)
+  end_noted setup facts =
+      All-append P (map note_received facts.received) _ (pieces_noted facts.received)
+      (events_noted facts.view (map event_completed (completed_from 0 facts.links)))
+
 -- ---- a fact of all that is noted as a turn begins
 
-pub record IsOfBegins (P : Note → Type 0) : Type 0 where
+pub record IsOfStarts (P : Note → Type 0) : Type 0 where
   pub feeds : IsOfFeeds P
   pub applied : (handle number event : ℕ) → P (Applied handle number (record { 0 = event }))
   pub entered : (handle event channel : ℕ) → P (Enter handle (record { 0 = event }) channel)
 
-module _ (P : Note → Type 0) (of : IsOfBegins P) where
+pub record IsOfBegins (P : Note → Type 0) : Type 0 where
+  pub starts : IsOfStarts P
+  pub sent : (handle number llid : ℕ) (octets : List ℕ) → P (Sent handle number llid (record { items = octets }))
+
+-- of all that is noted as a link is to send
+module _ (P : Note → Type 0) (sent : (handle number llid : ℕ) (octets : List ℕ) → P (Sent handle number llid (record { items = octets }))) where
+  sent_if : (noted : Bool) (handle : ℕ) (facts : EndFacts) → All P (sent_notes_if noted handle facts)
+  sent_if true handle facts = All-cons P _ [] (sent handle _ _ _) (All-nil P)
+  sent_if false handle facts = All-nil P
+
+  sent_noted : (slot : ℕ) (found : Option OpenLink) → All P (notes_sent slot found)
+  sent_noted slot None = All-nil P
+  sent_noted slot (Some link) =
+      let facts = facts_in link in
+      sent_if (is_acked facts.acknowledgement && not (is_empty facts.outgoing.fixed)) link.setup.link.handle facts
+
+  pub doing_noted : (doing : Doing) (facts : Facts) → All P (notes_doing doing facts)
+  doing_noted (CentralSends handle) facts = sent_noted facts.turn.slot (link_at handle facts.links)
+  doing_noted (PeripheralSends handle) facts = sent_noted facts.turn.slot (link_at handle facts.links)
+  doing_noted (Advertises channel) facts = All-nil P
+  doing_noted other facts = All-nil P
+
+-- of all that is noted before that
+module _ (P : Note → Type 0) (of : IsOfStarts P) where
   applied_noted : (handle event : ℕ) (number : Option ℕ) → All P (applied_notes handle event number)
   applied_noted handle event None = All-nil P
   applied_noted handle event (Some number) = All-cons P _ [] (of.applied handle number event) (All-nil P)
@@ -118,28 +186,32 @@ module _ (P : Note → Type 0) (of : IsOfBegins P) where
       All-append P (notes_if (is_anchor slot link) slot link) (notes_entering slot links)
       (entry_noted (is_anchor slot link) slot link) (entering_noted slot links)
 
-  pub begin_noted : (setup : Setup) (slot : ℕ) (on : Bool) (facts : Facts) → All P (notes_after setup facts (TurnBegins slot on))
-  begin_noted setup slot on facts =
+  pub start_noted : (slot : ℕ) (facts : Facts) → All P (notes_ending slot facts ++ notes_entering slot (facts_ending slot facts).links)
+  start_noted slot facts =
       All-append P (notes_ending slot facts) (notes_entering slot (facts_ending slot facts).links)
       (ending_noted P of.feeds slot facts) (entering_noted slot (facts_ending slot facts).links)
 
-  pub step_noted : ((link : LinkSetup) → P (note_opened link)) → (setup : Setup) (facts : Facts) (step : Step) → All P (notes_after setup facts step)
-  step_noted opened setup facts (HostOctet octet) = octet_noted P of.feeds setup facts octet
-  step_noted opened setup facts (TurnBegins slot on) = begin_noted setup slot on facts
-  step_noted opened setup facts (PacketHeard octets) =
-      heard_is setup facts (λ outcome. All P outcome.notes) (phase_too P (record { up = of.feeds.up; opened = opened }) setup facts) facts.turn.doing octets refl
-  step_noted opened setup facts NothingHeard =
-      unheard_is setup facts (λ outcome. All P outcome.notes) (phase_too P (record { up = of.feeds.up; opened = opened }) setup facts) facts.turn.doing refl
-  step_noted opened setup facts TurnEnds = All-nil P
+pub begin_noted : (P : Note → Type 0) (of : IsOfBegins P) (setup : Setup) (slot : ℕ) (on : Bool) (facts : Facts)
+    → All P (notes_after setup facts (TurnBegins slot on))
+begin_noted P of setup slot on facts =
+    All-append P (notes_ending slot facts ++ notes_entering slot (facts_ending slot facts).links) _ (start_noted P of.starts slot facts)
+    (doing_noted P of.sent (outcome_begun slot on facts).next (outcome_begun slot on facts).facts)
 
--- no note says that a PDU is taken: links carry no data yet
-abbrev pub TakesNone : Note → Type 0
-TakesNone note = is_taking note ≡ false
+-- ---- no PDU is taken as a turn begins, and a new one is sent last of all
 
-pub step_takes_none : (setup : Setup) (facts : Facts) (step : Step) → All TakesNone (notes_after setup facts step)
-step_takes_none setup facts step =
-    step_noted TakesNone (record {
-      feeds = record { up = λ event. refl; shut = λ handle reason. refl };
-      applied = λ handle number event. refl;
-      entered = λ handle event channel. refl;
-    }) (λ link. refl) setup facts step
+pub none_taken : IsOfBegins TakesNone
+none_taken = record {
+  starts = record {
+    feeds = record { up = λ octets. refl; shut = λ handle reason. refl };
+    applied = λ handle number event. refl;
+    entered = λ handle event channel. refl;
+  };
+  sent = λ handle number llid octets. refl;
+}
+
+pub no_data : IsOfStarts HasNoData
+no_data = record {
+  feeds = record { up = λ octets. record { takes = refl; sends = refl }; shut = λ handle reason. record { takes = refl; sends = refl } };
+  applied = λ handle number event. record { takes = refl; sends = refl };
+  entered = λ handle event channel. record { takes = refl; sends = refl };
+}

@@ -19,6 +19,8 @@ use Rattle.open_links.specs.Turns.{is_anchor, links_staying, notes_entering, not
 use Rattle.one_side.specs.Step.{Step, TurnBegins}
 use Rattle.one_side.specs.Facts.{Facts}
 use Rattle.one_side.specs.Links.{facts_ending, notes_ending}
+use Rattle.one_side.specs.Packets.{notes_doing}
+use Rattle.one_side.specs.Radio.{outcome_begun}
 use Rattle.one_side.specs.Side.{notes_after}
 use Rattle.one_side.proofs.Always.{ending_is}
 use Rattle.runs.specs.History.{Event, TurnBegan, HostFed, Called, Noted, Transmitted, Hearing}
@@ -29,8 +31,8 @@ use Rattle.runs.proofs.Parts.{journal_event}
 use Rattle.run_laws.proofs.Agreed.{step_facts}
 use Rattle.journal_packets.specs.Belonging.{is_side}
 use Rattle.journal_acks.specs.Carried.{channel_after, channel_entered}
-use Rattle.journal_acks.proofs.CallNotes.{IsOfFeeds, ending_noted}
-use Rattle.journal_acks.proofs.Exchanging.{OpensNone, any_note, call_keeps, event_number, notes_keep, number_at, number_quiet, opens_none}
+use Rattle.journal_acks.proofs.CallNotes.{IsOfFeeds, doing_noted, ending_noted}
+use Rattle.journal_acks.proofs.Exchanging.{OpensNone, any_note, call_keeps, event_number, map_both, notes_keep, number_at, number_quiet, opening_none, opens_none}
 use Rattle.journal_acks.proofs.TwoStations.{side_same}
 
 -- the channel of the event that an end entered last, as the journal of a history has it
@@ -116,15 +118,8 @@ channel_other given number station other step history differs =
 
 -- ---- a turn begins
 
-map_both : (station : ℕ) (xs ys : List Note) → map (Noted station) (xs ++ ys) ≡ map (Noted station) xs ++ map (Noted station) ys
-map_both station [] ys = refl
-map_both station (note ∷ xs) ys = ap (λ zs. Noted station note ∷ zs) (map_both station xs ys)
-
 pub feeds_none : IsOfFeeds EntersNone
-feeds_none = record { up = λ event. refl; shut = λ handle reason. refl }
-
-feeds_open_none : (handle : ℕ) → IsOfFeeds (OpensNone handle)
-feeds_open_none handle = record { up = λ event. refl; shut = λ other reason. refl }
+feeds_none = record { up = λ octets. refl; shut = λ handle reason. refl }
 
 applied_none : (P : Note → Type 0) → ((handle number event : ℕ) → P (Applied handle number (record { 0 = event })))
     → (handle event : ℕ) (number : Option ℕ) → All P (applied_notes handle event number)
@@ -163,7 +158,7 @@ module _ (given : Given) (station slot : ℕ) (history : List Event) where
 
   ended_number : (on : Bool) (handle : ℕ) → number_at station handle (ended on) ≡ number_at station handle history
   ended_number on handle =
-      number_kept handle (called on) (notes_ending slot facts) (ending_noted (OpensNone handle) (feeds_open_none handle) slot facts)
+      number_kept handle (called on) (notes_ending slot facts) (ending_noted (OpensNone handle) (opening_none handle).starts.feeds slot facts)
       ∙ number_quiet station handle history (Called station (TurnBegins slot on)) (λ links. refl)
 
   -- the one link that stays enters its event, or does not
@@ -193,11 +188,17 @@ module _ (given : Given) (station slot : ℕ) (history : List Event) where
       let links : (facts_ending slot facts).links ≡ Some link ∷ [] = ap (λ (f : Facts). f.links) (ending_is slot facts) ∙ one_place (links_staying slot facts.links) handle link few stayed in
       let notes = notes_if (is_anchor slot link) slot link in
       let all : notes_entering slot (facts_ending slot facts).links ≡ notes = ap (notes_entering slot) links ∙ append-nil notes in
+      let doing = notes_doing (outcome_begun slot on facts).next (outcome_begun slot on facts).facts in
       ap (channel_at number station)
-      (ap (λ xs. history ++ Called station (TurnBegins slot on) ∷ map (Noted station) (notes_ending slot facts ++ xs)) all
-      ∙ ap (λ xs. history ++ Called station (TurnBegins slot on) ∷ xs) (map_both station (notes_ending slot facts) notes)
-      ∙ sym (append_assoc history (Called station (TurnBegins slot on) ∷ []) (map (Noted station) (notes_ending slot facts) ++ map (Noted station) notes))
-      ∙ sym (append_assoc (called on) (map (Noted station) (notes_ending slot facts)) (map (Noted station) notes)))
+      (ap (λ xs. history ++ Called station (TurnBegins slot on) ∷ map (Noted station) (notes_ending slot facts ++ xs ++ doing)) all
+      ∙ ap (λ xs. history ++ Called station (TurnBegins slot on) ∷ xs) (map_both station (notes_ending slot facts ++ notes) doing
+      ∙ ap (λ xs. xs ++ map (Noted station) doing) (map_both station (notes_ending slot facts) notes))
+      ∙ sym (append_assoc history (Called station (TurnBegins slot on) ∷ []) ((map (Noted station) (notes_ending slot facts) ++ map (Noted station) notes) ++ map (Noted station) doing))
+      ∙ sym (append_assoc (called on) (map (Noted station) (notes_ending slot facts) ++ map (Noted station) notes) (map (Noted station) doing))
+      ∙ ap (λ xs. xs ++ map (Noted station) doing) (sym (append_assoc (called on) (map (Noted station) (notes_ending slot facts)) (map (Noted station) notes))))
+      ∙ notes_keep (Option ℕ) (channel_at number station) EntersNone station (λ before note. quiet_note number station before note) doing
+      (ended on ++ map (Noted station) notes)
+      (doing_noted EntersNone (λ other count llid octets. refl) (outcome_begun slot on facts).next (outcome_begun slot on facts).facts)
       ∙ entering_channel on (is_anchor slot link) link number (ap (λ n. number_at station n history) own)
 
 -- the channel of the event that is entered then

@@ -1,5 +1,6 @@
 -- How far the journal is ahead of what each controller holds, or late, at each place of a run.
-use Rattle.std.proofs.Common.{◌≡◌, ℕ, ◌==◌, ◌&&◌, Bool, true, false, Option, Some, None, List, [], ◌∷◌, ◌++◌, take, refl, sym, ap, subst, ◌∙◌}
+use Rattle.std.proofs.Common.{◌≡◌, ℕ, ◌==◌, ◌&&◌, Bool, true, false, Option, Some, None, List, [], ◌∷◌, ◌++◌, length, take, refl, sym, ap, subst, ◌∙◌}
+use Rattle.ble_base.specs.Side.{other_side}
 use Rattle.ble_base.specs.declared.roles.Side.{Side}
 use Rattle.air_frame.specs.Packet.{access_octets}
 use Rattle.one_end.specs.Setup.{Setup as EndSetup}
@@ -8,7 +9,7 @@ use Rattle.open_links.specs.OpenLinks.{OpenLink, link_after, link_at}
 use Rattle.one_side.specs.declared.doing.Turn.{Turn}
 use Rattle.one_side.specs.Step.{Step}
 use Rattle.one_side.specs.Facts.{Facts, Sends}
-use Rattle.runs.specs.History.{Event, steps_in}
+use Rattle.runs.specs.History.{Event, packet_received, steps_in}
 use Rattle.runs.specs.Journal.{journal_of, side_of}
 use Rattle.runs.specs.Links.{is_advertising}
 use Rattle.runs.specs.Run.{Given, after_call, facts_at, setup_at, use_at}
@@ -23,8 +24,9 @@ use Rattle.journal_packets.specs.Belonging.{first_number}
 use Rattle.journal_packets.specs.Senders.{IsOfSendersLink}
 use Rattle.journal_acks.specs.Counted.{IsCounted}
 use Rattle.journal_acks.specs.Exchange.{Exchanged, with_sent}
-use Rattle.journal_acks.proofs.Exchanging.{exchange_at, exchange_called, number_at, number_other}
+use Rattle.journal_acks.proofs.Exchanging.{exchange_at, exchange_other, exchange_same, number_at, number_other}
 use Rattle.journal_acks.proofs.LinkUses.{listens_under, sends_under}
+use Rattle.journal_acks.proofs.TwoStations.{IsOfTwo, other_apart}
 use Rattle.std.proofs.lemmas.Bool.{eqb-true}
 use Rattle.one_side.specs.Side.{facts_of}
 
@@ -52,19 +54,30 @@ pub record AreKnown (given : Given) (Q : Place → List Event → Type 0) : Type
 -- ---- one end
 
 -- before the packet that an end is to send is on the air, the journal is one sending late; before it takes a packet that
--- was on the air, the journal is one reception ahead
+-- was on the air, the journal is one reception ahead, but for a PDU that is not empty: that it is taken has a line of its
+-- own, so until then it counts as if there were no room
 abbrev pub ahead_if : Bool → Exchanged → Exchanged
 ahead_if true end = with_sent end
 ahead_if false end = end
 
 abbrev pub taking_if : Bool → Option (List ℕ) → ℕ → OpenLink → OpenLink
-taking_if true (Some octets) slot link = link_after (PacketReceived slot octets) link
+taking_if true (Some octets) slot link = link_after (PacketReceived slot octets false) link
 taking_if true None slot link = link
 taking_if false received slot link = link
 
 abbrev pub IsEndCounted : Bool → Option (List ℕ) → ℕ → Turn → OpenLink → Exchanged → Type 0
 IsEndCounted unsent received handle turn link end =
     IsCounted (ahead_if (unsent && sends_under handle turn.doing) end) (ack_of (taking_if (listens_under handle turn.doing) received turn.slot link))
+
+-- the other end has sent as many PDUs as it has accepted if it takes the packet that was on the air
+abbrev pub IsToTake : Option (List ℕ) → ℕ → Turn → OpenLink → Exchanged → Type 0
+IsToTake received handle turn link from =
+    (octets : List ℕ) → listens_under handle turn.doing ≡ true → received ≡ Some octets
+    → from.sent ≡ length (ack_of (link_after (PacketReceived turn.slot octets true) link)).accepted
+
+pub none_to_take : (received : Option (List ℕ)) (handle : ℕ) (turn : Turn) (link : OpenLink) (from : Exchanged) → received ≡ None
+    → IsToTake received handle turn link from
+none_to_take received handle turn link from none = λ octets listens some. absurd (let h : None ≡ Some octets = sym none ∙ some in absurd cc)
 
 pub moved : (handle : ℕ) (link : OpenLink) (unsent unsent_too : Bool) (received received_too : Option (List ℕ)) (turn turn_too : Turn) (end end_too : Exchanged)
     → unsent_too ≡ unsent → received_too ≡ received → turn_too ≡ turn → end_too ≡ end → IsEndCounted unsent received handle turn link end
@@ -98,6 +111,21 @@ from_plain unsent received handle turn link end none nothing is =
     subst (λ b. IsCounted (ahead_if b end) (ack_of (taking_if (listens_under handle turn.doing) received turn.slot link)))
     (sym (ap (λ b. unsent && b) none ∙ not_yet unsent))
     (subst (λ l. IsCounted end (ack_of l)) (sym (nothing_taken (listens_under handle turn.doing) received turn.slot link nothing)) is)
+
+-- an end that received nothing
+none_taken : (listens : Bool) (slot : ℕ) (link : OpenLink) → taking_if listens None slot link ≡ link
+none_taken true slot link = refl
+none_taken false slot link = refl
+
+-- and that sent and accepted the same
+pub alike_counted : (unsent : Bool) (handle : ℕ) (turn : Turn) (link after : OpenLink) (end : Exchanged) → ack_of after ≡ ack_of link
+    → IsEndCounted unsent None handle turn link end → IsEndCounted unsent None handle turn after end
+alike_counted unsent handle turn link after end same is =
+    let sends = unsent && sends_under handle turn.doing in
+    let listens = listens_under handle turn.doing in
+    subst (λ l. IsCounted (ahead_if sends end) (ack_of l)) (sym (none_taken listens turn.slot after))
+    (subst (IsCounted (ahead_if sends end)) (sym same)
+    (subst (λ l. IsCounted (ahead_if sends end) (ack_of l)) (none_taken listens turn.slot link) is))
 
 -- an end whose packet is still to come, or that was sent, and that takes nothing
 pub from_sent : (sends : Bool) (received : Option (List ℕ)) (handle : ℕ) (turn : Turn) (link : OpenLink) (end : Exchanged) → sends_under handle turn.doing ≡ sends
@@ -140,14 +168,15 @@ module _ (given : Given) where
       (counted station handle link is (ap (λ (f : Facts). link_at handle f.links) (sym same) ∙ at))
 
   -- a call on one station
-  pub counted_call : (station : ℕ) (step : Step) (history : List Event) (unsent unsent_too : ℕ → Bool) (received received_too : ℕ → Option (List ℕ))
+  pub counted_call : IsOfTwo given → (station : ℕ) (step : Step) (history : List Event) (unsent unsent_too : ℕ → Bool) (received received_too : ℕ → Option (List ℕ))
+      → is_in station given.stations ≡ true
       → ((handle : ℕ) (link : OpenLink) → link_at handle (facts_at given station (after_call given station step history)).links ≡ Some link
       → IsEndCounted (unsent_too station) (received_too station) handle (facts_at given station (after_call given station step history)).turn link
-      (exchange_at (number_at station handle (after_call given station step history)) history (side_of station)))
+      (exchange_at (number_at station handle (after_call given station step history)) (after_call given station step history) (side_of station)))
       → ((other : ℕ) → is_in other given.stations ≡ true → (other == station) ≡ false → unsent_too other ≡ unsent other)
       → ((other : ℕ) → is_in other given.stations ≡ true → (other == station) ≡ false → received_too other ≡ received other)
       → AreCountedSo history unsent received → AreCountedSo (after_call given station step history) unsent_too received_too
-  counted_call station step history unsent unsent_too received received_too own u r counted = λ other handle link is at. by other handle link is at (other == station) refl
+  counted_call are_two station step history unsent unsent_too received received_too in_it own u r counted = λ other handle link is at. by other handle link is at (other == station) refl
     where
       by : (other handle : ℕ) (link : OpenLink) → is_in other given.stations ≡ true → link_at handle (facts_at given other (after_call given station step history)).links ≡ Some link
           → (same : Bool) → (other == station) ≡ same
@@ -157,14 +186,41 @@ module _ (given : Given) where
           let equal = eqb-true other station one in
           let next = after_call given station step history in
           subst (λ n. IsEndCounted (unsent_too n) (received_too n) handle (facts_at given n next).turn link (exchange_at (number_at n handle next) next (side_of n))) (sym equal)
-          (moved handle link (unsent_too station) (unsent_too station) (received_too station) (received_too station) (facts_at given station next).turn (facts_at given station next).turn _ _
-          refl refl refl (ap (λ (ends : Side → Exchanged). ends (side_of station)) (exchange_called given (number_at station handle next) station step history))
-          (own handle link (subst (λ n. link_at handle (facts_at given n next).links ≡ Some link) equal at)))
+          (own handle link (subst (λ n. link_at handle (facts_at given n next).links ≡ Some link) equal at))
       by other handle link is at false differs =
           let next = after_call given station step history in
           let same = other_facts given station step history other differs in
           moved handle link (unsent other) (unsent_too other) (received other) (received_too other) (facts_at given other history).turn (facts_at given other next).turn _ _
           (u other is differs) (r other is differs) (ap (λ (f : Facts). f.turn) same)
           (ap (λ n. exchange_at n next (side_of other)) (number_other given station step history other handle differs)
-          ∙ ap (λ (ends : Side → Exchanged). ends (side_of other)) (exchange_called given (number_at other handle history) station step history))
+          ∙ exchange_other given (number_at other handle history) station step history (side_of other) (other_apart given are_two station other in_it is differs))
           (counted other handle link is (ap (λ (f : Facts). link_at handle f.links) (sym same) ∙ at))
+
+  -- what is still to be taken, after a call on one station with which it has nothing more to take
+  abbrev pub AreToTake : List Event → Type 0
+  AreToTake history = (station handle : ℕ) (link : OpenLink) → is_in station given.stations ≡ true → link_at handle (facts_at given station history).links ≡ Some link
+      → IsToTake (packet_received station history) handle (facts_at given station history).turn link
+      (exchange_at (number_at station handle history) history (other_side (side_of station)))
+
+  pub take_call : (station : ℕ) (step : Step) (history : List Event) → packet_received station (after_call given station step history) ≡ None
+      → ((other : ℕ) → (other == station) ≡ false → packet_received other (after_call given station step history) ≡ packet_received other history)
+      → AreToTake history → AreToTake (after_call given station step history)
+  take_call station step history none others to_take = λ other handle link is at. by other handle link is at (other == station) refl
+    where
+      by : (other handle : ℕ) (link : OpenLink) → is_in other given.stations ≡ true → link_at handle (facts_at given other (after_call given station step history)).links ≡ Some link
+          → (same : Bool) → (other == station) ≡ same
+          → IsToTake (packet_received other (after_call given station step history)) handle (facts_at given other (after_call given station step history)).turn link
+          (exchange_at (number_at other handle (after_call given station step history)) (after_call given station step history) (other_side (side_of other)))
+      by other handle link is at true one =
+          let next = after_call given station step history in
+          none_to_take (packet_received other next) handle (facts_at given other next).turn link (exchange_at (number_at other handle next) next (other_side (side_of other)))
+          (ap (λ n. packet_received n next) (eqb-true other station one) ∙ none)
+      by other handle link is at false differs = λ octets listens some.
+          let next = after_call given station step history in
+          let same = other_facts given station step history other differs in
+          let number = number_at other handle history in
+          ap (λ n. (exchange_at n next (other_side (side_of other))).sent) (number_other given station step history other handle differs)
+          ∙ (exchange_same given number station step history (other_side (side_of other))).sent
+          ∙ to_take other handle link is (ap (λ (f : Facts). link_at handle f.links) (sym same) ∙ at) octets
+          (ap (λ (f : Facts). listens_under handle f.turn.doing) (sym same) ∙ listens) (sym (others other differs) ∙ some)
+          ∙ ap (λ (f : Facts). length (ack_of (link_after (PacketReceived f.turn.slot octets true) link)).accepted) (sym same)

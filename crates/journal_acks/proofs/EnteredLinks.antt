@@ -1,5 +1,5 @@
 -- A controller sends and listens only on a link that has entered an event.
-use Rattle.std.proofs.Common.{◌≡◌, ℕ, ◌+◌, ◌<◌, Bool, true, false, Option, Some, None, List, [], ◌∷◌, ◌++◌, replicate, refl, sym, ap, subst, ◌∙◌, arith}
+use Rattle.std.proofs.Common.{◌≡◌, ℕ, ◌+◌, ◌<◌, ◌&&◌, Bool, true, false, Option, Some, None, List, [], ◌∷◌, ◌++◌, replicate, refl, sym, ap, subst, ◌∙◌, arith}
 use Rattle.std.specs.Prelude.{is_some, nat_lt, if◌then◌else◌}
 use Rattle.std.specs.List.{AllByRecursion}
 use Rattle.std.specs.Option.{option_map}
@@ -12,7 +12,8 @@ use Rattle.one_end.specs.End.{facts_of as end_facts}
 use Rattle.one_end.specs.Events.{count_entry, entries_in}
 use Rattle.one_end.specs.Facts.{Facts as EndFacts}
 use Rattle.one_end.specs.Setup.{Setup as EndSetup}
-use Rattle.one_end.specs.Step.{Step as EndStep, EventEntered, PacketSent, PacketReceived}
+use Rattle.one_end.specs.Step.{Step as EndStep, EventEntered, PduFixed, PacketSent, PacketReceived}
+use Rattle.one_end.specs.Times.{has_second_exchange}
 use Rattle.open_links.specs.OpenLinks.{Links, OpenLink, facts_in, link_after, link_at, new_link}
 use Rattle.open_links.specs.Turns.{entered_if, is_anchor, link_entered, links_entered, want_if as want_link, wants_entering, wants_from, wants_if}
 use Rattle.open_links.proofs.Ends.{entered_setup}
@@ -25,6 +26,7 @@ use Rattle.one_side.specs.declared.doing.Doing.{Doing}
 use Rattle.one_side.specs.declared.doing.Doing.TheVariants.{Rests}
 use Rattle.one_side.specs.Step.{TurnBegins}
 use Rattle.one_side.specs.Facts.{Setup, Facts, first_facts}
+use Rattle.one_side.specs.Heard.{has_room}
 use Rattle.one_side.specs.Links.{facts_ending}
 use Rattle.one_side.specs.Radio.{advertiser_wants, advertises_at, advertises_on, doing_held, doing_won, exchange_begins, exchange_if, facts_entering, first_exchange, initiates_on, initiator_channel, plan_in, radio_served, scanner_channel, scans_on, second_exchange, served, slots_since, turn_begins, want_if, wants_in, winner_served}
 use Rattle.one_side.specs.Side.{facts_after}
@@ -35,10 +37,10 @@ use Rattle.run_laws.proofs.Agreed.{step_facts}
 use Rattle.run_laws.proofs.LinkPasses.{is_on_link}
 use Rattle.run_laws.proofs.OpenSteps.{none_open, open_has}
 use Rattle.run_laws.proofs.TurnPlaces.{Between, IsTurned, Stage}
-use Rattle.journal_acks.proofs.LinkCalls.{HasPassed, IsNew, Stays, Takes, begins_under, off_listens, off_sends, passes_under}
+use Rattle.journal_acks.proofs.LinkCalls.{HasPassed, IsNew, Stays, Takes, begins_under, fixed_if, off_listens, off_sends, passes_under}
 use Rattle.journal_acks.proofs.LinkPhases.{IsPhased, phased_first, phased_kept}
 use Rattle.journal_acks.proofs.LinkUses.{listens_under, sends_under}
-use Rattle.journal_acks.proofs.UnderHandles.{map_under, octet_under, sent_if}
+use Rattle.journal_acks.proofs.UnderHandles.{WasAlike, end_under, map_under, octet_under, sent_if}
 
 -- it has entered an event
 abbrev pub HasEntered : OpenLink → Type 0
@@ -118,9 +120,9 @@ entered_at : (anchor : Bool) (slot : ℕ) (link : OpenLink) → wants_if anchor 
 entered_at true slot link wants = one_more (entries_in link.past) _ (entries_more link (EventEntered slot))
 entered_at false slot link wants = absurd cc
 
--- one that continues an event has entered it
+-- one that has heard a packet in an event has entered it
 abbrev pub IsGoing : OpenLink → Type 0
-IsGoing link = (facts_in link).event.continues ≡ true → HasEntered link
+IsGoing link = (facts_in link).event.heard ≡ true → HasEntered link
 
 entered_goes : (anchor : Bool) (slot : ℕ) (link : OpenLink) → IsGoing link → IsGoing (entered_if anchor slot link)
 entered_goes true slot link going = λ on. one_more (entries_in link.past) _ (entries_more link (EventEntered slot))
@@ -130,13 +132,26 @@ pub entries_sent : (sends : Bool) (slot : ℕ) (link : OpenLink) → entries_in 
 entries_sent true slot link = entries_more link (PacketSent slot)
 entries_sent false slot link = refl
 
-pub entries_received : (slot : ℕ) (octets : List ℕ) (link : OpenLink) → entries_in (link_after (PacketReceived slot octets) link).past ≡ entries_in link.past
-entries_received slot octets link = entries_more link (PacketReceived slot octets)
+pub entries_received : (slot : ℕ) (octets : List ℕ) (room : Bool) (link : OpenLink) → entries_in (link_after (PacketReceived slot octets room) link).past ≡ entries_in link.past
+entries_received slot octets room link = entries_more link (PacketReceived slot octets room)
+
+pub entries_fixed : (fixes : Bool) (link : OpenLink) → entries_in (fixed_if fixes link).past ≡ entries_in link.past
+entries_fixed true link = entries_more link PduFixed
+entries_fixed false link = refl
 
 sent_goes : (sends : Bool) (slot : ℕ) (link : OpenLink) → IsGoing link → IsGoing (sent_if sends slot link)
 sent_goes true slot link going = λ on.
-    subst (λ n. 0 < n) (sym (entries_sent true slot link)) (going (ap (λ (f : EndFacts). f.event.continues) (sym (step_facts link (PacketSent slot))) ∙ on))
+    subst (λ n. 0 < n) (sym (entries_sent true slot link)) (going (ap (λ (f : EndFacts). f.event.heard) (sym (step_facts link (PacketSent slot))) ∙ on))
 sent_goes false slot link going = going
+
+fixed_goes : (fixes : Bool) (link : OpenLink) → IsGoing link → IsGoing (fixed_if fixes link)
+fixed_goes true link going = λ on.
+    subst (λ n. 0 < n) (sym (entries_fixed true link)) (going (ap (λ (f : EndFacts). f.event.heard) (sym (step_facts link PduFixed)) ∙ on))
+fixed_goes false link going = going
+
+-- the same link, but for data that its host gave it or that was reported
+alike_goes : (place : Option OpenLink) (after : OpenLink) (alike : WasAlike place after) → IsGoing alike.link → IsGoing after
+alike_goes place after alike going = λ on. subst (λ n. 0 < n) (sym alike.entries) (going (sym alike.heard ∙ on))
 
 new_goes : (end : EndSetup) → IsGoing (new_link end)
 unfolding end_facts
@@ -146,7 +161,7 @@ new_goes end = λ on. absurd cc
 same_goes : (one other : OpenLink) → other.setup ≡ one.setup → other.past ≡ one.past → IsGoing one → IsGoing other
 same_goes one other setup past going = λ on.
     subst (λ (xs : List EndStep). 0 < entries_in xs) (sym past)
-    (going ((λ i. (end_facts (sym setup i) (sym past i)).event.continues) ∙ on))
+    (going ((λ i. (end_facts (sym setup i) (sym past i)).event.heard) ∙ on))
 
 -- ---- a turn begins
 
@@ -184,6 +199,10 @@ initiates_off : (channel : Option ℕ) → is_on_link (initiates_on channel) ≡
 initiates_off None = refl
 initiates_off (Some channel) = refl
 
+first_of_both : (one other : Bool) → (one && other) ≡ true → one ≡ true
+first_of_both true other is = refl
+first_of_both false other is = absurd cc
+
 -- the links before they enter their events, and one of them
 module _ (slot handle : ℕ) (begun : Facts) (link : OpenLink) (at : link_at handle begun.links ≡ Some link) where
   -- what it is then
@@ -204,17 +223,17 @@ module _ (slot handle : ℕ) (begun : Facts) (link : OpenLink) (at : link_at han
   held_uses : IsGoing link → (activity : Activity) → Uses handle (doing_held slot activity (facts_entering slot begun)) → HasEntered (link_entered slot link)
   held_uses going (Link other) uses = by (link_at other (facts_entering slot begun).links) refl uses
     where
-      if_by : (one : OpenLink) (continues : Bool) → (facts_in one).event.continues ≡ continues → link_at other (facts_entering slot begun).links ≡ Some one
+      if_by : (one : OpenLink) (continues : Bool) → has_second_exchange (facts_in one) ≡ continues → link_at other (facts_entering slot begun).links ≡ Some one
           → Uses handle (exchange_if continues one.setup.link.role other) → HasEntered (link_entered slot link)
       if_by one true is found uses =
           let some : Some one ≡ Some (link_entered slot link) = entered_is (Some one) other (exchange_uses one.setup.link.role handle other uses) found in
           let same : one ≡ link_entered slot link = cc in
-          entered_goes (is_anchor slot link) slot link going (ap (λ (l : OpenLink). (facts_in l).event.continues) (sym same) ∙ is)
+          entered_goes (is_anchor slot link) slot link going (ap (λ (l : OpenLink). (facts_in l).event.heard) (sym same) ∙ first_of_both (facts_in one).event.heard (facts_in one).event.more is)
       if_by one false is found uses = off_uses handle Rests _ refl uses
 
       by : (found : Option OpenLink) → link_at other (facts_entering slot begun).links ≡ found → Uses handle (second_exchange other found) → HasEntered (link_entered slot link)
       by None is uses = off_uses handle Rests _ refl uses
-      by (Some one) is uses = if_by one (facts_in one).event.continues refl is uses
+      by (Some one) is uses = if_by one (has_second_exchange (facts_in one)) refl is uses
   held_uses going Advertise uses = off_uses handle _ _ (advertises_off (slots_since slot begun.radio.hold) begun.advertising.on) uses
   held_uses going Scan uses = off_uses handle Rests _ refl uses
   held_uses going Initiate uses = off_uses handle Rests _ refl uses
@@ -256,28 +275,29 @@ begun_entered setup slot on facts going handle after is =
     let begun = turn_begins slot (facts_ending slot facts) in
     let entered = entered_if (is_anchor slot has.link) slot has.link in
     let at : link_at handle begun.links ≡ Some has.link = ap (λ (ended : Facts). link_at handle ended.links) (ending_is slot facts) ∙ has.stayed in
-    let setup_is : has.base.setup ≡ entered.setup = has.setup_is ∙ sym (entered_setup (is_anchor slot has.link) slot has.link) in (
-      subst IsGoing (sym has.is) (sent_goes sends slot has.base (same_goes entered has.base setup_is has.past_is
-          (entered_goes (is_anchor slot has.link) slot has.link (going handle has.link has.was)))),
-      (λ uses. subst HasEntered (sym has.is) (subst (λ n. 0 < n) (sym (entries_sent sends slot has.base)) (subst (λ (xs : List EndStep). 0 < entries_in xs) (sym has.past_is)
-          (served_uses slot handle begun has.link at (going handle has.link has.was) on uses)))),
+    let setup_is : has.entered.setup ≡ entered.setup = has.setup_is ∙ sym (entered_setup (is_anchor slot has.link) slot has.link) in
+    let count = ap (λ (l : OpenLink). entries_in l.past) has.is ∙ entries_sent sends slot has.base ∙ ap (λ (l : OpenLink). entries_in l.past) has.base_is
+    ∙ entries_fixed has.fixes has.entered ∙ ap entries_in has.past_is in (
+      subst IsGoing (sym has.is) (sent_goes sends slot has.base (subst IsGoing (sym has.base_is) (fixed_goes has.fixes has.entered (same_goes entered has.entered setup_is has.past_is
+          (entered_goes (is_anchor slot has.link) slot has.link (going handle has.link has.was)))))),
+      (λ uses. subst (λ n. 0 < n) (sym count) (served_uses slot handle begun has.link at (going handle has.link has.was) on uses)),
     )
 
-passed_entered : (facts after : Facts) (received : Option (List ℕ)) (handle : ℕ) (link : OpenLink)
+passed_entered : (facts after : Facts) (room : Bool) (received : Option (List ℕ)) (handle : ℕ) (link : OpenLink)
     → ((handle : ℕ) (link : OpenLink) → link_at handle facts.links ≡ Some link → IsGoing link)
     → ((handle : ℕ) (link : OpenLink) → link_at handle facts.links ≡ Some link → sends_under handle facts.turn.doing ≡ true → HasEntered link)
     → ((handle : ℕ) (link : OpenLink) → link_at handle facts.links ≡ Some link → listens_under handle facts.turn.doing ≡ true → HasEntered link)
-    → HasPassed facts received handle after.turn.doing link → IsGoing link × (Uses handle after.turn.doing → HasEntered link)
-passed_entered facts after received handle link going sends listens (IsNew end made opened off) =
+    → HasPassed facts room received handle after.turn.doing link → IsGoing link × (Uses handle after.turn.doing → HasEntered link)
+passed_entered facts after room received handle link going sends listens (IsNew end made opened off) =
     (subst IsGoing (sym made) (new_goes end), (λ uses. off_uses handle after.turn.doing _ off uses))
-passed_entered facts after received handle link going sends listens (Stays was none nothing listened) = (going handle link was, by)
+passed_entered facts after room received handle link going sends listens (Stays was none nothing listened) = (going handle link was, by)
   where
     by : Uses handle after.turn.doing → HasEntered link
     by (Sending on) = absurd (let h : true ≡ false = sym on ∙ none in absurd cc)
     by (Listening on) = sends handle link was (listened on)
-passed_entered facts after received handle link going sends listens (Takes base octets was some on same) =
-    let taken = link_after (PacketReceived facts.turn.slot octets) base in
-    let count = ap (λ (l : OpenLink). entries_in l.past) same ∙ entries_sent (sends_under handle after.turn.doing) facts.turn.slot taken ∙ entries_received facts.turn.slot octets base in
+passed_entered facts after room received handle link going sends listens (Takes base octets was some on same) =
+    let taken = link_after (PacketReceived facts.turn.slot octets room) base in
+    let count = ap (λ (l : OpenLink). entries_in l.past) same ∙ entries_sent (sends_under handle after.turn.doing) facts.turn.slot taken ∙ entries_received facts.turn.slot octets room base in
     let entered : HasEntered link = subst (λ n. 0 < n) (sym count) (listens handle base was on) in
     ((λ continues. entered), (λ uses. entered))
 
@@ -286,7 +306,9 @@ entered_kept setup = record {
   feeds = λ begun octet facts is.
       let phased = (phased_kept setup).feeds begun octet facts is.phased in record {
         phased = phased;
-        going = λ handle link at. is.going handle link (octet_under setup facts octet handle link at);
+        going = λ handle link at.
+            let alike = octet_under setup facts octet handle link at in
+            alike_goes (link_at handle facts.links) link alike (is.going handle alike.link alike.was);
         sends = λ handle link at on. rests_uses handle _ _ phased.phase (Sending on);
         listens = λ handle link at on. rests_uses handle _ _ phased.phase (Listening on);
       };
@@ -299,7 +321,7 @@ entered_kept setup = record {
   passes = λ phases begun received facts is.
       let next = facts_after setup facts (step_of received) in
       let passes : (handle : ℕ) (link : OpenLink) → link_at handle next.links ≡ Some link → IsGoing link × (Uses handle next.turn.doing → HasEntered link) =
-      (λ handle link at. passed_entered facts next received handle link is.going is.sends is.listens (passes_under setup facts received handle link is.phased.uses.in_turn.listens at)) in record {
+      (λ handle link at. passed_entered facts next (has_room setup facts) received handle link is.going is.sends is.listens (passes_under setup facts received handle link is.phased.uses.in_turn.listens at)) in record {
         phased = (phased_kept setup).passes phases begun received facts is.phased;
         going = λ handle link at. (passes handle link at).0;
         sends = λ handle link at does. (passes handle link at).1 (Sending does);
@@ -307,7 +329,9 @@ entered_kept setup = record {
       };
   ends = λ begun facts is. record {
     phased = (phased_kept setup).ends begun facts is.phased;
-    going = λ handle link at. is.going handle link at;
+    going = λ handle link at.
+        let alike = end_under setup facts handle link at in
+        alike_goes (link_at handle facts.links) link alike (is.going handle alike.link alike.was);
     sends = λ handle link at on. absurd cc;
     listens = λ handle link at on. absurd cc;
   };

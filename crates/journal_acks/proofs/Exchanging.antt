@@ -1,8 +1,10 @@
 -- What an entry, an event or a call adds to the counts of a journal, and to the numbers of links.
-use Rattle.std.proofs.Common.{◌≡◌, ℕ, ◌==◌, ◌&&◌, Bool, true, false, List, [], ◌∷◌, ◌++◌, refl, sym, ap, ◌∙◌, append-nil, append_assoc}
+use Rattle.std.proofs.Common.{◌≡◌, ℕ, ◌==◌, ◌&&◌, Bool, true, false, List, [], ◌∷◌, ◌++◌, refl, sym, ap, subst, ◌∙◌, append-nil, append_assoc}
 use Rattle.std.specs.Prelude.{All, map, if◌then◌else◌}
 use Rattle.std.proofs.lemmas.List.Elements.{All-cons, All-head, All-nil, All-tail}
+use Rattle.ble_base.specs.Side.{other_side}
 use Rattle.ble_base.specs.declared.roles.Side.{Side}
+use Rattle.ble_base.specs.declared.roles.Side.TheVariants.{A, B}
 use Rattle.ble_base.specs.declared.notes.Note.{Note}
 use Rattle.ble_base.specs.declared.notes.Note.TheVariants.{Up, Opened, Took}
 use Rattle.journal.specs.declared.entries.Entry.{Entry}
@@ -14,8 +16,9 @@ use Rattle.runs.specs.Links.{Links, begins_link, links_after, links_noted, links
 use Rattle.runs.specs.Run.{Given, after_call, facts_at, setup_at}
 use Rattle.runs.proofs.LinksKnown.{links_event}
 use Rattle.runs.proofs.Parts.{journal_event}
-use Rattle.journal_acks.specs.Exchange.{Exchanged, exchange_after, exchange_from, exchange_of, first_exchanged}
-use Rattle.journal_acks.proofs.CallNotes.{TakesNone, is_taking, step_takes_none}
+use Rattle.journal_packets.specs.Belonging.{is_side}
+use Rattle.journal_acks.specs.Exchange.{Exchanged, after_taking, exchange_after, exchange_from, exchange_of, first_exchanged, with_taken}
+use Rattle.journal_acks.proofs.CallNotes.{IsOfBegins, TakesNone, is_taking}
 
 -- ---- an entry more
 
@@ -57,6 +60,16 @@ pub call_quiet : (number : ℕ) (history : List Event) (station : ℕ) (step : S
     → exchange_at number (history ++ Called station step ∷ []) ≡ exchange_at number history
 call_quiet number history station step = ap (exchange_of number) (journal_event history (Called station step) ∙ append-nil (journal_of history))
 
+pub note_exchange : (number : ℕ) (history : List Event) (station : ℕ) (note : Note)
+    → let links = links_of history in
+    exchange_at number (history ++ Noted station note ∷ [])
+    ≡ exchange_after number (journal_of history) (exchange_at number history)
+    (entry_of (side_of station) (links.link_of station) (links.last_of station) note)
+note_exchange number history station note =
+    let links = links_of history in
+    let entry = entry_of (side_of station) (links.link_of station) (links.last_of station) note in
+    ap (exchange_of number) (journal_event history (Noted station note)) ∙ exchange_more number (journal_of history) entry
+
 note_same : (number : ℕ) (front : List Entry) (ends : Side → Exchanged) (side : Side) (link_of : ℕ → ℕ) (last : ℕ) (note : Note) → is_taking note ≡ false
     → exchange_after number front ends (entry_of side link_of last note) ≡ ends
 note_same number front ends side link_of last (Took handle count llid body) quiet = absurd cc
@@ -67,10 +80,47 @@ pub note_quiet : (number : ℕ) (history : List Event) (station : ℕ) (note : N
     → exchange_at number (history ++ Noted station note ∷ []) ≡ exchange_at number history
 note_quiet number history station note quiet =
     let links = links_of history in
-    entry_quiet number history (Noted station note) (entry_of (side_of station) (links.link_of station) (links.last_of station) note) refl
-    (note_same number (journal_of history) (exchange_at number history) (side_of station) (links.link_of station) (links.last_of station) note quiet)
+    note_exchange number history station note
+    ∙ note_same number (journal_of history) (exchange_at number history) (side_of station) (links.link_of station) (links.last_of station) note quiet
+
+-- a PDU that is taken changes what its taker accepted, and nothing else
+taken_other : (ours : Bool) (taker side : Side) (ends : Side → Exchanged) → is_side side taker ≡ false
+    → (if ours then after_taking taker ends else ends) side ≡ ends side
+taken_other true taker side ends differs = ap (λ b. if b then with_taken (ends (other_side taker)) (ends taker) else ends side) differs
+taken_other false taker side ends differs = refl
+
+-- all but what is accepted
+pub record HaveSame (one other : Exchanged) : Type 0 where
+  pub sent : one.sent ≡ other.sent
+  pub acked : one.acked ≡ other.acked
+
+all_same : (end : Exchanged) → HaveSame end end
+all_same end = record { sent = refl; acked = refl }
+
+taken_same : (ours : Bool) (taker side : Side) (ends : Side → Exchanged) → HaveSame ((if ours then after_taking taker ends else ends) side) (ends side)
+taken_same false taker side ends = all_same (ends side)
+taken_same true A A ends = record { sent = refl; acked = refl }
+taken_same true A B ends = all_same (ends B)
+taken_same true B A ends = all_same (ends A)
+taken_same true B B ends = record { sent = refl; acked = refl }
+
+note_other : (number : ℕ) (front : List Entry) (ends : Side → Exchanged) (taker side : Side) (link_of : ℕ → ℕ) (last : ℕ) (note : Note) → is_side side taker ≡ false
+    → exchange_after number front ends (entry_of taker link_of last note) side ≡ ends side
+note_other number front ends taker side link_of last (Took handle count llid body) differs = taken_other (link_of handle == number) taker side ends differs
+note_other number front ends taker side link_of last (Up packet) differs = refl
+note_other number front ends taker side link_of last other differs = refl
+
+note_counts : (number : ℕ) (front : List Entry) (ends : Side → Exchanged) (taker side : Side) (link_of : ℕ → ℕ) (last : ℕ) (note : Note)
+    → HaveSame (exchange_after number front ends (entry_of taker link_of last note) side) (ends side)
+note_counts number front ends taker side link_of last (Took handle count llid body) = taken_same (link_of handle == number) taker side ends
+note_counts number front ends taker side link_of last (Up packet) = all_same (ends side)
+note_counts number front ends taker side link_of last other = all_same (ends side)
 
 -- ---- a call, with its notes
+
+pub map_both : (station : ℕ) (xs ys : List Note) → map (Noted station) (xs ++ ys) ≡ map (Noted station) xs ++ map (Noted station) ys
+map_both station [] ys = refl
+map_both station (note ∷ xs) ys = ap (λ zs. Noted station note ∷ zs) (map_both station xs ys)
 
 -- what an event keeps whose notes have a fact, a call with its notes keeps
 module _ (X : Type 0) (read : List Event → X) (P : Note → Type 0) (station : ℕ)
@@ -90,12 +140,53 @@ module _ (X : Type 0) (read : List Event → X) (P : Note → Type 0) (station :
       ap read (sym (append_assoc history (Called station step ∷ []) (map (Noted station) notes)))
       ∙ notes_keep notes (history ++ Called station step ∷ []) all ∙ called
 
--- no call changes the counts of a journal
+pub any_note : (notes : List Note) → All (λ note. true ≡ true) notes
+any_note [] = All-nil (λ note. true ≡ true)
+any_note (note ∷ notes) = All-cons (λ one. true ≡ true) note notes refl (any_note notes)
+
+-- a call in which no PDU is taken leaves the counts of a journal
 pub exchange_called : (given : Given) (number station : ℕ) (step : Step) (history : List Event)
+    → All TakesNone (notes_after (setup_at given station) (facts_at given station history) step)
     → exchange_at number (after_call given station step history) ≡ exchange_at number history
-exchange_called given number station step history =
-    call_keeps (Side → Exchanged) (exchange_at number) TakesNone station (λ before note none. note_quiet number before station note none)
-    given step history (call_quiet number history station step) (step_takes_none (setup_at given station) (facts_at given station history) step)
+exchange_called given number station step history none =
+    call_keeps (Side → Exchanged) (exchange_at number) TakesNone station (λ before note quiet. note_quiet number before station note quiet)
+    given step history (call_quiet number history station step) none
+
+-- any call leaves those of the other side, and how many PDUs were sent and acknowledged
+pub exchange_other : (given : Given) (number station : ℕ) (step : Step) (history : List Event) (side : Side) → is_side side (side_of station) ≡ false
+    → exchange_at number (after_call given station step history) side ≡ exchange_at number history side
+exchange_other given number station step history side differs =
+    call_keeps Exchanged (λ before. exchange_at number before side) (λ note. true ≡ true) station
+    (λ before note any.
+    let links = links_of before in
+    ap (λ (ends : Side → Exchanged). ends side) (note_exchange number before station note)
+    ∙ note_other number (journal_of before) (exchange_at number before) (side_of station) side (links.link_of station) (links.last_of station) note differs)
+    given step history (ap (λ (ends : Side → Exchanged). ends side) (call_quiet number history station step)) (any_note _)
+
+note_keeps : (number : ℕ) (side : Side) (before : List Event) (station : ℕ) (note : Note)
+    → HaveSame (exchange_after number (journal_of before) (exchange_at number before) (entry_of (side_of station) ((links_of before).link_of station) ((links_of before).last_of station) note) side)
+    (exchange_at number before side)
+note_keeps number side before station note =
+    note_counts number (journal_of before) (exchange_at number before) (side_of station) side ((links_of before).link_of station) ((links_of before).last_of station) note
+
+-- after some of its notes
+pub notes_counts : (number station : ℕ) (step : Step) (history : List Event) (side : Side) (notes : List Note)
+    → HaveSame (exchange_at number ((history ++ Called station step ∷ []) ++ map (Noted station) notes) side) (exchange_at number history side)
+notes_counts number station step history side notes = record {
+  sent = notes_keep ℕ (λ before. (exchange_at number before side).sent) (λ note. true ≡ true) station
+      (λ before note any. ap (λ (ends : Side → Exchanged). (ends side).sent) (note_exchange number before station note) ∙ (note_keeps number side before station note).sent)
+      notes (history ++ Called station step ∷ []) (any_note notes) ∙ ap (λ (ends : Side → Exchanged). (ends side).sent) (call_quiet number history station step);
+  acked = notes_keep ℕ (λ before. (exchange_at number before side).acked) (λ note. true ≡ true) station
+      (λ before note any. ap (λ (ends : Side → Exchanged). (ends side).acked) (note_exchange number before station note) ∙ (note_keeps number side before station note).acked)
+      notes (history ++ Called station step ∷ []) (any_note notes) ∙ ap (λ (ends : Side → Exchanged). (ends side).acked) (call_quiet number history station step);
+}
+
+pub exchange_same : (given : Given) (number station : ℕ) (step : Step) (history : List Event) (side : Side)
+    → HaveSame (exchange_at number (after_call given station step history) side) (exchange_at number history side)
+exchange_same given number station step history side =
+    let notes = notes_after (setup_at given station) (facts_at given station history) step in
+    subst (λ xs. HaveSame (exchange_at number xs side) (exchange_at number history side)) (append_assoc history (Called station step ∷ []) (map (Noted station) notes))
+    (notes_counts number station step history side notes)
 
 -- ---- the numbers of links under their handles
 
@@ -110,6 +201,17 @@ opens_under handle other = false
 
 abbrev pub OpensNone : ℕ → Note → Type 0
 OpensNone handle note = opens_under handle note ≡ false
+
+-- no link is opened as a host sends, or as a turn begins or ends
+pub opening_none : (handle : ℕ) → IsOfBegins (OpensNone handle)
+opening_none handle = record {
+  starts = record {
+    feeds = record { up = λ octets. refl; shut = λ other reason. refl };
+    applied = λ other number event. refl;
+    entered = λ other event channel. refl;
+  };
+  sent = λ other number llid octets. refl;
+}
 
 none_if : (same opens : Bool) (number last : ℕ) → opens ≡ false → (if same && opens then last else number) ≡ number
 none_if true opens number last is = rw is refl
@@ -153,6 +255,15 @@ number_sent station handle history sender channel octets hearings =
     number_quiet station handle history (Transmitted sender channel octets hearings)
     (λ links. with_link_same (begins_link channel octets) (with_link sender hearings links) links station handle refl)
 
+-- after notes that open no link under the handle
+pub number_notes : (station handle : ℕ) (step : Step) (history : List Event) (notes : List Note) → All (OpensNone handle) notes
+    → number_at station handle ((history ++ Called station step ∷ []) ++ map (Noted station) notes) ≡ number_at station handle history
+number_notes station handle step history notes none =
+    notes_keep ℕ (number_at station handle) (OpensNone handle) station
+    (λ before note quiet. event_number station handle before (Noted station note) (opens_none station station handle note (links_of before) quiet))
+    notes (history ++ Called station step ∷ []) none
+    ∙ number_quiet station handle history (Called station step) (λ links. refl)
+
 -- a call that opens no link under the handle
 pub number_called : (given : Given) (station : ℕ) (step : Step) (history : List Event) (handle : ℕ)
     → All (OpensNone handle) (notes_after (setup_at given station) (facts_at given station history) step)
@@ -162,10 +273,6 @@ number_called given station step history handle none =
     (λ before note quiet. event_number station handle before (Noted station note) (opens_none station station handle note (links_of before) quiet))
     given step history (number_quiet station handle history (Called station step) (λ links. refl)) none
 
-pub any_note : (notes : List Note) → All (λ note. true ≡ true) notes
-any_note [] = All-nil (λ note. true ≡ true)
-any_note (note ∷ notes) = All-cons (λ one. true ≡ true) note notes refl (any_note notes)
-
 -- a call on another station
 pub number_other : (given : Given) (station : ℕ) (step : Step) (history : List Event) (other handle : ℕ) → (other == station) ≡ false
     → number_at other handle (after_call given station step history) ≡ number_at other handle history
@@ -173,3 +280,22 @@ number_other given station step history other handle differs =
     call_keeps ℕ (number_at other handle) (λ note. true ≡ true) station
     (λ before note any. event_number other handle before (Noted station note) (of_others station other handle note (links_of before) differs))
     given step history (number_quiet other handle history (Called station step) (λ links. refl)) (any_note _)
+
+-- ---- a call in which a PDU is taken, which is noted first
+
+pub exchange_took : (given : Given) (number station : ℕ) (step : Step) (history : List Event) (handle count llid : ℕ) (body : List ℕ) (rest : List Note)
+    → notes_after (setup_at given station) (facts_at given station history) step ≡ Took handle count llid (record { items = body }) ∷ rest → All TakesNone rest
+    → exchange_at number (after_call given station step history)
+    ≡ (if number_at station handle history == number then after_taking (side_of station) (exchange_at number history) else exchange_at number history)
+exchange_took given number station step history handle count llid body rest are none =
+    let took = Took handle count llid (record { items = body }) in
+    let called = history ++ Called station step ∷ [] in
+    ap (λ notes. exchange_at number (history ++ Called station step ∷ map (Noted station) notes)) are
+    ∙ ap (exchange_at number)
+    (sym (append_assoc history (Called station step ∷ []) (map (Noted station) (took ∷ rest)))
+    ∙ sym (append_assoc called (Noted station took ∷ []) (map (Noted station) rest)))
+    ∙ notes_keep (Side → Exchanged) (exchange_at number) TakesNone station (λ before note quiet. note_quiet number before station note quiet) rest
+    (called ++ Noted station took ∷ []) none
+    ∙ note_exchange number called station took
+    ∙ (λ i. if number_quiet station handle history (Called station step) (λ links. refl) i == number
+    then after_taking (side_of station) (call_quiet number history station step i) else call_quiet number history station step i)

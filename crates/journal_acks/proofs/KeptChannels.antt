@@ -2,7 +2,6 @@
 use Rattle.std.proofs.Common.{◌≡◌, ℕ, suc, ◌≤◌, ◌==◌, ◌⊎◌, inl, inr, Bool, true, false, Option, Some, None, List, [], ◌∷◌, ◌++◌, length, refl, sym, ap, subst, ◌∙◌}
 use Rattle.std.specs.Prelude.{All, map, take, if◌then◌else◌}
 use Rattle.std.proofs.lemmas.Bool.{eqb-true}
-use Rattle.std.proofs.lemmas.List.Elements.{All-nil}
 use Rattle.one_end.proofs.Received.{IsHeardWhole}
 use Rattle.one_end.specs.End.{facts_entered}
 use Rattle.one_end.specs.Events.{channel_after as channel_of_event, entries_in}
@@ -13,9 +12,11 @@ use Rattle.open_links.specs.Turns.{entered_if, is_anchor, links_staying}
 use Rattle.open_links.proofs.Handles.{handle_is}
 use Rattle.one_side.specs.Step.{Step, HostOctet, TurnBegins, TurnEnds}
 use Rattle.one_side.specs.Facts.{Facts}
+use Rattle.one_side.specs.Heard.{has_room}
+use Rattle.one_side.specs.Outcome.{notes_passed}
 use Rattle.one_side.specs.Side.{facts_after, notes_after}
 use Rattle.one_side.proofs.Handles.{staying_opens}
-use Rattle.one_side.proofs.LinkNotes.{phase_too}
+use Rattle.one_side.proofs.LinkNotes.{IsOfOthers, phase_too}
 use Rattle.one_side.proofs.Phases.{heard_is, unheard_is}
 use Rattle.runs.specs.Feeding.{AreDistinct}
 use Rattle.runs.specs.History.{Event, TurnBegan, HostFed, Transmitted, packet_received, steps_in, turns_begun}
@@ -24,23 +25,21 @@ use Rattle.runs.specs.LinkEnds.{HaveAddresses}
 use Rattle.runs.specs.Run.{Given, after_call, after_feed, after_octets, facts_at, hearings_of, octets_left, setup_at, step_of}
 use Rattle.runs.proofs.Stations.{is_in, among, not_before}
 use Rattle.runs.proofs.Walk.{Place, AtListening, IsKept}
-use Rattle.run_laws.proofs.Hearings.{other_facts, own_facts}
-use Rattle.run_laws.proofs.InAgreement.{IsFresh, IsPair, IsStation, differs_back, few_links}
-use Rattle.run_laws.proofs.OpenSteps.{open_has}
+use Rattle.run_laws.proofs.Hearings.{other_facts}
+use Rattle.run_laws.proofs.InAgreement.{IsPair, IsStation, differs_back, few_links}
 use Rattle.run_laws.proofs.TurnPlaces.{Within, at_stage}
-use Rattle.run_laws.proofs.TurnSteps.{phase_turn}
 use Rattle.journal_packets.specs.Belonging.{is_side}
-use Rattle.journal_acks.proofs.CallNotes.{begin_noted, octet_noted}
+use Rattle.journal_acks.proofs.CallNotes.{begin_noted, end_noted, octet_noted}
 use Rattle.journal_acks.proofs.ChannelLines.{EntersNone, air_channel, begins_channel, channel_at, channel_called, channel_other, entered_channel, feed_channel, feeds_none, turn_channel}
 use Rattle.journal_acks.proofs.Counting.{AreKnown, facts_event}
-use Rattle.journal_acks.proofs.EnteredLinks.{entries_received, entries_sent}
-use Rattle.journal_acks.proofs.Exchanging.{OpensNone, number_at, number_called, number_other, number_quiet, number_sent}
-use Rattle.journal_acks.proofs.KeptCounts.{AreCountedAt, counts_kept, opening_none, own_at}
-use Rattle.journal_acks.proofs.LinkCalls.{HasPassed, IsNew, Stays, Takes, begins_under, passes_under, phase_quiet}
+use Rattle.journal_acks.proofs.EnteredLinks.{entries_fixed, entries_received, entries_sent}
+use Rattle.journal_acks.proofs.Exchanging.{OpensNone, number_at, number_called, number_other, number_quiet, number_sent, opening_none}
+use Rattle.journal_acks.proofs.KeptCounts.{AreCountedAt, counts_kept, own_at}
+use Rattle.journal_acks.proofs.LinkCalls.{HasPassed, IsNew, IsOpenedNow, Stays, Takes, begins_under, fixed_if, passes_under, phase_quiet}
 use Rattle.journal_acks.proofs.LinkUses.{sends_under}
 use Rattle.journal_acks.proofs.Standing.{PhasedBy, phased_at}
 use Rattle.journal_acks.proofs.TwoStations.{IsOfTwo, other_is, side_differs}
-use Rattle.journal_acks.proofs.UnderHandles.{octet_under, sent_if}
+use Rattle.journal_acks.proofs.UnderHandles.{end_under, octet_under, sent_if}
 
 -- an end with this setup and this number of events is on the channel of the last of them
 pub data IsOnChannel (end : EndSetup) (entries : ℕ) (may : Option ℕ) : Type 0 where
@@ -105,9 +104,10 @@ module _ (given : Given) where
   octet_channels are_two station octet history is are = channels_call are_two station (HostOctet octet) history is (λ handle link at.
       let setup = setup_at given station in
       let facts = facts_at given station history in
-      quiet_own station (HostOctet octet) history handle link link (octet_noted EntersNone feeds_none setup facts octet)
-      (number_called given station (HostOctet octet) history handle (octet_noted (OpensNone handle) (opening_none handle).feeds setup facts octet)) refl refl
-      (are station handle link is (octet_under setup facts octet handle link (own_at given station (HostOctet octet) history handle link at)))) are
+      let was = octet_under setup facts octet handle link (own_at given station (HostOctet octet) history handle link at) in
+      quiet_own station (HostOctet octet) history handle was.link link (octet_noted EntersNone feeds_none setup facts octet)
+      (number_called given station (HostOctet octet) history handle (octet_noted (OpensNone handle) (opening_none handle).starts.feeds setup facts octet)) was.setup was.entries
+      (are station handle was.link is was.was)) are
 
   octets_channels : IsOfTwo given → (station : ℕ) (octets : List ℕ) (history : List Event) → is_in station given.stations ≡ true → AreOnChannels given history
       → AreOnChannels given (after_octets given station octets history)
@@ -128,6 +128,10 @@ module _ (given : Given) where
 sent_setup : (sends : Bool) (slot : ℕ) (link : OpenLink) → (sent_if sends slot link).setup ≡ link.setup
 sent_setup true slot link = refl
 sent_setup false slot link = refl
+
+fixed_setup : (fixes : Bool) (link : OpenLink) → (fixed_if fixes link).setup ≡ link.setup
+fixed_setup true link = refl
+fixed_setup false link = refl
 
 begun_on : (anchor : Bool) (slot : ℕ) (link : OpenLink) (may : Option ℕ) → IsOnChannel link.setup (entries_in link.past) may
     → IsOnChannel link.setup (entries_in (entered_if anchor slot link).past) (if anchor then Some (facts_entered link.setup slot (facts_in link)).event.channel else may)
@@ -152,30 +156,39 @@ begin_own given pair station slot on history is is_station are handle link at =
     let own = handle_is 0 handle facts.links base is_station.own.handles begun.was in
     let number = number_called given station step history handle (begin_noted (OpensNone handle) (opening_none handle) setup slot on facts) in
     moved base.setup link.setup (entries_in (entered_if anchor slot base).past) (entries_in link.past) _ _
-    (ap (λ (l : OpenLink). l.setup) begun.is ∙ sent_setup (sends_under handle next.turn.doing) slot begun.base ∙ begun.setup_is)
-    (ap (λ (l : OpenLink). entries_in l.past) begun.is ∙ entries_sent (sends_under handle next.turn.doing) slot begun.base ∙ ap entries_in begun.past_is)
+    (ap (λ (l : OpenLink). l.setup) begun.is ∙ sent_setup (sends_under handle next.turn.doing) slot begun.base ∙ ap (λ (l : OpenLink). l.setup) begun.base_is
+    ∙ fixed_setup begun.fixes begun.entered ∙ begun.setup_is)
+    (ap (λ (l : OpenLink). entries_in l.past) begun.is ∙ entries_sent (sends_under handle next.turn.doing) slot begun.base ∙ ap (λ (l : OpenLink). entries_in l.past) begun.base_is
+    ∙ entries_fixed begun.fixes begun.entered ∙ ap entries_in begun.past_is)
     (ap (λ n. channel_at n station (after_call given station step history)) number ∙ begins_channel given station slot history on handle base few begun.stayed own)
     (begun_on anchor slot base (channel_at (number_at station handle history) station history) (are station handle base is begun.was))
 
 -- ---- a phase passes
+
+others_enter_none : IsOfOthers EntersNone
+others_enter_none = record {
+  up = λ octets. refl;
+  opened = λ link. refl;
+  sent = λ handle number llid octets. refl;
+  took = λ handle number llid octets. refl;
+}
 
 phase_enters_none : (given : Given) (station : ℕ) (history : List Event) (received : Option (List ℕ))
     → All EntersNone (notes_after (setup_at given station) (facts_at given station history) (step_of received))
 phase_enters_none given station history None =
     let setup = setup_at given station in
     let facts = facts_at given station history in
-    unheard_is setup facts (λ outcome. All EntersNone outcome.notes) (phase_too EntersNone (record { up = λ event. refl; opened = λ link. refl }) setup facts) facts.turn.doing refl
+    unheard_is setup facts (λ outcome. All EntersNone (notes_passed outcome)) (phase_too EntersNone others_enter_none setup facts) facts.turn.doing refl
 phase_enters_none given station history (Some octets) =
     let setup = setup_at given station in
     let facts = facts_at given station history in
-    heard_is setup facts (λ outcome. All EntersNone outcome.notes) (phase_too EntersNone (record { up = λ event. refl; opened = λ link. refl }) setup facts) facts.turn.doing octets refl
+    heard_is setup facts (λ outcome. All EntersNone (notes_passed outcome)) (phase_too EntersNone others_enter_none setup facts) facts.turn.doing octets refl
 
 new_entries : (end : EndSetup) (link : OpenLink) → link ≡ new_link end → entries_in link.past ≡ 0
 new_entries end link is = ap (λ (l : OpenLink). entries_in l.past) is
 
 module _ (given : Given) (Q : Place → List Event → Type 0) (distinct : AreDistinct given.stations) (phases : ℕ) (done left : List ℕ) (station : ℕ) (history : List Event)
-    (are : given.stations ≡ done ++ station ∷ left) (is : AreCountedAt given Q (AtListening phases done (station ∷ left)) history) (channels : AreOnChannels given history)
-    (next_is : IsStation (setup_at given station) (facts_at given station (after_call given station (step_of (packet_received station history)) history))) where
+    (are : given.stations ≡ done ++ station ∷ left) (is : AreCountedAt given Q (AtListening phases done (station ∷ left)) history) (channels : AreOnChannels given history) where
   abbrev received : Option (List ℕ)
   received = packet_received station history
 
@@ -193,24 +206,19 @@ module _ (given : Given) (Q : Place → List Event → Type 0) (distinct : AreDi
       subst (λ b. PhasedBy given history station (if b then at_stage (Within (suc phases)) (turns_begun history) else at_stage (Within phases) (turns_begun history)))
       (not_before given.stations done left station distinct are) (phased_at given (AtListening phases done (station ∷ left)) history is.holds.hearing.stand station in_it)
 
-  -- nothing happened yet to a link of this turn
-  fresh : (handle : ℕ) (link : OpenLink) → link_at handle (facts_at given station after).links ≡ Some link → link.setup.opened ≡ facts.turn.slot → entries_in link.past ≡ 0
-  fresh handle link at opened =
-      let slot = ap (λ (f : Facts). f.turn.slot) (own_facts given station (step_of received) history) ∙ (phase_turn (setup_at given station) facts received).slot in
-      ap entries_in (open_has (IsFresh (facts_at given station after).turn.slot) 0 handle (facts_at given station after).links link next_is.fresh at (opened ∙ sym slot))
-
   passed : (handle : ℕ) (link : OpenLink) → number_at station handle after ≡ number_at station handle history
-      → HasPassed facts received handle (facts_after (setup_at given station) facts (step_of received)).turn.doing link
+      → HasPassed facts (has_room (setup_at given station) facts) received handle (facts_after (setup_at given station) facts (step_of received)).turn.doing link
       → IsOnChannel link.setup (entries_in link.past) (channel_at (number_at station handle after) station after)
   passed handle link number (IsNew end made opened off) = NotYet (new_entries end link made)
   passed handle link number (Stays was none nothing listened) =
       quiet_own given station (step_of received) history handle link link (phase_enters_none given station history received) number refl refl (channels station handle link in_it was)
   passed handle link number (Takes base octets was some on same) =
       let sends = sends_under handle (facts_after (setup_at given station) facts (step_of received)).turn.doing in
-      let taken = link_after (PacketReceived facts.turn.slot octets) base in
+      let room = has_room (setup_at given station) facts in
+      let taken = link_after (PacketReceived facts.turn.slot octets room) base in
       quiet_own given station (step_of received) history handle base link (phase_enters_none given station history received) number
       (ap (λ (l : OpenLink). l.setup) same ∙ sent_setup sends facts.turn.slot taken)
-      (ap (λ (l : OpenLink). entries_in l.past) same ∙ entries_sent sends facts.turn.slot taken ∙ entries_received facts.turn.slot octets base)
+      (ap (λ (l : OpenLink). entries_in l.past) same ∙ entries_sent sends facts.turn.slot taken ∙ entries_received facts.turn.slot octets room base)
       (channels station handle base in_it was)
 
   passes_own : (handle : ℕ) (link : OpenLink) → link_at handle (facts_at given station after).links ≡ Some link
@@ -219,12 +227,12 @@ module _ (given : Given) (Q : Place → List Event → Type 0) (distinct : AreDi
     where
       by : All (OpensNone handle) (notes_after (setup_at given station) (facts_at given station history) (step_of (packet_received station history)))
           ⊎ ((one : OpenLink) → link_at handle (facts_after (setup_at given station) (facts_at given station history) (step_of (packet_received station history))).links ≡ Some one
-          → one.setup.opened ≡ (facts_at given station history).turn.slot)
+          → IsOpenedNow (facts_at given station history).turn.slot one)
           → IsOnChannel link.setup (entries_in link.past) (channel_at (number_at station handle after) station after)
       by (inl quiet) =
           passed handle link (number_called given station (step_of received) history handle quiet)
           (passes_under (setup_at given station) facts received handle link phased.uses.in_turn.listens (own_at given station (step_of received) history handle link at))
-      by (inr new) = NotYet (fresh handle link at (new link (own_at given station (step_of received) history handle link at)))
+      by (inr new) = NotYet (new link (own_at given station (step_of received) history handle link at)).entries
 
 -- ---- each step
 
@@ -268,7 +276,7 @@ channels_kept whole given Q known are_two pair six distinct = let kept = counts_
       let in_it = among given.stations done left station are in record {
         is = next;
         channels = channels_call given are_two station (step_of (packet_received station history)) history in_it
-            (passes_own given Q distinct phases done left station history are has.is has.channels (next.holds.so_far.last.each station in_it)) has.channels;
+            (passes_own given Q distinct phases done left station history are has.is has.channels) has.channels;
       };
   on_heard = λ phases history has. record { is = kept.on_heard phases history has.is; channels = has.channels };
   on_phases = λ history has. record { is = kept.on_phases history has.is; channels = has.channels };
@@ -276,9 +284,13 @@ channels_kept whole given Q known are_two pair six distinct = let kept = counts_
       let in_it = among given.stations done left station are in record {
         is = kept.on_end done left station history are some has.is;
         channels = channels_call given are_two station TurnEnds history in_it
-            (λ handle link at. quiet_own given station TurnEnds history handle link link (All-nil EntersNone)
-            (number_called given station TurnEnds history handle (All-nil (OpensNone handle))) refl refl
-            (has.channels station handle link in_it (own_at given station TurnEnds history handle link at))) has.channels;
+            (λ handle link at.
+            let setup = setup_at given station in
+            let facts = facts_at given station history in
+            let was = end_under setup facts handle link (own_at given station TurnEnds history handle link at) in
+            quiet_own given station TurnEnds history handle was.link link (end_noted EntersNone feeds_none setup facts)
+            (number_called given station TurnEnds history handle (end_noted (OpensNone handle) (opening_none handle).starts.feeds setup facts)) was.setup was.entries
+            (has.channels station handle was.link in_it was.was)) has.channels;
       };
   on_ended = λ history has. record { is = kept.on_ended history has.is; channels = has.channels };
 }

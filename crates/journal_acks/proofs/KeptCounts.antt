@@ -1,16 +1,23 @@
 -- Each step of a run of a pair keeps what the counts of its journal are, end by end.
-use Rattle.std.proofs.Common.{◌≡◌, ℕ, suc, ◌+◌, ◌-◌, ◌<◌, ◌==◌, ◌⊎◌, inl, inr, Bool, true, false, not, Option, Some, None, List, [], ◌∷◌, ◌++◌, refl, sym, ap, subst, ◌∙◌, arith}
+use Rattle.std.proofs.Common.{◌≡◌, ℕ, suc, ◌+◌, ◌-◌, ◌<◌, ◌≤◌, ◌==◌, ◌⊎◌, inl, inr, Bool, true, false, not, Option, Some, None, List, [], ◌∷◌, ◌++◌, length, refl, sym, ap, subst, ◌∙◌, arith}
 use Rattle.std.specs.Prelude.{All, map, take, if◌then◌else◌}
 use Rattle.std.proofs.lemmas.Bool.{eqb-true}
 use Rattle.std.proofs.lemmas.List.Elements.{All-nil}
+use Rattle.ble_base.specs.Side.{other_side}
+use Rattle.ble_base.specs.declared.notes.Note.{Note}
 use Rattle.ble_base.specs.declared.roles.Side.{Side}
 use Rattle.one_end.proofs.Received.{IsHeardWhole}
+use Rattle.one_end.specs.Acknowledgement.{Acknowledgement}
 use Rattle.one_end.specs.Step.{PacketReceived, PacketSent}
 use Rattle.open_links.specs.OpenLinks.{OpenLink, link_after, link_at}
+use Rattle.open_links.proofs.Handles.{handle_is}
 use Rattle.one_side.specs.declared.doing.Doing.TheVariants.{Rests}
 use Rattle.one_side.specs.declared.doing.Turn.{Turn}
 use Rattle.one_side.specs.Step.{Step, HostOctet, TurnBegins, TurnEnds}
-use Rattle.one_side.specs.Facts.{Facts, Sends}
+use Rattle.one_side.specs.Facts.{Setup, Facts, Sends}
+use Rattle.one_side.specs.Heard.{has_room, link_heard, link_received, notes_taken, replies_in, reply_if}
+use Rattle.one_side.specs.Outcome.{notes_passed}
+use Rattle.one_side.specs.Packets.{notes_doing}
 use Rattle.one_side.specs.Side.{facts_after, notes_after}
 use Rattle.radio_replay.specs.declared.fates.Fate.{Fate}
 use Rattle.runs.specs.Due.{packet_in}
@@ -27,7 +34,8 @@ use Rattle.runs.proofs.Walk.{Place, NoTurn, AtFeeds, AtBegins, AfterPhases, AtPa
 use Rattle.run_laws.proofs.Agreed.{ack_of}
 use Rattle.run_laws.proofs.ByCalls.{Holds, holds_kept}
 use Rattle.run_laws.proofs.Hearings.{own_facts, use_sent_at, wanted_is}
-use Rattle.run_laws.proofs.InAgreement.{AreStations, IsPair, OpenedBefore, agreement_kept, differs_back}
+use Rattle.run_laws.proofs.Entering.{IsInTurn}
+use Rattle.run_laws.proofs.InAgreement.{AreStations, IsPair, IsStation, OpenedBefore, agreement_kept, differs_back, few_links}
 use Rattle.run_laws.proofs.LinkPasses.{is_on_link}
 use Rattle.run_laws.proofs.OpenSteps.{open_has}
 use Rattle.run_laws.proofs.SentPackets.{IsUseSent}
@@ -35,18 +43,21 @@ use Rattle.run_laws.proofs.TurnPlaces.{Between, Within, at_stage}
 use Rattle.run_laws.proofs.TurnSteps.{octet_turn, phase_turn}
 use Rattle.journal_packets.specs.Senders.{IsOfSendersLink}
 use Rattle.journal_acks.specs.Counted.{IsCounted}
-use Rattle.journal_acks.specs.Exchange.{Exchanged}
+use Rattle.journal_acks.specs.Exchange.{Exchanged, after_taking, with_taken}
 use Rattle.journal_acks.proofs.Acks.{link_sends}
-use Rattle.journal_acks.proofs.AirCounts.{advertises, any_sending, first_aired, packet_counted}
-use Rattle.journal_acks.proofs.CallNotes.{IsOfBegins, begin_noted, octet_noted}
-use Rattle.journal_acks.proofs.Counting.{AreCountedSo, AreKnown, IsEndCounted, ahead_if, counted_call, counted_event, counted_same, from_plain, from_sent, moved, plain, taking_if}
-use Rattle.journal_acks.proofs.Exchanging.{OpensNone, exchange_at, exchange_called, feed_quiet, number_at, number_called, number_quiet, turn_quiet}
-use Rattle.journal_acks.proofs.FirstCounts.{AreFirst, IsFirst, first_called, first_event, first_event_at, first_of}
-use Rattle.journal_acks.proofs.LinkCalls.{HasPassed, IsNew, Stays, Takes, base_ack, begins_under, passes_under, phase_quiet}
+use Rattle.journal_acks.proofs.AirCounts.{advertises, any_sending, first_aired, packet_counted, packet_to_take}
+use Rattle.journal_acks.proofs.CallNotes.{HasNoData, TakesNone, all_more, begin_noted, doing_noted, end_noted, no_data, none_taken, octet_noted}
+use Rattle.journal_acks.proofs.Counting.{AreCountedSo, AreKnown, AreToTake, IsEndCounted, ahead_if, alike_counted, counted_call, counted_event, counted_same, from_plain, from_sent, moved, none_to_take, plain, take_call, taking_if}
+use Rattle.journal_acks.proofs.DataCalls.{begin_call, on_link_notes, phase_call, unfound}
+use Rattle.journal_acks.proofs.Exchanging.{OpensNone, exchange_at, exchange_called, exchange_took, feed_quiet, number_at, number_called, number_quiet, opening_none, turn_quiet}
+use Rattle.journal_acks.proofs.FirstCounts.{AreFirst, IsCallOf, IsFirst, OfNone, first_called, first_event, first_event_at, first_of}
+use Rattle.journal_acks.proofs.LinkCalls.{HasPassed, IsNew, IsOpenedNow, Stays, Takes, base_ack, begins_under, passes_under, phase_quiet}
 use Rattle.journal_acks.proofs.LinkUses.{listens_under, sends_under}
-use Rattle.journal_acks.proofs.Standing.{PhasedBy, fresh_counted, last_phase, phased_at, sending_on_link, silent_sends}
-use Rattle.journal_acks.proofs.TwoStations.{IsOfTwo, air_quiet, hearing_of, one_hearing, other_is, own_differs, own_received}
-use Rattle.journal_acks.proofs.UnderHandles.{octet_under, sent_if}
+use Rattle.journal_acks.proofs.PhaseNotes.{IsOnLink, IsPhaseOf, IsPlainPhase, IsTakenSo, Noted, Unnoted, phase_of, same_but, taken_so}
+use Rattle.journal_acks.proofs.SentLines.{air_line, feed_line, turn_line}
+use Rattle.journal_acks.proofs.Standing.{PhasedBy, fresh_counted, last_phase, one_link, phased_at, sending_on_link, silent_sends}
+use Rattle.journal_acks.proofs.TwoStations.{IsOfTwo, air_quiet, hearing_of, one_hearing, other_is, own_differs, own_received, side_same}
+use Rattle.journal_acks.proofs.UnderHandles.{end_under, octet_under, sent_if}
 
 -- a station still has to transmit what it wants to
 abbrev pub unsent : Place → ℕ → Bool
@@ -65,21 +76,21 @@ IsSilent given (AtPackets phases done left) history =
     → packet_received other history ≡ None
 IsSilent given place history = Unit {0}
 
+-- what was on the air is still to be taken
+abbrev pub IsTakenAt : Given → Place → List Event → Type 0
+IsTakenAt given (AtPackets phases done left) history = AreToTake given history
+IsTakenAt given (AtListening phases done left) history = AreToTake given history
+IsTakenAt given place history = Unit {0}
+
 pub record AreCountedAt (given : Given) (Q : Place → List Event → Type 0) (place : Place) (history : List Event) : Type 0 where
   pub known : Q place history
   pub holds : Holds given (AreStations given) place history
   pub first : AreFirst history
   pub silent : IsSilent given place history
+  pub to_take : IsTakenAt given place history
   pub counted : AreCountedSo given history (unsent place) (λ station. packet_received station history)
 
 -- ---- small steps
-
-pub opening_none : (handle : ℕ) → IsOfBegins (OpensNone handle)
-opening_none handle = record {
-  feeds = record { up = λ event. refl; shut = λ other reason. refl };
-  applied = λ other number event. refl;
-  entered = λ other event channel. refl;
-}
 
 -- an end that sends, or does not
 sent_counted : (sends : Bool) (slot : ℕ) (base : OpenLink) (end : Exchanged) → IsCounted end (ack_of base) → IsCounted (ahead_if sends end) (ack_of (sent_if sends slot base))
@@ -96,12 +107,24 @@ was_plain received handle turn link end nothing is = by (listens_under handle tu
     by true (Some octets) none counted = absurd (let h : Some octets ≡ None = none refl in absurd cc)
     by false received none counted = counted
 
--- and that takes one
-was_taking : (received : Option (List ℕ)) (octets : List ℕ) (handle : ℕ) (turn : Turn) (link : OpenLink) (end : Exchanged) → listens_under handle turn.doing ≡ true → received ≡ Some octets
-    → IsEndCounted false received handle turn link end → IsCounted end (ack_of (link_after (PacketReceived turn.slot octets) link))
+-- and that takes one, as if there were no room
+pub was_taking : (received : Option (List ℕ)) (octets : List ℕ) (handle : ℕ) (turn : Turn) (link : OpenLink) (end : Exchanged) → listens_under handle turn.doing ≡ true → received ≡ Some octets
+    → IsEndCounted false received handle turn link end → IsCounted end (ack_of (link_after (PacketReceived turn.slot octets false) link))
 was_taking received octets handle turn link end on some is =
     subst (λ may. IsCounted end (ack_of (taking_if true may turn.slot link))) some
     (subst (λ b. IsCounted end (ack_of (taking_if b received turn.slot link))) on is)
+
+-- a PDU that is noted counts as it does with room
+noted_counted : (slot : ℕ) (octets : List ℕ) (room : Bool) (link : OpenLink) (end from : Exchanged)
+    → ack_of (link_after (PacketReceived slot octets room) link) ≡ ack_of (link_after (PacketReceived slot octets true) link)
+    → from.sent ≡ length (ack_of (link_after (PacketReceived slot octets true) link)).accepted
+    → IsCounted end (ack_of (link_after (PacketReceived slot octets false) link)) → IsCounted (with_taken from end) (ack_of (link_after (PacketReceived slot octets room) link))
+noted_counted slot octets room link end from same sent is =
+    let but = same_but slot octets room false link in record {
+      sent = is.sent ∙ ap length (sym but.sent);
+      accepted = sent ∙ ap (λ (a : Acknowledgement). length a.accepted) (sym same);
+      acked = is.acked ∙ sym but.acked;
+    }
 
 not_in_more : (one : ℕ) (done : List ℕ) (station : ℕ) → is_in one (done ++ station ∷ []) ≡ false → (same : Bool) → (one == station) ≡ same → is_in one done ≡ false
 not_in_more one done station out true is = absurd (let h : true ≡ false = sym (in_more_same one station done is) ∙ out in absurd cc)
@@ -112,7 +135,7 @@ rests_none facts handle is = ap (sends_under handle) is
 
 -- ---- a host sends
 
-module _ (given : Given) where
+module _ (given : Given) (are_two : IsOfTwo given) where
   -- what is kept while a turn feeds its stations
   record IsFed (history : List Event) : Type 0 where
     first : AreFirst history
@@ -120,19 +143,24 @@ module _ (given : Given) where
 
   octet_fed : (station octet : ℕ) (history : List Event) → is_in station given.stations ≡ true → IsFed history → IsFed (after_call given station (HostOctet octet) history)
   octet_fed station octet history is fed = record {
-    first = first_called given station (HostOctet octet) history fed.first;
-    counted = counted_call given station (HostOctet octet) history (λ one. true) (λ one. true) (λ one. None) (λ one. None)
+    first = first_called given station (HostOctet octet) history
+        (OfNone (octet_noted HasNoData no_data.feeds (setup_at given station) (facts_at given station history) octet)) fed.first;
+    counted = counted_call given are_two station (HostOctet octet) history (λ one. true) (λ one. true) (λ one. None) (λ one. None) is
         (λ handle link at.
         let facts = facts_at given station history in
         let setup = setup_at given station in
+        let after = after_call given station (HostOctet octet) history in
         let same = own_facts given station (HostOctet octet) history in
         let was = octet_under setup facts octet handle link (ap (λ (f : Facts). link_at handle f.links) (sym same) ∙ at) in
-        moved handle link true true None None facts.turn (facts_at given station (after_call given station (HostOctet octet) history)).turn
-        (exchange_at (number_at station handle history) history (side_of station))
-        (exchange_at (number_at station handle (after_call given station (HostOctet octet) history)) history (side_of station)) refl refl
+        let number = number_at station handle history in
+        moved handle link true true None None facts.turn (facts_at given station after).turn
+        (exchange_at number history (side_of station))
+        (exchange_at (number_at station handle after) after (side_of station)) refl refl
         (ap (λ (f : Facts). f.turn) same ∙ (octet_turn setup facts octet).turn)
-        (ap (λ n. exchange_at n history (side_of station)) (number_called given station (HostOctet octet) history handle (octet_noted (OpensNone handle) (opening_none handle).feeds setup facts octet)))
-        (fed.counted station handle link is was))
+        (ap (λ n. exchange_at n after (side_of station)) (number_called given station (HostOctet octet) history handle (octet_noted (OpensNone handle) (opening_none handle).starts.feeds setup facts octet))
+        ∙ ap (λ (ends : Side → Exchanged). ends (side_of station))
+        (exchange_called given number station (HostOctet octet) history (octet_noted TakesNone none_taken.starts.feeds setup facts octet)))
+        (alike_counted true handle facts.turn was.link link (exchange_at number history (side_of station)) was.ack (fed.counted station handle was.link is was.was)))
         (λ other in_it differs. refl) (λ other in_it differs. refl) fed.counted;
   }
 
@@ -145,7 +173,10 @@ module _ (given : Given) where
   feed_fed station [] history is fed = fed
   feed_fed station (octet ∷ octets) history is fed =
       octets_fed station (octet ∷ octets) (history ++ HostFed station (octet ∷ octets) ∷ []) is (record {
-        first = first_event history (HostFed station (octet ∷ octets)) (λ number. feed_quiet number history station (octet ∷ octets)) fed.first;
+        first = first_event history (HostFed station (octet ∷ octets)) (λ number. record {
+          exchange = feed_quiet number history station (octet ∷ octets);
+          lines = feed_line number history station (octet ∷ octets);
+        }) fed.first;
         counted = counted_event given history (HostFed station (octet ∷ octets)) (λ one. true) (λ one. None) (λ one. refl)
             (λ number. feed_quiet number history station (octet ∷ octets))
             (λ one handle. number_quiet one handle history (HostFed station (octet ∷ octets)) (λ links. refl)) fed.counted;
@@ -159,22 +190,26 @@ module _ (given : Given) (station : ℕ) (step : Step) (history : List Event) (h
   pub own_at : link_at handle (facts_after (setup_at given station) (facts_at given station history) step).links ≡ Some link
   own_at = ap (λ (f : Facts). link_at handle f.links) (sym (own_facts given station step history)) ∙ at
 
-  -- its counts, by those of the journal before
-  pub own_moved : (received : Option (List ℕ)) → number_at station handle (after_call given station step history) ≡ number_at station handle history
+  -- its counts, by those of the journal before, where no PDU is taken
+  pub own_moved : (received : Option (List ℕ)) → All TakesNone (notes_after (setup_at given station) (facts_at given station history) step)
+      → number_at station handle (after_call given station step history) ≡ number_at station handle history
       → IsEndCounted true received handle (facts_after (setup_at given station) (facts_at given station history) step).turn link (exchange_at (number_at station handle history) history (side_of station))
       → IsEndCounted true received handle (facts_at given station (after_call given station step history)).turn link
-      (exchange_at (number_at station handle (after_call given station step history)) history (side_of station))
-  own_moved received number is =
+      (exchange_at (number_at station handle (after_call given station step history)) (after_call given station step history) (side_of station))
+  own_moved received none number is =
+      let after = after_call given station step history in
       moved handle link true true received received (facts_after (setup_at given station) (facts_at given station history) step).turn
-      (facts_at given station (after_call given station step history)).turn (exchange_at (number_at station handle history) history (side_of station))
-      (exchange_at (number_at station handle (after_call given station step history)) history (side_of station)) refl refl
-      (ap (λ (f : Facts). f.turn) (own_facts given station step history)) (ap (λ n. exchange_at n history (side_of station)) number) is
+      (facts_at given station after).turn (exchange_at (number_at station handle history) history (side_of station))
+      (exchange_at (number_at station handle after) after (side_of station)) refl refl
+      (ap (λ (f : Facts). f.turn) (own_facts given station step history))
+      (ap (λ n. exchange_at n after (side_of station)) number
+      ∙ ap (λ (ends : Side → Exchanged). ends (side_of station)) (exchange_called given (number_at station handle history) station step history none)) is
 
 begin_own : (given : Given) (station slot : ℕ) (on : Bool) (history : List Event) → is_in station given.stations ≡ true → (facts_at given station history).turn.doing ≡ Rests
     → (received : Option (List ℕ)) → AreCountedSo given history (λ one. true) (λ one. packet_received one history)
     → (handle : ℕ) (link : OpenLink) → link_at handle (facts_at given station (after_call given station (TurnBegins slot on) history)).links ≡ Some link
     → received ≡ None → IsEndCounted true received handle (facts_at given station (after_call given station (TurnBegins slot on) history)).turn link
-    (exchange_at (number_at station handle (after_call given station (TurnBegins slot on) history)) history (side_of station))
+    (exchange_at (number_at station handle (after_call given station (TurnBegins slot on) history)) (after_call given station (TurnBegins slot on) history) (side_of station))
 begin_own given station slot on history is rests received counted handle link at none =
     let setup = setup_at given station in
     let facts = facts_at given station history in
@@ -183,9 +218,9 @@ begin_own given station slot on history is rests received counted handle link at
     let end = exchange_at (number_at station handle history) history (side_of station) in
     let before = plain true (packet_received station history) handle facts.turn begun.link end (rests_none facts handle rests)
     (λ listens. absurd (let h : true ≡ false = sym listens ∙ ap (listens_under handle) rests in absurd cc)) (counted station handle begun.link is begun.was) in
-    let base = subst (IsCounted end) (sym (base_ack facts slot handle next.turn.doing link begun)) before in
+    let base = subst (IsCounted end) (sym (base_ack facts slot on handle next.turn.doing link begun)) before in
     let sends = sends_under handle next.turn.doing in
-    own_moved given station (TurnBegins slot on) history handle link at received
+    own_moved given station (TurnBegins slot on) history handle link at received (begin_noted TakesNone none_taken setup slot on facts)
     (number_called given station (TurnBegins slot on) history handle (begin_noted (OpensNone handle) (opening_none handle) setup slot on facts))
     (from_sent sends received handle next.turn link end refl (λ listens. none)
     (subst (λ l. IsCounted (ahead_if sends end) (ack_of l)) (sym begun.is) (sent_counted sends slot begun.base end base)))
@@ -195,20 +230,20 @@ end_own : (given : Given) (station : ℕ) (history : List Event) → is_in stati
     → AreCountedSo given history (λ one. true) (λ one. packet_received one history)
     → (handle : ℕ) (link : OpenLink) → link_at handle (facts_at given station (after_call given station TurnEnds history)).links ≡ Some link
     → IsEndCounted true received handle (facts_at given station (after_call given station TurnEnds history)).turn link
-    (exchange_at (number_at station handle (after_call given station TurnEnds history)) history (side_of station))
+    (exchange_at (number_at station handle (after_call given station TurnEnds history)) (after_call given station TurnEnds history) (side_of station))
 end_own given station history is silent received heard none counted handle link at =
     let setup = setup_at given station in
     let facts = facts_at given station history in
     let next = facts_after setup facts TurnEnds in
     let end = exchange_at (number_at station handle history) history (side_of station) in
-    let before = plain true (packet_received station history) handle facts.turn link end (silent handle) (λ listens. heard)
-    (counted station handle link is (own_at given station TurnEnds history handle link at)) in
-    own_moved given station TurnEnds history handle link at received
-    (number_called given station TurnEnds history handle (All-nil (OpensNone handle)))
-    (from_plain true received handle next.turn link end refl (λ listens. none) before)
+    let was = end_under setup facts handle link (own_at given station TurnEnds history handle link at) in
+    let before = plain true (packet_received station history) handle facts.turn was.link end (silent handle) (λ listens. heard) (counted station handle was.link is was.was) in
+    own_moved given station TurnEnds history handle link at received (end_noted TakesNone none_taken.starts.feeds setup facts)
+    (number_called given station TurnEnds history handle (end_noted (OpensNone handle) (opening_none handle).starts.feeds setup facts))
+    (from_plain true received handle next.turn link end refl (λ listens. none) (subst (IsCounted end) (sym was.ack) before))
 
 -- a phase passes, at the station whose call it is
-module _ (given : Given) (Q : Place → List Event → Type 0) (known : AreKnown given Q) (distinct : AreDistinct given.stations) (phases : ℕ) (done left : List ℕ) (station : ℕ) (history : List Event)
+module _ (given : Given) (Q : Place → List Event → Type 0) (known : AreKnown given Q) (pair : IsPair given) (distinct : AreDistinct given.stations) (phases : ℕ) (done left : List ℕ) (station : ℕ) (history : List Event)
     (are : given.stations ≡ done ++ station ∷ left) (is : AreCountedAt given Q (AtListening phases done (station ∷ left)) history)
     (q : Q (AtListening phases (done ++ station ∷ []) left) (after_call given station (step_of (packet_received station history)) history))
     (holds : Holds given (AreStations given) (AtListening phases (done ++ station ∷ []) left) (after_call given station (step_of (packet_received station history)) history)) where
@@ -221,70 +256,155 @@ module _ (given : Given) (Q : Place → List Event → Type 0) (known : AreKnown
   abbrev facts : Facts
   facts = facts_at given station history
 
+  abbrev setup : Setup
+  setup = setup_at given station
+
   abbrev next : Facts
-  next = facts_after (setup_at given station) facts (step_of received)
+  next = facts_after setup facts (step_of received)
+
+  abbrev notes : List Note
+  notes = notes_after setup facts (step_of received)
 
   in_it : is_in station given.stations ≡ true
   in_it = among given.stations done left station are
 
-  phased : PhasedBy given history station (at_stage (Within phases) (turns_begun history))
+  pub phased : PhasedBy given history station (at_stage (Within phases) (turns_begun history))
   phased =
       subst (λ b. PhasedBy given history station (if b then at_stage (Within (suc phases)) (turns_begun history) else at_stage (Within phases) (turns_begun history)))
       (not_before given.stations done left station distinct are) (phased_at given (AtListening phases done (station ∷ left)) history is.holds.hearing.stand station in_it)
 
+  pub station_is : IsStation setup facts
+  station_is = is.holds.so_far.last.each station in_it
+
+  pub few : length facts.links ≤ 1
+  few = few_links given pair station facts station_is
+
   none_after : packet_received station after ≡ None
   none_after = received_by given station station (step_of received) history true (same_station station)
 
+  -- what it notes of PDUs is of a link that began before this turn
+  pub call_is : IsCallOf given station (step_of received) history
+  call_is =
+      phase_call given station history received station_is.own (λ on handle link at.
+      let begun = known.begun (AtListening phases done (station ∷ left)) history is.known station handle link in_it at in
+      let before : link.setup.opened < facts.turn.slot = open_has (OpenedBefore facts.turn.slot) 0 handle facts.links link (station_is.old on) at in
+      let slot = begun.slot in
+      let now = phased.uses.in_turn.slot_is in
+      record { link = begun.link; is_link = begun.is_link; before = omega (arith, before, now, slot) }) (phase_of setup facts received)
+
   -- a link of this turn has the first counts
   fresh : (handle : ℕ) (link : OpenLink) → link_at handle (facts_at given station after).links ≡ Some link → link.setup.opened ≡ facts.turn.slot
-      → IsEndCounted true (packet_received station after) handle (facts_at given station after).turn link (exchange_at (number_at station handle after) history (side_of station))
+      → IsEndCounted true (packet_received station after) handle (facts_at given station after).turn link (exchange_at (number_at station handle after) after (side_of station))
   fresh handle link at opened =
       let number = number_at station handle after in
       let begun = known.begun (AtListening phases (done ++ station ∷ []) left) after q station handle link in_it at in
-      let turns : turns_begun after ≡ turns_begun history = turns_called station (step_of received) (notes_after (setup_at given station) facts (step_of received)) history in
+      let turns : turns_begun after ≡ turns_begun history = turns_called station (step_of received) notes history in
       let now = ap (λ n. n + 1) opened ∙ phased.uses.in_turn.slot_is ∙ sym turns in
-      let first = first_of after number station link.setup (first_called given station (step_of received) history is.first number) begun now (side_of station) in
-      let slot = ap (λ (f : Facts). f.turn.slot) (own_facts given station (step_of received) history) ∙ (phase_turn (setup_at given station) facts received).slot in
-      fresh_counted (setup_at given station) (facts_at given station after) handle link true (packet_received station after) (exchange_at number history (side_of station))
-      (holds.so_far.last.each station in_it) at (opened ∙ sym slot)
-      (ap (λ (ends : Side → Exchanged). ends (side_of station)) (sym (exchange_called given number station (step_of received) history)) ∙ first)
+      let first = first_of after number station link.setup (first_called given station (step_of received) history call_is is.first number) begun now in
+      let slot = ap (λ (f : Facts). f.turn.slot) (own_facts given station (step_of received) history) ∙ (phase_turn setup facts received).slot in
+      fresh_counted setup (facts_at given station after) handle link true (packet_received station after) (exchange_at number after (side_of station))
+      (holds.so_far.last.each station in_it) at (opened ∙ sym slot) (first.counts (side_of station))
 
   -- before it takes what it heard, its packet was on the air
-  before_call : (handle : ℕ) (link : OpenLink) → link_at handle facts.links ≡ Some link
+  pub before_call : (handle : ℕ) (link : OpenLink) → link_at handle facts.links ≡ Some link
       → IsEndCounted false received handle facts.turn link (exchange_at (number_at station handle history) history (side_of station))
   before_call handle link at =
       subst (λ b. IsEndCounted b received handle facts.turn link (exchange_at (number_at station handle history) history (side_of station)))
       (not_before given.stations done left station distinct are) (is.counted station handle link in_it at)
 
+  -- what a link receives on which nothing was received is of no other
+  none_taken_by : (handle : ℕ) (link : OpenLink) → link_at handle facts.links ≡ Some link → (listens_under handle facts.turn.doing ≡ true → received ≡ None)
+      → IsPhaseOf setup facts received → All TakesNone notes
+  none_taken_by handle link at nothing (IsPlainPhase none plain) = all_more HasNoData TakesNone (λ note has. has.takes) notes plain
+  none_taken_by handle link at nothing (IsOnLink other octets some listens heard_is) = by (link_at other facts.links) refl
+    where
+      are_notes : notes_after (setup_at given station) (facts_at given station history) (step_of (packet_received station history))
+          ≡ notes_passed (link_heard (setup_at given station) other octets (facts_at given station history))
+      are_notes = on_link_notes (setup_at given station) (facts_at given station history) (packet_received station history) other octets some (ap notes_passed heard_is)
+
+      by : (found : Option OpenLink) → link_at other (facts_at given station history).links ≡ found
+          → All TakesNone (notes_after (setup_at given station) (facts_at given station history) (step_of (packet_received station history)))
+      by None absent = subst (All TakesNone) (sym (are_notes ∙ unfound (setup_at given station) (facts_at given station history) other octets absent)) (All-nil TakesNone)
+      by (Some two) found =
+          let one = one_link facts.links other handle two link few found at in
+          let on = listens handle ∙ ap (λ n. n == handle) one.handles ∙ same_station handle in
+          absurd (let h : Some octets ≡ None = sym some ∙ nothing on in absurd cc)
+
+  -- what it takes, it takes as it is noted
+  abbrev room : Bool
+  room = has_room setup facts
+
+  taken_by : (handle : ℕ) (base : OpenLink) (octets : List ℕ) → link_at handle facts.links ≡ Some base → received ≡ Some octets → listens_under handle facts.turn.doing ≡ true
+      → (rest : List Note) → notes ≡ notes_taken facts.turn.slot room (Some base) octets ++ rest → All TakesNone rest → IsTakenSo facts.turn.slot octets room base
+      → IsCounted (exchange_at (number_at station handle history) after (side_of station)) (ack_of (link_after (PacketReceived facts.turn.slot octets room) base))
+  taken_by handle base octets was some on rest are_notes none (Unnoted nothing same) =
+      let number = number_at station handle history in
+      let end = exchange_at number history (side_of station) in
+      let notes_are = are_notes ∙ ap (λ xs. xs ++ rest) nothing in
+      subst (λ e. IsCounted e (ack_of (link_after (PacketReceived facts.turn.slot octets room) base)))
+      (sym (ap (λ (ends : Side → Exchanged). ends (side_of station)) (exchange_called given number station (step_of received) history (subst (All TakesNone) (sym notes_are) none))))
+      (subst (IsCounted end) (sym same) (was_taking received octets handle facts.turn base end on some (before_call handle base was)))
+  taken_by handle base octets was some on rest are_notes none (Noted count llid body noted same) =
+      let number = number_at station handle history in
+      let end = exchange_at number history (side_of station) in
+      let from = exchange_at number history (other_side (side_of station)) in
+      let notes_are = are_notes ∙ ap (λ xs. xs ++ rest) noted in
+      let own = handle_is 0 handle facts.links base station_is.own.handles was in
+      subst (λ e. IsCounted e (ack_of (link_after (PacketReceived facts.turn.slot octets room) base)))
+      (sym (ap (λ (ends : Side → Exchanged). ends (side_of station)) (exchange_took given number station (step_of received) history base.setup.link.handle count llid body rest notes_are none
+      ∙ ap (λ b. if b then after_taking (side_of station) (exchange_at number history) else exchange_at number history)
+      (ap (λ n. number_at station n history == number) own ∙ same_station number))
+      ∙ ap (λ b. if b then with_taken from end else end) (side_same station)))
+      (noted_counted facts.turn.slot octets room base end from same (is.to_take station handle base in_it was octets on some)
+      (was_taking received octets handle facts.turn base end on some (before_call handle base was)))
+
+  -- the notes of what it takes, and of what it sends then
+  taken_notes : (handle : ℕ) (base : OpenLink) (octets : List ℕ) → link_at handle facts.links ≡ Some base → received ≡ Some octets → listens_under handle facts.turn.doing ≡ true
+      → IsPhaseOf setup facts received → IsCounted (exchange_at (number_at station handle history) after (side_of station)) (ack_of (link_after (PacketReceived facts.turn.slot octets room) base))
+  taken_notes handle base octets was some on (IsPlainPhase none plain) = absurd (let h : Some octets ≡ None = sym some ∙ none handle on in absurd cc)
+  taken_notes handle base octets was some on (IsOnLink other heard some_too listens heard_is) =
+      let same = eqb-true other handle (sym (listens handle) ∙ on) in
+      let told : Some heard ≡ Some octets = sym some_too ∙ some in
+      let equal : heard ≡ octets = cc in
+      let reply = reply_if (replies_in (link_at other facts.links) heard) other in
+      let after_it = link_received other room heard facts in
+      let are_notes = on_link_notes setup facts received other heard some_too (ap notes_passed heard_is) in
+      taken_by handle base octets was some on (notes_doing reply after_it)
+      (are_notes ∙ (λ i. notes_taken facts.turn.slot room (link_at (same i) facts.links) (equal i) ++ notes_doing reply after_it)
+      ∙ ap (λ found. notes_taken facts.turn.slot room found octets ++ notes_doing reply after_it) was)
+      (doing_noted TakesNone (λ one number llid body. refl) reply after_it) (taken_so facts.turn.slot octets room base)
+
   passed : (handle : ℕ) (link : OpenLink) → link_at handle (facts_at given station after).links ≡ Some link → number_at station handle after ≡ number_at station handle history
-      → HasPassed facts received handle next.turn.doing link
-      → IsEndCounted true (packet_received station after) handle (facts_at given station after).turn link (exchange_at (number_at station handle after) history (side_of station))
+      → HasPassed facts room received handle next.turn.doing link
+      → IsEndCounted true (packet_received station after) handle (facts_at given station after).turn link (exchange_at (number_at station handle after) after (side_of station))
   passed handle link at number (IsNew end made opened off) = fresh handle link at (ap (λ (l : OpenLink). l.setup.opened) made ∙ opened)
   passed handle link at number (Stays was none nothing listened) =
       let end = exchange_at (number_at station handle history) history (side_of station) in
-      own_moved given station (step_of received) history handle link at (packet_received station after) number
+      own_moved given station (step_of received) history handle link at (packet_received station after) (none_taken_by handle link was nothing (phase_of setup facts received)) number
       (from_plain true (packet_received station after) handle next.turn link end none (λ listens. none_after)
       (was_plain received handle facts.turn link end nothing (before_call handle link was)))
   passed handle link at number (Takes base octets was some on same) =
-      let end = exchange_at (number_at station handle history) history (side_of station) in
+      let end = exchange_at (number_at station handle history) after (side_of station) in
       let sends = sends_under handle next.turn.doing in
-      let taken = was_taking received octets handle facts.turn base end on some (before_call handle base was) in
-      own_moved given station (step_of received) history handle link at (packet_received station after) number
+      let taken = taken_notes handle base octets was some on (phase_of setup facts received) in
+      moved handle link true true (packet_received station after) (packet_received station after) next.turn (facts_at given station after).turn end
+      (exchange_at (number_at station handle after) after (side_of station)) refl refl
+      (ap (λ (f : Facts). f.turn) (own_facts given station (step_of received) history)) (ap (λ n. exchange_at n after (side_of station)) number)
       (from_sent sends (packet_received station after) handle next.turn link end refl (λ listens. none_after)
-      (subst (λ l. IsCounted (ahead_if sends end) (ack_of l)) (sym same) (sent_counted sends facts.turn.slot (link_after (PacketReceived facts.turn.slot octets) base) end taken)))
+      (subst (λ l. IsCounted (ahead_if sends end) (ack_of l)) (sym same) (sent_counted sends facts.turn.slot (link_after (PacketReceived facts.turn.slot octets room) base) end taken)))
 
   pub passes_own : (handle : ℕ) (link : OpenLink) → link_at handle (facts_at given station after).links ≡ Some link
-      → IsEndCounted true (packet_received station after) handle (facts_at given station after).turn link (exchange_at (number_at station handle after) history (side_of station))
+      → IsEndCounted true (packet_received station after) handle (facts_at given station after).turn link (exchange_at (number_at station handle after) after (side_of station))
   passes_own handle link at = by (phase_quiet (setup_at given station) facts received handle)
     where
       by : All (OpensNone handle) (notes_after (setup_at given station) (facts_at given station history) (step_of (packet_received station history)))
           ⊎ ((one : OpenLink) → link_at handle (facts_after (setup_at given station) (facts_at given station history) (step_of (packet_received station history))).links ≡ Some one
-          → one.setup.opened ≡ (facts_at given station history).turn.slot)
-          → IsEndCounted true (packet_received station after) handle (facts_at given station after).turn link (exchange_at (number_at station handle after) history (side_of station))
+          → IsOpenedNow (facts_at given station history).turn.slot one)
+          → IsEndCounted true (packet_received station after) handle (facts_at given station after).turn link (exchange_at (number_at station handle after) after (side_of station))
       by (inl quiet) =
           passed handle link at (number_called given station (step_of received) history handle quiet)
           (passes_under (setup_at given station) facts received handle link phased.uses.in_turn.listens (own_at given station (step_of received) history handle link at))
-      by (inr new) = fresh handle link at (new link (own_at given station (step_of received) history handle link at))
+      by (inr new) = fresh handle link at (new link (own_at given station (step_of received) history handle link at)).opened
 
 -- what is sent on a data channel is sent on a link
 sends_on_link : (held : Facts) (channel : ℕ) (octets : List ℕ) → is_advertising channel ≡ false → IsUseSent held (Sends channel octets) → is_on_link held.turn.doing ≡ true
@@ -343,9 +463,11 @@ module _ (whole : IsHeardWhole) (given : Given) (Q : Place → List Event → Ty
           → IsFirst number (history ++ Transmitted station channel octets (hearings_of given fates station channel octets history) ∷ [])
       by number true on =
           let hearings = hearings_of given fates station channel octets history in
-          first_event_at number history (Transmitted station channel octets hearings)
-          (air_quiet number station channel octets history hearings (hearing_of given fates station channel octets history)
-          (one_hearing given are_two fates station channel octets history (among given.stations done left station are)) on) (is.first number)
+          first_event_at number history (Transmitted station channel octets hearings) (record {
+            exchange = air_quiet number station channel octets history hearings (hearing_of given fates station channel octets history)
+                (one_hearing given are_two fates station channel octets history (among given.stations done left station are)) on;
+            lines = air_line number history station channel octets hearings;
+          }) (is.first number)
       by number false off =
           let place = AtPackets phases done (station ∷ left) in
           let in_it = among given.stations done left station are in
@@ -376,14 +498,33 @@ module _ (whole : IsHeardWhole) (given : Given) (Q : Place → List Event → Ty
           subst (λ b. IsEndCounted (not b) (packet_received one history) handle (facts_at given one history).turn link (exchange_at (number_at one handle history) history (side_of one)))
           (sym (in_more_other one station done differs)) (is.counted one handle link in_it at)
 
+  -- what is noted of PDUs as a turn begins is of a link that began before that turn
+  pub begun_call : (done left : List ℕ) (station slot : ℕ) (on : Bool) (history : List Event) → given.stations ≡ done ++ station ∷ left
+      → IsInTurn (setup_at given station) Between (turns_begun history - 1) (facts_at given station history) → AreCountedAt given Q (AtBegins done (station ∷ left)) history
+      → IsCallOf given station (TurnBegins slot on) history
+  begun_call done left station slot on history are in_turn is =
+      let in_it = among given.stations done left station are in
+      let facts = facts_at given station history in
+      let station_is = is.holds.so_far.last.each station in_it in
+      begin_call given station history station_is.own (λ handle link at.
+      let begun = known.begun (AtBegins done (station ∷ left)) history is.known station handle link in_it at in
+      let before : link.setup.opened < facts.turn.begun = open_has (OpenedBefore facts.turn.begun) 0 handle facts.links link station_is.earlier at in
+      let slot = begun.slot in
+      let now = in_turn.begun_is in
+      record { link = begun.link; is_link = begun.is_link; before = omega (arith, before, now, slot) }) slot on
+
   pub counts_kept : IsKept given (AreCountedAt given Q)
   counts_kept = let kept = holds_kept given (AreStations given) (agreement_kept whole given pair) six distinct in record {
     on_turn = λ slot plan history begun at is.
         let event = TurnBegan slot (map plan.radio_of given.stations) in record {
           known = known.kept.on_turn slot plan history begun at is.known;
           holds = kept.on_turn slot plan history begun at is.holds;
-          first = first_event history event (λ number. turn_quiet number history slot (map plan.radio_of given.stations)) is.first;
+          first = first_event history event (λ number. record {
+            exchange = turn_quiet number history slot (map plan.radio_of given.stations);
+            lines = turn_line number history slot (map plan.radio_of given.stations);
+          }) is.first;
           silent = tt;
+          to_take = tt;
           counted = counted_same given (history ++ event ∷ []) (λ one. true) (λ one. true) (λ one. packet_received one history) (λ one. packet_received one (history ++ event ∷ []))
               (λ one in_it. refl) (λ one in_it. received_event one history event)
               (counted_event given history event (λ one. true) (λ one. packet_received one history) (λ one. refl)
@@ -392,7 +533,7 @@ module _ (whole : IsHeardWhole) (given : Given) (Q : Place → List Event → Ty
     on_feed = λ plan done left station history are some now is.
         let octets = take (plan.feed_of station) (octets_left given station history) in
         let holds = kept.on_feed plan done left station history are some now is.holds in
-        let fed = feed_fed given station octets history (among given.stations done left station are) (record {
+        let fed = feed_fed given are_two station octets history (among given.stations done left station are) (record {
           first = is.first;
           counted = counted_same given history (λ one. true) (λ one. true) (λ one. packet_received one history) (λ one. None) (λ one in_it. refl)
               (λ one in_it. sym (is.holds.hearing.hears one in_it)) is.counted;
@@ -401,10 +542,11 @@ module _ (whole : IsHeardWhole) (given : Given) (Q : Place → List Event → Ty
           holds = holds;
           first = fed.first;
           silent = tt;
+          to_take = tt;
           counted = counted_same given (after_feed given station octets history) (λ one. true) (λ one. true) (λ one. None) (λ one. packet_received one (after_feed given station octets history))
               (λ one in_it. refl) (λ one in_it. holds.hearing.hears one in_it) fed.counted;
         };
-    on_fed = λ history is. record { known = known.kept.on_fed history is.known; holds = kept.on_fed history is.holds; first = is.first; silent = tt; counted = is.counted };
+    on_fed = λ history is. record { known = known.kept.on_fed history is.known; holds = kept.on_fed history is.holds; first = is.first; silent = tt; to_take = tt; counted = is.counted };
     on_begin = λ slot plan done left station history are due is.
         let on = plan.radio_of station in
         let step = TurnBegins slot on in
@@ -414,19 +556,23 @@ module _ (whole : IsHeardWhole) (given : Given) (Q : Place → List Event → Ty
         (not_before given.stations done left station distinct are) (phased_at given (AtBegins done (station ∷ left)) history is.holds.hearing.stand station in_it) in record {
           known = known.kept.on_begin slot plan done left station history are due is.known;
           holds = holds;
-          first = first_called given station step history is.first;
+          first = first_called given station step history (begun_call done left station slot on history are phased.uses.in_turn is) is.first;
           silent = tt;
-          counted = counted_call given station step history (λ one. true) (λ one. true) (λ one. packet_received one history) (λ one. packet_received one (after_call given station step history))
+          to_take = tt;
+          counted = counted_call given are_two station step history (λ one. true) (λ one. true) (λ one. packet_received one history) (λ one. packet_received one (after_call given station step history)) in_it
               (λ handle link at. begin_own given station slot on history in_it phased.phase (packet_received station (after_call given station step history)) is.counted handle link at
               (holds.hearing.hears station in_it))
               (λ other is_too differs. refl) (λ other is_too differs. received_by given other station step history false differs) is.counted;
         };
-    on_begun = λ history is. record { known = known.kept.on_begun history is.known; holds = kept.on_begun history is.holds; first = is.first; silent = tt; counted = is.counted };
+    on_begun = λ history is. record { known = known.kept.on_begun history is.known; holds = kept.on_begun history is.holds; first = is.first; silent = tt; to_take = tt; counted = is.counted };
     on_phase = λ phases history few is. record {
       known = known.kept.on_phase phases history few is.known;
       holds = kept.on_phase phases history few is.holds;
       first = is.first;
       silent = λ other sender in_it is_too differs out. is.holds.hearing.hears other in_it;
+      to_take = λ station handle link in_it at.
+          none_to_take (packet_received station history) handle (facts_at given station history).turn link
+          (exchange_at (number_at station handle history) history (other_side (side_of station))) (is.holds.hearing.hears station in_it);
       counted = is.counted;
     };
     on_silence = λ phases done left station history are none is. record {
@@ -434,6 +580,7 @@ module _ (whole : IsHeardWhole) (given : Given) (Q : Place → List Event → Ty
       holds = kept.on_silence phases done left station history are none is.holds;
       first = is.first;
       silent = still_silent phases done left station history is.silent;
+      to_take = is.to_take;
       counted = silence_kept phases done left station history are none is;
     };
     on_packet = λ phases plan done left station channel octets history are some due is.
@@ -445,6 +592,8 @@ module _ (whole : IsHeardWhole) (given : Given) (Q : Place → List Event → Ty
           holds = kept.on_packet phases plan done left station channel octets history are some due is.holds;
           first = packet_first phases done left station channel octets plan.fates history are due.is_wanted is;
           silent = packet_silent phases done left station channel octets plan.fates history in_it is.silent;
+          to_take = packet_to_take whole given Q known are_two pair six distinct phases done left station channel octets plan.fates history are due.is_wanted is.known is.holds is.counted
+              due.is_seen (λ other is_other differs. is.silent other station is_other in_it differs out);
           counted = packet_counted whole given Q known are_two pair six distinct phases done left station channel octets plan.fates history are due.is_wanted is.known is.holds is.counted
               due.is_seen (λ other is_other differs. is.silent other station is_other in_it differs out);
         };
@@ -453,6 +602,7 @@ module _ (whole : IsHeardWhole) (given : Given) (Q : Place → List Event → Ty
       holds = kept.on_air phases history is.holds;
       first = is.first;
       silent = tt;
+      to_take = is.to_take;
       counted = counted_same given history (λ one. not (is_in one given.stations)) (λ one. is_in one []) (λ one. packet_received one history) (λ one. packet_received one history)
           (λ one in_it. sym (ap not in_it)) (λ one in_it. refl) is.counted;
     };
@@ -461,15 +611,18 @@ module _ (whole : IsHeardWhole) (given : Given) (Q : Place → List Event → Ty
         let step = step_of received in
         let q = known.kept.on_hearing phases done left station history are some is.known in
         let holds = kept.on_hearing phases done left station history are some is.holds in
+        let in_it = among given.stations done left station are in
         let after = after_call given station step history in record {
           known = q;
           holds = holds;
-          first = first_called given station step history is.first;
+          first = first_called given station step history (call_is given Q known pair distinct phases done left station history are is q holds) is.first;
           silent = tt;
-          counted = counted_call given station step history (λ one. is_in one done) (λ one. is_in one (done ++ station ∷ [])) (λ one. packet_received one history) (λ one. packet_received one after)
-              (λ handle link at. subst (λ b. IsEndCounted b (packet_received station after) handle (facts_at given station after).turn link (exchange_at (number_at station handle after) history (side_of station)))
+          to_take = take_call given station step history (received_by given station station step history true (same_station station))
+              (λ other differs. received_by given other station step history false differs) is.to_take;
+          counted = counted_call given are_two station step history (λ one. is_in one done) (λ one. is_in one (done ++ station ∷ [])) (λ one. packet_received one history) (λ one. packet_received one after) in_it
+              (λ handle link at. subst (λ b. IsEndCounted b (packet_received station after) handle (facts_at given station after).turn link (exchange_at (number_at station handle after) after (side_of station)))
               (sym (in_more_same station station done (same_station station)))
-              (passes_own given Q known distinct phases done left station history are is q holds handle link at))
+              (passes_own given Q known pair distinct phases done left station history are is q holds handle link at))
               (λ other is_too differs. in_more_other other station done differs) (λ other is_too differs. received_by given other station step history false differs) is.counted;
         };
     on_heard = λ phases history is. record {
@@ -477,10 +630,11 @@ module _ (whole : IsHeardWhole) (given : Given) (Q : Place → List Event → Ty
       holds = kept.on_heard phases history is.holds;
       first = is.first;
       silent = tt;
+      to_take = tt;
       counted = counted_same given history (λ one. is_in one given.stations) (λ one. true) (λ one. packet_received one history) (λ one. packet_received one history)
           (λ one in_it. sym in_it) (λ one in_it. refl) is.counted;
     };
-    on_phases = λ history is. record { known = known.kept.on_phases history is.known; holds = kept.on_phases history is.holds; first = is.first; silent = tt; counted = is.counted };
+    on_phases = λ history is. record { known = known.kept.on_phases history is.known; holds = kept.on_phases history is.holds; first = is.first; silent = tt; to_take = tt; counted = is.counted };
     on_end = λ done left station history are some is.
         let holds = kept.on_end done left station history are some is.holds in
         let in_it = among given.stations done left station are in
@@ -488,12 +642,13 @@ module _ (whole : IsHeardWhole) (given : Given) (Q : Place → List Event → Ty
         (not_before given.stations done left station distinct are) (phased_at given (AtEnds done (station ∷ left)) history is.holds.hearing.stand station in_it) in record {
           known = known.kept.on_end done left station history are some is.known;
           holds = holds;
-          first = first_called given station TurnEnds history is.first;
+          first = first_called given station TurnEnds history (OfNone (end_noted HasNoData no_data.feeds (setup_at given station) (facts_at given station history))) is.first;
           silent = tt;
-          counted = counted_call given station TurnEnds history (λ one. true) (λ one. true) (λ one. packet_received one history) (λ one. packet_received one (after_call given station TurnEnds history))
+          to_take = tt;
+          counted = counted_call given are_two station TurnEnds history (λ one. true) (λ one. true) (λ one. packet_received one history) (λ one. packet_received one (after_call given station TurnEnds history)) in_it
               (end_own given station history in_it (λ handle. last_phase (facts_at given station history).links (facts_at given station history).turn.doing handle phased.phase)
               (packet_received station (after_call given station TurnEnds history)) (is.holds.hearing.hears station in_it) (holds.hearing.hears station in_it) is.counted)
               (λ other is_too differs. refl) (λ other is_too differs. received_by given other station TurnEnds history false differs) is.counted;
         };
-    on_ended = λ history is. record { known = known.kept.on_ended history is.known; holds = kept.on_ended history is.holds; first = is.first; silent = tt; counted = is.counted };
+    on_ended = λ history is. record { known = known.kept.on_ended history is.known; holds = kept.on_ended history is.holds; first = is.first; silent = tt; to_take = tt; counted = is.counted };
   }

@@ -8,9 +8,12 @@ pub mod UnderHandles
 pub mod LinkPhases
 pub mod LinkCalls
 pub mod TwoStations
+pub mod SentLines
 pub mod Counting
 pub mod FirstCounts
 pub mod Standing
+pub mod PhaseNotes
+pub mod DataCalls
 pub mod AirCounts
 pub mod KeptCounts
 pub mod Known
@@ -19,4 +22,7 @@ pub mod RunCounts
 pub mod EnteredLinks
 pub mod ChannelLines
 pub mod KeptChannels
+pub mod FixedPdus
+pub mod KeptLines
 pub mod LinkPackets
+pub mod NewPdus

@@ -1,42 +1,48 @@
 -- What each call on a controller does to the link under one handle, and that it opens no other one there.
-use Rattle.std.proofs.Common.{◌≡◌, ℕ, ◌==◌, ◌⊎◌, inl, inr, Bool, true, false, Option, Some, None, List, [], ◌∷◌, map, refl, sym, ap, subst, ◌∙◌}
-use Rattle.std.specs.Prelude.{All, filter}
+use Rattle.std.proofs.Common.{◌≡◌, ℕ, ◌==◌, ◌⊎◌, inl, inr, Bool, true, false, Option, Some, None, List, [], refl, sym, ap, subst, ◌∙◌}
+use Rattle.std.specs.Prelude.{All}
 use Rattle.std.proofs.lemmas.Bool.{eqb-true, eq-eqb}
-use Rattle.std.proofs.lemmas.List.Elements.{All-cons, All-nil}
-use Rattle.ble_base.specs.declared.notes.Note.TheVariants.{Up}
+use Rattle.std.proofs.lemmas.List.Elements.{All-append, All-cons, All-nil}
+use Rattle.ble_base.specs.declared.notes.Note.{Note}
+use Rattle.ble_base.specs.declared.notes.Note.TheVariants.{Took}
 use Rattle.hci_evt.specs.declared.event.Event.{Event}
-use Rattle.hci_evt.specs.Event.{mask_bit_of, written}
 use Rattle.host_view.specs.View.{View}
 use Rattle.one_end.specs.declared.setup.LinkSetup.{LinkSetup}
+use Rattle.one_end.specs.Acknowledgement.{Pdu}
+use Rattle.one_end.specs.End.{took_notes, took_notes_if}
+use Rattle.one_end.specs.Events.{entries_in}
 use Rattle.one_end.specs.Facts.{Facts as EndFacts}
 use Rattle.one_end.specs.Setup.{Setup as EndSetup}
-use Rattle.one_end.specs.Step.{EventEntered, PacketReceived}
+use Rattle.one_end.specs.Packets.{good_pdu, pdu_of}
+use Rattle.one_end.specs.Step.{EventEntered, PacketReceived, PduFixed}
 use Rattle.scan_init.specs.Reports.{scan_answer}
 use Rattle.slot_plan.specs.declared.Activity.{Activity}
 use Rattle.slot_plan.specs.declared.Activity.TheVariants.{Link, Advertise, Scan, Initiate}
 use Rattle.slot_plan.specs.Holding.{is_held_in, winner_of}
-use Rattle.open_links.specs.OpenLinks.{Links, OpenLink, link_after, link_at, link_served, with_change, new_link}
+use Rattle.open_links.specs.OpenLinks.{Links, OpenLink, facts_in, link_after, link_at, link_served, with_change, new_link}
 use Rattle.open_links.specs.Turns.{entered_if, is_anchor, link_entered, links_staying}
 use Rattle.open_links.proofs.Ends.{entered_setup}
 use Rattle.one_side.specs.declared.doing.Doing.{Doing}
 use Rattle.one_side.specs.declared.doing.Doing.TheVariants.{Advertises, CentralSends, CentralListens, PeripheralListens, PeripheralSends}
 use Rattle.one_side.specs.Step.{TurnBegins}
 use Rattle.one_side.specs.Facts.{Setup, Facts}
-use Rattle.one_side.specs.Events.{notes_of_events, passes}
-use Rattle.one_side.specs.Heard.{events_reported, heard, link_heard, link_taken, opens, replies_in, reply_if, unheard}
+use Rattle.one_side.specs.Events.{notes_of_events}
+use Rattle.one_side.specs.Heard.{events_reported, has_room, heard, link_heard, link_taken, notes_taken, opens, replies_in, reply_if, scanner_heard, unheard}
 use Rattle.one_side.specs.Links.{events_opened, facts_ending}
-use Rattle.one_side.specs.Outcome.{Outcome, facts_passed}
+use Rattle.one_side.specs.Outcome.{Outcome, facts_passed, notes_passed}
+use Rattle.one_side.specs.Packets.{notes_doing}
 use Rattle.one_side.specs.Radio.{facts_entering, outcome_begun, plan_in, radio_served, served, turn_begins, winner_served}
 use Rattle.one_side.specs.Side.{facts_after, notes_after}
 use Rattle.one_side.proofs.Always.{ending_is, links_won, opening_is, winning_is}
 use Rattle.one_side.proofs.Phases.{EachOutcome, heard_is, unheard_is}
 use Rattle.runs.specs.Run.{step_of}
-use Rattle.run_laws.proofs.Agreed.{ack_of, step_facts}
+use Rattle.run_laws.proofs.Agreed.{ack_fixed, ack_of, step_facts}
 use Rattle.run_laws.proofs.LinkPasses.{IsPassing, Leaves, Opens, Receives, is_on_link, phase_passes}
 use Rattle.run_laws.proofs.TurnSteps.{IsListening, begins_slot}
-use Rattle.journal_acks.proofs.Exchanging.{OpensNone}
+use Rattle.journal_acks.proofs.CallNotes.{doing_noted, events_noted}
+use Rattle.journal_acks.proofs.Exchanging.{OpensNone, opening_none}
 use Rattle.journal_acks.proofs.LinkUses.{listens_under, sends_under}
-use Rattle.journal_acks.proofs.UnderHandles.{IsOpenedIf, WasOpen, change_if, change_under, entered_under, opened_under, sending_under, sent_if, staying_under}
+use Rattle.journal_acks.proofs.UnderHandles.{IsOpenedIf, WasOpen, change_if, change_under, entered_under, fixes_under, fixing_under, opened_under, sending_under, sent_if, staying_under}
 
 -- ---- a turn begins
 
@@ -80,24 +86,34 @@ served_under : (on : Bool) (slot handle : ℕ) (winner : Option Activity) (facts
 served_under false slot handle winner facts after is = served_none (link_at handle facts.links) after is
 served_under true slot handle winner facts after is = radio_under (is_held_in facts.radio.hold slot) slot handle winner facts after is
 
--- the link was open before and stays; it enters its event where that is due, and sends where it is to
-pub record HasBegun (facts : Facts) (slot handle : ℕ) (doing : Doing) (after : OpenLink) : Type 0 where
+abbrev pub fixed_if : Bool → OpenLink → OpenLink
+fixed_if fixes link = change_if fixes (link_after PduFixed) link
+
+-- the link was open before and stays; it enters its event where that is due, fixes its PDU where it has an exchange, and
+-- sends where it is to
+pub record HasBegun (facts : Facts) (slot : ℕ) (on : Bool) (handle : ℕ) (doing : Doing) (after : OpenLink) : Type 0 where
   pub link : OpenLink
   pub was : link_at handle facts.links ≡ Some link
   pub stayed : link_at handle (links_staying slot facts.links) ≡ Some link
+  pub entered : OpenLink
+  pub setup_is : entered.setup ≡ link.setup
+  pub past_is : entered.past ≡ (link_entered slot link).past
+  pub fixes : Bool
   pub base : OpenLink
-  pub setup_is : base.setup ≡ link.setup
-  pub past_is : base.past ≡ (link_entered slot link).past
+  pub found : link_at handle (outcome_begun slot on facts).facts.links ≡ Some base
+  pub base_is : base ≡ fixed_if fixes entered
   pub is : after ≡ sent_if (sends_under handle doing) slot base
 
 pub begins_under : (setup : Setup) (facts : Facts) (slot : ℕ) (on : Bool) (handle : ℕ) (after : OpenLink)
     → link_at handle (facts_after setup facts (TurnBegins slot on)).links ≡ Some after
-    → HasBegun facts slot handle (facts_after setup facts (TurnBegins slot on)).turn.doing after
+    → HasBegun facts slot on handle (facts_after setup facts (TurnBegins slot on)).turn.doing after
 begins_under setup facts slot on handle after is =
     let begun = turn_begins slot (facts_ending slot facts) in
     let outcome = outcome_begun slot on facts in
+    let before = served on slot (winner_of (plan_in slot begun) slot) (facts_entering slot begun) in
     let sent = sending_under outcome.facts.turn.slot handle outcome.next outcome.facts.links after is in
-    let base = served_under on slot handle (winner_of (plan_in slot begun) slot) (facts_entering slot begun) sent.link sent.was in
+    let fixed = fixing_under handle before.next before.facts.links sent.link sent.was in
+    let base = served_under on slot handle (winner_of (plan_in slot begun) slot) (facts_entering slot begun) fixed.link fixed.was in
     let entered = entered_under slot handle begun.links base.link base.was in
     let here : link_at handle (links_staying slot facts.links) ≡ Some entered.link = ap (λ (ended : Facts). link_at handle ended.links) (sym (ending_is slot facts)) ∙ entered.was in
     let stayed = staying_under slot handle facts.links entered.link here in
@@ -105,34 +121,44 @@ begins_under setup facts slot on handle after is =
       link = entered.link;
       was = stayed.was;
       stayed = here;
-      base = sent.link;
+      entered = fixed.link;
       setup_is = base.setup_is ∙ ap (λ (l : OpenLink). l.setup) entered.is ∙ entered_setup (is_anchor slot entered.link) slot entered.link;
       past_is = base.past_is ∙ ap (λ (l : OpenLink). l.past) entered.is;
+      fixes = fixes_under handle before.next;
+      base = sent.link;
+      found = sent.was;
+      base_is = fixed.is;
       is = sent.is ∙ ap (λ (n : ℕ). sent_if (sends_under handle outcome.next) n sent.link) (begins_slot setup slot on facts);
     }
+
+fixed_ack : (fixes : Bool) (link : OpenLink) → ack_of (fixed_if fixes link) ≡ ack_of link
+fixed_ack true link = ack_fixed link
+fixed_ack false link = refl
 
 entered_ack : (anchor : Bool) (slot : ℕ) (link : OpenLink) → ack_of (entered_if anchor slot link) ≡ ack_of link
 entered_ack false slot link = refl
 entered_ack true slot link = ap (λ (f : EndFacts). f.acknowledgement) (step_facts link (EventEntered slot))
 
--- entering an event changes no count
-pub base_ack : (facts : Facts) (slot handle : ℕ) (doing : Doing) (after : OpenLink) (begun : HasBegun facts slot handle doing after) → ack_of begun.base ≡ ack_of begun.link
-base_ack facts slot handle doing after begun =
-    (λ i. ack_of (record { setup = (begun.setup_is ∙ sym (entered_setup (is_anchor slot begun.link) slot begun.link)) i; past = begun.past_is i; last_served = 0 }))
+-- entering an event and fixing a PDU change no count
+pub base_ack : (facts : Facts) (slot : ℕ) (on : Bool) (handle : ℕ) (doing : Doing) (after : OpenLink) (begun : HasBegun facts slot on handle doing after)
+    → ack_of begun.base ≡ ack_of begun.link
+base_ack facts slot on handle doing after begun =
+    ap ack_of begun.base_is ∙ fixed_ack begun.fixes begun.entered
+    ∙ (λ i. ack_of (record { setup = (begun.setup_is ∙ sym (entered_setup (is_anchor slot begun.link) slot begun.link)) i; past = begun.past_is i; last_served = 0 }))
     ∙ entered_ack (is_anchor slot begun.link) slot begun.link
 
 -- ---- a phase passes
 
-pub data HasPassed (facts : Facts) (received : Option (List ℕ)) (handle : ℕ) (doing : Doing) (after : OpenLink) : Type 0 where
+pub data HasPassed (facts : Facts) (room : Bool) (received : Option (List ℕ)) (handle : ℕ) (doing : Doing) (after : OpenLink) : Type 0 where
   -- it is a new link
-  IsNew : (end : EndSetup) → after ≡ new_link end → end.opened ≡ facts.turn.slot → is_on_link doing ≡ false → HasPassed facts received handle doing after
+  IsNew : (end : EndSetup) → after ≡ new_link end → end.opened ≡ facts.turn.slot → is_on_link doing ≡ false → HasPassed facts room received handle doing after
   -- nothing happened to it
   Stays : link_at handle facts.links ≡ Some after → sends_under handle doing ≡ false → (listens_under handle facts.turn.doing ≡ true → received ≡ None)
-      → (listens_under handle doing ≡ true → sends_under handle facts.turn.doing ≡ true) → HasPassed facts received handle doing after
+      → (listens_under handle doing ≡ true → sends_under handle facts.turn.doing ≡ true) → HasPassed facts room received handle doing after
   -- it received a packet, and may answer that
   Takes : (link : OpenLink) (octets : List ℕ) → link_at handle facts.links ≡ Some link → received ≡ Some octets → listens_under handle facts.turn.doing ≡ true
-      → after ≡ sent_if (sends_under handle doing) facts.turn.slot (link_after (PacketReceived facts.turn.slot octets) link)
-      → HasPassed facts received handle doing after
+      → after ≡ sent_if (sends_under handle doing) facts.turn.slot (link_after (PacketReceived facts.turn.slot octets room) link)
+      → HasPassed facts room received handle doing after
 
 pub off_sends : (handle : ℕ) (doing : Doing) → is_on_link doing ≡ false → sends_under handle doing ≡ false
 off_sends handle (CentralSends other) off = absurd cc
@@ -158,24 +184,24 @@ off_after : (facts after : Facts) (received : Option (List ℕ)) → is_on_link 
 off_after facts after received off on true is = absurd (let h : true ≡ false = sym (on is) ∙ off in absurd cc)
 off_after facts after received off on false is = is
 
-opened_passes : (facts after : Facts) (received : Option (List ℕ)) (handle : ℕ) (end : EndSetup) (link : OpenLink) → is_on_link facts.turn.doing ≡ false → is_on_link after.turn.doing ≡ false
+opened_passes : (facts after : Facts) (room : Bool) (received : Option (List ℕ)) (handle : ℕ) (end : EndSetup) (link : OpenLink) → is_on_link facts.turn.doing ≡ false → is_on_link after.turn.doing ≡ false
     → end.opened ≡ facts.turn.slot → (same : Bool) → IsOpenedIf same end (link_at handle facts.links) link
-    → HasPassed facts received handle after.turn.doing link
-opened_passes facts after received handle end link off none now true is = IsNew end is now none
-opened_passes facts after received handle end link off none now false is =
+    → HasPassed facts room received handle after.turn.doing link
+opened_passes facts after room received handle end link off none now true is = IsNew end is now none
+opened_passes facts after room received handle end link off none now false is =
     Stays is (off_sends handle after.turn.doing none) (deaf handle facts.turn.doing received (off_listens handle facts.turn.doing off)) (hears_none handle after.turn.doing facts.turn.doing (off_listens handle after.turn.doing none))
 
-off_passes : (facts after : Facts) (received : Option (List ℕ)) (handle : ℕ) (link : OpenLink) → is_on_link facts.turn.doing ≡ false → IsPassing facts received after
-    → link_at handle after.links ≡ Some link → HasPassed facts received handle after.turn.doing link
-off_passes facts after received handle link off (Leaves same on) is =
+off_passes : (facts after : Facts) (room : Bool) (received : Option (List ℕ)) (handle : ℕ) (link : OpenLink) → is_on_link facts.turn.doing ≡ false → IsPassing facts received after
+    → link_at handle after.links ≡ Some link → HasPassed facts room received handle after.turn.doing link
+off_passes facts after room received handle link off (Leaves same on) is =
     let none = off_after facts after received off on (is_on_link after.turn.doing) refl in
     Stays (ap (link_at handle) (sym same) ∙ is) (off_sends handle after.turn.doing none) (deaf handle facts.turn.doing received (off_listens handle facts.turn.doing off))
     (hears_none handle after.turn.doing facts.turn.doing (off_listens handle after.turn.doing none))
-off_passes facts after received handle link off (Opens made made_is none) is =
+off_passes facts after room received handle link off (Opens made made_is none) is =
     let end : EndSetup = record { link = made; opened = facts.turn.slot } in
-    opened_passes facts after received handle end link off none refl (made.handle == handle)
+    opened_passes facts after room received handle end link off none refl (made.handle == handle)
     (opened_under end handle facts.links link (ap (link_at handle) (sym made_is) ∙ is) (made.handle == handle) refl)
-off_passes facts after received handle link off (Receives other octets was wanted on replies links_are) is = absurd (let h : true ≡ false = sym on ∙ off in absurd cc)
+off_passes facts after room received handle link off (Receives other octets was wanted on roomy replies links_are) is = absurd (let h : true ≡ false = sym on ∙ off in absurd cc)
 
 reply_none : (replies : Bool) (handle other : ℕ) → (other == handle) ≡ false → sends_under handle (reply_if replies other) ≡ false
 reply_none true handle other differs = differs
@@ -186,32 +212,33 @@ reply_deaf true handle other = refl
 reply_deaf false handle other = refl
 
 -- it takes a packet on the link under some handle
-taken_by : (facts : Facts) (octets : List ℕ) (handle other : ℕ) (after link : OpenLink) (replies : Bool) → listens_under handle facts.turn.doing ≡ (other == handle)
-    → WasOpen (sent_if (sends_under handle (reply_if replies other)) facts.turn.slot) (link_at handle (with_change other (link_after (PacketReceived facts.turn.slot octets)) facts.links)) after
-    → (same : Bool) → (other == handle) ≡ same → HasPassed facts (Some octets) handle (reply_if replies other) after
-taken_by facts octets handle other after link replies listens sent true one =
-    let was = change_under other handle (link_after (PacketReceived facts.turn.slot octets)) facts.links sent.link sent.was in
+taken_by : (facts : Facts) (octets : List ℕ) (room : Bool) (handle other : ℕ) (after link : OpenLink) (replies : Bool) → listens_under handle facts.turn.doing ≡ (other == handle)
+    → WasOpen (sent_if (sends_under handle (reply_if replies other)) facts.turn.slot) (link_at handle (with_change other (link_after (PacketReceived facts.turn.slot octets room)) facts.links)) after
+    → (same : Bool) → (other == handle) ≡ same → HasPassed facts room (Some octets) handle (reply_if replies other) after
+taken_by facts octets room handle other after link replies listens sent true one =
+    let was = change_under other handle (link_after (PacketReceived facts.turn.slot octets room)) facts.links sent.link sent.was in
     Takes was.link octets was.was refl (listens ∙ one)
     (sent.is ∙ ap (sent_if (sends_under handle (reply_if replies other)) facts.turn.slot)
-    (was.is ∙ ap (λ (b : Bool). change_if b (link_after (PacketReceived facts.turn.slot octets)) was.link) one))
-taken_by facts octets handle other after link replies listens sent false differs =
+    (was.is ∙ ap (λ (b : Bool). change_if b (link_after (PacketReceived facts.turn.slot octets room)) was.link) one))
+taken_by facts octets room handle other after link replies listens sent false differs =
     let none = reply_none replies handle other differs in
-    let was = change_under other handle (link_after (PacketReceived facts.turn.slot octets)) facts.links sent.link sent.was in
+    let was = change_under other handle (link_after (PacketReceived facts.turn.slot octets room)) facts.links sent.link sent.was in
     let same : after ≡ was.link = sent.is ∙ ap (λ (b : Bool). sent_if b facts.turn.slot sent.link) none
-    ∙ was.is ∙ ap (λ (b : Bool). change_if b (link_after (PacketReceived facts.turn.slot octets)) was.link) differs in
+    ∙ was.is ∙ ap (λ (b : Bool). change_if b (link_after (PacketReceived facts.turn.slot octets room)) was.link) differs in
     Stays (was.was ∙ ap Some (sym same)) none (deaf handle facts.turn.doing (Some octets) (listens ∙ differs)) (hears_none handle (reply_if replies other) facts.turn.doing (reply_deaf replies handle other))
 
-takes_on : (facts : Facts) (octets : List ℕ) (handle other : ℕ) (after : OpenLink) → listens_under handle facts.turn.doing ≡ (other == handle)
-    → link_at handle (facts_passed (link_heard other octets facts)).links ≡ Some after
-    → HasPassed facts (Some octets) handle (facts_passed (link_heard other octets facts)).turn.doing after
-takes_on facts octets handle other after listens is =
+takes_on : (setup : Setup) (facts : Facts) (octets : List ℕ) (handle other : ℕ) (after : OpenLink) → listens_under handle facts.turn.doing ≡ (other == handle)
+    → link_at handle (facts_passed (link_heard setup other octets facts)).links ≡ Some after
+    → HasPassed facts (has_room setup facts) (Some octets) handle (facts_passed (link_heard setup other octets facts)).turn.doing after
+takes_on setup facts octets handle other after listens is =
     let replies = replies_in (link_at other facts.links) octets in
-    taken_by facts octets handle other after after replies listens
-    (sending_under facts.turn.slot handle (reply_if replies other) (with_change other (link_after (PacketReceived facts.turn.slot octets)) facts.links) after is) (other == handle) refl
+    let room = has_room setup facts in
+    taken_by facts octets room handle other after after replies listens
+    (sending_under facts.turn.slot handle (reply_if replies other) (with_change other (link_after (PacketReceived facts.turn.slot octets room)) facts.links) after is) (other == handle) refl
 
 passes_by : (setup : Setup) (facts : Facts) (received : Option (List ℕ)) (handle : ℕ) (after : OpenLink) (doing : Doing) → facts.turn.doing ≡ doing
     → IsPassing facts received (facts_after setup facts (step_of received)) → link_at handle (facts_after setup facts (step_of received)).links ≡ Some after
-    → HasPassed facts received handle (facts_after setup facts (step_of received)).turn.doing after
+    → HasPassed facts (has_room setup facts) received handle (facts_after setup facts (step_of received)).turn.doing after
 passes_by setup facts None handle after (CentralSends other) doing passing is =
     let next = ap (λ (d : Doing). (unheard d facts)) doing in
     Stays (ap (λ (o : Outcome). link_at handle (facts_passed o).links) (sym next) ∙ is) (ap (λ (o : Outcome). sends_under handle o.next) next)
@@ -236,47 +263,79 @@ passes_by setup facts None handle after (CentralListens other) doing passing is 
     (hears_none handle (unheard facts.turn.doing facts).next facts.turn.doing (ap (λ (o : Outcome). listens_under handle o.next) next))
 passes_by setup facts (Some octets) handle after (CentralListens other) doing passing is =
     let next = ap (λ (d : Doing). (heard setup d octets facts)) doing in
-    subst (λ (o : Outcome). HasPassed facts (Some octets) handle o.next after) (sym next)
-    (takes_on facts octets handle other after (ap (listens_under handle) doing) (ap (λ (o : Outcome). link_at handle (facts_passed o).links) (sym next) ∙ is))
+    subst (λ (o : Outcome). HasPassed facts (has_room setup facts) (Some octets) handle o.next after) (sym next)
+    (takes_on setup facts octets handle other after (ap (listens_under handle) doing) (ap (λ (o : Outcome). link_at handle (facts_passed o).links) (sym next) ∙ is))
 passes_by setup facts None handle after (PeripheralListens other) doing passing is =
     let next = ap (λ (d : Doing). (unheard d facts)) doing in
     Stays (ap (λ (o : Outcome). link_at handle (facts_passed o).links) (sym next) ∙ is) (ap (λ (o : Outcome). sends_under handle o.next) next) (λ listens. refl)
     (hears_none handle (unheard facts.turn.doing facts).next facts.turn.doing (ap (λ (o : Outcome). listens_under handle o.next) next))
 passes_by setup facts (Some octets) handle after (PeripheralListens other) doing passing is =
     let next = ap (λ (d : Doing). (heard setup d octets facts)) doing in
-    subst (λ (o : Outcome). HasPassed facts (Some octets) handle o.next after) (sym next)
-    (takes_on facts octets handle other after (ap (listens_under handle) doing) (ap (λ (o : Outcome). link_at handle (facts_passed o).links) (sym next) ∙ is))
-passes_by setup facts received handle after (Advertises channel) doing passing is = off_passes facts _ received handle after (ap is_on_link doing) passing is
-passes_by setup facts received handle after other doing passing is = off_passes facts _ received handle after (ap is_on_link doing) passing is
+    subst (λ (o : Outcome). HasPassed facts (has_room setup facts) (Some octets) handle o.next after) (sym next)
+    (takes_on setup facts octets handle other after (ap (listens_under handle) doing) (ap (λ (o : Outcome). link_at handle (facts_passed o).links) (sym next) ∙ is))
+passes_by setup facts received handle after (Advertises channel) doing passing is = off_passes facts _ (has_room setup facts) received handle after (ap is_on_link doing) passing is
+passes_by setup facts received handle after other doing passing is = off_passes facts _ (has_room setup facts) received handle after (ap is_on_link doing) passing is
 
 pub passes_under : (setup : Setup) (facts : Facts) (received : Option (List ℕ)) (handle : ℕ) (after : OpenLink) → IsListening facts facts.turn.doing
     → link_at handle (facts_after setup facts (step_of received)).links ≡ Some after
-    → HasPassed facts received handle (facts_after setup facts (step_of received)).turn.doing after
+    → HasPassed facts (has_room setup facts) received handle (facts_after setup facts (step_of received)).turn.doing after
 passes_under setup facts received handle after listens is = passes_by setup facts received handle after facts.turn.doing refl (phase_passes setup facts received listens) is
 
 -- ---- what is noted of links that are opened
 
+-- a link that was opened in this slot, which has not entered an event
+pub record IsOpenedNow (slot : ℕ) (link : OpenLink) : Type 0 where
+  pub opened : link.setup.opened ≡ slot
+  pub entries : entries_in link.past ≡ 0
+
+new_now : (slot : ℕ) (end : EndSetup) (link : OpenLink) → link ≡ new_link end → end.opened ≡ slot → IsOpenedNow slot link
+new_now slot end link is now = record { opened = ap (λ (l : OpenLink). l.setup.opened) is ∙ now; entries = ap (λ (l : OpenLink). entries_in l.past) is }
+
 -- no link is opened under the handle, or the one that is open there then is new
 IsQuiet : ℕ → Facts → Outcome → Type 0
 IsQuiet handle facts outcome =
-    All (OpensNone handle) outcome.notes
-    ⊎ ((after : OpenLink) → link_at handle (facts_passed outcome).links ≡ Some after → after.setup.opened ≡ facts.turn.slot)
-
-packets_quiet : (handle : ℕ) (events : List Event) → All (OpensNone handle) (map (λ event. Up (record { items = written event })) events)
-packets_quiet handle [] = All-nil (OpensNone handle)
-packets_quiet handle (event ∷ events) = All-cons (OpensNone handle) _ _ refl (packets_quiet handle events)
+    All (OpensNone handle) (notes_passed outcome)
+    ⊎ ((after : OpenLink) → link_at handle (facts_passed outcome).links ≡ Some after → IsOpenedNow facts.turn.slot after)
 
 events_quiet : (handle : ℕ) (view : View) (events : List Event) → All (OpensNone handle) (notes_of_events view events)
-events_quiet handle view events = packets_quiet handle (filter (λ event. passes view (mask_bit_of event)) events)
+events_quiet handle view events = events_noted (OpensNone handle) (opening_none handle).starts.feeds view events
+
+next_quiet : (handle : ℕ) (doing : Doing) (facts : Facts) → All (OpensNone handle) (notes_doing doing facts)
+next_quiet handle doing facts = doing_noted (OpensNone handle) (λ other number llid octets. refl) doing facts
+
+both_quiet : (handle : ℕ) (outcome : Outcome) → All (OpensNone handle) outcome.notes → All (OpensNone handle) (notes_passed outcome)
+both_quiet handle outcome notes = All-append (OpensNone handle) outcome.notes _ notes (next_quiet handle outcome.next outcome.facts)
 
 opens_quiet : (handle : ℕ) (link : LinkSetup) (facts : Facts) (same : Bool) → (handle == link.handle) ≡ same → IsQuiet handle facts (opens link facts)
 unfolding IsQuiet
 opens_quiet handle link facts true one = inr (λ after is.
     let end : EndSetup = record { link = link; opened = facts.turn.slot } in
-    ap (λ (l : OpenLink). l.setup.opened)
-    (opened_under end handle facts.links after (ap (λ (f : Facts). link_at handle f.links) (sym (opening_is link facts)) ∙ is) true (eq-eqb link.handle handle (sym (eqb-true handle link.handle one)))))
+    new_now facts.turn.slot end after
+    (opened_under end handle facts.links after (ap (λ (f : Facts). link_at handle f.links) (sym (opening_is link facts)) ∙ is) true (eq-eqb link.handle handle (sym (eqb-true handle link.handle one))))
+    refl)
 opens_quiet handle link facts false differs =
-    inl (All-cons (OpensNone handle) _ _ differs (events_quiet handle facts.view (events_opened facts.view link)))
+    inl (both_quiet handle (opens link facts) (All-cons (OpensNone handle) _ _ differs (events_quiet handle facts.view (events_opened facts.view link))))
+
+-- what is noted of a PDU that is taken
+took_quiet : (P : Note → Type 0) (took : (handle number llid : ℕ) (octets : List ℕ) → P (Took handle number llid (record { items = octets })))
+    → (noted : Bool) (handle : ℕ) (pdu : Pdu) (facts : EndFacts) → All P (took_notes_if noted handle pdu facts)
+took_quiet P took true handle pdu facts = All-cons P _ [] (took handle _ _ _) (All-nil P)
+took_quiet P took false handle pdu facts = All-nil P
+
+took_by : (P : Note → Type 0) (took : (handle number llid : ℕ) (octets : List ℕ) → P (Took handle number llid (record { items = octets })))
+    → (handle : ℕ) (room : Bool) (found : Option (List ℕ)) (facts : EndFacts) → All P (took_notes handle room found facts)
+took_by P took handle room None facts = All-nil P
+took_by P took handle room (Some pdu) facts = took_quiet P took _ handle (pdu_of pdu) facts
+
+pub taken_noted : (P : Note → Type 0) (took : (handle number llid : ℕ) (octets : List ℕ) → P (Took handle number llid (record { items = octets })))
+    → (slot : ℕ) (room : Bool) (found : Option OpenLink) (octets : List ℕ) → All P (notes_taken slot room found octets)
+taken_noted P took slot room None octets = All-nil P
+taken_noted P took slot room (Some link) octets = took_by P took link.setup.link.handle room (good_pdu link.setup (facts_in link) octets) (facts_in link)
+
+pub received_quiet : (handle : ℕ) (setup : Setup) (other : ℕ) (octets : List ℕ) (facts : Facts) → All (OpensNone handle) (notes_passed (link_heard setup other octets facts))
+received_quiet handle setup other octets facts =
+    both_quiet handle (link_heard setup other octets facts)
+    (taken_noted (OpensNone handle) (λ one number llid body. refl) facts.turn.slot (has_room setup facts) (link_at other facts.links) octets)
 
 each_quiet : (handle : ℕ) (setup : Setup) (facts : Facts) → EachOutcome setup facts (IsQuiet handle facts)
 unfolding IsQuiet
@@ -291,16 +350,18 @@ each_quiet handle setup facts =
       taken = λ channel octets pdu on fields other is_on hears takes free.
           opens_quiet handle (link_taken on.params.own pdu fields other) facts (handle == other) refl;
       scanned = λ channel octets pdu on doing is_on hears.
-          inl (events_quiet handle facts.view (events_reported (scan_answer on.params facts.view.accepted on.recent pdu) pdu));
+          inl (both_quiet handle (scanner_heard (Some on) true channel pdu facts)
+          (events_quiet handle facts.view (events_reported (scan_answer on.params facts.view.accepted on.recent pdu) pdu)));
       answered = λ channel octets pdu on doing is_on hears.
-          inl (events_quiet handle facts.view (events_reported (scan_answer on.params facts.view.accepted on.recent pdu) pdu));
+          inl (both_quiet handle (scanner_heard (Some on) false channel pdu facts)
+          (events_quiet handle facts.view (events_reported (scan_answer on.params facts.view.accepted on.recent pdu) pdu)));
       connects = λ channel octets pdu on access other doing is_on hears answers next free in_range. inl nothing;
-      received = λ other octets. inl nothing;
+      received = λ other octets. inl (received_quiet handle setup other octets facts);
     }
 
 pub phase_quiet : (setup : Setup) (facts : Facts) (received : Option (List ℕ)) (handle : ℕ)
     → All (OpensNone handle) (notes_after setup facts (step_of received))
-    ⊎ ((after : OpenLink) → link_at handle (facts_after setup facts (step_of received)).links ≡ Some after → after.setup.opened ≡ facts.turn.slot)
+    ⊎ ((after : OpenLink) → link_at handle (facts_after setup facts (step_of received)).links ≡ Some after → IsOpenedNow facts.turn.slot after)
 unfolding IsQuiet
 phase_quiet setup facts None handle = unheard_is setup facts (IsQuiet handle facts) (each_quiet handle setup facts) facts.turn.doing refl
 phase_quiet setup facts (Some octets) handle = heard_is setup facts (IsQuiet handle facts) (each_quiet handle setup facts) facts.turn.doing octets refl

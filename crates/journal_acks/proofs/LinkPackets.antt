@@ -1,17 +1,16 @@
 -- Each packet of a link carries what the journal before it says.
-use Rattle.std.proofs.Common.{◌≡◌, ℕ, false, true, Some, None, Option, replicate, List, [], ◌∷◌, ◌++◌, length, refl, sym, ap, subst, ◌∙◌, arith}
+use Rattle.std.proofs.Common.{◌≡◌, ℕ, ◌+◌, false, true, Some, None, Option, replicate, List, [], ◌∷◌, ◌++◌, length, refl, sym, ap, subst, ◌∙◌, arith}
 use Rattle.ble_base.specs.declared.roles.Side.{Side}
-use Rattle.ack_bit.specs.AckBits.{header_of, is_odd}
+use Rattle.ack_bit.specs.AckBits.{is_odd}
 use Rattle.air_frame.specs.Packet.{on_air}
-use Rattle.data_pdu.specs.Header.{octets_of}
 use Rattle.journal.specs.declared.entries.Entry.{Entry}
 use Rattle.journal.specs.declared.entries.Mark.{Mark}
 use Rattle.ble_base.specs.declared.verdicts.Verdict.{Verdict}
 use Rattle.one_end.proofs.InEvents.{past_in}
 use Rattle.one_end.proofs.Received.{IsHeardWhole}
-use Rattle.one_end.specs.Acknowledgement.{Acknowledgement}
+use Rattle.one_end.specs.Acknowledgement.{Acknowledgement, Pdu}
 use Rattle.one_end.specs.Events.{channel_after as channel_of_event, entries_in}
-use Rattle.one_end.specs.Packets.{packet_sent}
+use Rattle.one_end.specs.Packets.{more_sent, packet_sent, pdu_sent}
 use Rattle.open_links.specs.OpenLinks.{OpenLink, facts_in}
 use Rattle.one_side.specs.Facts.{Sends}
 use Rattle.one_side.specs.Side.{facts_of}
@@ -32,7 +31,7 @@ use Rattle.run_laws.proofs.OpenSteps.{none_open, open_has}
 use Rattle.run_laws.proofs.TurnPlaces.{Within, turned}
 use Rattle.journal_packets.proofs.AccessOrder.{AreNth}
 use Rattle.journal_packets.proofs.SoFar.{IsBelongingSoFar}
-use Rattle.journal_acks.specs.Carried.{IsLinkPacket}
+use Rattle.journal_acks.specs.Carried.{IsLinkPacket, bits_of, carried_of, pdu_octets}
 use Rattle.journal_acks.specs.Counted.{IsCounted}
 use Rattle.journal_acks.specs.Exchange.{Exchanged, with_sent}
 use Rattle.journal_acks.proofs.AirCounts.{link_sent, own_number, sender_counted, sends_it}
@@ -40,7 +39,9 @@ use Rattle.journal_acks.proofs.ChannelLines.{channel_at}
 use Rattle.journal_acks.proofs.Counting.{AreKnown}
 use Rattle.journal_acks.proofs.EnteredLinks.{AreEntered, HasEntered, entered_first, entered_kept, entries_sent}
 use Rattle.journal_acks.proofs.Exchanging.{exchange_at}
-use Rattle.journal_acks.proofs.KeptChannels.{AreChannelledAt, AreOnChannels, IsOnChannel, NotYet, OnChannel, channels_kept}
+use Rattle.journal_acks.proofs.FixedPdus.{sent_out}
+use Rattle.journal_acks.proofs.KeptChannels.{AreOnChannels, IsOnChannel, NotYet, OnChannel}
+use Rattle.journal_acks.proofs.KeptLines.{AreLined, AreLinedAt, lines_kept}
 use Rattle.journal_acks.proofs.Known.{known_of}
 use Rattle.journal_acks.proofs.RunCounts.{counts_first}
 use Rattle.journal_acks.proofs.Seen.{seen_packet}
@@ -54,20 +55,22 @@ on_its_channel link sender may channel setup entries entered on (NotYet none) = 
 on_its_channel link sender may channel setup entries entered on (OnChannel is) =
     is ∙ (λ i. Some (channel_of_event (setup i) (entries i))) ∙ ap Some (sym (past_in link.setup link.past).channel ∙ sym on)
 
--- the packet, by the counts of the journal
-packet_is : (link : OpenLink) (end : Exchanged) (channel access init : ℕ) → channel ≡ (facts_in link).event.channel → access ≡ link.setup.link.fields.access
-    → init ≡ link.setup.link.fields.crc_init → end.acked ≡ (ack_of link).acked → end.accepted ≡ length (ack_of link).accepted
-    → packet_sent link.setup (facts_in link) ≡ on_air channel access init (octets_of (header_of (record { sn = is_odd end.acked; nesn = is_odd end.accepted }) 1 false 0))
+-- the packet, by the counts and the lines of the journal
+packet_is : (link : OpenLink) (end : Exchanged) (pdu : Pdu) (channel access init : ℕ) → channel ≡ (facts_in link).event.channel → access ≡ link.setup.link.fields.access
+    → init ≡ link.setup.link.fields.crc_init → end.acked ≡ (ack_of link).acked → end.accepted ≡ length (ack_of link).accepted → pdu ≡ pdu_sent (facts_in link)
+    → packet_sent link.setup (facts_in link) ≡ on_air channel access init (pdu_octets (bits_of end) (more_sent (facts_in link)) pdu)
 unfolding packet_sent
-packet_is link end channel access init on has begins acked accepted =
-    λ i. on_air (sym on i) (sym has i) (sym begins i) (octets_of (header_of (record { sn = is_odd (sym acked i); nesn = is_odd (sym accepted i) }) 1 false 0))
+packet_is link end pdu channel access init on has begins acked accepted same =
+    λ i. on_air (sym on i) (sym has i) (sym begins i)
+    (pdu_octets (record { sn = is_odd (sym acked i); nesn = is_odd (sym accepted i) }) (more_sent (facts_in link)) (sym same i))
 
 module _ (whole : IsHeardWhole) (given : Given) (Q : Place → List Event → Type 0) (known : AreKnown given Q) (are_two : IsOfTwo given) (pair : IsPair given) (six : HaveAddresses given)
     (distinct : AreDistinct given.stations) where
   pub link_packet : (phases : ℕ) (done left : List ℕ) (station channel : ℕ) (octets : List ℕ) (history : List Event) → given.stations ≡ done ++ station ∷ left
-      → use_at given station history ≡ Sends channel octets → AreChannelledAt given Q (AtPackets phases done (station ∷ left)) history
+      → use_at given station history ≡ Sends channel octets → AreLinedAt given Q (AtPackets phases done (station ∷ left)) history
       → is_advertising channel ≡ false → IsLinkPacket (journal_of history) (side_of station) channel octets
-  link_packet phases done left station channel octets history are wanted has off =
+  link_packet phases done left station channel octets history are wanted lined off =
+      let has = lined.channelled in
       let place = AtPackets phases done (station ∷ left) in
       let in_it = among given.stations done left station are in
       let setup = setup_at given station in
@@ -81,6 +84,9 @@ module _ (whole : IsHeardWhole) (given : Given) (Q : Place → List Event → Ty
       let begun = known.begun place history has.is.known station from.handle sender in_it from.is_open in
       let entered = turned setup (AreEntered setup) (entered_kept setup) (past_of station history) (record { stage = Within phases; begun = turns_begun history }) (entered_first setup)
       (has.is.holds.hearing.stand station in_it) in
+      let acked = counted.acked ∙ ap (λ (a : Acknowledgement). a.acked) (ack_sent from.slot from.link) in
+      let last = (lined.lines station from.handle sender in_it from.is_open).last end.acked
+      (ap (λ n. n + 1) acked ∙ sent_out from.link ∙ ap (λ (a : Acknowledgement). length a.sent) (sym (ack_sent from.slot from.link))) in
       record {
         number = number;
         belongs = from.belongs;
@@ -88,9 +94,11 @@ module _ (whole : IsHeardWhole) (given : Given) (Q : Place → List Event → Ty
         is_link = begun.is_link;
         in_event = on_its_channel from.link sender (channel_at number station history) channel refl (entries_sent true from.slot from.link)
             (entered.sends from.handle sender from.is_open on) from.channel_is (has.channels station from.handle sender in_it from.is_open);
-        carries = from.packet ∙ packet_is from.link end channel begun.link.fields.access begun.link.fields.crc_init from.channel_is (ap (λ f. f.access) begun.fields) (ap (λ f. f.crc_init) begun.fields)
-            (counted.acked ∙ ap (λ (a : Acknowledgement). a.acked) (ack_sent from.slot from.link))
-            (counted.accepted ∙ ap (λ (a : Acknowledgement). length a.accepted) (ack_sent from.slot from.link));
+        md = more_sent (facts_in from.link);
+        carries = from.packet ∙ packet_is from.link end (carried_of number (journal_of history) (side_of station)) channel begun.link.fields.access begun.link.fields.crc_init from.channel_is
+            (ap (λ f. f.access) begun.fields) (ap (λ f. f.crc_init) begun.fields) acked
+            (counted.accepted ∙ ap (λ (a : Acknowledgement). length a.accepted) (ack_sent from.slot from.link))
+            (sym last ∙ ap (λ (a : Acknowledgement). a.last) (ack_sent from.slot from.link));
       }
 
 -- ---- in a run of a pair
@@ -103,8 +111,13 @@ unfolding facts_of
 none_on given = λ station handle link in_it at.
     absurd (open_has (λ one. ⊥) 0 handle (replicate (setup_at given station).links None) link (none_open (λ one. ⊥) (setup_at given station).links) at)
 
-channels_first : (given : Given) → AreChannelledAt given (IsBelongingSoFar given) NoTurn []
-channels_first given = record { is = counts_first given; channels = none_on given }
+none_lined : (given : Given) → AreLined given []
+unfolding facts_of
+none_lined given = λ station handle link in_it at.
+    absurd (open_has (λ one. ⊥) 0 handle (replicate (setup_at given station).links None) link (none_open (λ one. ⊥) (setup_at given station).links) at)
+
+lines_first : (given : Given) → AreLinedAt given (IsBelongingSoFar given) NoTurn []
+lines_first given = record { channelled = record { is = counts_first given; channels = none_on given }; lines = none_lined given }
 
 pub packet_of_line : IsHeardWhole → IsUnderstood → AreTaken → AreNth → AreApart → (given : Given) → IsOfTwo given → IsPair given → HaveAddresses given → AreDistinct given.stations
     → (front : List Entry) (side : Side) (channel : ℕ) (octets : List ℕ) (fate : Mark) (verdict : Verdict) → IsAired given front side channel octets fate verdict
@@ -112,9 +125,9 @@ pub packet_of_line : IsHeardWhole → IsUnderstood → AreTaken → AreNth → A
 packet_of_line whole understood taken nth apart given are_two pair six distinct front side channel octets fate verdict aired off =
     let Q = IsBelongingSoFar given in
     let known = known_of understood taken nth apart given are_two six in
-    let seen = seen_packet given (AreChannelledAt given Q) (channels_kept whole given Q known are_two pair six distinct) (λ history. Unit {0}) AreLinkPackets
+    let seen = seen_packet given (AreLinedAt given Q) (lines_kept whole given Q known are_two pair six distinct) (λ history. Unit {0}) AreLinkPackets
     (record {
       turn = λ history has. tt;
       packet = λ phases done left station sent_on sent_octets history are wanted has. link_packet whole given Q known are_two pair six distinct phases done left station sent_on sent_octets history are wanted has;
-    }) (channels_first given) aired.before aired.after aired.station channel octets (aired.hearing ∷ aired.others) aired.is_at off in
+    }) (lines_first given) aired.before aired.after aired.station channel octets (aired.hearing ∷ aired.others) aired.is_at off in
     subst (λ xs. IsLinkPacket xs side channel octets) (sym aired.front_is) (subst (λ s. IsLinkPacket (journal_of aired.before) s channel octets) (sym aired.side_is) seen)

@@ -7,7 +7,8 @@ use Rattle.ble_base.specs.declared.roles.Role.{Role}
 use Rattle.ble_base.specs.declared.roles.Role.TheVariants.{Central, Peripheral}
 use Rattle.one_end.specs.End.{replies_by, replies_of}
 use Rattle.one_end.specs.Packets.{good_pdu}
-use Rattle.one_end.specs.Step.{PacketSent, PacketReceived}
+use Rattle.one_end.specs.Step.{PduFixed, PacketSent, PacketReceived}
+use Rattle.one_end.specs.Times.{has_second_exchange}
 use Rattle.open_links.specs.OpenLinks.{Links, OpenLink, facts_in, link_after, link_at, link_served, with_change}
 use Rattle.slot_plan.specs.declared.Activity.{Activity}
 use Rattle.slot_plan.specs.declared.Activity.TheVariants.{Link, Advertise, Scan, Initiate}
@@ -17,11 +18,11 @@ use Rattle.one_side.specs.declared.doing.Doing.{Doing}
 use Rattle.one_side.specs.declared.doing.Doing.TheVariants.{Advertises, CentralSends, CentralListens, PeripheralListens, PeripheralSends, Rests}
 use Rattle.one_side.specs.Step.{TurnBegins}
 use Rattle.one_side.specs.Facts.{Setup, Facts, first_facts}
-use Rattle.one_side.specs.Heard.{heard, link_heard, replies_in, reply_if, unheard}
+use Rattle.one_side.specs.Heard.{has_room, heard, link_heard, replies_in, reply_if, unheard}
 use Rattle.one_side.specs.Links.{facts_ending}
 use Rattle.one_side.specs.Outcome.{Outcome, facts_passed}
 use Rattle.one_side.specs.Packets.{facts_doing}
-use Rattle.one_side.specs.Radio.{advertises_at, advertises_on, doing_held, doing_won, exchange_begins, exchange_if, facts_entering, facts_won, first_exchange, initiates_on, initiator_channel, outcome_begun, plan_in, radio_served, scanner_channel, scans_on, second_exchange, served, slots_since, turn_begins, winner_served}
+use Rattle.one_side.specs.Radio.{advertises_at, advertises_on, doing_held, doing_won, exchange_begins, exchange_if, facts_entering, facts_won, first_exchange, initiates_on, initiator_channel, links_fixing, outcome_begun, plan_in, radio_served, scanner_channel, scans_on, second_exchange, served, slots_since, turn_begins, winner_served}
 use Rattle.one_side.specs.Side.{facts_after}
 use Rattle.runs.specs.Run.{step_of}
 use Rattle.run_laws.proofs.LinkPasses.{IsPassing, Leaves, Opens, Receives, is_on_link, phase_passes}
@@ -107,7 +108,7 @@ exchange_if_in false role handle links has = tt
 second_in : (handle : ℕ) (links : Links) (found : Option OpenLink) → link_at handle links ≡ found → IsInPhase 0 links (second_exchange handle found)
 second_in handle links None is = tt
 second_in handle links (Some link) is =
-    exchange_if_in (facts_in link).event.continues link.setup.link.role handle links (subst (HasRole link.setup.link.role) (sym is) refl)
+    exchange_if_in (has_second_exchange (facts_in link)) link.setup.link.role handle links (subst (HasRole link.setup.link.role) (sym is) refl)
 
 on_in : (channel : Option ℕ) (links : Links) → IsInPhase 0 links (advertises_on channel)
 on_in None links = tt
@@ -158,12 +159,22 @@ served_in : (on : Bool) (slot : ℕ) (winner : Option Activity) (facts : Facts) 
 served_in false slot winner facts = tt
 served_in true slot winner facts = radio_in (is_held_in facts.radio.hold slot) slot winner facts
 
+fixing_in : (phases : ℕ) (doing : Doing) (links : Links) → IsInPhase phases links doing → IsInPhase phases (links_fixing doing links) doing
+fixing_in phases (CentralSends handle) links is = phase_changed phases handle (link_after PduFixed) links (CentralSends handle) (λ link. refl) is
+fixing_in phases (PeripheralListens handle) links is = phase_changed phases handle (link_after PduFixed) links (PeripheralListens handle) (λ link. refl) is
+fixing_in phases (CentralListens handle) links is = is
+fixing_in phases (PeripheralSends handle) links is = is
+fixing_in phases (Advertises channel) links is = tt
+fixing_in phases other links is = tt
+
 begins_in : (setup : Setup) (slot : ℕ) (on : Bool) (facts : Facts)
     → IsInPhase 0 (facts_after setup facts (TurnBegins slot on)).links (facts_after setup facts (TurnBegins slot on)).turn.doing
 begins_in setup slot on facts =
     let begun = turn_begins slot (facts_ending slot facts) in
     let outcome = outcome_begun slot on facts in
-    doing_phase 0 outcome.next outcome.facts (served_in on slot (winner_of (plan_in slot begun) slot) (facts_entering slot begun))
+    let before = served on slot (winner_of (plan_in slot begun) slot) (facts_entering slot begun) in
+    doing_phase 0 outcome.next outcome.facts
+    (fixing_in 0 before.next before.facts.links (served_in on slot (winner_of (plan_in slot begun) slot) (facts_entering slot begun)))
 
 -- ---- a phase passes
 
@@ -186,12 +197,12 @@ next_phase : (phases first : ℕ) → phases ≡ first → suc phases ≡ first 
 next_phase phases first is = omega (arith, is)
 
 heard_in : (role : Role) (setup : Setup) (facts : Facts) (phases handle : ℕ) (octets : List ℕ) → HasRole role (link_at handle facts.links) → (role ≡ Peripheral → suc phases ≡ 1)
-    → IsInPhase (suc phases) (facts_passed (link_heard handle octets facts)).links (reply_if (replies_in (link_at handle facts.links) octets) handle)
+    → IsInPhase (suc phases) (facts_passed (link_heard setup handle octets facts)).links (reply_if (replies_in (link_at handle facts.links) octets) handle)
 heard_in role setup facts phases handle octets has second =
-    let outcome = link_heard handle octets facts in
+    let outcome = link_heard setup handle octets facts in
     doing_phase (suc phases) outcome.next outcome.facts
     (reply_in role handle facts.links outcome.facts.links octets (link_at handle facts.links) (suc phases) has
-    (role_changed role handle handle (link_after (PacketReceived facts.turn.slot octets)) facts.links (λ link. refl) has) second)
+    (role_changed role handle handle (link_after (PacketReceived facts.turn.slot octets (has_room setup facts))) facts.links (λ link. refl) has) second)
 
 abbrev PassesIn : ℕ → Facts → Type 0
 PassesIn phases after = IsInPhase phases after.links after.turn.doing
@@ -203,7 +214,7 @@ off_passing : (facts after : Facts) (received : Option (List ℕ)) (phases : ℕ
 off_passing facts after received phases off (Leaves same on) =
     off_link phases after.links after.turn.doing (false_from_ne_true (is_on_link after.turn.doing) (λ does. let h : true ≡ false = sym (on does) ∙ off in absurd cc))
 off_passing facts after received phases off (Opens link is none) = off_link phases after.links after.turn.doing none
-off_passing facts after received phases off (Receives handle octets is wanted on replies links_are) = absurd (let h : true ≡ false = sym on ∙ off in absurd cc)
+off_passing facts after received phases off (Receives handle octets is wanted on room replies links_are) = absurd (let h : true ≡ false = sym on ∙ off in absurd cc)
 
 passes_in : (setup : Setup) (facts : Facts) (received : Option (List ℕ)) (phases : ℕ) (doing : Doing) → facts.turn.doing ≡ doing → IsInPhase phases facts.links doing
     → IsPassing facts received (facts_after setup facts (step_of received)) → PassesIn (suc phases) (facts_after setup facts (step_of received))

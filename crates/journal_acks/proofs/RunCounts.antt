@@ -57,6 +57,7 @@ counts_first given = record {
   };
   first = none_first;
   silent = tt;
+  to_take = tt;
   counted = none_counted given;
 }
 

@@ -18,7 +18,7 @@ use Rattle.runs.specs.Links.{is_advertising}
 use Rattle.runs.specs.Run.{Given, facts_at, setup_at}
 use Rattle.runs.proofs.Stations.{is_in}
 use Rattle.runs.proofs.Walk.{Place}
-use Rattle.run_laws.proofs.Agreed.{ack_of, first_ack}
+use Rattle.run_laws.proofs.Agreed.{ack_of}
 use Rattle.run_laws.proofs.ConnectInds.{no_advertising}
 use Rattle.run_laws.proofs.InAgreement.{IsFresh, IsStation, OpenedBefore}
 use Rattle.run_laws.proofs.LinkPasses.{is_on_link}
@@ -32,6 +32,7 @@ use Rattle.journal_acks.proofs.Counting.{IsEndCounted, from_plain}
 use Rattle.journal_acks.proofs.LinkCalls.{off_listens, off_sends}
 use Rattle.journal_acks.proofs.LinkPhases.{HasRole, IsInPhase, IsPhased, phased_first, phased_kept}
 use Rattle.journal_acks.proofs.LinkUses.{IsSendingOpen, listens_under, sends_under}
+use Rattle.journal_acks.proofs.TwoStations.{same_number}
 
 abbrev pub PhasedBy : Given → List Event → ℕ → Standing → Type 0
 PhasedBy given history station at = IsPhased (setup_at given station) at.stage at.begun (facts_at given station history)
@@ -109,9 +110,6 @@ other_listens facts handle channel link listens is wanted on = false_from_ne_tru
     let same : channel ≡ (facts_in link).event.channel = cc in
     let h : true ≡ false = sym on ∙ ap is_advertising same ∙ off_channels (facts_in link).event.channel (link_channel link) in absurd cc)
 
-same_number : (n : ℕ) → (n == n) ≡ true
-same_number n = grind arith
-
 pub sends_on : (handle : ℕ) (doing : Doing) → SendsOn handle doing → sends_under handle doing ≡ true
 sends_on handle (CentralSends other) sends = ap (λ n. n == handle) sends ∙ same_number handle
 sends_on handle (PeripheralSends other) sends = ap (λ n. n == handle) sends ∙ same_number handle
@@ -168,4 +166,4 @@ fresh_counted setup facts handle link unsent received end station is now first =
     let none = off_listens handle facts.turn.doing off in
     from_plain unsent received handle facts.turn link end (off_sends handle facts.turn.doing off) (λ listens. absurd (let h : true ≡ false = sym listens ∙ none in absurd cc))
     (subst (λ e. IsCounted e (ack_of link)) (sym first)
-    (subst (IsCounted first_exchanged) (sym (first_ack link.setup link.past (open_has (IsFresh facts.turn.slot) 0 handle facts.links link station.fresh is now))) first_counted))
+    (subst (IsCounted first_exchanged) (sym (open_has (IsFresh facts.turn.slot) 0 handle facts.links link station.fresh is now)) first_counted))

@@ -1,22 +1,22 @@
 -- A packet of one of two stations, as the other one hears it, and its line in the journal.
-use Rattle.std.proofs.Common.{◌≡◌, ℕ, zero, suc, ◌<◌, ◌==◌, ◌&&◌, ◌||◌, ◌⊎◌, inl, inr, Bool, true, false, not, Option, Some, None, List, [], ◌∷◌, ◌++◌, take, refl, sym, ap, subst, ◌∙◌, arith}
+use Rattle.std.proofs.Common.{◌≡◌, ℕ, zero, suc, ◌+◌, ◌<◌, ◌≤◌, ◌==◌, nat_le, ◌&&◌, ◌||◌, ◌⊎◌, inl, inr, Bool, true, false, not, Option, Some, None, List, [], ◌∷◌, ◌++◌, length, take, refl, sym, ap, subst, ◌∙◌, arith}
 use Rattle.std.specs.Prelude.{if◌then◌else◌}
 use Rattle.std.specs.Str.{bytes_eq}
 use Rattle.std.proofs.lemmas.Bool.{eqb-true, eqb-false, false_from_ne_true}
+use Rattle.std.proofs.lemmas.Bool.Decides.{nat_tests}
 use Rattle.std.proofs.lemmas.Slice.Eq.{bytes_eq-Decides}
 use Rattle.ble_base.specs.Side.{other_side}
 use Rattle.ble_base.specs.declared.roles.Side.{Side}
 use Rattle.air_frame.specs.Hearing.{heard_in}
-use Rattle.air_frame.specs.Packet.{access_octets, is_packet, pdu_in}
+use Rattle.air_frame.specs.Packet.{IsPdu, access_octets, is_packet, pdu_in}
 use Rattle.air_frame.specs.declared.Heard.TheVariants.{NotOurs, Broken, Whole}
-use Rattle.data_pdu.specs.Header.{counts_as_empty, header_in, octets_of}
-use Rattle.data_pdu.specs.declared.header.DataHeader.{DataHeader}
-use Rattle.ack_bit.specs.AckBits.{AckBits, header_of}
-use Rattle.one_end.specs.Acknowledgement.{bits_of}
+use Rattle.data_pdu.specs.Header.{counts_as_empty, octets_of}
+use Rattle.one_end.specs.Data.{is_empty}
 use Rattle.journal.specs.declared.entries.Entry.TheVariants.{Air}
 use Rattle.one_end.specs.Facts.{Facts as EndFacts}
-use Rattle.one_end.specs.Packets.{header_sent, packet_sent, verdict_by as verdict_by_end, verdict_of as verdict_of_end}
+use Rattle.one_end.specs.Packets.{header_sent, packet_sent, pdu_sent, verdict_by as verdict_by_end, verdict_of as verdict_of_end}
 use Rattle.one_end.specs.Setup.{Setup as EndSetup}
+use Rattle.one_end.proofs.Payloads.{IsShort}
 use Rattle.one_end.proofs.Received.{IsHeardWhole, header_read}
 use Rattle.open_links.specs.OpenLinks.{OpenLink, facts_in, link_at}
 use Rattle.one_side.specs.declared.doing.Doing.{Doing}
@@ -74,6 +74,11 @@ side_differs (suc station) = refl
 pub side_other : (station : ℕ) → side_of (other_of station) ≡ other_side (side_of station)
 side_other zero = refl
 side_other (suc station) = refl
+
+pub other_apart : (given : Given) → IsOfTwo given → (station other : ℕ) → is_in station given.stations ≡ true → is_in other given.stations ≡ true → (other == station) ≡ false
+    → is_side (side_of other) (side_of station) ≡ false
+other_apart given pair station other is is_too differs =
+    ap (λ n. is_side (side_of n) (side_of station)) (other_is given pair station other is is_too differs) ∙ side_differs station
 
 -- ---- the one hearing of a packet
 
@@ -149,7 +154,7 @@ pub record IsListening (facts : Facts) (channel : ℕ) (octets : List ℕ) : Typ
   pub channel_is : channel ≡ (facts_in link).event.channel
   pub good : is_good (verdict_of_end link.setup (facts_in link) octets) ≡ true
 
-same_number : (n : ℕ) → (n == n) ≡ true
+pub same_number : (n : ℕ) → (n == n) ≡ true
 same_number n = grind arith
 
 open_listens : (facts : Facts) (channel handle : ℕ) (octets : List ℕ) (found : Option OpenLink) → listens_under handle facts.turn.doing ≡ true → link_at handle facts.links ≡ found
@@ -235,14 +240,19 @@ air_of_link number other station channel octets history hearings hearing are off
     ∙ ap (λ b. after_air (not b && is_number (link_of_packet (journal_of history) (side_of station) octets) number) (side_of station) (is_good hearing.verdict) empty (exchange_at number history)) off
     ∙ ap (λ may. after_air (is_number may number) (side_of station) (is_good hearing.verdict) empty (exchange_at number history)) belongs
 
--- the packet of a link carries an empty PDU
-empty_by : (header : DataHeader) (bits : AckBits) → header ≡ header_of bits 1 false 0 → counts_as_empty header ≡ true
-empty_by header bits is = ap counts_as_empty is
+-- whether the packet of a link carries an empty PDU
+in_form : (count : ℕ) → count ≤ 27 → (nat_le 2 (suc (suc count)) && nat_le (suc (suc count)) 257 && (suc (suc count) == 2 + count)) ≡ true
+in_form count short = grind (arith, nat_tests)
 
-pub sent_empty : IsHeardWhole → (setup : EndSetup) (facts : EndFacts) (link : LinkBegun) (channel : ℕ) (octets : List ℕ) → link.fields ≡ setup.link.fields
-    → channel ≡ facts.event.channel → octets ≡ packet_sent setup facts → carries_empty (Some link) channel octets ≡ true
+sent_in_form : (facts : EndFacts) → IsShort (pdu_sent facts) → IsPdu (octets_of (header_sent facts) ++ (pdu_sent facts).body)
+sent_in_form facts short = in_form (length (pdu_sent facts).body) short.short
+
+pub sent_empty : IsHeardWhole → (setup : EndSetup) (facts : EndFacts) (link : LinkBegun) (channel : ℕ) (octets : List ℕ) → IsShort (pdu_sent facts)
+    → link.fields ≡ setup.link.fields → channel ≡ facts.event.channel → octets ≡ packet_sent setup facts
+    → carries_empty (Some link) channel octets ≡ is_empty (pdu_sent facts)
 unfolding packet_sent
-sent_empty whole setup facts link channel octets fields on packet =
+sent_empty whole setup facts link channel octets short fields on packet =
+    let pdu = octets_of (header_sent facts) ++ (pdu_sent facts).body in
     (λ i. is_empty_in (heard_in (on i) ((fields i).access) ((fields i).crc_init) (packet i)))
-    ∙ ap is_empty_in (whole facts.event.channel setup.link.fields.access setup.link.fields.crc_init (octets_of (header_sent facts)) refl)
-    ∙ empty_by (header_in (octets_of (header_sent facts))) (bits_of facts.acknowledgement) (header_read facts)
+    ∙ ap is_empty_in (whole facts.event.channel setup.link.fields.access setup.link.fields.crc_init pdu (sent_in_form facts short))
+    ∙ ap counts_as_empty (header_read facts short)

@@ -1,8 +1,9 @@
 -- What is open under a handle after each change of the links of a controller.
-use Rattle.std.proofs.Common.{◌≡◌, ℕ, ◌+◌, ◌==◌, Bool, true, false, Option, Some, None, [], ◌∷◌, map, refl, sym, ap, subst, ◌∙◌}
-use Rattle.std.specs.Prelude.{if◌then◌else◌}
+use Rattle.std.proofs.Common.{◌≡◌, ℕ, ◌+◌, ◌==◌, Bool, true, false, Option, Some, None, List, [], ◌∷◌, map, refl, sym, ap, subst, ◌∙◌}
+use Rattle.std.specs.Prelude.{nat_lt, if◌then◌else◌}
 use Rattle.std.specs.Option.{option_map}
 use Rattle.std.proofs.lemmas.Bool.{eqb-true, eqb-false}
+use Rattle.std.proofs.lemmas.List.Sums.{fold-append}
 use Rattle.h4_frames.specs.declared.packet.HostPacket.TheVariants.{Command as HostCommand, Acl}
 use Rattle.h4_frames.specs.declared.packet.Fed.{Fed}
 use Rattle.h4_frames.specs.declared.packet.Fed.TheVariants.{More, Packet, LostSync}
@@ -13,18 +14,26 @@ use Rattle.hci_cmd.specs.declared.command.CmdRead.TheVariants.{Known, UnknownOpc
 use Rattle.hci_cmd.specs.Command.{command_of}
 use Rattle.host_view.specs.Unbuilt.{status_of}
 use Rattle.one_end.specs.Setup.{Setup as EndSetup}
-use Rattle.one_end.specs.Step.{PacketSent}
-use Rattle.open_links.specs.OpenLinks.{Links, OpenLink, link_after, link_at, link_from, new_link, with_change, with_change_from, with_link, without_links}
+use Rattle.one_end.specs.Events.{count_entry, entries_in}
+use Rattle.one_end.specs.Facts.{Facts as EndFacts}
+use Rattle.one_end.specs.Step.{Step as EndStep, DataGiven, DataReported, PduFixed, PacketSent}
+use Rattle.open_links.specs.declared.offers.Offer.{Offer}
+use Rattle.open_links.specs.declared.offers.Offer.TheVariants.{NoLink, Empty, Overflow, Kept}
+use Rattle.open_links.specs.Data.{complete_in, link_reported, links_given}
+use Rattle.open_links.specs.OpenLinks.{Links, OpenLink, facts_in, link_after, link_at, link_from, new_link, with_change, with_change_from, with_link, without_links}
 use Rattle.open_links.specs.Turns.{link_entered, links_entered, links_staying, place_staying, reason_in, staying_by}
 use Rattle.open_links.proofs.Ends.{stays_where_not_due}
 use Rattle.open_links.proofs.Handles.{changed_is, other_stays}
 use Rattle.one_side.specs.declared.doing.Doing.{Doing}
-use Rattle.one_side.specs.declared.doing.Doing.TheVariants.{Advertises, CentralSends, PeripheralSends}
-use Rattle.one_side.specs.Step.{HostOctet}
+use Rattle.one_side.specs.declared.doing.Doing.TheVariants.{Advertises, CentralSends, PeripheralListens, PeripheralSends}
+use Rattle.one_side.specs.Step.{HostOctet, TurnEnds}
 use Rattle.one_side.specs.Facts.{Setup, Facts}
 use Rattle.one_side.specs.Commands.{facts_commanded, facts_known, links_after}
+use Rattle.one_side.specs.Data.{facts_offered, offer_of}
 use Rattle.one_side.specs.Packets.{links_sending}
+use Rattle.one_side.specs.Radio.{links_fixing}
 use Rattle.one_side.specs.Side.{facts_after, facts_fed, result_of}
+use Rattle.run_laws.proofs.Agreed.{ack_given, ack_of, ack_reported, step_facts}
 use Rattle.journal_acks.proofs.LinkUses.{sends_under}
 
 -- a place that is open after a change of it was open before
@@ -140,6 +149,71 @@ opened_under end handle links after is true one =
 opened_under end handle links after is false differs =
     sym (other_stays (λ place. Some (new_link end)) 0 end.link.handle handle links (λ same. eqb-false end.link.handle handle differs (sym same))) ∙ is
 
+-- ---- a link that fixes the PDU that it sends next
+
+abbrev pub fixes_under : ℕ → Doing → Bool
+fixes_under handle (CentralSends other) = other == handle
+fixes_under handle (PeripheralListens other) = other == handle
+fixes_under handle other = false
+
+nothing_fixed : (place : Option OpenLink) (after : OpenLink) → place ≡ Some after → WasOpen (change_if false (link_after PduFixed)) place after
+nothing_fixed place after is = record { link = after; was = is; is = refl }
+
+pub fixing_under : (handle : ℕ) (doing : Doing) (links : Links) (after : OpenLink) → link_at handle (links_fixing doing links) ≡ Some after
+    → WasOpen (change_if (fixes_under handle doing) (link_after PduFixed)) (link_at handle links) after
+fixing_under handle (CentralSends other) links after is = change_under other handle (link_after PduFixed) links after is
+fixing_under handle (PeripheralListens other) links after is = change_under other handle (link_after PduFixed) links after is
+fixing_under handle (Advertises channel) links after is = nothing_fixed (link_at handle links) after is
+fixing_under handle doing links after is = nothing_fixed (link_at handle links) after is
+
+-- ---- what the host gives, and what is reported to it
+
+-- the link that was there before has sent, accepted and entered the same
+pub record WasAlike (place : Option OpenLink) (after : OpenLink) : Type 0 where
+  pub link : OpenLink
+  pub was : place ≡ Some link
+  pub setup : after.setup ≡ link.setup
+  pub ack : ack_of after ≡ ack_of link
+  pub entries : entries_in after.past ≡ entries_in link.past
+  pub heard : (facts_in after).event.heard ≡ (facts_in link).event.heard
+
+alike_same : (place : Option OpenLink) (after : OpenLink) → place ≡ Some after → WasAlike place after
+alike_same place after is = record { link = after; was = is; setup = refl; ack = refl; entries = refl; heard = refl }
+
+entries_after : (link : OpenLink) (step : EndStep) → entries_in (link_after step link).past ≡ count_entry (entries_in link.past) step
+entries_after link step = fold-append count_entry 0 link.past (step ∷ [])
+
+given_alike : (place : Option OpenLink) (start : Bool) (body : List ℕ) (link : OpenLink) → place ≡ Some link → WasAlike place (link_after (DataGiven start body) link)
+given_alike place start body link is = record {
+  link = link;
+  was = is;
+  setup = refl;
+  ack = ack_given start body link;
+  entries = entries_after link (DataGiven start body);
+  heard = ap (λ (f : EndFacts). f.event.heard) (step_facts link (DataGiven start body));
+}
+
+reported_alike : (place : Option OpenLink) (link : OpenLink) → place ≡ Some link → WasAlike place (link_after DataReported link)
+reported_alike place link is = record {
+  link = link;
+  was = is;
+  setup = refl;
+  ack = ack_reported link;
+  entries = entries_after link DataReported;
+  heard = ap (λ (f : EndFacts). f.event.heard) (step_facts link DataReported);
+}
+
+alike_is : (place : Option OpenLink) (one after : OpenLink) → after ≡ one → WasAlike place one → WasAlike place after
+alike_is place one after is alike = subst (WasAlike place) (sym is) alike
+
+given_under : (start : Bool) (body : List ℕ) (handle other : ℕ) (links : Links) (after : OpenLink) → link_at handle (links_given other start body links) ≡ Some after
+    → WasAlike (link_at handle links) after
+given_under start body handle other links after is = by (other == handle) (change_under other handle (link_after (DataGiven start body)) links after is)
+  where
+    by : (same : Bool) → WasOpen (change_if same (link_after (DataGiven start body))) (link_at handle links) after → WasAlike (link_at handle links) after
+    by true was = alike_is (link_at handle links) _ after was.is (given_alike (link_at handle links) start body was.link was.was)
+    by false was = alike_is (link_at handle links) was.link after was.is (alike_same (link_at handle links) was.link was.was)
+
 -- ---- an octet of the host
 
 shut_under : (handle : ℕ) (links : Links) (after : OpenLink) → link_at handle (without_links links) ≡ Some after → link_at handle links ≡ Some after
@@ -150,23 +224,45 @@ command_under Reset handle links after is = shut_under handle links after is
 command_under other handle links after is = is
 
 known_under : (accepted : Bool) (setup : Setup) (command : Command) (facts : Facts) (handle : ℕ) (after : OpenLink)
-    → link_at handle (facts_known accepted setup facts command).links ≡ Some after → link_at handle facts.links ≡ Some after
-known_under true setup command facts handle after is = command_under command handle facts.links after is
-known_under false setup command facts handle after is = is
+    → link_at handle (facts_known accepted setup facts command).links ≡ Some after → WasAlike (link_at handle facts.links) after
+known_under true setup command facts handle after is = alike_same (link_at handle facts.links) after (command_under command handle facts.links after is)
+known_under false setup command facts handle after is = alike_same (link_at handle facts.links) after is
 
 read_under : (setup : Setup) (facts : Facts) (read : CmdRead) (handle : ℕ) (after : OpenLink)
-    → link_at handle (facts_commanded setup facts read).links ≡ Some after → link_at handle facts.links ≡ Some after
+    → link_at handle (facts_commanded setup facts read).links ≡ Some after → WasAlike (link_at handle facts.links) after
 read_under setup facts (Known command) handle after is = known_under (status_of facts.view command == 0) setup command facts handle after is
-read_under setup facts UnknownOpcode handle after is = is
-read_under setup facts BadLength handle after is = is
+read_under setup facts UnknownOpcode handle after is = alike_same (link_at handle facts.links) after is
+read_under setup facts BadLength handle after is = alike_same (link_at handle facts.links) after is
+
+offered_under : (offer : Offer) (other : ℕ) (start : Bool) (body : List ℕ) (facts : Facts) (handle : ℕ) (after : OpenLink)
+    → link_at handle (facts_offered offer other start body facts).links ≡ Some after → WasAlike (link_at handle facts.links) after
+offered_under Kept other start body facts handle after is = given_under start body handle other facts.links after is
+offered_under NoLink other start body facts handle after is = alike_same (link_at handle facts.links) after is
+offered_under Empty other start body facts handle after is = alike_same (link_at handle facts.links) after is
+offered_under Overflow other start body facts handle after is = alike_same (link_at handle facts.links) after is
 
 fed_under : (setup : Setup) (facts : Facts) (fed : Fed) (handle : ℕ) (after : OpenLink)
-    → link_at handle (facts_fed setup facts fed).links ≡ Some after → link_at handle facts.links ≡ Some after
+    → link_at handle (facts_fed setup facts fed).links ≡ Some after → WasAlike (link_at handle facts.links) after
 fed_under setup facts (Packet (HostCommand opcode body)) handle after is = read_under setup facts (command_of opcode body.items) handle after is
-fed_under setup facts (Packet (Acl handle_too start count body)) handle after is = is
-fed_under setup facts LostSync handle after is = is
-fed_under setup facts More handle after is = is
+fed_under setup facts (Packet (Acl other start count body)) handle after is =
+    offered_under (offer_of setup facts other count) other start body.items facts handle after is
+fed_under setup facts LostSync handle after is = alike_same (link_at handle facts.links) after is
+fed_under setup facts More handle after is = alike_same (link_at handle facts.links) after is
 
 pub octet_under : (setup : Setup) (facts : Facts) (octet handle : ℕ) (after : OpenLink)
-    → link_at handle (facts_after setup facts (HostOctet octet)).links ≡ Some after → link_at handle facts.links ≡ Some after
+    → link_at handle (facts_after setup facts (HostOctet octet)).links ≡ Some after → WasAlike (link_at handle facts.links) after
 octet_under setup facts octet handle after is = fed_under setup facts (result_of facts.octets octet) handle after is
+
+-- ---- a turn ends
+
+pub end_under : (setup : Setup) (facts : Facts) (handle : ℕ) (after : OpenLink)
+    → link_at handle (facts_after setup facts TurnEnds).links ≡ Some after → WasAlike (link_at handle facts.links) after
+end_under setup facts handle after is = found (was_open link_reported (link_at handle facts.links) after (sym (map_under (option_map link_reported) refl 0 handle facts.links) ∙ is))
+  where
+    by : (reports : Bool) (link : OpenLink) → link_at handle facts.links ≡ Some link → after ≡ (if reports then link_after DataReported link else link)
+        → WasAlike (link_at handle facts.links) after
+    by true link was same = alike_is (link_at handle facts.links) _ after same (reported_alike (link_at handle facts.links) link was)
+    by false link was same = alike_is (link_at handle facts.links) link after same (alike_same (link_at handle facts.links) link was)
+
+    found : WasOpen link_reported (link_at handle facts.links) after → WasAlike (link_at handle facts.links) after
+    found was = by (nat_lt 0 (complete_in was.link)) was.link was.was was.is

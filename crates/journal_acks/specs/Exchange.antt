@@ -1,5 +1,5 @@
--- Which PDUs of a link are accepted and acknowledged, from the packets of a journal and their verdicts alone: no bit of
--- a header is read (Core 5.2, volume 6 part B, section 4.5.9).
+-- Which PDUs of a link are accepted and acknowledged, from the packets of a journal, their verdicts and the PDUs that
+-- are noted as taken: neither SN nor NESN is read (Core 5.2, volume 6 part B, section 4.5.9).
 use Rattle.std.specs.Prelude.{ℕ, ◌+◌, ◌==◌, ◌&&◌, not, Bool, false, List, [], ◌∷◌, ◌++◌, Option, Some, None, if◌then◌else◌}
 use Rattle.ble_base.specs.Side.{other_side}
 use Rattle.ble_base.specs.declared.roles.Side.{Side}

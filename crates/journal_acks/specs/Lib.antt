@@ -2,3 +2,4 @@
 pub mod Exchange
 pub mod Carried
 pub mod Counted
+pub mod Rows

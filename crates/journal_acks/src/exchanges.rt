@@ -13,8 +13,8 @@ ghost use Rattle.journal_acks.specs.Counted.{IsCounted};
 ghost use Rattle.journal_acks.specs.Exchange.{exchange_of};
 
 /// Before each turn of a run of a pair, and at the end of a whole run, each open end of a link has
-/// sent and accepted as many PDUs as the packets and verdicts of the journal say, and as many of
-/// its own are acknowledged to it (Core 5.2, volume 6 part B, section 4.5.9).
+/// sent and accepted as many PDUs as the packets and verdicts of the journal and its `Took` lines
+/// say, and as many of its own are acknowledged to it (Core 5.2, volume 6 part B, section 4.5.9).
 pub fn each_end_counts_as_the_journal_says()
     ensures before_a_turn { (a b : List ℕ) (script : Script) (before rest : List Event) (slot : ℕ)
         (radios : List Bool) (station handle : ℕ) (link : OpenLink)

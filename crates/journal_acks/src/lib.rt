@@ -9,5 +9,7 @@ mod rows;
 
 pub use crate::counts::counts_of_any_journal;
 pub use crate::exchanges::each_end_counts_as_the_journal_says;
-pub use crate::packets::each_link_packet_carries_what_the_journal_says;
-pub use crate::rows::worked_exchange;
+pub use crate::packets::{
+    each_link_packet_carries_what_the_journal_says, each_sent_line_is_of_a_new_pdu,
+};
+pub use crate::rows::{worked_data, worked_exchange};

@@ -4,21 +4,22 @@ ghost use Rattle.std.specs.Prelude.{◌≡◌, ◌++◌, ◌∷◌, ℕ, List, f
 ghost use Rattle.ble_base.specs.declared.roles.Side.{Side};
 ghost use Rattle.ble_base.specs.declared.verdicts.Verdict.{Verdict};
 ghost use Rattle.journal.specs.declared.entries.Entry.{Entry};
-ghost use Rattle.journal.specs.declared.entries.Entry.TheVariants.{Air};
+ghost use Rattle.journal.specs.declared.entries.Entry.TheVariants.{Air, Sent};
 ghost use Rattle.journal.specs.declared.entries.Mark.{Mark};
 ghost use Rattle.radio_replay.specs.Script.{Script};
 ghost use Rattle.runs.specs.Journal.{journal_of};
 ghost use Rattle.runs.specs.Links.{is_advertising};
 ghost use Rattle.runs.specs.Pair.{given_of};
 ghost use Rattle.runs.specs.Run.{history_of, run_of};
-ghost use Rattle.journal_acks.specs.Carried.{IsLinkPacket};
+ghost use Rattle.journal_acks.specs.Carried.{IsLinkPacket, IsNewPdu};
 
 /// In the journal of a run of a pair, each packet off the advertising channels is one of a link
-/// whose CONNECT_IND comes before it, on the channel that its side entered last on that link. It
-/// is the packet of an empty PDU with the access address and CRCInit of that CONNECT_IND; SN is the
-/// number of PDUs of its side that are acknowledged, and NESN that of the PDUs that its side
-/// accepted, both modulo 2, as the packets and verdicts before it say (Core 5.2, volume 6 part B,
-/// sections 2.1, 2.4 and 4.5.9).
+/// whose CONNECT_IND comes before it, on the channel that its side entered last on that link, with
+/// the access address and CRCInit of that CONNECT_IND. It carries the PDU of the last `Sent` line
+/// of its side on that link until a PDU of that side is acknowledged, and else an empty one. SN is
+/// the number of PDUs of its side that are acknowledged, and NESN that of the PDUs that its side
+/// accepted, both modulo 2, as the lines before it say (Core 5.2, volume 6 part B, sections 2.1,
+/// 2.4 and 4.5.9).
 pub fn each_link_packet_carries_what_the_journal_says()
     ensures { (a b : List ℕ) (script : Script) (front rest : List Entry) (side : Side)
         (channel : ℕ) (octets : List ℕ) (fate : Mark) (verdict : Verdict)
@@ -32,4 +33,21 @@ pub fn each_link_packet_carries_what_the_journal_says()
     scan_init::laws::searches_give_each_valid_address();
     air_frame::laws::packet_tells_its_pdu();
     runs::each_packet_on_the_air_is_due();
+}
+
+/// In the journal of a run of a pair, each `Sent` line comes where all PDUs that its side sent on
+/// that link before are acknowledged, as the lines before it say; and its PDU is not empty. So a
+/// PDU is sent again until it is acknowledged (Core 5.2, volume 6 part B, section 4.5.9).
+pub fn each_sent_line_is_of_a_new_pdu()
+    ensures { (a b : List ℕ) (script : Script) (front rest : List Entry) (side : Side)
+        (number count llid : ℕ) (body : List ℕ)
+        → length script.a.public ≡ 6 → length script.b.public ≡ 6
+        → journal_of (history_of (run_of (given_of a b script)))
+        ≡ front ++ Sent side number count llid body ∷ rest
+        → IsNewPdu number front side (record { llid = llid; body = body }) }
+{
+    one_side::a_pdu_is_understood();
+    advertise::laws::connections_are_taken();
+    scan_init::laws::searches_give_each_valid_address();
+    air_frame::laws::packet_tells_its_pdu();
 }

@@ -20,7 +20,8 @@ use Rattle.one_end.specs.End.{replies_by, replies_of}
 use Rattle.one_end.specs.Facts.{Facts as EndFacts}
 use Rattle.one_end.specs.Packets.{good_in, good_pdu, packet_sent}
 use Rattle.one_end.specs.Setup.{Setup as EndSetup}
-use Rattle.one_end.specs.Step.{PacketSent, PacketReceived}
+use Rattle.one_end.specs.Step.{PduFixed, PacketSent, PacketReceived}
+use Rattle.one_end.specs.Times.{has_second_exchange}
 use Rattle.one_end.specs.declared.setup.LinkSetup.{LinkSetup}
 use Rattle.scan_init.specs.Initiating.{InitiatorFacts}
 use Rattle.scan_init.specs.Reports.{ScannerFacts, does_ask, scan_answer}
@@ -33,11 +34,11 @@ use Rattle.one_side.specs.declared.doing.Doing.{Doing}
 use Rattle.one_side.specs.declared.doing.Doing.TheVariants.{Advertises, AwaitsRequest, Scans, Requests, AwaitsResponse, Initiates, Connects, CentralSends, CentralListens, PeripheralListens, PeripheralSends, Rests}
 use Rattle.one_side.specs.Step.{HostOctet, TurnBegins}
 use Rattle.one_side.specs.Facts.{Setup, Facts, Sends, Listens, first_facts}
-use Rattle.one_side.specs.Heard.{advertiser_answers, advertiser_heard, asks_if, connects, heard, if_pdu, initiator_heard, link_heard, link_received, link_to, replies_in, reply_if, scanner_heard, taken_if, taken_under, unheard}
+use Rattle.one_side.specs.Heard.{advertiser_answers, advertiser_heard, asks_if, connects, has_room, heard, if_pdu, initiator_heard, link_heard, link_received, link_to, replies_in, reply_if, scanner_heard, taken_if, taken_under, unheard}
 use Rattle.one_side.specs.Links.{facts_ending}
 use Rattle.one_side.specs.Outcome.{Outcome, facts_passed, goes_on}
 use Rattle.one_side.specs.Packets.{facts_doing, links_sending, listens_on, pdu_heard, sends_on}
-use Rattle.one_side.specs.Radio.{advertises_at, advertises_on, doing_held, doing_won, exchange_begins, exchange_if, facts_entering, facts_won, first_exchange, initiates_on, initiator_channel, plan_in, radio_served, scanner_channel, scans_on, second_exchange, served, slots_since, turn_begins, winner_served}
+use Rattle.one_side.specs.Radio.{advertises_at, advertises_on, doing_held, doing_won, exchange_begins, exchange_if, facts_entering, facts_won, first_exchange, fixing, initiates_on, initiator_channel, links_fixing, plan_in, radio_served, scanner_channel, scans_on, second_exchange, served, slots_since, turn_begins, winner_served}
 use Rattle.one_side.specs.Sent.{SendsOn}
 use Rattle.one_side.specs.Side.{facts_after}
 use Rattle.runs.specs.History.{Event, past_of, turns_begun}
@@ -105,15 +106,18 @@ change_at : (handle : ℕ) (change : OpenLink → OpenLink) (links : Links) (lin
     → link_at handle (with_change handle change links) ≡ Some (change link)
 change_at handle change links link at = changed_is (option_map change) 0 handle links refl ∙ ap (option_map change) at
 
-module _ (facts : Facts) (handle : ℕ) (octets : List ℕ) (listens : facts.wanted ≡ listens_on (link_at handle facts.links)) where
+module _ (setup : Setup) (facts : Facts) (handle : ℕ) (octets : List ℕ) (listens : facts.wanted ≡ listens_on (link_at handle facts.links)) where
+  abbrev room : Bool
+  room = has_room setup facts
+
   reply_is : (found : Option OpenLink) → link_at handle facts.links ≡ found → replies_in found octets ≡ true
-      → IsReply facts (Some octets) (facts_doing (PeripheralSends handle) (link_received handle octets facts))
+      → IsReply facts (Some octets) (facts_doing (PeripheralSends handle) (link_received handle room octets facts))
   reply_is None at replies = absurd cc
   reply_is (Some link) at replies =
-      let took = link_after (PacketReceived facts.turn.slot octets) link in
+      let took = link_after (PacketReceived facts.turn.slot octets room) link in
       let told = replied link.setup (facts_in link) octets replies in
-      let now = change_at handle (link_after (PacketReceived facts.turn.slot octets)) facts.links link at in
-      let after = change_at handle (link_after (PacketSent facts.turn.slot)) (link_received handle octets facts).links took now in record {
+      let now = change_at handle (link_after (PacketReceived facts.turn.slot octets room)) facts.links link at in
+      let after = change_at handle (link_after (PacketSent facts.turn.slot)) (link_received handle room octets facts).links took now in record {
         handle = handle;
         doing = refl;
         link = link;
@@ -132,11 +136,11 @@ module _ (facts : Facts) (handle : ℕ) (octets : List ℕ) (listens : facts.wan
       }
 
   reply_by : (replies : Bool) → replies_in (link_at handle facts.links) octets ≡ replies
-      → IsLeft facts (Some octets) (facts_doing (reply_if replies handle) (link_received handle octets facts))
+      → IsLeft facts (Some octets) (facts_doing (reply_if replies handle) (link_received handle room octets facts))
   reply_by false is = Silent refl
   reply_by true is = Replies (reply_is (link_at handle facts.links) refl is)
 
-  link_left : IsLeft facts (Some octets) (facts_passed (link_heard handle octets facts))
+  link_left : IsLeft facts (Some octets) (facts_passed (link_heard setup handle octets facts))
   link_left = reply_by (replies_in (link_at handle facts.links) octets) refl
 
 -- ---- nothing else sends on a link next
@@ -197,8 +201,8 @@ heard_left setup facts octets (AwaitsResponse channel) listens =
     Silent (pdu_silent (pdu_heard channel octets) facts _ (λ pdu. scanner_silent facts.scanning.on false channel pdu facts))
 heard_left setup facts octets (Initiates channel) listens =
     Silent (pdu_silent (pdu_heard channel octets) facts _ (λ pdu. initiator_silent facts.initiator setup channel pdu facts))
-heard_left setup facts octets (CentralListens handle) listens = link_left facts handle octets listens
-heard_left setup facts octets (PeripheralListens handle) listens = link_left facts handle octets listens
+heard_left setup facts octets (CentralListens handle) listens = link_left setup facts handle octets listens
+heard_left setup facts octets (PeripheralListens handle) listens = link_left setup facts handle octets listens
 heard_left setup facts octets (Advertises channel) listens = Silent (unheard_silent (Advertises channel) facts)
 heard_left setup facts octets doing listens = Silent (unheard_silent doing facts)
 
@@ -235,27 +239,30 @@ role_changed role handle change links same has =
 
 -- a turn begins with an exchange in the role of its link
 exchange_role : (slot handle : ℕ) (links : Links) (role : Role) → HasRole role (link_at handle links)
-    → RoleIn (links_sending slot (exchange_begins role handle) links) (exchange_begins role handle)
-exchange_role slot handle links Central has = role_changed Central handle (link_after (PacketSent slot)) links (λ link. refl) has
+    → RoleIn (links_sending slot (exchange_begins role handle) (links_fixing (exchange_begins role handle) links)) (exchange_begins role handle)
+exchange_role slot handle links Central has =
+    role_changed Central handle (link_after (PacketSent slot)) (links_fixing (CentralSends handle) links) (λ link. refl)
+    (role_changed Central handle (link_after PduFixed) links (λ link. refl) has)
 exchange_role slot handle links Peripheral has = tt
 
 exchange_if_role : (continues : Bool) (slot handle : ℕ) (links : Links) (role : Role) → HasRole role (link_at handle links)
-    → RoleIn (links_sending slot (exchange_if continues role handle) links) (exchange_if continues role handle)
+    → RoleIn (links_sending slot (exchange_if continues role handle) (links_fixing (exchange_if continues role handle) links)) (exchange_if continues role handle)
 exchange_if_role true slot handle links role has = exchange_role slot handle links role has
 exchange_if_role false slot handle links role has = tt
 
 first_role : (now slot handle : ℕ) (links : Links) (found : Option OpenLink) → link_at handle links ≡ found
-    → RoleIn (links_sending now (first_exchange handle found) (with_change handle (link_served slot) links)) (first_exchange handle found)
+    → RoleIn (links_sending now (first_exchange handle found) (links_fixing (first_exchange handle found) (with_change handle (link_served slot) links)))
+    (first_exchange handle found)
 first_role now slot handle links None at = tt
 first_role now slot handle links (Some link) at =
     exchange_role now handle (with_change handle (link_served slot) links) link.setup.link.role
     (role_changed link.setup.link.role handle (link_served slot) links (λ one. refl) (subst (HasRole link.setup.link.role) (sym at) refl))
 
 second_role : (now handle : ℕ) (links : Links) (found : Option OpenLink) → link_at handle links ≡ found
-    → RoleIn (links_sending now (second_exchange handle found) links) (second_exchange handle found)
+    → RoleIn (links_sending now (second_exchange handle found) (links_fixing (second_exchange handle found) links)) (second_exchange handle found)
 second_role now handle links None at = tt
 second_role now handle links (Some link) at =
-    exchange_if_role (facts_in link).event.continues now handle links link.setup.link.role (subst (HasRole link.setup.link.role) (sym at) refl)
+    exchange_if_role (has_second_exchange (facts_in link)) now handle links link.setup.link.role (subst (HasRole link.setup.link.role) (sym at) refl)
 
 on_silent : (channel : Option ℕ) → is_to_send (advertises_on channel) ≡ false
 on_silent None = refl
@@ -278,7 +285,7 @@ initiates_silent None = refl
 initiates_silent (Some channel) = refl
 
 abbrev RoleNext : Outcome → Type 0
-RoleNext outcome = RoleIn (facts_passed outcome).links outcome.next
+RoleNext outcome = RoleIn (facts_passed (fixing outcome)).links outcome.next
 
 activity_won : (slot : ℕ) (activity : Activity) (facts : Facts) → RoleNext (goes_on (facts_won slot activity facts) (doing_won slot activity facts))
 activity_won slot (Link handle) facts = first_role facts.turn.slot slot handle facts.links (link_at handle facts.links) refl

@@ -1,0 +1,180 @@
+-- The PDUs that a call notes are those of one link, which began before this turn.
+use Rattle.std.proofs.Common.{◌≡◌, ℕ, ◌+◌, ◌<◌, ◌==◌, ◌&&◌, not, Bool, true, false, Option, Some, None, List, [], ◌++◌, refl, sym, ap, subst, ◌∙◌}
+use Rattle.std.specs.Prelude.{All}
+use Rattle.std.specs.Option.{option_map}
+use Rattle.std.proofs.lemmas.List.Elements.{All-append, All-cons, All-nil}
+use Rattle.ble_base.specs.declared.notes.Note.{Note}
+use Rattle.ble_base.specs.declared.notes.Note.TheVariants.{Up, Sent, Took}
+use Rattle.one_end.specs.Acknowledgement.{Pdu, is_acked}
+use Rattle.one_end.specs.Data.{is_empty}
+use Rattle.one_end.specs.End.{notes_after as end_notes, sent_notes_if, took_notes, took_notes_if}
+use Rattle.one_end.specs.Facts.{Facts as EndFacts}
+use Rattle.one_end.specs.Packets.{good_pdu, pdu_of}
+use Rattle.one_end.specs.Step.{PacketSent, PacketReceived}
+use Rattle.open_links.specs.OpenLinks.{Links, OpenLink, facts_in, link_after, link_at, with_change}
+use Rattle.open_links.specs.Turns.{notes_entering}
+use Rattle.open_links.proofs.Handles.{handle_is}
+use Rattle.one_side.specs.declared.doing.Doing.{Doing}
+use Rattle.one_side.specs.declared.doing.Doing.TheVariants.{Advertises, CentralSends, CentralListens, PeripheralListens, PeripheralSends}
+use Rattle.one_side.specs.Step.{TurnBegins}
+use Rattle.one_side.specs.Facts.{Setup, Facts}
+use Rattle.one_side.specs.Heard.{has_room, link_heard, link_received, notes_taken, replies_in, reply_if}
+use Rattle.one_side.specs.Links.{facts_ending, notes_ending}
+use Rattle.one_side.specs.Outcome.{notes_passed}
+use Rattle.one_side.specs.Packets.{links_sending, notes_doing, notes_sent}
+use Rattle.one_side.specs.Radio.{outcome_begun}
+use Rattle.one_side.specs.Side.{notes_after}
+use Rattle.one_side.proofs.Always.{begun_doing}
+use Rattle.one_side.proofs.Handles.{HaveOwnHandles, handles_kept}
+use Rattle.runs.specs.History.{Event, turns_begun}
+use Rattle.runs.specs.Journal.{journal_of}
+use Rattle.runs.specs.Run.{Given, facts_at, setup_at, step_of}
+use Rattle.run_laws.proofs.LinkPasses.{is_on_link}
+use Rattle.journal_links.specs.Begun.{LinkBegun, link_numbered}
+use Rattle.journal_acks.proofs.CallNotes.{HasNoData, all_more, begin_noted, no_data, start_noted}
+use Rattle.journal_acks.proofs.Exchanging.{OpensNone, number_at, opening_none}
+use Rattle.journal_acks.proofs.FirstCounts.{IsCallOf, IsOnly, OfLink, OfNone}
+use Rattle.journal_acks.proofs.LinkCalls.{begins_under, received_quiet}
+use Rattle.journal_acks.proofs.LinkUses.{listens_under, sends_under}
+use Rattle.journal_acks.proofs.PhaseNotes.{IsOnLink, IsPhaseOf, IsPlainPhase, SendsFrom, SendsNothing, SendsOne, sends_from}
+use Rattle.journal_acks.proofs.UnderHandles.{change_by}
+use Rattle.journal_acks.proofs.TwoStations.{same_number}
+
+-- the link with a number began before this turn
+pub record IsBegunBefore (number : ℕ) (history : List Event) : Type 0 where
+  pub link : LinkBegun
+  pub is_link : link_numbered number (journal_of history) ≡ Some link
+  pub before : link.slot + 1 < turns_begun history
+
+-- ---- the notes of one link
+
+of_no_other : (handle : ℕ) (note : Note) → HasNoData note → IsOnly handle note
+of_no_other handle (Sent other number llid body) has = absurd (let h : true ≡ false = has.sends in absurd cc)
+of_no_other handle (Took other number llid body) has = absurd (let h : true ≡ false = has.takes in absurd cc)
+of_no_other handle (Up packet) has = tt
+of_no_other handle note has = tt
+
+only_sent_if : (noted : Bool) (handle other : ℕ) (facts : EndFacts) → other ≡ handle → All (IsOnly handle) (sent_notes_if noted other facts)
+only_sent_if true handle other facts same = All-cons (IsOnly handle) _ [] same (All-nil (IsOnly handle))
+only_sent_if false handle other facts same = All-nil (IsOnly handle)
+
+only_sent : (slot handle : ℕ) (link : OpenLink) → link.setup.link.handle ≡ handle → All (IsOnly handle) (end_notes link.setup (facts_in link) (PacketSent slot))
+only_sent slot handle link same =
+    let facts = facts_in link in
+    only_sent_if (is_acked facts.acknowledgement && not (is_empty facts.outgoing.fixed)) handle link.setup.link.handle facts same
+
+only_took_if : (noted : Bool) (handle other : ℕ) (pdu : Pdu) (facts : EndFacts) → other ≡ handle → All (IsOnly handle) (took_notes_if noted other pdu facts)
+only_took_if true handle other pdu facts same = All-cons (IsOnly handle) _ [] same (All-nil (IsOnly handle))
+only_took_if false handle other pdu facts same = All-nil (IsOnly handle)
+
+only_took_by : (handle other : ℕ) (room : Bool) (found : Option (List ℕ)) (facts : EndFacts) → other ≡ handle → All (IsOnly handle) (took_notes other room found facts)
+only_took_by handle other room None facts same = All-nil (IsOnly handle)
+only_took_by handle other room (Some pdu) facts same = only_took_if _ handle other (pdu_of pdu) facts same
+
+only_took : (slot handle : ℕ) (room : Bool) (octets : List ℕ) (link : OpenLink) → link.setup.link.handle ≡ handle → All (IsOnly handle) (notes_taken slot room (Some link) octets)
+only_took slot handle room octets link same = only_took_by handle link.setup.link.handle room (good_pdu link.setup (facts_in link) octets) (facts_in link) same
+
+-- ---- a turn begins
+
+change_here : (same : Bool) (handle other : ℕ) (change : OpenLink → OpenLink) (links : Links) (link : OpenLink) → (handle == other) ≡ same → same ≡ true
+    → link_at other links ≡ Some link → link_at other (with_change handle change links) ≡ Some (change link)
+change_here true handle other change links link is same at = change_by true handle other change links is ∙ ap (option_map change) at
+change_here false handle other change links link is same at = absurd cc
+
+-- what is to send was sent
+pub sent_at : (slot other : ℕ) (doing : Doing) (links : Links) (link : OpenLink) → sends_under other doing ≡ true → link_at other links ≡ Some link
+    → link_at other (links_sending slot doing links) ≡ Some (link_after (PacketSent slot) link)
+sent_at slot other (CentralSends handle) links link on at = change_here (handle == other) handle other (link_after (PacketSent slot)) links link refl on at
+sent_at slot other (PeripheralSends handle) links link on at = change_here (handle == other) handle other (link_after (PacketSent slot)) links link refl on at
+sent_at slot other (Advertises channel) links link on at = absurd cc
+sent_at slot other doing links link on at = absurd cc
+
+-- each link has its own handle as it is to send
+pub own_begun : (setup : Setup) (slot : ℕ) (on : Bool) (facts : Facts) → HaveOwnHandles setup facts → HaveOwnHandles setup (outcome_begun slot on facts).facts
+own_begun setup slot on facts own =
+    begun_doing (HaveOwnHandles setup) (HaveOwnHandles setup) (handles_kept setup).turns.starts (λ doing next. HaveOwnHandles setup next)
+    (λ doing next may has. has) slot on facts own
+
+module _ (given : Given) (station : ℕ) (history : List Event) (own : HaveOwnHandles (setup_at given station) (facts_at given station history))
+    (old : (handle : ℕ) (link : OpenLink) → link_at handle (facts_at given station history).links ≡ Some link → IsBegunBefore (number_at station handle history) history) where
+  abbrev setup : Setup
+  setup = setup_at given station
+
+  abbrev facts : Facts
+  facts = facts_at given station history
+
+  pub begin_call : (slot : ℕ) (on : Bool) → IsCallOf given station (TurnBegins slot on) history
+  begin_call slot on = by (sends_from (outcome_begun slot on facts).next (outcome_begun slot on facts).facts)
+    where
+      by : SendsFrom (outcome_begun slot on (facts_at given station history)).next (outcome_begun slot on (facts_at given station history)).facts
+          → IsCallOf given station (TurnBegins slot on) history
+      by (SendsNothing none) =
+          let start = notes_ending slot facts ++ notes_entering slot (facts_ending slot facts).links in
+          OfNone (All-append HasNoData start _ (start_noted HasNoData no_data slot facts) (subst (All HasNoData) (sym none) (All-nil HasNoData)))
+      by (SendsOne other base found sends are) =
+          let start = notes_ending slot facts ++ notes_entering slot (facts_ending slot facts).links in
+          let outcome = outcome_begun slot on facts in
+          let sent = sent_at outcome.facts.turn.slot other outcome.next outcome.facts.links base sends found in
+          let begun = begins_under setup facts slot on other (link_after (PacketSent outcome.facts.turn.slot) base) sent in
+          let has = old other begun.link begun.was in
+          let handle = handle_is 0 other outcome.facts.links base (own_begun setup slot on facts own).handles found in
+          OfLink other has.link has.is_link has.before
+          (All-append (IsOnly other) start _ (all_more HasNoData (IsOnly other) (of_no_other other) start (start_noted HasNoData no_data slot facts))
+          (subst (All (IsOnly other)) (sym are) (only_sent outcome.facts.turn.slot other base handle)))
+          (begin_noted (OpensNone other) (opening_none other) setup slot on facts)
+
+-- ---- a phase
+
+pub listens_on_link : (handle : ℕ) (doing : Doing) → listens_under handle doing ≡ true → is_on_link doing ≡ true
+listens_on_link handle (CentralListens other) on = refl
+listens_on_link handle (PeripheralListens other) on = refl
+listens_on_link handle (Advertises channel) on = absurd cc
+listens_on_link handle other on = absurd cc
+
+-- the link that received is under its handle still
+pub received_at : (slot other : ℕ) (octets : List ℕ) (room : Bool) (links : Links) (link : OpenLink) → link_at other links ≡ Some link
+    → link_at other (with_change other (link_after (PacketReceived slot octets room)) links) ≡ Some (link_after (PacketReceived slot octets room) link)
+received_at slot other octets room links link at =
+    change_here (other == other) other other (link_after (PacketReceived slot octets room)) links link refl (same_number other) at
+
+only_reply : (replies : Bool) (other : ℕ) (facts : Facts) (link : OpenLink) → link_at other facts.links ≡ Some link → link.setup.link.handle ≡ other
+    → All (IsOnly other) (notes_doing (reply_if replies other) facts)
+only_reply true other facts link at same = subst (All (IsOnly other)) (sym (ap (notes_sent facts.turn.slot) at)) (only_sent facts.turn.slot other link same)
+only_reply false other facts link at same = All-nil (IsOnly other)
+
+-- where there is no link nothing is noted
+pub unfound : (setup : Setup) (facts : Facts) (other : ℕ) (octets : List ℕ) → link_at other facts.links ≡ None → notes_passed (link_heard setup other octets facts) ≡ []
+unfound setup facts other octets none =
+    ap (λ found. notes_taken facts.turn.slot (has_room setup facts) found octets ++ notes_doing (reply_if (replies_in found octets) other) (link_received other (has_room setup facts) octets facts)) none
+
+pub on_link_notes : (setup : Setup) (facts : Facts) (received : Option (List ℕ)) (other : ℕ) (octets : List ℕ) → received ≡ Some octets
+    → notes_after setup facts (step_of (Some octets)) ≡ notes_passed (link_heard setup other octets facts)
+    → notes_after setup facts (step_of received) ≡ notes_passed (link_heard setup other octets facts)
+on_link_notes setup facts received other octets some are = ap (λ may. notes_after setup facts (step_of may)) some ∙ are
+
+module _ (given : Given) (station : ℕ) (history : List Event) (received : Option (List ℕ)) (own : HaveOwnHandles (setup_at given station) (facts_at given station history))
+    (old : is_on_link (facts_at given station history).turn.doing ≡ true → (handle : ℕ) (link : OpenLink) → link_at handle (facts_at given station history).links ≡ Some link
+    → IsBegunBefore (number_at station handle history) history) where
+  pub phase_call : IsPhaseOf (setup_at given station) (facts_at given station history) received → IsCallOf given station (step_of received) history
+  phase_call (IsPlainPhase none plain) = OfNone plain
+  phase_call (IsOnLink other octets some listens heard_is) = by (link_at other (facts_at given station history).links) refl
+    where
+      are : notes_after (setup_at given station) (facts_at given station history) (step_of received) ≡ notes_passed (link_heard (setup_at given station) other octets (facts_at given station history))
+      are = on_link_notes (setup_at given station) (facts_at given station history) received other octets some (ap notes_passed heard_is)
+
+      by : (found : Option OpenLink) → link_at other (facts_at given station history).links ≡ found → IsCallOf given station (step_of received) history
+      by None is = OfNone (subst (All HasNoData) (sym (are ∙ unfound (setup_at given station) (facts_at given station history) other octets is)) (All-nil HasNoData))
+      by (Some link) is =
+          let setup = setup_at given station in
+          let facts = facts_at given station history in
+          let room = has_room setup facts in
+          let slot = facts.turn.slot in
+          let handle = handle_is 0 other facts.links link own.handles is in
+          let has = old (listens_on_link other facts.turn.doing (listens other ∙ same_number other)) other link is in
+          OfLink other has.link has.is_link has.before
+          (subst (All (IsOnly other)) (sym are)
+          (All-append (IsOnly other) (notes_taken slot room (link_at other facts.links) octets) _
+          (subst (λ found. All (IsOnly other) (notes_taken slot room found octets)) (sym is) (only_took slot other room octets link handle))
+          (only_reply (replies_in (link_at other facts.links) octets) other (link_received other room octets facts) (link_after (PacketReceived slot octets room) link)
+          (received_at slot other octets room facts.links link is) handle)))
+          (subst (All (OpensNone other)) (sym are) (received_quiet other setup other octets facts))

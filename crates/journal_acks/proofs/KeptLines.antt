@@ -1,0 +1,442 @@
+-- Each step of a run of a pair keeps which PDU the lines of new PDUs say that an end has sent last.
+use Rattle.std.proofs.Common.{◌≡◌, ℕ, ◌+◌, ◌-◌, ◌<◌, ◌≤◌, ◌==◌, ◌&&◌, ◌⊎◌, inl, inr, not, Bool, true, false, Option, Some, None, List, [], ◌∷◌, ◌++◌, length, refl, sym, ap, subst, ◌∙◌, append-nil, arith}
+use Rattle.std.specs.Prelude.{All, map, take, if◌then◌else◌}
+use Rattle.std.proofs.lemmas.Bool.{eqb-true, eq-eqb, ne_eqb}
+use Rattle.std.proofs.lemmas.List.{length_push}
+use Rattle.std.proofs.lemmas.List.Elements.{All-nil}
+use Rattle.ble_base.specs.declared.notes.Note.{Note}
+use Rattle.one_end.specs.Acknowledgement.{Acknowledgement, Pdu, empty_pdu, first_acknowledgement, is_acked, next_sent}
+use Rattle.one_end.specs.Data.{is_empty}
+use Rattle.one_end.specs.End.{sent_notes_if}
+use Rattle.one_end.specs.Facts.{Facts as EndFacts}
+use Rattle.one_end.specs.Step.{PacketReceived}
+use Rattle.one_end.proofs.Received.{IsHeardWhole}
+use Rattle.open_links.specs.OpenLinks.{OpenLink, facts_in, link_after, link_at}
+use Rattle.open_links.specs.Turns.{notes_entering}
+use Rattle.open_links.proofs.Counts.{count_changing}
+use Rattle.open_links.proofs.Handles.{handle_is}
+use Rattle.one_side.specs.declared.doing.Doing.{Doing}
+use Rattle.one_side.specs.declared.doing.Doing.TheVariants.{Rests}
+use Rattle.one_side.specs.Step.{Step, HostOctet, TurnBegins, TurnEnds}
+use Rattle.one_side.specs.Facts.{Setup, Facts}
+use Rattle.one_side.specs.Heard.{has_room, link_heard, link_received, notes_taken, replies_in, reply_if}
+use Rattle.one_side.specs.Links.{facts_ending, notes_ending}
+use Rattle.one_side.specs.Outcome.{Outcome, notes_passed}
+use Rattle.one_side.specs.Radio.{outcome_begun}
+use Rattle.one_side.specs.Side.{facts_after, notes_after}
+use Rattle.runs.specs.Feeding.{AreDistinct}
+use Rattle.runs.specs.History.{Event, TurnBegan, HostFed, Transmitted, packet_received, steps_in, turns_begun}
+use Rattle.runs.specs.Journal.{side_of}
+use Rattle.runs.specs.LinkEnds.{HaveAddresses}
+use Rattle.runs.specs.Run.{Given, after_call, after_feed, after_octets, facts_at, hearings_of, octets_left, setup_at, step_of}
+use Rattle.runs.proofs.Calls.{turns_called}
+use Rattle.runs.proofs.Stations.{is_in, among, not_before}
+use Rattle.runs.proofs.Walk.{Place, AtBegins, AtListening, IsKept}
+use Rattle.run_laws.proofs.Agreed.{ack_of, ack_sent, sent_ack}
+use Rattle.run_laws.proofs.ByCalls.{Holds}
+use Rattle.run_laws.proofs.Hearings.{other_facts, own_facts}
+use Rattle.run_laws.proofs.InAgreement.{AreStations, IsFresh, IsPair, IsStation, differs_back}
+use Rattle.run_laws.proofs.OpenSteps.{open_has}
+use Rattle.run_laws.proofs.TurnPlaces.{Between, Within, at_stage}
+use Rattle.run_laws.proofs.TurnSteps.{phase_turn}
+use Rattle.journal_packets.specs.Belonging.{is_side}
+use Rattle.journal_acks.specs.Carried.{SentLine, pdu_carried}
+use Rattle.journal_acks.proofs.CallNotes.{HasNoData, SendsNone, all_more, begin_noted, end_noted, no_data, octet_noted, start_noted}
+use Rattle.journal_acks.proofs.Counting.{AreCountedSo, AreKnown, facts_event, plain}
+use Rattle.journal_acks.proofs.DataCalls.{on_link_notes, own_begun, received_at, unfound}
+use Rattle.journal_acks.proofs.Exchanging.{OpensNone, exchange_at, number_at, number_called, number_other, number_quiet, number_sent, opening_none}
+use Rattle.journal_acks.proofs.FirstCounts.{first_called, first_of}
+use Rattle.journal_acks.proofs.FixedPdus.{fixed_empty}
+use Rattle.journal_acks.proofs.KeptChannels.{AreChannelledAt, channels_kept}
+use Rattle.journal_acks.proofs.KeptCounts.{AreCountedAt, before_call, call_is, few, own_at, phased, station_is, was_taking}
+use Rattle.journal_acks.proofs.LinkCalls.{HasPassed, IsNew, IsOpenedNow, Stays, Takes, base_ack, begins_under, passes_under, phase_quiet, taken_noted}
+use Rattle.journal_acks.proofs.LinkUses.{listens_under, sends_under}
+use Rattle.journal_acks.proofs.PhaseNotes.{IsOnLink, IsPhaseOf, IsPlainPhase, HasSentSame, doing_notes, notes_when, phase_of, same_but, sent_same}
+use Rattle.journal_acks.proofs.SentLines.{air_line, feed_line, line_called, line_other, line_sent, sent_line_at, turn_line}
+use Rattle.journal_acks.proofs.Standing.{PhasedBy, one_link, phased_at}
+use Rattle.journal_acks.proofs.TwoStations.{IsOfTwo, other_is, same_number, side_differs}
+use Rattle.journal_acks.proofs.UnderHandles.{end_under, octet_under, sent_if}
+
+-- the PDU that an end has sent last is that of the line, if no other was sent since, and else an empty one
+pub record IsLined (line : Option SentLine) (ack : Acknowledgement) : Type 0 where
+  pub earlier : (one : SentLine) → line ≡ Some one → one.acked < length ack.sent
+  pub last : (count : ℕ) → count + 1 ≡ length ack.sent → ack.last ≡ pdu_carried line count
+
+pub first_lined : IsLined None first_acknowledgement
+first_lined = record { earlier = λ one is. absurd cc; last = λ count is. refl }
+
+-- ---- an end that sends
+
+abbrev pub line_next : Bool → EndFacts → ℕ → Option SentLine → Option SentLine
+line_next true facts acked line = Some (record { pdu = record { llid = facts.outgoing.fixed.llid; body = facts.outgoing.fixed.body }; acked = acked })
+line_next false facts acked line = line
+
+-- no line is of the PDU that comes next
+unlined : (line : Option SentLine) (count : ℕ) → ((one : SentLine) → line ≡ Some one → one.acked < count) → pdu_carried line count ≡ empty_pdu
+unlined None count earlier = refl
+unlined (Some one) count earlier =
+    ap (λ b. if b then one.pdu else empty_pdu) (ne_eqb one.acked count (λ same. let low = earlier one refl in omega (arith, same, low)))
+
+same_line : (one : SentLine) (acked : ℕ) (pdu : Pdu) → Some (record { pdu = pdu; acked = acked }) ≡ Some one → acked ≡ one.acked
+same_line one acked pdu is = cc
+
+sends_lined : (acked empty : Bool) (facts : EndFacts) (count : ℕ) (line : Option SentLine) → is_acked facts.acknowledgement ≡ acked → is_empty facts.outgoing.fixed ≡ empty
+    → (empty ≡ true → facts.outgoing.fixed ≡ empty_pdu) → count ≡ facts.acknowledgement.acked → IsLined line facts.acknowledgement
+    → IsLined (line_next (acked && not empty) facts count line) (next_sent acked facts.outgoing.fixed facts.acknowledgement)
+sends_lined false empty facts count line is empty_is none same lined = record { earlier = lined.earlier; last = lined.last }
+sends_lined true false facts count line is empty_is none same lined =
+    let ack = facts.acknowledgement in
+    let all = eqb-true ack.acked (length ack.sent) is in
+    let more = length_push ack.sent facts.outgoing.fixed in record {
+      earlier = λ one one_is. let low = same_line one count _ one_is in omega (arith, low, same, all, more);
+      last = λ next next_is. sym (ap (λ b. if b then facts.outgoing.fixed else empty_pdu) (eq-eqb count next (omega (arith, same, all, more, next_is))));
+    }
+sends_lined true true facts count line is empty_is none same lined =
+    let ack = facts.acknowledgement in
+    let more = length_push ack.sent facts.outgoing.fixed in record {
+      earlier = λ one one_is. let low = lined.earlier one one_is in omega (arith, low, more);
+      last = λ next next_is. none refl ∙ sym (unlined line next (λ one one_is. let low = lined.earlier one one_is in omega (arith, low, more, next_is)));
+    }
+
+-- what an end sent is the same
+lined_same : (line : Option SentLine) (one other : Acknowledgement) → HasSentSame other one → IsLined line one → IsLined line other
+lined_same line one other same lined = record {
+  earlier = λ item item_is. subst (λ pdus. item.acked < length pdus) (sym same.sent) (lined.earlier item item_is);
+  last = λ count is. same.last ∙ lined.last count (is ∙ ap length same.sent);
+}
+
+lined_ack : (line now : Option SentLine) (one other : Acknowledgement) → now ≡ line → other ≡ one → IsLined line one → IsLined now other
+lined_ack line now one other same ack lined = subst (λ l. IsLined l other) (sym same) (subst (IsLined line) (sym ack) lined)
+
+-- ---- all ends
+
+abbrev pub AreLined : Given → List Event → Type 0
+AreLined given history = (station handle : ℕ) (link : OpenLink) → is_in station given.stations ≡ true → link_at handle (facts_at given station history).links ≡ Some link
+    → IsLined (sent_line_at (number_at station handle history) history (side_of station)) (ack_of link)
+
+module _ (given : Given) where
+  lines_event : (history : List Event) (event : Event) → ((station : ℕ) → steps_in station event ≡ [])
+      → ((number station : ℕ) → sent_line_at number (history ++ event ∷ []) (side_of station) ≡ sent_line_at number history (side_of station))
+      → ((station handle : ℕ) → number_at station handle (history ++ event ∷ []) ≡ number_at station handle history) → AreLined given history
+      → AreLined given (history ++ event ∷ [])
+  lines_event history event none line number are = λ station handle link in_it at.
+      lined_ack (sent_line_at (number_at station handle history) history (side_of station)) _ (ack_of link) (ack_of link)
+      (ap (λ n. sent_line_at n (history ++ event ∷ []) (side_of station)) (number station handle) ∙ line (number_at station handle history) station) refl
+      (are station handle link in_it (ap (λ (f : Facts). link_at handle f.links) (sym (facts_event given station history event (none station))) ∙ at))
+
+  lines_call : IsOfTwo given → (station : ℕ) (step : Step) (history : List Event) → is_in station given.stations ≡ true
+      → ((handle : ℕ) (link : OpenLink) → link_at handle (facts_at given station (after_call given station step history)).links ≡ Some link
+      → IsLined (sent_line_at (number_at station handle (after_call given station step history)) (after_call given station step history) (side_of station)) (ack_of link))
+      → AreLined given history → AreLined given (after_call given station step history)
+  lines_call are_two station step history is own are = λ other handle link in_it at. by other handle link in_it at (other == station) refl
+    where
+      by : (other handle : ℕ) (link : OpenLink) → is_in other given.stations ≡ true → link_at handle (facts_at given other (after_call given station step history)).links ≡ Some link
+          → (same : Bool) → (other == station) ≡ same
+          → IsLined (sent_line_at (number_at other handle (after_call given station step history)) (after_call given station step history) (side_of other)) (ack_of link)
+      by other handle link in_it at true one =
+          let equal = eqb-true other station one in
+          let next = after_call given station step history in
+          subst (λ n. IsLined (sent_line_at (number_at n handle next) next (side_of n)) (ack_of link)) (sym equal)
+          (own handle link (subst (λ n. link_at handle (facts_at given n next).links ≡ Some link) equal at))
+      by other handle link in_it at false differs =
+          let next = after_call given station step history in
+          let equal = other_is given are_two other station in_it is (differs_back other station differs) in
+          let apart : is_side (side_of station) (side_of other) ≡ false = subst (λ n. is_side (side_of n) (side_of other) ≡ false) (sym equal) (side_differs other) in
+          lined_ack (sent_line_at (number_at other handle history) history (side_of other)) _ (ack_of link) (ack_of link)
+          (ap (λ n. sent_line_at n next (side_of other)) (number_other given station step history other handle differs)
+          ∙ line_other given (number_at other handle history) station step history (side_of other) apart) refl
+          (are other handle link in_it (ap (λ (f : Facts). link_at handle f.links) (sym (other_facts given station step history other differs)) ∙ at))
+
+  -- a call in which the station sends no new PDU, to a link that sent the same before
+  quiet_own : (station : ℕ) (step : Step) (history : List Event) (handle : ℕ) (before after : OpenLink)
+      → All SendsNone (notes_after (setup_at given station) (facts_at given station history) step) → number_at station handle (after_call given station step history) ≡ number_at station handle history
+      → ack_of after ≡ ack_of before
+      → IsLined (sent_line_at (number_at station handle history) history (side_of station)) (ack_of before)
+      → IsLined (sent_line_at (number_at station handle (after_call given station step history)) (after_call given station step history) (side_of station)) (ack_of after)
+  quiet_own station step history handle before after none number same lined =
+      lined_ack _ _ (ack_of before) (ack_of after)
+      (ap (λ n. sent_line_at n (after_call given station step history) (side_of station)) number
+      ∙ line_called given (number_at station handle history) station step history (side_of station) none) same lined
+
+  -- a call in which it may send one
+  module _ (station : ℕ) (step : Step) (history : List Event) (handle : ℕ) (base : OpenLink) (earlier : List Note)
+      (none : All SendsNone earlier) (opens : All (OpensNone handle) earlier) (own : base.setup.link.handle ≡ handle)
+      (lined : IsLined (sent_line_at (number_at station handle history) history (side_of station)) (ack_of base))
+      (count : (exchange_at (number_at station handle history) history (side_of station)).acked ≡ (ack_of base).acked) where
+    abbrev number : ℕ
+    number = number_at station handle history
+
+    abbrev line : Option SentLine
+    line = sent_line_at number history (side_of station)
+
+    abbrev acked : ℕ
+    acked = (exchange_at number history (side_of station)).acked
+
+    line_of : (noted : Bool) → notes_after (setup_at given station) (facts_at given station history) step ≡ earlier ++ sent_notes_if noted base.setup.link.handle (facts_in base)
+        → sent_line_at number (after_call given station step history) (side_of station) ≡ line_next noted (facts_in base) acked line
+    line_of true are =
+        line_sent given number station step history base.setup.link.handle _ _ _ earlier are none (subst (λ h. All (OpensNone h) earlier) (sym own) opens)
+        ∙ ap (λ (b : Bool). if b then line_next true (facts_in base) acked line else line)
+        (eq-eqb (number_at station base.setup.link.handle history) number (ap (λ h. number_at station h history) own))
+    line_of false are = line_called given number station step history (side_of station) (subst (All SendsNone) (sym (are ∙ append-nil earlier)) none)
+
+    pub sends_own : (sends : Bool) (slot : ℕ) (after : OpenLink) → after ≡ sent_if sends slot base
+        → notes_after (setup_at given station) (facts_at given station history) step ≡ earlier ++ notes_when sends base
+        → IsLined (sent_line_at number (after_call given station step history) (side_of station)) (ack_of after)
+    sends_own true slot after is are =
+        let facts = facts_in base in
+        let noted = is_acked facts.acknowledgement && not (is_empty facts.outgoing.fixed) in
+        lined_ack (line_next noted facts acked line) _ (sent_ack facts) (ack_of after) (line_of noted are) (ap ack_of is ∙ ack_sent slot base)
+        (sends_lined (is_acked facts.acknowledgement) (is_empty facts.outgoing.fixed) facts acked line refl refl (fixed_empty base) count lined)
+    sends_own false slot after is are =
+        lined_ack line _ (ack_of base) (ack_of after)
+        (line_called given number station step history (side_of station) (subst (All SendsNone) (sym (are ∙ append-nil earlier)) none)) (ap ack_of is) lined
+
+  octet_lines : IsOfTwo given → (station octet : ℕ) (history : List Event) → is_in station given.stations ≡ true → AreLined given history
+      → AreLined given (after_call given station (HostOctet octet) history)
+  octet_lines are_two station octet history is are = lines_call are_two station (HostOctet octet) history is (λ handle link at.
+      let setup = setup_at given station in
+      let facts = facts_at given station history in
+      let was = octet_under setup facts octet handle link (own_at given station (HostOctet octet) history handle link at) in
+      quiet_own station (HostOctet octet) history handle was.link link
+      (all_more HasNoData SendsNone (λ note has. has.sends) _ (octet_noted HasNoData no_data.feeds setup facts octet))
+      (number_called given station (HostOctet octet) history handle (octet_noted (OpensNone handle) (opening_none handle).starts.feeds setup facts octet)) was.ack
+      (are station handle was.link is was.was)) are
+
+  octets_lines : IsOfTwo given → (station : ℕ) (octets : List ℕ) (history : List Event) → is_in station given.stations ≡ true → AreLined given history
+      → AreLined given (after_octets given station octets history)
+  octets_lines are_two station [] history is are = are
+  octets_lines are_two station (octet ∷ octets) history is are =
+      octets_lines are_two station octets (after_call given station (HostOctet octet) history) is (octet_lines are_two station octet history is are)
+
+  feed_lines : IsOfTwo given → (station : ℕ) (octets : List ℕ) (history : List Event) → is_in station given.stations ≡ true → AreLined given history
+      → AreLined given (after_feed given station octets history)
+  feed_lines are_two station [] history is are = are
+  feed_lines are_two station (octet ∷ octets) history is are =
+      octets_lines are_two station (octet ∷ octets) (history ++ HostFed station (octet ∷ octets) ∷ []) is
+      (lines_event history (HostFed station (octet ∷ octets)) (λ one. refl) (λ number one. feed_line number history station (octet ∷ octets) (side_of one))
+      (λ one handle. number_quiet one handle history (HostFed station (octet ∷ octets)) (λ links. refl)) are)
+
+-- ---- a turn begins
+
+few_own : (given : Given) → IsPair given → (station : ℕ) (facts : Facts) → length facts.links ≡ (setup_at given station).links → length facts.links ≤ 1
+few_own given pair station facts many = let few = pair.links station in omega (arith, many, few)
+
+pub rests_none : (handle : ℕ) (doing : Doing) → doing ≡ Rests → sends_under handle doing ≡ false
+rests_none handle doing is = ap (sends_under handle) is
+
+pub rests_deaf : (handle : ℕ) (doing : Doing) (received : Option (List ℕ)) → doing ≡ Rests → listens_under handle doing ≡ true → received ≡ None
+rests_deaf handle doing received is listens = absurd (let h : true ≡ false = sym listens ∙ ap (listens_under handle) is in absurd cc)
+
+begin_own : (given : Given) → IsPair given → (station slot : ℕ) (on : Bool) (history : List Event) → is_in station given.stations ≡ true
+    → (facts_at given station history).turn.doing ≡ Rests → IsStation (setup_at given station) (facts_at given station history)
+    → AreCountedSo given history (λ one. true) (λ one. packet_received one history) → AreLined given history
+    → (handle : ℕ) (link : OpenLink) → link_at handle (facts_at given station (after_call given station (TurnBegins slot on) history)).links ≡ Some link
+    → IsLined (sent_line_at (number_at station handle (after_call given station (TurnBegins slot on) history)) (after_call given station (TurnBegins slot on) history) (side_of station)) (ack_of link)
+begin_own given pair station slot on history is rests station_is counted lines handle link at =
+    let setup = setup_at given station in
+    let facts = facts_at given station history in
+    let step = TurnBegins slot on in
+    let next = facts_after setup facts step in
+    let outcome = outcome_begun slot on facts in
+    let start = notes_ending slot facts ++ notes_entering slot (facts_ending slot facts).links in
+    let begun = begins_under setup facts slot on handle link (own_at given station step history handle link at) in
+    let number = number_at station handle history in
+    let own = own_begun setup slot on facts station_is.own in
+    let before = plain true (packet_received station history) handle facts.turn begun.link (exchange_at number history (side_of station)) (rests_none handle facts.turn.doing rests)
+    (rests_deaf handle facts.turn.doing (packet_received station history) rests) (counted station handle begun.link is begun.was) in
+    let same = base_ack facts slot on handle next.turn.doing link begun in
+    subst (λ n. IsLined (sent_line_at n (after_call given station step history) (side_of station)) (ack_of link))
+    (sym (number_called given station step history handle (begin_noted (OpensNone handle) (opening_none handle) setup slot on facts)))
+    (sends_own given station step history handle begun.base start
+    (all_more HasNoData SendsNone (λ note has. has.sends) start (start_noted HasNoData no_data slot facts))
+    (start_noted (OpensNone handle) (opening_none handle).starts slot facts)
+    (handle_is 0 handle outcome.facts.links begun.base own.handles begun.found)
+    (subst (IsLined (sent_line_at number history (side_of station))) (sym same) (lines station handle begun.link is begun.was))
+    (before.acked ∙ ap (λ (a : Acknowledgement). a.acked) (sym same))
+    (sends_under handle next.turn.doing) slot link begun.is
+    (ap (λ xs. start ++ xs) (doing_notes outcome.next outcome.facts handle begun.base (few_own given pair station outcome.facts own.many) begun.found)))
+
+-- ---- a phase passes
+
+module _ (given : Given) (Q : Place → List Event → Type 0) (known : AreKnown given Q) (pair : IsPair given) (distinct : AreDistinct given.stations) (phases : ℕ) (done left : List ℕ) (station : ℕ) (history : List Event)
+    (are : given.stations ≡ done ++ station ∷ left) (is : AreCountedAt given Q (AtListening phases done (station ∷ left)) history) (lines : AreLined given history)
+    (q : Q (AtListening phases (done ++ station ∷ []) left) (after_call given station (step_of (packet_received station history)) history))
+    (holds : Holds given (AreStations given) (AtListening phases (done ++ station ∷ []) left) (after_call given station (step_of (packet_received station history)) history)) where
+  abbrev received : Option (List ℕ)
+  received = packet_received station history
+
+  abbrev after : List Event
+  after = after_call given station (step_of received) history
+
+  abbrev facts : Facts
+  facts = facts_at given station history
+
+  abbrev setup : Setup
+  setup = setup_at given station
+
+  abbrev next : Facts
+  next = facts_after setup facts (step_of received)
+
+  abbrev notes : List Note
+  notes = notes_after setup facts (step_of received)
+
+  in_it : is_in station given.stations ≡ true
+  in_it = among given.stations done left station are
+
+  -- a link of this turn has no line
+  fresh : (handle : ℕ) (link : OpenLink) → link_at handle (facts_at given station after).links ≡ Some link → link.setup.opened ≡ facts.turn.slot
+      → IsLined (sent_line_at (number_at station handle after) after (side_of station)) (ack_of link)
+  fresh handle link at opened =
+      let number = number_at station handle after in
+      let begun = known.begun (AtListening phases (done ++ station ∷ []) left) after q station handle link in_it at in
+      let turns : turns_begun after ≡ turns_begun history = turns_called station (step_of received) notes history in
+      let now = ap (λ n. n + 1) opened ∙ (phased given Q known pair distinct phases done left station history are is q holds).uses.in_turn.slot_is ∙ sym turns in
+      let first = first_of after number station link.setup
+      (first_called given station (step_of received) history (call_is given Q known pair distinct phases done left station history are is q holds) is.first number) begun now in
+      let slot = ap (λ (f : Facts). f.turn.slot) (own_facts given station (step_of received) history) ∙ (phase_turn setup facts received).slot in
+      let ack = open_has (IsFresh (facts_at given station after).turn.slot) 0 handle (facts_at given station after).links link
+      (holds.so_far.last.each station in_it).fresh at (opened ∙ sym slot) in
+      lined_ack None _ first_acknowledgement (ack_of link) (first.lines (side_of station)) ack first_lined
+
+  -- nothing is sent on a link on which nothing was received
+  none_sent : (handle : ℕ) (link : OpenLink) → link_at handle facts.links ≡ Some link → (listens_under handle facts.turn.doing ≡ true → received ≡ None)
+      → IsPhaseOf setup facts received → All SendsNone notes
+  none_sent handle link at nothing (IsPlainPhase none plain_too) = all_more HasNoData SendsNone (λ note has. has.sends) notes plain_too
+  none_sent handle link at nothing (IsOnLink other octets some listens heard_is) = by (link_at other facts.links) refl
+    where
+      are_notes : notes_after (setup_at given station) (facts_at given station history) (step_of (packet_received station history))
+          ≡ notes_passed (link_heard (setup_at given station) other octets (facts_at given station history))
+      are_notes = on_link_notes (setup_at given station) (facts_at given station history) (packet_received station history) other octets some (ap notes_passed heard_is)
+
+      by : (found : Option OpenLink) → link_at other (facts_at given station history).links ≡ found
+          → All SendsNone (notes_after (setup_at given station) (facts_at given station history) (step_of (packet_received station history)))
+      by None absent = subst (All SendsNone) (sym (are_notes ∙ unfound (setup_at given station) (facts_at given station history) other octets absent)) (All-nil SendsNone)
+      by (Some two) found =
+          let one = one_link facts.links other handle two link (few given Q known pair distinct phases done left station history are is q holds) found at in
+          let on = listens handle ∙ ap (λ n. n == handle) one.handles ∙ same_number handle in
+          absurd (let h : Some octets ≡ None = sym some ∙ nothing on in absurd cc)
+
+  abbrev room : Bool
+  room = has_room setup facts
+
+  takes : (handle : ℕ) (link base : OpenLink) (octets : List ℕ) → number_at station handle after ≡ number_at station handle history
+      → link_at handle facts.links ≡ Some base → received ≡ Some octets → listens_under handle facts.turn.doing ≡ true
+      → link ≡ sent_if (sends_under handle next.turn.doing) facts.turn.slot (link_after (PacketReceived facts.turn.slot octets room) base)
+      → IsPhaseOf setup facts received → IsLined (sent_line_at (number_at station handle after) after (side_of station)) (ack_of link)
+  takes handle link base octets number was some on same (IsPlainPhase none plain_too) = absurd (let h : Some octets ≡ None = sym some ∙ none handle on in absurd cc)
+  takes handle link base octets number was some on same (IsOnLink other heard some_too listens heard_is) =
+      let equal = eqb-true other handle (sym (listens handle) ∙ on) in
+      let told : Some heard ≡ Some octets = sym some_too ∙ some in
+      let octets_are : heard ≡ octets = cc in
+      let reply = reply_if (replies_in (link_at other facts.links) heard) other in
+      let after_it = link_received other room heard facts in
+      let taken = link_after (PacketReceived facts.turn.slot octets room) base in
+      let is_station = station_is given Q known pair distinct phases done left station history are is q holds in
+      let few_now = few given Q known pair distinct phases done left station history are is q holds in
+      let earlier = notes_taken facts.turn.slot room (link_at other facts.links) heard in
+      let now : link_at handle after_it.links ≡ Some taken =
+      ap (λ n. link_at handle (link_received n room heard facts).links) equal ∙ ap (λ xs. link_at handle (link_received handle room xs facts).links) octets_are
+      ∙ received_at facts.turn.slot handle octets room facts.links base was in
+      let few_after : length after_it.links ≤ 1 =
+      subst (λ n. n ≤ 1) (sym (count_changing other (link_after (PacketReceived facts.turn.slot heard room)) facts.links)) few_now in
+      let doing : next.turn.doing ≡ reply = ap (λ may. (facts_after setup facts (step_of may)).turn.doing) some_too ∙ ap (λ (o : Outcome). o.next) heard_is in
+      let counts = was_taking received octets handle facts.turn base (exchange_at (number_at station handle history) history (side_of station)) on some
+      (before_call given Q known pair distinct phases done left station history are is q holds handle base was) in
+      subst (λ n. IsLined (sent_line_at n after (side_of station)) (ack_of link)) (sym number)
+      (sends_own given station (step_of received) history handle taken earlier
+      (taken_noted SendsNone (λ one count llid body. refl) facts.turn.slot room (link_at other facts.links) heard)
+      (taken_noted (OpensNone handle) (λ one count llid body. refl) facts.turn.slot room (link_at other facts.links) heard)
+      (handle_is 0 handle facts.links base is_station.own.handles was)
+      (lined_same (sent_line_at (number_at station handle history) history (side_of station)) (ack_of base) (ack_of taken) (sent_same facts.turn.slot octets room base)
+      (lines station handle base in_it was))
+      (counts.acked ∙ (same_but facts.turn.slot octets false room base).acked)
+      (sends_under handle next.turn.doing) facts.turn.slot link same
+      (on_link_notes setup facts received other heard some_too (ap notes_passed heard_is)
+      ∙ ap (λ xs. earlier ++ xs) (doing_notes reply after_it handle taken few_after now ∙ ap (λ d. notes_when (sends_under handle d) taken) (sym doing))))
+
+  passed : (handle : ℕ) (link : OpenLink) → link_at handle (facts_at given station after).links ≡ Some link → number_at station handle after ≡ number_at station handle history
+      → HasPassed facts room received handle next.turn.doing link
+      → IsLined (sent_line_at (number_at station handle after) after (side_of station)) (ack_of link)
+  passed handle link at number (IsNew end made opened off) = fresh handle link at (ap (λ (l : OpenLink). l.setup.opened) made ∙ opened)
+  passed handle link at number (Stays was none nothing listened) =
+      quiet_own given station (step_of received) history handle link link (none_sent handle link was nothing (phase_of setup facts received)) number refl (lines station handle link in_it was)
+  passed handle link at number (Takes base octets was some on same) = takes handle link base octets number was some on same (phase_of setup facts received)
+
+  passes_own : (handle : ℕ) (link : OpenLink) → link_at handle (facts_at given station after).links ≡ Some link
+      → IsLined (sent_line_at (number_at station handle after) after (side_of station)) (ack_of link)
+  passes_own handle link at = by (phase_quiet (setup_at given station) facts received handle)
+    where
+      by : All (OpensNone handle) (notes_after (setup_at given station) (facts_at given station history) (step_of (packet_received station history)))
+          ⊎ ((one : OpenLink) → link_at handle (facts_after (setup_at given station) (facts_at given station history) (step_of (packet_received station history))).links ≡ Some one
+          → IsOpenedNow (facts_at given station history).turn.slot one)
+          → IsLined (sent_line_at (number_at station handle after) after (side_of station)) (ack_of link)
+      by (inl quiet) =
+          passed handle link at (number_called given station (step_of received) history handle quiet)
+          (passes_under (setup_at given station) facts received handle link
+          (phased given Q known pair distinct phases done left station history are is q holds).uses.in_turn.listens (own_at given station (step_of received) history handle link at))
+      by (inr new) = fresh handle link at (new link (own_at given station (step_of received) history handle link at)).opened
+
+-- ---- each step
+
+pub record AreLinedAt (given : Given) (Q : Place → List Event → Type 0) (place : Place) (history : List Event) : Type 0 where
+  pub channelled : AreChannelledAt given Q place history
+  pub lines : AreLined given history
+
+pub lines_kept : IsHeardWhole → (given : Given) (Q : Place → List Event → Type 0) → AreKnown given Q → IsOfTwo given → IsPair given → HaveAddresses given → AreDistinct given.stations
+    → IsKept given (AreLinedAt given Q)
+lines_kept whole given Q known are_two pair six distinct = let kept = channels_kept whole given Q known are_two pair six distinct in record {
+  on_turn = λ slot plan history begun at has.
+      let event = TurnBegan slot (map plan.radio_of given.stations) in record {
+        channelled = kept.on_turn slot plan history begun at has.channelled;
+        lines = lines_event given history event (λ one. refl) (λ number one. turn_line number history slot (map plan.radio_of given.stations) (side_of one))
+            (λ one handle. number_quiet one handle history event (λ links. refl)) has.lines;
+      };
+  on_feed = λ plan done left station history are some now has. record {
+    channelled = kept.on_feed plan done left station history are some now has.channelled;
+    lines = feed_lines given are_two station (take (plan.feed_of station) (octets_left given station history)) history (among given.stations done left station are) has.lines;
+  };
+  on_fed = λ history has. record { channelled = kept.on_fed history has.channelled; lines = has.lines };
+  on_begin = λ slot plan done left station history are due has.
+      let on = plan.radio_of station in
+      let in_it = among given.stations done left station are in
+      let phased = subst (λ b. PhasedBy given history station (if b then at_stage (Within 0) (turns_begun history) else at_stage Between (turns_begun history - 1)))
+      (not_before given.stations done left station distinct are) (phased_at given (AtBegins done (station ∷ left)) history has.channelled.is.holds.hearing.stand station in_it) in record {
+        channelled = kept.on_begin slot plan done left station history are due has.channelled;
+        lines = lines_call given are_two station (TurnBegins slot on) history in_it
+            (begin_own given pair station slot on history in_it phased.phase (has.channelled.is.holds.so_far.last.each station in_it) has.channelled.is.counted has.lines) has.lines;
+      };
+  on_begun = λ history has. record { channelled = kept.on_begun history has.channelled; lines = has.lines };
+  on_phase = λ phases history few has. record { channelled = kept.on_phase phases history few has.channelled; lines = has.lines };
+  on_silence = λ phases done left station history are none has. record { channelled = kept.on_silence phases done left station history are none has.channelled; lines = has.lines };
+  on_packet = λ phases plan done left station channel octets history are some due has.
+      let hearings = hearings_of given plan.fates station channel octets history in record {
+        channelled = kept.on_packet phases plan done left station channel octets history are some due has.channelled;
+        lines = lines_event given history (Transmitted station channel octets hearings) (λ one. refl) (λ number one. air_line number history station channel octets hearings (side_of one))
+            (λ one handle. number_sent one handle history station channel octets hearings) has.lines;
+      };
+  on_air = λ phases history has. record { channelled = kept.on_air phases history has.channelled; lines = has.lines };
+  on_hearing = λ phases done left station history are some has.
+      let next = kept.on_hearing phases done left station history are some has.channelled in
+      let in_it = among given.stations done left station are in record {
+        channelled = next;
+        lines = lines_call given are_two station (step_of (packet_received station history)) history in_it
+            (passes_own given Q known pair distinct phases done left station history are has.channelled.is has.lines next.is.known next.is.holds) has.lines;
+      };
+  on_heard = λ phases history has. record { channelled = kept.on_heard phases history has.channelled; lines = has.lines };
+  on_phases = λ history has. record { channelled = kept.on_phases history has.channelled; lines = has.lines };
+  on_end = λ done left station history are some has.
+      let in_it = among given.stations done left station are in record {
+        channelled = kept.on_end done left station history are some has.channelled;
+        lines = lines_call given are_two station TurnEnds history in_it
+            (λ handle link at.
+            let setup = setup_at given station in
+            let facts = facts_at given station history in
+            let was = end_under setup facts handle link (own_at given station TurnEnds history handle link at) in
+            quiet_own given station TurnEnds history handle was.link link
+            (all_more HasNoData SendsNone (λ note has_none. has_none.sends) _ (end_noted HasNoData no_data.feeds setup facts))
+            (number_called given station TurnEnds history handle (end_noted (OpensNone handle) (opening_none handle).starts.feeds setup facts)) was.ack
+            (has.lines station handle was.link in_it was.was)) has.lines;
+      };
+  on_ended = λ history has. record { channelled = kept.on_ended history has.channelled; lines = has.lines };
+}

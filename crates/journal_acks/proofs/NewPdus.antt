@@ -1,0 +1,396 @@
+-- Each line of a new PDU comes where all PDUs before it on its side are acknowledged.
+use Rattle.std.proofs.Common.{◌≡◌, ℕ, ◌-◌, ◌&&◌, not, Bool, true, false, Option, Some, None, List, [], ◌∷◌, ◌++◌, length, refl, sym, ap, subst, ◌∙◌, append_assoc}
+use Rattle.std.specs.Prelude.{All, ⊤, map, take, if◌then◌else◌}
+use Rattle.std.proofs.lemmas.Bool.{eqb-true}
+use Rattle.std.proofs.lemmas.List.Elements.{All-append, All-cons, All-head, All-nil, All-tail}
+use Rattle.ble_base.specs.declared.notes.Note.{Note}
+use Rattle.ble_base.specs.declared.notes.Note.TheVariants.{Up as UpNote, Sent as SentNote}
+use Rattle.ble_base.specs.declared.roles.Side.{Side}
+use Rattle.journal.specs.declared.entries.Entry.{Entry}
+use Rattle.journal.specs.declared.entries.Entry.TheVariants.{Sent}
+use Rattle.one_end.specs.Acknowledgement.{Pdu, is_acked}
+use Rattle.one_end.specs.Data.{is_empty}
+use Rattle.one_end.specs.End.{sent_notes, sent_notes_if}
+use Rattle.one_end.specs.Step.{PacketReceived, PacketSent}
+use Rattle.one_end.proofs.Received.{IsHeardWhole}
+use Rattle.open_links.specs.OpenLinks.{OpenLink, facts_in, link_after, link_at}
+use Rattle.open_links.specs.Turns.{notes_entering}
+use Rattle.open_links.proofs.Handles.{handle_is}
+use Rattle.one_side.specs.Step.{Step, HostOctet, TurnBegins, TurnEnds}
+use Rattle.one_side.specs.Facts.{Facts}
+use Rattle.one_side.specs.Heard.{has_room, link_heard, link_received, notes_taken, replies_in, reply_if}
+use Rattle.one_side.specs.Links.{facts_ending, notes_ending}
+use Rattle.one_side.specs.Outcome.{notes_passed}
+use Rattle.one_side.specs.Packets.{notes_doing, notes_sent}
+use Rattle.one_side.specs.Radio.{outcome_begun}
+use Rattle.one_side.specs.Side.{notes_after}
+use Rattle.runs.specs.Due.{Each}
+use Rattle.runs.specs.Feeding.{AreDistinct}
+use Rattle.runs.specs.History.{Event, TurnBegan, HostFed, Called, Noted, Transmitted, packet_received, turns_begun}
+use Rattle.runs.specs.Journal.{entries_of, entry_of, journal_of, side_of}
+use Rattle.runs.specs.LinkEnds.{HaveAddresses}
+use Rattle.runs.specs.Links.{Links, links_of}
+use Rattle.runs.specs.Run.{Given, after_call, after_feed, after_octets, facts_at, hearings_of, history_of, octets_left, run_of, setup_at, step_of}
+use Rattle.runs.proofs.CallNotes.{noted_in_call}
+use Rattle.runs.proofs.EntryEvents.{is_of_event}
+use Rattle.runs.proofs.LinkEnds.{AreTaken, IsUnderstood}
+use Rattle.runs.proofs.Places.{each_at, each_called, each_event}
+use Rattle.runs.proofs.Stations.{among, is_in, not_before}
+use Rattle.runs.proofs.Walk.{Place, AtBegins, AtListening, NoTurn, IsKept, IsStopped, IsWhole, ends_with, run_kept}
+use Rattle.run_laws.proofs.Agreed.{ack_of}
+use Rattle.run_laws.proofs.ByCalls.{Holds}
+use Rattle.run_laws.proofs.DistinctAccess.{AreApart}
+use Rattle.run_laws.proofs.InAgreement.{AreStations, IsPair}
+use Rattle.run_laws.proofs.TurnPlaces.{Between, Within, at_stage}
+use Rattle.journal_packets.proofs.AccessOrder.{AreNth}
+use Rattle.journal_packets.proofs.SoFar.{IsBelongingSoFar}
+use Rattle.journal_acks.specs.Carried.{IsNewPdu}
+use Rattle.journal_acks.proofs.CallNotes.{HasNoData, IsOfStarts, all_more, end_noted, no_data, octet_noted, start_noted}
+use Rattle.journal_acks.proofs.Counting.{AreKnown, plain}
+use Rattle.journal_acks.proofs.DataCalls.{on_link_notes, own_begun, received_at, sent_at, unfound}
+use Rattle.journal_acks.proofs.Exchanging.{OpensNone, exchange_at, notes_counts, number_at, number_notes}
+use Rattle.journal_acks.proofs.FirstCounts.{IsCallOf, IsOnly, OfLink, OfNone}
+use Rattle.journal_acks.proofs.KeptCounts.{AreCountedAt, before_call, begun_call, call_is, counts_kept, station_is, was_taking}
+use Rattle.journal_acks.proofs.KeptLines.{rests_deaf, rests_none}
+use Rattle.journal_acks.proofs.Known.{known_of}
+use Rattle.journal_acks.proofs.LinkCalls.{base_ack, begins_under, taken_noted}
+use Rattle.journal_acks.proofs.LinkUses.{listens_under}
+use Rattle.journal_acks.proofs.PhaseNotes.{IsOnLink, IsPhaseOf, IsPlainPhase, SendsFrom, SendsNothing, SendsOne, phase_of, same_but, sends_from}
+use Rattle.journal_acks.proofs.RunCounts.{counts_first}
+use Rattle.journal_acks.proofs.Standing.{PhasedBy, phased_at}
+use Rattle.journal_acks.proofs.TwoStations.{IsOfTwo, same_number}
+
+-- ---- the notes of a call
+
+abbrev pub IsNewAt : ℕ → List Event → ℕ → Pdu → Type 0
+IsNewAt number history station pdu = IsNewPdu number (journal_of history) (side_of station) pdu
+
+-- a note in a call that comes after this history
+abbrev IsNewNote : List Event → ℕ → Note → Type 0
+IsNewNote history station (SentNote handle count llid body) = IsNewAt (number_at station handle history) history station (record { llid = llid; body = body.items })
+IsNewNote history station note = ⊤
+
+old_note : (history : List Event) (station : ℕ) (note : Note) → HasNoData note → IsNewNote history station note
+old_note history station (SentNote handle count llid body) has = absurd (let h : true ≡ false = has.sends in absurd cc)
+old_note history station (UpNote packet) has = tt
+old_note history station note has = tt
+
+starts_new : (history : List Event) (station : ℕ) → IsOfStarts (IsNewNote history station)
+starts_new history station = record {
+  feeds = record { up = λ octets. tt; shut = λ handle reason. tt };
+  applied = λ handle number event. tt;
+  entered = λ handle event channel. tt;
+}
+
+both_hold : (one other : Bool) → (one && not other) ≡ true → (one ≡ true) × (other ≡ false)
+both_hold true true both = absurd cc
+both_hold true false both = (refl, refl)
+both_hold false other both = absurd cc
+
+-- a link that sends a new PDU has all others acknowledged, as the journal counts
+module _ (history : List Event) (station other : ℕ) (base : OpenLink) (own : base.setup.link.handle ≡ other)
+    (acked : (exchange_at (number_at station other history) history (side_of station)).acked ≡ (ack_of base).acked)
+    (sent : (exchange_at (number_at station other history) history (side_of station)).sent ≡ length (ack_of base).sent) where
+  new_if : (noted : Bool) → (is_acked (ack_of base) && not (is_empty (facts_in base).outgoing.fixed)) ≡ noted
+      → All (IsNewNote history station) (sent_notes_if noted base.setup.link.handle (facts_in base))
+  new_if false is = All-nil (IsNewNote history station)
+  new_if true is =
+      let holds = both_hold (is_acked (ack_of base)) (is_empty (facts_in base).outgoing.fixed) is in
+      All-cons (IsNewNote history station) _ []
+      (subst (λ n. IsNewAt (number_at station n history) history station (facts_in base).outgoing.fixed) (sym own) (record {
+        all_acked = acked ∙ eqb-true (ack_of base).acked (length (ack_of base).sent) holds.0 ∙ sym sent;
+        not_empty = holds.1;
+      })) (All-nil (IsNewNote history station))
+
+  new_sent : All (IsNewNote history station) (sent_notes base.setup (facts_in base))
+  new_sent = new_if _ refl
+
+-- ---- each call
+
+abbrev AreNew : Given → List Event → ℕ → Step → Type 0
+AreNew given history station step = All (IsNewNote history station) (notes_after (setup_at given station) (facts_at given station history) step)
+
+record IsNewCall (given : Given) (history : List Event) (station : ℕ) (step : Step) : Type 0 where
+  new : AreNew given history station step
+  of : IsCallOf given station step history
+
+octet_new : (given : Given) (history : List Event) (station octet : ℕ) → IsNewCall given history station (HostOctet octet)
+octet_new given history station octet =
+    let setup = setup_at given station in
+    let facts = facts_at given station history in record {
+      new = octet_noted (IsNewNote history station) (starts_new history station).feeds setup facts octet;
+      of = OfNone (octet_noted HasNoData no_data.feeds setup facts octet);
+    }
+
+end_new : (given : Given) (history : List Event) (station : ℕ) → IsNewCall given history station TurnEnds
+end_new given history station =
+    let setup = setup_at given station in
+    let facts = facts_at given station history in record {
+      new = end_noted (IsNewNote history station) (starts_new history station).feeds setup facts;
+      of = OfNone (end_noted HasNoData no_data.feeds setup facts);
+    }
+
+-- a station that has not begun the turn
+between_turns : (given : Given) (Q : Place → List Event → Type 0) (distinct : AreDistinct given.stations) (done left : List ℕ) (station : ℕ) (history : List Event)
+    → given.stations ≡ done ++ station ∷ left → AreCountedAt given Q (AtBegins done (station ∷ left)) history
+    → PhasedBy given history station (at_stage Between (turns_begun history - 1))
+between_turns given Q distinct done left station history are is =
+    subst (λ b. PhasedBy given history station (if b then at_stage (Within 0) (turns_begun history) else at_stage Between (turns_begun history - 1)))
+    (not_before given.stations done left station distinct are)
+    (phased_at given (AtBegins done (station ∷ left)) history is.holds.hearing.stand station (among given.stations done left station are))
+
+begin_new : (given : Given) (Q : Place → List Event → Type 0) (distinct : AreDistinct given.stations) (done left : List ℕ) (station slot : ℕ) (on : Bool) (history : List Event)
+    → given.stations ≡ done ++ station ∷ left → AreCountedAt given Q (AtBegins done (station ∷ left)) history → AreNew given history station (TurnBegins slot on)
+begin_new given Q distinct done left station slot on history are is =
+    let setup = setup_at given station in
+    let facts = facts_at given station history in
+    let start = notes_ending slot facts ++ notes_entering slot (facts_ending slot facts).links in
+    All-append (IsNewNote history station) start _ (start_noted (IsNewNote history station) (starts_new history station) slot facts)
+    (by (sends_from (outcome_begun slot on facts).next (outcome_begun slot on facts).facts))
+  where
+    in_it : is_in station given.stations ≡ true
+    in_it = among given.stations done left station are
+
+    rests : PhasedBy given history station (at_stage Between (turns_begun history - 1))
+    rests = between_turns given Q distinct done left station history are is
+
+    by : SendsFrom (outcome_begun slot on (facts_at given station history)).next (outcome_begun slot on (facts_at given station history)).facts
+        → All (IsNewNote history station) (notes_doing (outcome_begun slot on (facts_at given station history)).next (outcome_begun slot on (facts_at given station history)).facts)
+    by (SendsNothing none) = subst (All (IsNewNote history station)) (sym none) (All-nil (IsNewNote history station))
+    by (SendsOne other base found sends noted) =
+        let setup = setup_at given station in
+        let facts = facts_at given station history in
+        let outcome = outcome_begun slot on facts in
+        let after = link_after (PacketSent outcome.facts.turn.slot) base in
+        let begun = begins_under setup facts slot on other after (sent_at outcome.facts.turn.slot other outcome.next outcome.facts.links base sends found) in
+        let end = exchange_at (number_at station other history) history (side_of station) in
+        let before = plain true (packet_received station history) other facts.turn begun.link end (rests_none other facts.turn.doing rests.phase)
+        (rests_deaf other facts.turn.doing (packet_received station history) rests.phase) (is.counted station other begun.link in_it begun.was) in
+        let same = base_ack facts slot on other _ after begun in
+        let base_is : begun.base ≡ base = let some : Some begun.base ≡ Some base = sym begun.found ∙ found in cc in
+        subst (All (IsNewNote history station)) (sym noted)
+        (new_sent history station other base
+        (handle_is 0 other outcome.facts.links base (own_begun setup slot on facts (is.holds.so_far.last.each station in_it).own).handles found)
+        (before.acked ∙ ap (λ a. a.acked) (sym same) ∙ ap (λ (l : OpenLink). (ack_of l).acked) base_is)
+        (before.sent ∙ ap (λ a. length a.sent) (sym same) ∙ ap (λ (l : OpenLink). length (ack_of l).sent) base_is))
+
+module _ (given : Given) (Q : Place → List Event → Type 0) (known : AreKnown given Q) (pair : IsPair given) (distinct : AreDistinct given.stations) (phases : ℕ) (done left : List ℕ) (station : ℕ) (history : List Event)
+    (are : given.stations ≡ done ++ station ∷ left) (is : AreCountedAt given Q (AtListening phases done (station ∷ left)) history)
+    (q : Q (AtListening phases (done ++ station ∷ []) left) (after_call given station (step_of (packet_received station history)) history))
+    (holds : Holds given (AreStations given) (AtListening phases (done ++ station ∷ []) left) (after_call given station (step_of (packet_received station history)) history)) where
+  abbrev received : Option (List ℕ)
+  received = packet_received station history
+
+  abbrev facts : Facts
+  facts = facts_at given station history
+
+  abbrev room : Bool
+  room = has_room (setup_at given station) facts
+
+  reply_new : (other : ℕ) (octets : List ℕ) (base : OpenLink) (replies : Bool) → link_at other facts.links ≡ Some base → received ≡ Some octets → listens_under other facts.turn.doing ≡ true
+      → All (IsNewNote history station) (notes_doing (reply_if replies other) (link_received other room octets facts))
+  reply_new other octets base false was some on = All-nil (IsNewNote history station)
+  reply_new other octets base true was some on =
+      let taken = link_after (PacketReceived facts.turn.slot octets room) base in
+      let end = exchange_at (number_at station other history) history (side_of station) in
+      let counts = was_taking received octets other facts.turn base end on some (before_call given Q known pair distinct phases done left station history are is q holds other base was) in
+      let but = same_but facts.turn.slot octets false room base in
+      subst (All (IsNewNote history station)) (sym (ap (notes_sent facts.turn.slot) (received_at facts.turn.slot other octets room facts.links base was)))
+      (new_sent history station other taken
+      (handle_is 0 other facts.links base (station_is given Q known pair distinct phases done left station history are is q holds).own.handles was)
+      (counts.acked ∙ but.acked) (counts.sent ∙ ap length but.sent))
+
+  phase_new : AreNew given history station (step_of received)
+  phase_new = by (phase_of (setup_at given station) facts received)
+    where
+      found_new : (other : ℕ) (octets : List ℕ) → packet_received station history ≡ Some octets → listens_under other (facts_at given station history).turn.doing ≡ true
+          → (found : Option OpenLink) → link_at other (facts_at given station history).links ≡ found
+          → All (IsNewNote history station) (notes_passed (link_heard (setup_at given station) other octets (facts_at given station history)))
+      found_new other octets some on None absent = subst (All (IsNewNote history station)) (sym (unfound (setup_at given station) facts other octets absent)) (All-nil (IsNewNote history station))
+      found_new other octets some on (Some base) was =
+          All-append (IsNewNote history station) (notes_taken facts.turn.slot room (link_at other facts.links) octets) _
+          (taken_noted (IsNewNote history station) (λ handle count llid body. tt) facts.turn.slot room (link_at other facts.links) octets)
+          (reply_new other octets base (replies_in (link_at other facts.links) octets) was some on)
+
+      by : IsPhaseOf (setup_at given station) (facts_at given station history) (packet_received station history) → AreNew given history station (step_of (packet_received station history))
+      by (IsPlainPhase none plain_too) = all_more HasNoData (IsNewNote history station) (old_note history station) _ plain_too
+      by (IsOnLink other octets some listens heard_is) =
+          subst (All (IsNewNote history station)) (sym (on_link_notes (setup_at given station) facts received other octets some (ap notes_passed heard_is)))
+          (found_new other octets some (listens other ∙ same_number other) (link_at other facts.links) refl)
+
+-- ---- at each place of a run
+
+module _ (given : Given) where
+  abbrev IsNewEvent : List Event → Event → Type 0
+  IsNewEvent history (Called station step) = IsNewCall given history station step
+  IsNewEvent history (TurnBegan slot radios) = ⊤
+  IsNewEvent history (HostFed station octets) = ⊤
+  IsNewEvent history (Noted station note) = ⊤
+  IsNewEvent history (Transmitted station channel octets hearings) = ⊤
+
+  call_new : (station : ℕ) (step : Step) (history : List Event) → IsNewCall given history station step → Each IsNewEvent [] history → Each IsNewEvent [] (after_call given station step history)
+  call_new station step history new each =
+      each_called IsNewEvent station step (notes_after (setup_at given station) (facts_at given station history) step) history each new (λ before note. tt)
+
+  octets_new : (station : ℕ) (octets : List ℕ) (history : List Event) → Each IsNewEvent [] history → Each IsNewEvent [] (after_octets given station octets history)
+  octets_new station [] history each = each
+  octets_new station (octet ∷ octets) history each =
+      octets_new station octets (after_call given station (HostOctet octet) history) (call_new station (HostOctet octet) history (octet_new given history station octet) each)
+
+  feed_new : (station : ℕ) (octets : List ℕ) (history : List Event) → Each IsNewEvent [] history → Each IsNewEvent [] (after_feed given station octets history)
+  feed_new station [] history each = each
+  feed_new station (octet ∷ octets) history each =
+      octets_new station (octet ∷ octets) (history ++ HostFed station (octet ∷ octets) ∷ []) (each_event IsNewEvent history (HostFed station (octet ∷ octets)) each tt)
+
+  record AreNewAt (Q : Place → List Event → Type 0) (place : Place) (history : List Event) : Type 0 where
+    is : AreCountedAt given Q place history
+    each : Each IsNewEvent [] history
+
+  module _ (whole : IsHeardWhole) (Q : Place → List Event → Type 0) (known : AreKnown given Q) (are_two : IsOfTwo given) (pair : IsPair given) (six : HaveAddresses given) (distinct : AreDistinct given.stations) where
+    new_kept : IsKept given (AreNewAt Q)
+    new_kept = let kept = counts_kept whole given Q known are_two pair six distinct in record {
+      on_turn = λ slot plan history begun at has. record {
+        is = kept.on_turn slot plan history begun at has.is;
+        each = each_event IsNewEvent history (TurnBegan slot (map plan.radio_of given.stations)) has.each tt;
+      };
+      on_feed = λ plan done left station history are some now has. record {
+        is = kept.on_feed plan done left station history are some now has.is;
+        each = feed_new station (take (plan.feed_of station) (octets_left given station history)) history has.each;
+      };
+      on_fed = λ history has. record { is = kept.on_fed history has.is; each = has.each };
+      on_begin = λ slot plan done left station history are due has. record {
+        is = kept.on_begin slot plan done left station history are due has.is;
+        each = call_new station (TurnBegins slot (plan.radio_of station)) history (record {
+          new = begin_new given Q distinct done left station slot (plan.radio_of station) history are has.is;
+          of = begun_call whole given Q known are_two pair six distinct done left station slot (plan.radio_of station) history are (between_turns given Q distinct done left station history are has.is).uses.in_turn has.is;
+        }) has.each;
+      };
+      on_begun = λ history has. record { is = kept.on_begun history has.is; each = has.each };
+      on_phase = λ phases history few has. record { is = kept.on_phase phases history few has.is; each = has.each };
+      on_silence = λ phases done left station history are none has. record { is = kept.on_silence phases done left station history are none has.is; each = has.each };
+      on_packet = λ phases plan done left station channel octets history are some due has. record {
+        is = kept.on_packet phases plan done left station channel octets history are some due has.is;
+        each = each_event IsNewEvent history (Transmitted station channel octets (hearings_of given plan.fates station channel octets history)) has.each tt;
+      };
+      on_air = λ phases history has. record { is = kept.on_air phases history has.is; each = has.each };
+      on_hearing = λ phases done left station history are some has.
+          let next = kept.on_hearing phases done left station history are some has.is in record {
+            is = next;
+            each = call_new station (step_of (packet_received station history)) history (record {
+              new = phase_new given Q known pair distinct phases done left station history are has.is next.known next.holds;
+              of = call_is given Q known pair distinct phases done left station history are has.is next.known next.holds;
+            }) has.each;
+          };
+      on_heard = λ phases history has. record { is = kept.on_heard phases history has.is; each = has.each };
+      on_phases = λ history has. record { is = kept.on_phases history has.is; each = has.each };
+      on_end = λ done left station history are some has. record {
+        is = kept.on_end done left station history are some has.is;
+        each = call_new station TurnEnds history (end_new given history station) has.each;
+      };
+      on_ended = λ history has. record { is = kept.on_ended history has.is; each = has.each };
+    }
+
+    run_new : AreCountedAt given Q NoTurn [] → Each IsNewEvent [] (history_of (run_of given))
+    run_new first =
+        ends_with (run_of given) (IsWhole given (AreNewAt Q)) (IsStopped given (AreNewAt Q)) (Each IsNewEvent []) (run_kept given (AreNewAt Q) new_kept (record { is = first; each = tt }))
+        (λ history wholly. wholly.is.each) (λ history stop stopped. stopped.kept.each)
+
+-- ---- the note of a line
+
+record IsSentNote (links : Links) (event : Event) (side : Side) (number llid : ℕ) (body : List ℕ) : Type 0 where
+  station : ℕ
+  handle : ℕ
+  count : ℕ
+  is : event ≡ Noted station (SentNote handle count llid (record { items = body }))
+  side_is : side_of station ≡ side
+  number_is : links.link_of station handle ≡ number
+
+note_is : (links : Links) (station : ℕ) (note : Note) (side : Side) (number count llid : ℕ) (body : List ℕ)
+    → entry_of (side_of station) (links.link_of station) (links.last_of station) note ∷ [] ≡ Sent side number count llid body ∷ []
+    → IsSentNote links (Noted station note) side number llid body
+note_is links station (SentNote handle has one octets) side number count llid body is =
+    let same : Sent (side_of station) (links.link_of station handle) has one octets.items ≡ Sent side number count llid body = cc in
+    let sides : side_of station ≡ side = cc in
+    let numbers : links.link_of station handle ≡ number = cc in
+    let llids : one ≡ llid = cc in
+    let bodies : octets.items ≡ body = cc in record {
+      station = station;
+      handle = handle;
+      count = has;
+      is = λ i. Noted station (SentNote handle has (llids i) (record { items = bodies i }));
+      side_is = sides;
+      number_is = numbers;
+    }
+note_is links station (UpNote packet) side number count llid body is = absurd cc
+note_is links station note side number count llid body is = absurd cc
+
+sent_note : (links : Links) (event : Event) (side : Side) (number count llid : ℕ) (body : List ℕ) → entries_of links event ≡ Sent side number count llid body ∷ []
+    → IsSentNote links event side number llid body
+sent_note links (TurnBegan slot radios) side number count llid body is = absurd cc
+sent_note links (HostFed station octets) side number count llid body is = absurd cc
+sent_note links (Called station step) side number count llid body is = absurd cc
+sent_note links (Noted station note) side number count llid body is = note_is links station note side number count llid body is
+sent_note links (Transmitted station on octets []) side number count llid body is = absurd cc
+sent_note links (Transmitted station on octets (hearing ∷ hearings)) side number count llid body is = absurd cc
+
+-- ---- a line
+
+in_middle : (P : Note → Type 0) (earlier later : List Note) (note : Note) → All P (earlier ++ note ∷ later) → P note
+in_middle P [] later note all = All-head P note later all
+in_middle P (first ∷ earlier) later note all = in_middle P earlier later note (All-tail P first (earlier ++ note ∷ later) all)
+
+first_part : (P : Note → Type 0) (earlier later : List Note) → All P (earlier ++ later) → All P earlier
+first_part P [] later all = All-nil P
+first_part P (first ∷ earlier) later all =
+    All-cons P first earlier (All-head P first (earlier ++ later) all) (first_part P earlier later (All-tail P first (earlier ++ later) all))
+
+-- before a note of a new PDU no link is opened under its handle
+none_opened : (given : Given) (station : ℕ) (step : Step) (base : List Event) (earlier later : List Note) (handle count llid : ℕ) (body : List ℕ)
+    → notes_after (setup_at given station) (facts_at given station base) step ≡ earlier ++ SentNote handle count llid (record { items = body }) ∷ later
+    → IsCallOf given station step base → All (OpensNone handle) earlier
+none_opened given station step base earlier later handle count llid body are (OfNone none) =
+    let note = SentNote handle count llid (record { items = body }) in
+    absurd (let h : true ≡ false = (in_middle HasNoData earlier later note (subst (All HasNoData) are none)).sends in absurd cc)
+none_opened given station step base earlier later handle count llid body are (OfLink other link is before only opens) =
+    let note = SentNote handle count llid (record { items = body }) in
+    let same : handle ≡ other = in_middle (IsOnly other) earlier later note (subst (All (IsOnly other)) are only) in
+    first_part (OpensNone handle) earlier (note ∷ later) (subst (All (OpensNone handle)) are (subst (λ n. All (OpensNone n) (notes_after (setup_at given station) (facts_at given station base) step)) (sym same) opens))
+
+new_after : (given : Given) (station : ℕ) (step : Step) (base before : List Event) (earlier later : List Note) (handle count llid : ℕ) (body : List ℕ)
+    → notes_after (setup_at given station) (facts_at given station base) step ≡ earlier ++ SentNote handle count llid (record { items = body }) ∷ later
+    → before ≡ base ++ Called station step ∷ map (Noted station) earlier → IsNewCall given base station step
+    → IsNewAt (number_at station handle before) before station (record { llid = llid; body = body })
+new_after given station step base before earlier later handle count llid body are before_is call =
+    let note = SentNote handle count llid (record { items = body }) in
+    let new = in_middle (IsNewNote base station) earlier later note (subst (All (IsNewNote base station)) are call.new) in
+    let whole = before_is ∙ sym (append_assoc base (Called station step ∷ []) (map (Noted station) earlier)) in
+    let number = number_at station handle base in
+    let counts = notes_counts number station step base (side_of station) earlier in
+    let same = number_notes station handle step base earlier (none_opened given station step base earlier later handle count llid body are call.of) in
+    subst (λ xs. IsNewAt (number_at station handle xs) xs station (record { llid = llid; body = body })) (sym whole)
+    (subst (λ n. IsNewAt n ((base ++ Called station step ∷ []) ++ map (Noted station) earlier) station (record { llid = llid; body = body })) (sym same) (record {
+      all_acked = counts.acked ∙ new.all_acked ∙ sym counts.sent;
+      not_empty = new.not_empty;
+    }))
+
+pub sent_line_is_new : IsHeardWhole → IsUnderstood → AreTaken → AreNth → AreApart → (given : Given) → IsOfTwo given → IsPair given → HaveAddresses given → AreDistinct given.stations
+    → (front rest : List Entry) (side : Side) (number count llid : ℕ) (body : List ℕ) → journal_of (history_of (run_of given)) ≡ front ++ Sent side number count llid body ∷ rest
+    → IsNewPdu number front side (record { llid = llid; body = body })
+sent_line_is_new whole understood taken nth apart given are_two pair six distinct front rest side number count llid body is =
+    let known = known_of understood taken nth apart given are_two six in
+    let history = history_of (run_of given) in
+    let one = is_of_event history front rest (Sent side number count llid body) is in
+    let note = sent_note (links_of one.before) one.event side number count llid body one.entry_is in
+    let noted = SentNote note.handle note.count llid (record { items = body }) in
+    let at : history ≡ one.before ++ Noted note.station noted ∷ one.after = one.is_at ∙ ap (λ e. one.before ++ e ∷ one.after) note.is in
+    let call = noted_in_call given one.before one.after note.station noted at in
+    let after = map (Noted note.station) call.earlier ++ Noted note.station noted ∷ one.after in
+    let called : history ≡ call.base ++ Called note.station call.step ∷ after =
+    at ∙ ap (λ xs. xs ++ Noted note.station noted ∷ one.after) call.before_is
+    ∙ append_assoc call.base (Called note.station call.step ∷ map (Noted note.station) call.earlier) (Noted note.station noted ∷ one.after) in
+    let new = new_after given note.station call.step call.base one.before call.earlier call.later note.handle note.count llid body call.notes_are call.before_is
+    (each_at (IsNewEvent given) history call.base after (Called note.station call.step)
+    (run_new given whole (IsBelongingSoFar given) known are_two pair six distinct (counts_first given)) called) in
+    subst (λ xs. IsNewPdu number xs side (record { llid = llid; body = body })) (sym one.front_is)
+    (subst (λ s. IsNewPdu number (journal_of one.before) s (record { llid = llid; body = body })) note.side_is
+    (subst (λ n. IsNewPdu n (journal_of one.before) (side_of note.station) (record { llid = llid; body = body })) note.number_is new))

@@ -1,0 +1,280 @@
+-- What a phase notes of PDUs: nothing, or those of the link on which a packet is received.
+use Rattle.std.proofs.Common.{◌≡◌, ℕ, ◌≤◌, ◌==◌, ◌&&◌, ◌||◌, not, Bool, true, false, Option, Some, None, List, [], ◌∷◌, length, refl, sym, ap, subst, ◌∙◌}
+use Rattle.std.specs.Prelude.{All}
+use Rattle.std.proofs.lemmas.Bool.{eqb-true, eqb-false}
+use Rattle.std.proofs.lemmas.List.Elements.{All-append, All-cons, All-nil}
+use Rattle.ble_base.specs.declared.addresses.Address.{Address}
+use Rattle.ble_base.specs.declared.notes.Note.{Note}
+use Rattle.ble_base.specs.declared.notes.Note.TheVariants.{Took}
+use Rattle.adv_pdu.specs.declared.pdu.AdvPdu.{AdvPdu}
+use Rattle.adv_pdu.specs.declared.pdu.ConnectFields.{ConnectFields}
+use Rattle.advertise.specs.declared.answers.AdvAnswer.{AdvAnswer}
+use Rattle.advertise.specs.declared.answers.AdvAnswer.TheVariants.{Ignore, Respond, Connect as TakesIt}
+use Rattle.advertise.specs.Advertising.{AdvertiserFacts}
+use Rattle.advertise.specs.Answers.{advertiser_answer}
+use Rattle.data_pdu.specs.Header.{header_in}
+use Rattle.one_end.specs.Acknowledgement.{Acknowledgement, received_by}
+use Rattle.one_end.specs.Data.{is_data, is_empty}
+use Rattle.one_end.specs.End.{facts_received, has_acknowledged, has_new_pdu, is_accepted, notes_after as end_notes, sent_notes, took_notes, took_notes_if}
+use Rattle.one_end.specs.Facts.{Facts as EndFacts}
+use Rattle.one_end.specs.Packets.{good_pdu, pdu_of}
+use Rattle.one_end.specs.Step.{PacketReceived, PacketSent}
+use Rattle.one_end.specs.declared.setup.LinkSetup.{LinkSetup}
+use Rattle.scan_init.specs.Initiating.{InitiatorFacts}
+use Rattle.scan_init.specs.Reports.{ScannerFacts, does_ask, scan_answer}
+use Rattle.open_links.specs.OpenLinks.{OpenLink, facts_in, free_from, link_after, link_at}
+use Rattle.one_side.specs.declared.doing.Doing.{Doing}
+use Rattle.one_side.specs.declared.doing.Doing.TheVariants.{Advertises, AwaitsRequest, Scans, Requests, AwaitsResponse, Initiates, Connects, CentralSends, CentralListens, PeripheralListens, PeripheralSends}
+use Rattle.one_side.specs.Facts.{Setup, Facts}
+use Rattle.one_side.specs.Heard.{advertiser_answers, advertiser_heard, asks_if, connects, events_reported, heard, if_pdu, initiator_heard, link_heard, link_taken, link_to, notes_taken, opens, scanner_after, scanner_heard, taken_if, taken_under, unheard, with_scanner}
+use Rattle.one_side.specs.Events.{notes_of_events}
+use Rattle.one_side.specs.Links.{events_opened, note_opened}
+use Rattle.one_side.specs.Outcome.{Outcome, notes_passed}
+use Rattle.one_side.specs.Packets.{notes_doing, notes_sent, pdu_heard}
+use Rattle.one_side.specs.Side.{notes_after}
+use Rattle.runs.specs.Run.{step_of}
+use Rattle.run_laws.proofs.Agreed.{ack_of, step_facts}
+use Rattle.journal_acks.proofs.Acks.{empty_is_no_data}
+use Rattle.journal_acks.proofs.CallNotes.{HasNoData, events_noted, no_data}
+use Rattle.journal_acks.proofs.LinkUses.{listens_under, sends_under}
+use Rattle.journal_acks.proofs.Standing.{one_link}
+use Rattle.journal_acks.proofs.TwoStations.{same_number}
+
+-- ---- what is noted of a PDU that a link receives
+
+-- it is noted where it is accepted only because there is room; a note says that it counts as it does with room, and
+-- none that it counts as it does without
+pub data IsTakenSo (slot : ℕ) (octets : List ℕ) (room : Bool) (link : OpenLink) : Type 0 where
+  Unnoted : notes_taken slot room (Some link) octets ≡ []
+      → ack_of (link_after (PacketReceived slot octets room) link) ≡ ack_of (link_after (PacketReceived slot octets false) link)
+      → IsTakenSo slot octets room link
+  Noted : (count llid : ℕ) (body : List ℕ) → notes_taken slot room (Some link) octets ≡ Took link.setup.link.handle count llid (record { items = body }) ∷ []
+      → ack_of (link_after (PacketReceived slot octets room) link) ≡ ack_of (link_after (PacketReceived slot octets true) link)
+      → IsTakenSo slot octets room link
+
+received_ack : (slot : ℕ) (octets : List ℕ) (room : Bool) (link : OpenLink) (found : Option (List ℕ)) → good_pdu link.setup (facts_in link) octets ≡ found
+    → ack_of (link_after (PacketReceived slot octets room) link) ≡ (facts_received slot room found (facts_in link)).acknowledgement
+received_ack slot octets room link found is =
+    ap (λ (f : EndFacts). f.acknowledgement) (step_facts link (PacketReceived slot octets room))
+    ∙ ap (λ may. (facts_received slot room may (facts_in link)).acknowledgement) is
+
+-- all but what is accepted is the same with room and without
+pub record IsSameBut (one other : Acknowledgement) : Type 0 where
+  pub sent : one.sent ≡ other.sent
+  pub acked : one.acked ≡ other.acked
+
+received_same : (slot : ℕ) (room other : Bool) (found : Option (List ℕ)) (facts : EndFacts)
+    → IsSameBut (facts_received slot room found facts).acknowledgement (facts_received slot other found facts).acknowledgement
+received_same slot room other None facts = record { sent = refl; acked = refl }
+received_same slot room other (Some pdu) facts = record { sent = refl; acked = refl }
+
+pub same_but : (slot : ℕ) (octets : List ℕ) (room other : Bool) (link : OpenLink)
+    → IsSameBut (ack_of (link_after (PacketReceived slot octets room) link)) (ack_of (link_after (PacketReceived slot octets other) link))
+same_but slot octets room other link =
+    let found = good_pdu link.setup (facts_in link) octets in
+    subst (λ a. IsSameBut a (ack_of (link_after (PacketReceived slot octets other) link))) (sym (received_ack slot octets room link found refl))
+    (subst (λ a. IsSameBut (facts_received slot room found (facts_in link)).acknowledgement a) (sym (received_ack slot octets other link found refl))
+    (received_same slot room other found (facts_in link)))
+
+-- what it sent is the same as before
+pub record HasSentSame (one other : Acknowledgement) : Type 0 where
+  pub sent : one.sent ≡ other.sent
+  pub last : one.last ≡ other.last
+
+received_sent : (slot : ℕ) (room : Bool) (found : Option (List ℕ)) (facts : EndFacts) → HasSentSame (facts_received slot room found facts).acknowledgement facts.acknowledgement
+received_sent slot room None facts = record { sent = refl; last = refl }
+received_sent slot room (Some pdu) facts = record { sent = refl; last = refl }
+
+pub sent_same : (slot : ℕ) (octets : List ℕ) (room : Bool) (link : OpenLink) → HasSentSame (ack_of (link_after (PacketReceived slot octets room) link)) (ack_of link)
+sent_same slot octets room link =
+    let found = good_pdu link.setup (facts_in link) octets in
+    subst (λ a. HasSentSame a (ack_of link)) (sym (received_ack slot octets room link found refl)) (received_sent slot room found (facts_in link))
+
+noted_room : (room fresh full empty : Bool) → ((fresh && (room || not full)) && not empty) ≡ true → (fresh && (room || not full)) ≡ (fresh && true)
+noted_room true fresh full empty is = refl
+noted_room false true true empty is = absurd cc
+noted_room false true false empty is = refl
+noted_room false false full empty is = absurd cc
+
+quiet_room : (room fresh full empty : Bool) → (empty ≡ true → full ≡ false) → ((fresh && (room || not full)) && not empty) ≡ false
+    → (fresh && (room || not full)) ≡ (fresh && (false || not full))
+quiet_room false fresh full empty none is = refl
+quiet_room true true false empty none is = refl
+quiet_room true true true true none is = absurd (let h : true ≡ false = none refl in absurd cc)
+quiet_room true true true false none is = absurd cc
+quiet_room true false full empty none is = refl
+
+pub taken_so : (slot : ℕ) (octets : List ℕ) (room : Bool) (link : OpenLink) → IsTakenSo slot octets room link
+taken_so slot octets room link = by (good_pdu link.setup (facts_in link) octets) refl
+  where
+    same_by : (other : Bool) (pdu : List ℕ) → good_pdu link.setup (facts_in link) octets ≡ Some pdu
+        → is_accepted room (has_new_pdu (facts_in link) (header_in pdu)) (pdu_of pdu) ≡ is_accepted other (has_new_pdu (facts_in link) (header_in pdu)) (pdu_of pdu)
+        → ack_of (link_after (PacketReceived slot octets room) link) ≡ ack_of (link_after (PacketReceived slot octets other) link)
+    same_by other pdu is accepted =
+        let facts = facts_in link in
+        received_ack slot octets room link (Some pdu) is
+        ∙ ap (λ b. received_by (has_acknowledged facts (header_in pdu)) b (pdu_of pdu) facts.acknowledgement) accepted
+        ∙ sym (received_ack slot octets other link (Some pdu) is)
+
+    noted_by : (pdu : List ℕ) → good_pdu link.setup (facts_in link) octets ≡ Some pdu → (noted : Bool)
+        → (is_accepted room (has_new_pdu (facts_in link) (header_in pdu)) (pdu_of pdu) && not (is_empty (pdu_of pdu))) ≡ noted → IsTakenSo slot octets room link
+    noted_by pdu is true noted =
+        let fresh = has_new_pdu (facts_in link) (header_in pdu) in
+        Noted _ _ _ (ap (λ may. took_notes link.setup.link.handle room may (facts_in link)) is
+        ∙ ap (λ b. took_notes_if b link.setup.link.handle (pdu_of pdu) (facts_in link)) noted)
+        (same_by true pdu is (noted_room room fresh (is_data (pdu_of pdu)) (is_empty (pdu_of pdu)) noted))
+    noted_by pdu is false noted =
+        let fresh = has_new_pdu (facts_in link) (header_in pdu) in
+        Unnoted (ap (λ may. took_notes link.setup.link.handle room may (facts_in link)) is
+        ∙ ap (λ b. took_notes_if b link.setup.link.handle (pdu_of pdu) (facts_in link)) noted)
+        (same_by false pdu is (quiet_room room fresh (is_data (pdu_of pdu)) (is_empty (pdu_of pdu)) (empty_is_no_data (pdu_of pdu)) noted))
+
+    by : (found : Option (List ℕ)) → good_pdu link.setup (facts_in link) octets ≡ found → IsTakenSo slot octets room link
+    by None is =
+        Unnoted (ap (λ may. took_notes link.setup.link.handle room may (facts_in link)) is)
+        (received_ack slot octets room link None is ∙ sym (received_ack slot octets false link None is))
+    by (Some pdu) is = noted_by pdu is _ refl
+
+-- ---- what is noted as a link is to send
+
+abbrev pub notes_when : Bool → OpenLink → List Note
+notes_when true link = sent_notes link.setup (facts_in link)
+notes_when false link = []
+
+sent_when : (same : Bool) (facts : Facts) (handle other : ℕ) (link : OpenLink) → length facts.links ≤ 1 → link_at handle facts.links ≡ Some link → (other == handle) ≡ same
+    → notes_sent facts.turn.slot (link_at other facts.links) ≡ notes_when same link
+sent_when true facts handle other link few is same =
+    ap (notes_sent facts.turn.slot) (ap (λ n. link_at n facts.links) (eqb-true other handle same) ∙ is)
+sent_when false facts handle other link few is differs = by (link_at other facts.links) refl
+  where
+    by : (found : Option OpenLink) → link_at other facts.links ≡ found → notes_sent facts.turn.slot found ≡ []
+    by None none = refl
+    by (Some two) some = absurd (eqb-false other handle differs (one_link facts.links other handle two link few some is).handles)
+
+pub doing_notes : (doing : Doing) (facts : Facts) (handle : ℕ) (link : OpenLink) → length facts.links ≤ 1 → link_at handle facts.links ≡ Some link
+    → notes_doing doing facts ≡ notes_when (sends_under handle doing) link
+doing_notes (CentralSends other) facts handle link few is = sent_when (other == handle) facts handle other link few is refl
+doing_notes (PeripheralSends other) facts handle link few is = sent_when (other == handle) facts handle other link few is refl
+doing_notes (Advertises channel) facts handle link few is = refl
+doing_notes other facts handle link few is = refl
+
+-- a new PDU is noted on one link, or on none
+pub data SendsFrom (doing : Doing) (facts : Facts) : Type 0 where
+  SendsNothing : notes_doing doing facts ≡ [] → SendsFrom doing facts
+  SendsOne : (other : ℕ) (link : OpenLink) → link_at other facts.links ≡ Some link → sends_under other doing ≡ true
+      → notes_doing doing facts ≡ end_notes link.setup (facts_in link) (PacketSent facts.turn.slot) → SendsFrom doing facts
+
+pub sends_from : (doing : Doing) (facts : Facts) → SendsFrom doing facts
+sends_from (CentralSends other) facts = by (link_at other facts.links) refl
+  where
+    by : (found : Option OpenLink) → link_at other facts.links ≡ found → SendsFrom (CentralSends other) facts
+    by None is = SendsNothing (ap (notes_sent facts.turn.slot) is)
+    by (Some link) is = SendsOne other link is (same_number other) (ap (notes_sent facts.turn.slot) is)
+sends_from (PeripheralSends other) facts = by (link_at other facts.links) refl
+  where
+    by : (found : Option OpenLink) → link_at other facts.links ≡ found → SendsFrom (PeripheralSends other) facts
+    by None is = SendsNothing (ap (notes_sent facts.turn.slot) is)
+    by (Some link) is = SendsOne other link is (same_number other) (ap (notes_sent facts.turn.slot) is)
+sends_from (Advertises channel) facts = SendsNothing refl
+sends_from other facts = SendsNothing refl
+
+-- ---- a phase in which no link receives a packet
+
+abbrev IsPlain : Outcome → Type 0
+IsPlain outcome = All HasNoData (notes_passed outcome)
+
+nothing : All HasNoData []
+nothing = All-nil HasNoData
+
+opens_plain : (link : LinkSetup) (facts : Facts) → IsPlain (opens link facts)
+opens_plain link facts =
+    let events = notes_of_events facts.view (events_opened facts.view link) in
+    All-append HasNoData (note_opened link ∷ events) []
+    (All-cons HasNoData (note_opened link) events (record { takes = refl; sends = refl }) (events_noted HasNoData no_data.feeds facts.view (events_opened facts.view link))) nothing
+
+pub unheard_plain : (doing : Doing) (facts : Facts) → IsPlain (unheard doing facts)
+unheard_plain (Advertises channel) facts = nothing
+unheard_plain (Requests channel advertiser) facts = nothing
+unheard_plain (Connects channel link) facts = opens_plain link facts
+unheard_plain (CentralSends handle) facts = nothing
+unheard_plain other facts = nothing
+
+under_plain : (free : Option ℕ) (own : Address) (pdu : AdvPdu) (fields : ConnectFields) (facts : Facts) → IsPlain (taken_under free own pdu fields facts)
+under_plain None own pdu fields facts = nothing
+under_plain (Some handle) own pdu fields facts = opens_plain (link_taken own pdu fields handle) facts
+
+if_plain : (new : Bool) (own : Address) (pdu : AdvPdu) (fields : ConnectFields) (facts : Facts) → IsPlain (taken_if new own pdu fields facts)
+if_plain false own pdu fields facts = nothing
+if_plain true own pdu fields facts = under_plain (free_from 0 facts.links) own pdu fields facts
+
+answers_plain : (answer : AdvAnswer) (channel : ℕ) (own : Address) (pdu : AdvPdu) (facts : Facts) → IsPlain (advertiser_answers answer channel own pdu facts)
+answers_plain Ignore channel own pdu facts = nothing
+answers_plain Respond channel own pdu facts = nothing
+answers_plain (TakesIt fields) channel own pdu facts = if_plain _ own pdu fields facts
+
+advertiser_plain : (on : Option AdvertiserFacts) (channel : ℕ) (pdu : AdvPdu) (facts : Facts) → IsPlain (advertiser_heard on channel pdu facts)
+advertiser_plain None channel pdu facts = nothing
+advertiser_plain (Some on) channel pdu facts = answers_plain (advertiser_answer on.params facts.view.accepted pdu) channel on.params.own pdu facts
+
+asks_plain : (asks : Bool) (channel : ℕ) (pdu : AdvPdu) (facts : Facts) → All HasNoData (notes_doing (asks_if asks channel pdu) facts)
+asks_plain true channel pdu facts = nothing
+asks_plain false channel pdu facts = nothing
+
+scanner_plain : (on : Option ScannerFacts) (may_ask : Bool) (channel : ℕ) (pdu : AdvPdu) (facts : Facts) → IsPlain (scanner_heard on may_ask channel pdu facts)
+scanner_plain None may_ask channel pdu facts = nothing
+scanner_plain (Some on) may_ask channel pdu facts =
+    let answer = scan_answer on.params facts.view.accepted on.recent pdu in
+    All-append HasNoData _ _ (events_noted HasNoData no_data.feeds facts.view (events_reported answer pdu))
+    (asks_plain (may_ask && does_ask answer) channel pdu (with_scanner (scanner_after on facts.view.accepted pdu) facts))
+
+connects_plain : (link : Option LinkSetup) (setup : Setup) (channel : ℕ) (facts : Facts) → IsPlain (connects link setup channel facts)
+connects_plain None setup channel facts = nothing
+connects_plain (Some link) setup channel facts = nothing
+
+initiator_plain : (on : Option InitiatorFacts) (setup : Setup) (channel : ℕ) (pdu : AdvPdu) (facts : Facts) → IsPlain (initiator_heard on setup channel pdu facts)
+initiator_plain None setup channel pdu facts = nothing
+initiator_plain (Some on) setup channel pdu facts = connects_plain (link_to setup on pdu facts) setup channel facts
+
+pdu_plain : (found : Option AdvPdu) (facts : Facts) (outcome : AdvPdu → Outcome) → ((pdu : AdvPdu) → IsPlain (outcome pdu)) → IsPlain (if_pdu found facts outcome)
+pdu_plain None facts outcome some = nothing
+pdu_plain (Some pdu) facts outcome some = some pdu
+
+-- ---- a phase
+
+pub data IsPhaseOf (setup : Setup) (facts : Facts) (received : Option (List ℕ)) : Type 0 where
+  -- nothing is received on a link
+  IsPlainPhase : ((handle : ℕ) → listens_under handle facts.turn.doing ≡ true → received ≡ None) → All HasNoData (notes_after setup facts (step_of received))
+      → IsPhaseOf setup facts received
+  -- octets are received on the link under this handle
+  IsOnLink : (other : ℕ) (octets : List ℕ) → received ≡ Some octets → ((handle : ℕ) → listens_under handle facts.turn.doing ≡ (other == handle))
+      → heard setup facts.turn.doing octets facts ≡ link_heard setup other octets facts → IsPhaseOf setup facts received
+
+plain_by : (setup : Setup) (facts : Facts) (octets : List ℕ) (doing : Doing) → facts.turn.doing ≡ doing → ((handle : ℕ) → listens_under handle doing ≡ false)
+    → IsPlain (heard setup doing octets facts) → IsPhaseOf setup facts (Some octets)
+plain_by setup facts octets doing is none plain =
+    IsPlainPhase (λ handle listens. absurd (let h : true ≡ false = sym listens ∙ ap (listens_under handle) is ∙ none handle in absurd cc))
+    (subst (λ (d : Doing). IsPlain (heard setup d octets facts)) (sym is) plain)
+
+phase_by : (setup : Setup) (facts : Facts) (octets : List ℕ) (doing : Doing) → facts.turn.doing ≡ doing → IsPhaseOf setup facts (Some octets)
+phase_by setup facts octets (CentralListens other) is =
+    IsOnLink other octets refl (λ handle. ap (listens_under handle) is) (ap (λ (d : Doing). heard setup d octets facts) is)
+phase_by setup facts octets (PeripheralListens other) is =
+    IsOnLink other octets refl (λ handle. ap (listens_under handle) is) (ap (λ (d : Doing). heard setup d octets facts) is)
+phase_by setup facts octets (AwaitsRequest channel) is =
+    plain_by setup facts octets (AwaitsRequest channel) is (λ handle. refl)
+    (pdu_plain (pdu_heard channel octets) facts _ (λ pdu. advertiser_plain facts.advertising.on channel pdu facts))
+phase_by setup facts octets (Scans channel) is =
+    plain_by setup facts octets (Scans channel) is (λ handle. refl)
+    (pdu_plain (pdu_heard channel octets) facts _ (λ pdu. scanner_plain facts.scanning.on true channel pdu facts))
+phase_by setup facts octets (AwaitsResponse channel) is =
+    plain_by setup facts octets (AwaitsResponse channel) is (λ handle. refl)
+    (pdu_plain (pdu_heard channel octets) facts _ (λ pdu. scanner_plain facts.scanning.on false channel pdu facts))
+phase_by setup facts octets (Initiates channel) is =
+    plain_by setup facts octets (Initiates channel) is (λ handle. refl)
+    (pdu_plain (pdu_heard channel octets) facts _ (λ pdu. initiator_plain facts.initiator setup channel pdu facts))
+phase_by setup facts octets (Advertises channel) is = plain_by setup facts octets (Advertises channel) is (λ handle. refl) (unheard_plain (Advertises channel) facts)
+phase_by setup facts octets doing is = plain_by setup facts octets doing is (λ handle. refl) (unheard_plain doing facts)
+
+pub phase_of : (setup : Setup) (facts : Facts) (received : Option (List ℕ)) → IsPhaseOf setup facts received
+phase_of setup facts None = IsPlainPhase (λ handle listens. refl) (unheard_plain facts.turn.doing facts)
+phase_of setup facts (Some octets) = phase_by setup facts octets facts.turn.doing refl
