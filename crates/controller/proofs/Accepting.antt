@@ -5,7 +5,7 @@ use Rattle.hci_cmd.specs.declared.command.Command.{Command}
 use Rattle.hci_cmd.specs.declared.command.Command.TheVariants.{LeRand}
 use Rattle.host_view.specs.Changes.{view_after}
 use Rattle.open_links.specs.Knowing.{Knows as KnowsLinks}
-use Rattle.one_side.specs.Commands.{advertising_after, drawn_after, facts_accepted, initiator_after, links_after, radio_after, scanning_after}
+use Rattle.one_side.specs.Commands.{advertising_after, drawn_after, facts_accepted, initiator_after, links_after, radio_after, received_after, scanning_after}
 use Rattle.one_side.specs.Facts.{Setup, Facts}
 use Rattle.controller.specs.Held.{Held}
 use Rattle.controller.specs.Knowing.{IsAt}
@@ -16,7 +16,7 @@ place_is count drawn LeRand = mod-add-mod drawn count 1
 place_is count drawn other = refl
 
 pub accepts_is : (has : Setup) (held shut new : Held) (facts : Facts) (command : Command) → shut ≡ record held { links = shut.links }
-    → KnowsLinks shut.links (links_after command facts.links) → new ≡ held_accepted shut command
+    → KnowsLinks shut.links (links_after command facts.links) (received_after command facts.received) → new ≡ held_accepted shut command
     → IsAt has held facts → IsAt has new (facts_accepted has facts command)
 accepts_is has held shut new facts command rest links is k =
     let setup : shut.setup ≡ has = ap (λ (h : Held). h.setup) rest ∙ k.setup in

@@ -8,16 +8,20 @@ use Rattle.h4_frames.specs.declared.stage.Stage.{Stage}
 use Rattle.h4_frames.specs.Frames.{frames, frame_entry}
 use Rattle.h4_frames.specs.Machine.{framer_after}
 use Rattle.one_side.specs.declared.doing.Doing.{Doing}
-use Rattle.one_side.specs.Step.{Step, HostOctet}
+use Rattle.one_side.specs.declared.doing.Doing.TheVariants.{Advertises, Rests}
+use Rattle.one_side.specs.Data.{facts_ended_turn, notes_ended_turn}
+use Rattle.one_side.specs.Step.{Step, HostOctet, TurnEnds}
 use Rattle.one_side.specs.Facts.{Setup, Facts, Use}
-use Rattle.one_side.specs.Outcome.{Outcome, facts_passed}
-use Rattle.one_side.specs.Packets.{facts_doing, use_for, use_of}
+use Rattle.one_side.specs.Outcome.{Outcome, facts_passed, notes_passed}
+use Rattle.one_side.specs.Packets.{facts_doing, notes_doing, use_for, use_of}
 use Rattle.one_side.specs.Side.{facts_after, facts_fed, facts_of, first_result, notes_after, notes_fed, result_of, with_octet}
 use Rattle.one_side.proofs.Feds.{fed_octets, turn_octets}
 use Rattle.one_side.proofs.Pasts.{facts_more}
 use Rattle.one_side.proofs.Always.{IsInTurn}
+use Rattle.controller.specs.Framed.{IsFramed}
 use Rattle.controller.specs.Held.{Held}
-use Rattle.controller.specs.Knowing.{Goes, IsAt, IsWholeAt, Knows, Passes}
+use Rattle.controller.specs.Knowing.{Goes, IsAt, IsWholeAt, Knows}
+use Rattle.controller.proofs.FrameOctets.{is_framed}
 
 -- ---- what an octet completes
 
@@ -85,46 +89,92 @@ pub octet_goes : (setup : Setup) (past : List Step) (octet : ℕ) (was old new :
     → old ≡ record was { framer = framer } → before ≡ []
     → ((octets : List ℕ) → was.framer ≡ framer_after octets → frames (octets ++ octet ∷ []) ≡ frames octets ++ frame_entry (length octets + 1) fed)
     → ((octets : List ℕ) → was.framer ≡ framer_after octets → framer ≡ framer_after (octets ++ octet ∷ []))
-    → ((has : Setup) (facts : Facts) → IsAt has old facts → IsAt has new (facts_fed has facts fed))
-    → ((has : Setup) (facts : Facts) → IsAt has old facts → noted ≡ before ++ notes_fed has facts fed)
+    → ((has : Setup) (facts : Facts) → IsAt has old facts → IsFramed fed → IsAt has new (facts_fed has facts fed))
+    → ((has : Setup) (facts : Facts) → IsAt has old facts → IsFramed fed → noted ≡ before ++ notes_fed has facts fed)
     → new.framer ≡ old.framer
     → Knows setup was past → Goes setup new past (HostOctet octet) noted
 unfolding Knows
 octet_goes setup past octet was old new framer fed before noted fed_is empty feeds frames_on at told same knows =
     let facts = facts_of setup past in
     let fed_result = completes facts.octets octet fed (feeds facts.octets knows.framed) in
+    let framed = subst IsFramed (sym fed_result) (is_framed facts.octets octet) in
     let k = with_framer_is setup was old facts framer fed_is knows.at in
     goes_to setup past (HostOctet octet) new noted
     (record {
       at = with_octet_is setup new (facts_fed setup facts (result_of facts.octets octet)) octet
-          (subst (λ (fed : Fed). IsAt setup new (facts_fed setup facts fed)) fed_result (at setup facts k));
+          (subst (λ (fed : Fed). IsAt setup new (facts_fed setup facts fed)) fed_result (at setup facts k framed));
       framed = same ∙ ap (λ (h : Held). h.framer) fed_is ∙ frames_on facts.octets knows.framed
           ∙ ap (λ (octets : List ℕ). framer_after (octets ++ octet ∷ [])) (sym (fed_octets setup facts (result_of facts.octets octet)));
     })
-    (from_empty before noted _ empty (told setup facts k) ∙ ap (notes_fed setup facts) fed_result)
+    (from_empty before noted _ empty (told setup facts k framed) ∙ ap (notes_fed setup facts) fed_result)
 
--- a step of a turn, of which this comes
-pub turn_goes : (setup : Setup) (past : List Step) (step : Step) (was mid new : Held) (before noted : List Note) (next : Doing) (outcome : Outcome)
-    → IsInTurn step → facts_after setup (facts_of setup past) step ≡ facts_passed outcome → notes_after setup (facts_of setup past) step ≡ outcome.notes
-    → before ≡ [] → Passes setup mid before noted next outcome
-    → ((has : Setup) (facts : Facts) → IsAt has mid facts → IsAt has new (facts_doing next facts))
+-- ---- a step of a turn
+
+-- what it does in the next phase is known, and is done: it wants this of the radio for that
+pub record Prepares (has : Setup) (new : Held) (heard noted : List Note) (next : Doing) (wanted : Use) (facts : Facts) : Type 0 where
+  pub at : IsAt has new (facts_doing next facts)
+  pub notes : noted ≡ heard ++ notes_doing next facts
+  pub wants : wanted ≡ use_for facts next
+
+use_resting : (facts : Facts) (doing : Doing) → use_for (facts_doing Rests facts) doing ≡ use_for facts doing
+use_resting facts (Advertises channel) = refl
+use_resting facts other = refl
+
+notes_resting : (facts : Facts) (doing : Doing) → notes_doing doing (facts_doing Rests facts) ≡ notes_doing doing facts
+notes_resting facts (Advertises channel) = refl
+notes_resting facts other = refl
+
+-- also where it did nothing before
+pub prepares_again : (has : Setup) (new : Held) (heard noted : List Note) (next : Doing) (wanted : Use) (facts : Facts)
+    → Prepares has new heard noted next wanted (facts_doing Rests facts) → Prepares has new heard noted next wanted facts
+prepares_again has new heard noted next wanted facts p =
+    let k = p.at in record {
+      at = record {
+        setup = k.setup;
+        view = k.view;
+        place = k.place;
+        access = k.access;
+        turn = k.turn;
+        radio = k.radio;
+        advertising = k.advertising;
+        scanning = k.scanning;
+        initiator = k.initiator;
+        links = k.links;
+      };
+      notes = p.notes ∙ ap (λ (more : List Note). heard ++ more) (notes_resting facts next);
+      wants = p.wants ∙ use_resting facts next;
+    }
+
+-- what comes of the step, and what is prepared then
+pub turn_goes : (setup : Setup) (past : List Step) (step : Step) (was new : Held) (before heard noted : List Note) (next : Doing) (wanted : Use) (outcome : Outcome)
+    → IsInTurn step → facts_after setup (facts_of setup past) step ≡ facts_passed outcome
+    → notes_after setup (facts_of setup past) step ≡ notes_passed outcome
+    → before ≡ [] → heard ≡ before ++ outcome.notes → next ≡ outcome.next → Prepares setup new heard noted next wanted outcome.facts
     → new.framer ≡ was.framer → Knows setup was past → Goes setup new past step noted
 unfolding Knows
-turn_goes setup past step was mid new before noted next outcome turn facts_are notes_are empty passes does same knows =
+turn_goes setup past step was new before heard noted next wanted outcome turn facts_are notes_are empty told does prepares same knows =
     goes_to setup past step new noted
     (record {
-      at = subst (λ (facts : Facts). IsAt setup new facts) (ap (λ (doing : Doing). facts_doing doing outcome.facts) passes.doing ∙ sym facts_are)
-          (does setup outcome.facts passes.at);
+      at = subst (λ (facts : Facts). IsAt setup new facts) (ap (λ (doing : Doing). facts_doing doing outcome.facts) does ∙ sym facts_are) prepares.at;
       framed = same ∙ knows.framed
           ∙ ap framer_after (sym (turn_octets setup (facts_of setup past) step turn));
     })
-    (from_empty before noted _ empty passes.notes ∙ sym notes_are)
+    (prepares.notes ∙ ap (λ (notes : List Note). notes ++ notes_doing next outcome.facts) (from_empty before heard outcome.notes empty told)
+    ∙ ap (λ (doing : Doing). outcome.notes ++ notes_doing doing outcome.facts) does ∙ sym notes_are)
 
-pub wants_then : (setup : Setup) (past : List Step) (step : Step) (mid : Held) (before noted : List Note) (next : Doing) (outcome : Outcome) (wanted : Use)
-    → facts_after setup (facts_of setup past) step ≡ facts_passed outcome → Passes setup mid before noted next outcome
-    → ((has : Setup) (facts : Facts) → IsAt has mid facts → wanted ≡ use_for facts next)
+pub wants_then : (setup : Setup) (past : List Step) (step : Step) (new : Held) (heard noted : List Note) (next : Doing) (wanted : Use) (outcome : Outcome)
+    → facts_after setup (facts_of setup past) step ≡ facts_passed outcome → next ≡ outcome.next → Prepares setup new heard noted next wanted outcome.facts
     → wanted ≡ use_of (facts_of setup (past ++ step ∷ []))
 unfolding use_of
-wants_then setup past step mid before noted next outcome wanted facts_are passes wants =
-    wants setup outcome.facts passes.at ∙ ap (use_for outcome.facts) passes.doing
+wants_then setup past step new heard noted next wanted outcome facts_are does prepares =
+    prepares.wants ∙ ap (use_for outcome.facts) does
     ∙ sym (ap (λ (facts : Facts). facts.wanted) (facts_more setup past step ∙ facts_are))
+
+-- the turn ends
+pub end_goes : (setup : Setup) (past : List Step) (was new : Held) (noted : List Note)
+    → IsAt setup new (facts_doing Rests (facts_ended_turn (facts_of setup past))) → noted ≡ notes_ended_turn (facts_of setup past)
+    → new.framer ≡ was.framer → Knows setup was past → Goes setup new past TurnEnds noted
+unfolding Knows
+end_goes setup past was new noted at told same knows =
+    goes_to setup past TurnEnds new noted
+    (record { at = at; framed = same ∙ knows.framed ∙ ap framer_after (sym (turn_octets setup (facts_of setup past) TurnEnds tt)) }) told

@@ -2,5 +2,7 @@
 pub mod Accepting
 pub mod Beginning
 pub mod Connecting
+pub mod FrameOctets
 pub mod Going
 pub mod Shutting
+pub mod Words

@@ -1,5 +1,5 @@
 -- That what a controller does can be done: channels of the air, and a link that may be opened.
-use Rattle.std.specs.Prelude.{◌<◌, ◌≤◌, ◌^◌, ℕ, ⊤}
+use Rattle.std.specs.Prelude.{◌≡◌, ◌<◌, ◌≤◌, ◌^◌, ℕ, false, ⊤}
 use Rattle.adv_pdu.specs.Ranges.{IsInRange}
 use Rattle.adv_pdu.specs.declared.pdu.ConnectFields.{ConnectFields}
 use Rattle.advertise.specs.declared.answers.AdvAnswer.{AdvAnswer}
@@ -7,6 +7,7 @@ use Rattle.advertise.specs.declared.answers.AdvAnswer.TheVariants.{Ignore, Respo
 use Rattle.one_end.specs.declared.setup.LinkSetup.{LinkSetup}
 use Rattle.one_side.specs.declared.doing.Doing.{Doing}
 use Rattle.one_side.specs.declared.doing.Doing.TheVariants.{Advertises, AwaitsRequest, Responds, Scans, Requests, AwaitsResponse, Initiates, Connects, CentralSends, CentralListens, PeripheralListens, PeripheralSends, Rests}
+use Rattle.controller.specs.Order.{may_receive}
 
 -- a link may be opened by a controller that holds this number of links
 pub record IsOpenable (links : ℕ) (link : LinkSetup) : Type 0 where
@@ -47,3 +48,7 @@ CanDo links (CentralListens handle) = ⊤
 CanDo links (PeripheralListens handle) = ⊤
 CanDo links (PeripheralSends handle) = ⊤
 CanDo links Rests = ⊤
+
+-- the same of what is done after something was heard: octets do not reach it on a link any more in this turn
+abbrev pub CanFollow : ℕ → Doing → Type 0
+CanFollow links doing = CanDo links doing × (may_receive doing ≡ false)

@@ -1,9 +1,9 @@
 -- What a controller holds.
-use Rattle.std.specs.Prelude.{ℕ, List, Option}
+use Rattle.std.specs.Prelude.{ℕ, Bool, Option}
 use Rattle.h4_frames.specs.declared.stage.Stage.{Stage}
 use Rattle.host_view.specs.View.{View}
 use Rattle.scan_init.specs.Initiating.{InitiatorFacts}
-use Rattle.open_links.specs.Knowing.{HeldLink}
+use Rattle.open_links.specs.Knowing.{HeldLinks}
 use Rattle.one_side.specs.declared.doing.Turn.{Turn}
 use Rattle.one_side.specs.Facts.{Setup, Radio, Advertising, Scanning}
 
@@ -18,9 +18,11 @@ pub record Held : Type 0 where
   -- the access address of the next new link, and the distance from which to search for the one after it
   pub access : Option (ℕ × ℕ)
   pub turn : Turn
+  -- no turn began that has not ended
+  pub between : Bool
   pub radio : Radio
   pub advertising : Advertising
   pub scanning : Scanning
   pub initiator : Option InitiatorFacts
-  -- what is under each handle
-  pub links : List (Option HeldLink)
+  -- the open links and their data
+  pub links : HeldLinks

@@ -5,9 +5,11 @@ use Rattle.h4_frames.specs.Machine.{framer_after}
 use Rattle.scan_init.specs.Access.{nth_access}
 use Rattle.open_links.specs.Knowing.{Knows as KnowsLinks}
 use Rattle.one_side.specs.declared.doing.Doing.{Doing}
+use Rattle.one_side.specs.declared.doing.Doing.TheVariants.{Rests}
 use Rattle.one_side.specs.Step.{Step}
 use Rattle.one_side.specs.Facts.{Setup, Facts, Use, Sends, Listens, Idle as Unused}
 use Rattle.one_side.specs.Outcome.{Outcome}
+use Rattle.one_side.specs.Packets.{facts_doing}
 use Rattle.one_side.specs.Side.{facts_of, notes_after}
 use Rattle.controller.specs.declared.intents.Intent.{Intent}
 use Rattle.controller.specs.declared.intents.Intent.TheVariants.{Send, Listen, Idle}
@@ -24,7 +26,7 @@ pub record IsAt (has : Setup) (held : Held) (facts : Facts) : Type 0 where
   pub advertising : held.advertising ≡ facts.advertising
   pub scanning : held.scanning ≡ facts.scanning
   pub initiator : held.initiator ≡ facts.initiator
-  pub links : KnowsLinks held.links facts.links
+  pub links : KnowsLinks held.links facts.links facts.received
 
 -- and the packet of its host that has begun
 pub record IsWholeAt (has : Setup) (held : Held) (facts : Facts) : Type 0 where
@@ -43,6 +45,12 @@ pub record Goes (setup : Setup) (held : Held) (past : List Step) (step : Step) (
 -- what comes of a phase
 pub record Passes (has : Setup) (held : Held) (before noted : List Note) (next : Doing) (outcome : Outcome) : Type 0 where
   pub at : IsAt has held outcome.facts
+  pub notes : noted ≡ before ++ outcome.notes
+  pub doing : next ≡ outcome.next
+
+-- the same, where it does nothing until the next phase
+pub record PassesOn (has : Setup) (held : Held) (before noted : List Note) (next : Doing) (outcome : Outcome) : Type 0 where
+  pub at : IsAt has held (facts_doing Rests outcome.facts)
   pub notes : noted ≡ before ++ outcome.notes
   pub doing : next ≡ outcome.next
 

@@ -23,7 +23,7 @@ const DIRECTED_TO_A: [u8; 21] = [
 
 /// In this slot it advertises on this channel, or not at all.
 fn advertises(rt: &impl Abort, controller: &mut Small, slot: u32, channel: Option<u8>) {
-    let (first, second) = turn(controller, slot, true);
+    let (first, second) = turn(rt, controller, slot, true);
     assert_eq!(rt; channel_of(second), channel, "in {slot}");
     assert_eq!(rt; first == Intent::Idle, channel.is_none(), "in {slot}");
 }
@@ -34,7 +34,7 @@ fn advertises_on_three_channels(rt: HostRuntime) {
     command(&rt, &mut controller, &PARAMETERS, 0x00);
     command(&rt, &mut controller, &ADVERTISE, 0x00);
     for slot in 0..19 {
-        let intents = turn(&mut controller, slot, true);
+        let intents = turn(&rt, &mut controller, slot, true);
         match slot % 16 {
             place @ 0..3 => {
                 let channel = 37 + place as u8;
@@ -69,7 +69,7 @@ fn leaves_out_channels_and_turns_without_radio(rt: HostRuntime) {
         (3, false, None),
         (4, true, None),
     ] {
-        let (first, second) = turn(&mut controller, slot, on);
+        let (first, second) = turn(&rt, &mut controller, slot, on);
         assert_eq!(rt;
             second,
             channel.map_or(Intent::Idle, |channel| Intent::Listen { channel })
@@ -114,7 +114,7 @@ fn advertises_data_under_a_random_address(rt: HostRuntime) {
     command(&rt, &mut controller, &content, 0x00);
     command(&rt, &mut controller, &ADVERTISE, 0x00);
     assert_eq!(rt;
-        begin(&mut controller, 0),
+        begin(&rt, &mut controller, 0),
         sends(&rt, 37, &UNDER_A_RANDOM_ADDRESS)
     );
 }
@@ -128,7 +128,10 @@ fn answers_a_scan_request(rt: HostRuntime) {
     content[..8].copy_from_slice(&[0x01, 0x09, 0x20, 0x20, 0x03, 0x02, 0x01, 0x06]);
     command(&rt, &mut controller, &content, 0x00);
     command(&rt, &mut controller, &ADVERTISE, 0x00);
-    assert_eq!(rt; begin(&mut controller, 0), sends(&rt, 37, &CONNECTABLE_B));
+    assert_eq!(rt;
+        begin(&rt, &mut controller, 0),
+        sends(&rt, 37, &CONNECTABLE_B)
+    );
     assert_eq!(rt;
         phase(&rt, &mut controller, None),
         Intent::Listen { channel: 37 }
@@ -150,7 +153,10 @@ fn advertises_to_one_device(rt: HostRuntime) {
     parameters[11..17].copy_from_slice(&PUBLIC_A);
     command(&rt, &mut controller, &parameters, 0x00);
     command(&rt, &mut controller, &ADVERTISE, 0x00);
-    assert_eq!(rt; begin(&mut controller, 0), sends(&rt, 37, &DIRECTED_TO_A));
+    assert_eq!(rt;
+        begin(&rt, &mut controller, 0),
+        sends(&rt, 37, &DIRECTED_TO_A)
+    );
     assert_eq!(rt;
         phase(&rt, &mut controller, None),
         Intent::Listen { channel: 37 }

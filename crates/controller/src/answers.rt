@@ -1,7 +1,8 @@
 //! The answer to a command: Command Status or Command Complete, and what it returns (Core 5.2,
 //! volume 4 part E, sections 7.7.14 and 7.7.15).
-ghost use Rattle.std.specs.Prelude.{◌≡◌, ◌≤◌, ◌<◌, ◌^◌, ◌∷◌, [], ◌+◌, ◌++◌, length, if◌then◌else◌};
+ghost use Rattle.std.specs.Prelude.{◌≡◌, ◌≤◌, ◌<◌, ◌^◌, ℕ, List, ◌∷◌, [], ◌+◌, ◌++◌, length, if◌then◌else◌};
 ghost use Rattle.std.specs.Option.{option_to_list};
+ghost use Rattle.acl_banks.specs.declared.pieces.Piece.{Piece};
 ghost use Rattle.wire_fields.specs.Field.{little_endian};
 ghost use Rattle.hci_evt.specs.declared.event.Event.TheVariants.{CommandComplete};
 ghost use Rattle.open_links.specs.Knowing.{Knows as KnowsLinks};
@@ -170,7 +171,8 @@ impl<const L: usize, const T: usize, const R: usize> Controller<L, T, R> {
 
     /// The channel map of the link under a handle, 0 where it is not open.
     fn map_in_use(&self, handle: u16) -> u64
-        ensures value { (links : Links) → KnowsLinks self.now.links links
+        ensures value { (links : Links) (received : List (ℕ × Piece))
+            → KnowsLinks self.now.links links received
             → result ≡ map_of (link_at handle links) }
         ensures fits { result < 2 ^ 40 }
     {

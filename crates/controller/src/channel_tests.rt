@@ -1,8 +1,8 @@
 //! The channels of a whole link, against programs that go by single steps and bits.
 use crate::Intent;
 use crate::link_tests::{CONNECT_IND, Pair, entered, ready};
-use crate::tests::{CONNECTABLE_B, begin, command, phase, rest, sends};
-use ble_base::{Note, Outbox, SlotNo};
+use crate::tests::{CONNECTABLE_B, begin, begin_noting, command, phase, rest, sends};
+use ble_base::{Note, Outbox};
 use std::process::Abort;
 
 /// The CONNECT_IND of the first link, but with ChSel 0.
@@ -60,9 +60,8 @@ fn heard_of<'a>(own: &Intent, other: &'a Intent) -> Option<&'a [u8]> {
 /// begins.
 fn turn_of_both(rt: &impl Abort, pair: &mut Pair, slot: u32, expected: Option<Note>) {
     let (mut out, mut other_out) = (Outbox::new(), Outbox::new());
-    let at = SlotNo(u64::from(slot));
-    let mut first = pair.central.begin_turn(at, true, &mut out);
-    let mut second = pair.peripheral.begin_turn(at, true, &mut other_out);
+    let mut first = begin_noting(rt, &mut pair.central, slot, true, &mut out);
+    let mut second = begin_noting(rt, &mut pair.peripheral, slot, true, &mut other_out);
     assert_eq!(rt; out.as_slice().first(), expected.as_ref(), "in {slot}");
     assert_eq!(rt; other_out, out, "in {slot}");
     for _ in 0..3 {
@@ -113,11 +112,11 @@ fn channels_of_a_whole_link(rt: HostRuntime) {
         if is_nine {
             command(&rt, &mut pair.central, &USE_NINE, 0x00);
         }
-        begin(&mut pair.central, 0);
+        begin(&rt, &mut pair.central, 0);
         let wanted = phase(&rt, &mut pair.central, Some(&advertisement));
         assert!(rt; !two || wanted == sends(&rt, 37, &connect));
         rest(&mut pair.central);
-        begin(&mut pair.peripheral, 0);
+        begin(&rt, &mut pair.peripheral, 0);
         phase(&rt, &mut pair.peripheral, None);
         pair.peripheral.heard(&connect, &mut Outbox::new());
         phase(&rt, &mut pair.peripheral, None);

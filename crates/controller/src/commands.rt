@@ -1,7 +1,8 @@
 //! Commands of the host: their answers, and what they change.
-ghost use Rattle.std.specs.Prelude.{◌≡◌, ◌≤◌, ◌<◌, ◌+◌, ◌%◌, ◌++◌, length, [], ◌∷◌};
+ghost use Rattle.std.specs.Prelude.{◌≡◌, ◌≤◌, ◌<◌, ◌+◌, ◌%◌, ◌++◌, ℕ, List, length, [], ◌∷◌};
 ghost use Rattle.std.specs.Option.{option_to_list};
 ghost use Rattle.arrayvec.specs.ArrayVec.{array_vec_len};
+ghost use Rattle.acl_banks.specs.declared.pieces.Piece.{Piece};
 ghost use Rattle.hci_cmd.specs.Command.{command_of};
 ghost use Rattle.hci_cmd.specs.declared.command.CmdRead.TheVariants.{Known};
 ghost use Rattle.host_view.specs.Unbuilt.{status_of};
@@ -10,11 +11,14 @@ ghost use Rattle.open_links.specs.OpenLinks.{Links};
 ghost use Rattle.one_side.specs.Commands.{advertising_after, events_caused, facts_accepted};
 ghost use Rattle.one_side.specs.Commands.{facts_commanded, fields_given, initiator_after};
 ghost use Rattle.one_side.specs.Commands.{links_after, notes_before, notes_commanded, own_address};
-ghost use Rattle.one_side.specs.Commands.{peer_named, radio_after, scanning_after};
+ghost use Rattle.one_side.specs.Commands.{peer_named, radio_after, received_after};
+ghost use Rattle.one_side.specs.Commands.{scanning_after};
 ghost use Rattle.one_side.specs.Events.{notes_of_events};
 ghost use Rattle.one_side.specs.Facts.{Setup, Facts};
 ghost use Rattle.one_side.specs.Side.{facts_fed, notes_fed};
+ghost use Rattle.controller.specs.Framed.{IsFramed};
 ghost use Rattle.controller.specs.Knowing.{IsAt};
+ghost use Rattle.controller.specs.Order.{Stays};
 ghost use Rattle.controller.specs.Steps.{held_accepted, links_notes, place_after};
 
 use crate::advertising::{Advertising, ON};
@@ -280,10 +284,13 @@ impl<const L: usize, const T: usize, const R: usize> Controller<L, T, R> {
     fn accept_links(&mut self, command: &Command, out: &mut Outbox)
         requires { array_vec_len out.old ≤ 50 }
         ensures rest { self.new ≡ record self.old { links = self.new.links } }
-        ensures links { (links : Links) → KnowsLinks self.old.links links
-            → KnowsLinks self.new.links (links_after command.now links) }
-        ensures notes { (links : Links) → KnowsLinks self.old.links links
+        ensures links { (links : Links) (received : List (ℕ × Piece))
+            → KnowsLinks self.old.links links received → KnowsLinks self.new.links
+            (links_after command.now links) (received_after command.now received) }
+        ensures notes { (links : Links) (received : List (ℕ × Piece))
+            → KnowsLinks self.old.links links received
             → out.new.items ≡ out.old.items ++ links_notes command.now links }
+        ensures stays { Stays self.old self.new }
         ensures few { array_vec_len out.new ≤ array_vec_len out.old + 6 }
     {
         match command {
@@ -305,7 +312,7 @@ impl<const L: usize, const T: usize, const R: usize> Controller<L, T, R> {
             → out.new.items ≡ out.old.items ++ notes_before facts command.now
             ++ notes_of_events facts.view (option_to_list answer)
             ++ notes_of_events facts.view (events_caused facts command.now) }
-        ensures framer { self.new.framer ≡ self.old.framer }
+        ensures stays { Stays self.old self.new }
     {
         self.accept_links(command, out);
         tell(&self.view, answer, out);
@@ -321,7 +328,7 @@ impl<const L: usize, const T: usize, const R: usize> Controller<L, T, R> {
         ensures notes { (has : Setup) (facts : Facts) → IsAt has self.old facts
             → out.new.items
             ≡ out.old.items ++ notes_commanded has facts opcode (Known command.now) }
-        ensures framer { self.new.framer ≡ self.old.framer }
+        ensures stays { Stays self.old self.new }
     {
         let status = status(&self.view, command);
         let answer = self.answer(opcode, command, status);
@@ -340,7 +347,7 @@ impl<const L: usize, const T: usize, const R: usize> Controller<L, T, R> {
         ensures notes { (has : Setup) (facts : Facts) → IsAt has self.old facts
             → out.new.items
             ≡ out.old.items ++ notes_commanded has facts opcode (command_of opcode parameters.now) }
-        ensures framer { self.new.framer ≡ self.old.framer }
+        ensures stays { Stays self.old self.new }
     {
         match read(opcode, parameters) {
             CmdRead::Known(command) => self.take_known(opcode, &command, out),
@@ -355,14 +362,14 @@ impl<const L: usize, const T: usize, const R: usize> Controller<L, T, R> {
     /// Takes what an octet of the host completed.
     pub(crate) fn take(&mut self, fed: &Fed, out: &mut Outbox)
         requires room { array_vec_len out.old ≤ 50 }
-        ensures at { (has : Setup) (facts : Facts) → IsAt has self.old facts
+        ensures at { (has : Setup) (facts : Facts) → IsAt has self.old facts → IsFramed fed.now
             → IsAt has self.new (facts_fed has facts fed.now) }
         ensures notes { (has : Setup) (facts : Facts) → IsAt has self.old facts
-            → out.new.items ≡ out.old.items ++ notes_fed has facts fed.now }
-        ensures framer { self.new.framer ≡ self.old.framer }
+            → IsFramed fed.now → out.new.items ≡ out.old.items ++ notes_fed has facts fed.now }
+        ensures stays { Stays self.old self.new }
     {
         match fed {
-            Fed::More | Fed::Packet(HostPacket::Acl { .. }) => {}
+            Fed::More => {}
             Fed::LostSync => {
                 let event = Event::HardwareError { code: LOST_SYNC };
                 tell(&self.view, Some(event), out);
@@ -370,6 +377,14 @@ impl<const L: usize, const T: usize, const R: usize> Controller<L, T, R> {
             Fed::Packet(HostPacket::Command { opcode, body }) => {
                 self.take_command(*opcode, body.as_slice(), out);
             }
+            Fed::Packet(
+                HostPacket::Acl {
+                    handle,
+                    start,
+                    length,
+                    body,
+                },
+            ) => self.take_data(*handle, *start, *length, body.as_slice(), out),
         }
     }
 }

@@ -1,6 +1,6 @@
 //! A controller between its host and the radio.
 ghost use Rattle.std.specs.Prelude.{◌≡◌, ◌*◌, ◌+◌, ◌<◌, ◌≤◌, ◌^◌};
-ghost use Rattle.std.specs.Prelude.{List, [], ◌∷◌, ◌++◌, length, IfOk};
+ghost use Rattle.std.specs.Prelude.{ℕ, List, [], ◌∷◌, ◌++◌, length, IfOk};
 ghost use Rattle.ble_base.specs.declared.Config.{Config};
 ghost use Rattle.one_side.specs.Facts.{Setup, free_radio, setup_of};
 ghost use Rattle.one_side.specs.Packets.{use_of, verdict_of};
@@ -8,6 +8,7 @@ ghost use Rattle.one_side.specs.Side.{facts_of};
 ghost use Rattle.one_side.specs.Step.{Step, HostOctet, TurnBegins};
 ghost use Rattle.one_side.specs.Step.{PacketHeard, NothingHeard, TurnEnds};
 ghost use Rattle.controller.specs.Knowing.{Goes, Knows, use_wanted};
+ghost use Rattle.controller.specs.Order.{MayBegin};
 
 use crate::advertising::Advertising;
 use crate::intents::Intent;
@@ -41,6 +42,8 @@ pub struct Controller<const L: usize, const T: usize, const R: usize> {
     pub(crate) framer: Framer,
     pub(crate) view: HostView,
     pub(crate) turn: Turn,
+    /// No turn began that has not ended.
+    pub(crate) between: bool,
     /// What wants the radio, and for which slots it is held.
     pub(crate) plan: Plan,
     /// What holds it.
@@ -48,18 +51,20 @@ pub struct Controller<const L: usize, const T: usize, const R: usize> {
     pub(crate) advertising: Advertising,
     pub(crate) scanning: Scanning,
     pub(crate) initiator: Option<Initiator>,
-    pub(crate) links: OpenLinks<L>,
+    pub(crate) links: OpenLinks<L, T, R>,
 }
 
 impl<const L: usize, const T: usize, const R: usize> Model for Controller<L, T, R> {
     ghost use Rattle.std.specs.Prelude.{◌<◌, ◌≤◌, ◌^◌, length};
     ghost use Rattle.controller.specs.Fitting.{CanDo};
     ghost use Rattle.controller.specs.Held.{Held};
+    ghost use Rattle.controller.specs.Order.{IsOrdered};
 
     ghost Value = { Held };
 
     ghost invariant = { λ c. (c.next_word < length c.words.items) × (T ≤ 255) × (L ≤ 6)
-        × (c.turn.slot < 2 ^ 32) × CanDo L c.turn.doing };
+        × (R ≤ 48) × (c.turn.slot < 2 ^ 32) × CanDo L c.turn.doing
+        × IsOrdered c.between c.turn c.links };
 
     ghost view = { λ c. record {
       setup = record {
@@ -75,6 +80,7 @@ impl<const L: usize, const T: usize, const R: usize> Model for Controller<L, T, 
       place = c.next_word;
       access = c.next_access;
       turn = c.turn;
+      between = c.between;
       radio = record { hold = c.plan.hold; holder = c.holder };
       advertising = c.advertising;
       scanning = c.scanning;
@@ -95,7 +101,9 @@ impl<const L: usize, const T: usize, const R: usize> Controller<L, T, R> {
         requires words { 1 ≤ length config.words.items }
         requires sizes { (1 ≤ L) × (1 ≤ T) × (T ≤ 255) × (1 ≤ R) × (8 * L + R + 8 ≤ 64) }
         ensures knows { IfOk result (λ controller. Knows (setup_of config L T R) controller []) }
+        ensures first { IfOk result (MayBegin 0) }
     {
+        let links = OpenLinks::new(alloc)?;
         let public = config.public;
         Ok(Controller {
             public,
@@ -110,12 +118,13 @@ impl<const L: usize, const T: usize, const R: usize> Controller<L, T, R> {
                 slot: 0,
                 doing: Doing::Rests,
             },
+            between: true,
             plan: Plan::new(),
             holder: Activity::Scan,
             advertising: Advertising::new(),
             scanning: Scanning::new(),
             initiator: None,
-            links: OpenLinks::new(),
+            links,
         })
     }
 
@@ -124,24 +133,27 @@ impl<const L: usize, const T: usize, const R: usize> Controller<L, T, R> {
         requires empty { out.old.items ≡ [] }
         ensures goes { (setup : Setup) (past : List Step) → Knows setup self.old past
             → Goes setup self.new past (HostOctet octet) out.new.items }
+        ensures order { (slot : ℕ) → MayBegin slot self.old → MayBegin slot self.new }
     {
         let fed = self.framer.feed(octet);
         self.take(&fed, out);
     }
 
     /// Begins a turn in this slot, with the radio on or off, and gives what is wanted in its first
-    /// phase. A slot is 1.25 ms long, and slots come in order from 0.
+    /// phase. A slot is 1.25 ms long, and slots come in order from 0. The turn before has ended.
     pub fn begin_turn(&mut self, slot: SlotNo, radio_on: bool, out: &mut Outbox) -> Intent
         requires slot { slot.0 < 2 ^ 32 }
+        requires order { MayBegin slot.0 self.old }
         requires empty { out.old.items ≡ [] }
         ensures goes { (setup : Setup) (past : List Step) → Knows setup self.old past
             → Goes setup self.new past (TurnBegins slot.0 radio_on) out.new.items }
         ensures wants { (setup : Setup) (past : List Step) → Knows setup self.old past
             → use_wanted result
             ≡ use_of (facts_of setup (past ++ TurnBegins slot.0 radio_on ∷ [])) }
+        ensures begun { self.new.turn.begun ≡ slot.0 + 1 }
     {
         let doing = self.begin(slot, radio_on, out);
-        self.prepare(doing)
+        self.prepare(doing, out)
     }
 
     /// What this controller makes of octets that are on the air in the phase that comes next:
@@ -163,9 +175,10 @@ impl<const L: usize, const T: usize, const R: usize> Controller<L, T, R> {
             → Goes setup self.new past (PacketHeard octets.now) out.new.items }
         ensures wants { (setup : Setup) (past : List Step) → Knows setup self.old past
             → use_wanted result ≡ use_of (facts_of setup (past ++ PacketHeard octets.now ∷ [])) }
+        ensures begun { self.new.turn.begun ≡ self.old.turn.begun }
     {
         let doing = self.hear(octets, out);
-        self.prepare(doing)
+        self.prepare(doing, out)
     }
 
     /// Takes that nothing was heard in this phase, and gives what is wanted in the next one.
@@ -175,18 +188,23 @@ impl<const L: usize, const T: usize, const R: usize> Controller<L, T, R> {
             → Goes setup self.new past NothingHeard out.new.items }
         ensures wants { (setup : Setup) (past : List Step) → Knows setup self.old past
             → use_wanted result ≡ use_of (facts_of setup (past ++ NothingHeard ∷ [])) }
+        ensures begun { self.new.turn.begun ≡ self.old.turn.begun }
     {
         let doing = self.hear_nothing(out);
-        self.prepare(doing)
+        self.prepare(doing, out)
     }
 
-    /// Ends the turn.
+    /// Ends the turn: the host receives the data that was taken in it, and which of its packets are
+    /// complete.
     pub fn end_turn(&mut self, out: &mut Outbox)
         requires empty { out.old.items ≡ [] }
         ensures goes { (setup : Setup) (past : List Step) → Knows setup self.old past
             → Goes setup self.new past TurnEnds out.new.items }
+        ensures order { MayBegin self.old.turn.begun self.new }
     {
-        self.rest();
+        one_side::no_more_than_its_buffers();
+        self.hand_over(out);
+        self.end();
     }
 
     /// Nothing holds the radio.

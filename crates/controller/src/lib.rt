@@ -2,9 +2,10 @@
 //! the air and to its host.
 //!
 //! It answers all commands of the table, and carries out those that are built. It advertises, scans,
-//! initiates, and keeps its links (Core 5.2, volume 6 part B, sections 4.4 and 4.5, and volume 4
-//! part E). A turn is a slot of 1.25 ms and has three phases; in each the controller sends a packet,
-//! listens on a channel, or is idle. What it does is defined in `one_side`, by the calls on it.
+//! initiates, keeps its links, and carries the data of their hosts over them (Core 5.2, volume 6
+//! part B, sections 2.4, 4.4 and 4.5, and volume 4 part E). A turn is a slot of 1.25 ms and has
+//! three phases; in each the controller sends a packet, listens on a channel, or is idle. What it
+//! does is defined in `one_side`, by the calls on it.
 #![tactic(auto)]
 
 mod advertising;
@@ -19,6 +20,9 @@ mod channel_tests;
 mod command_tests;
 mod commands;
 mod controllers;
+#[cfg(test)]
+mod data_tests;
+mod host_data;
 mod intents;
 #[cfg(test)]
 mod link_tests;

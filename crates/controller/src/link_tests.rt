@@ -1,10 +1,10 @@
 //! Links of two controllers, call by call: packets, notes and events as worked out by hand.
 use crate::tests::{
-    ADVERTISE, CONNECTABLE_B, MASK, PUBLIC_A, PUBLIC_B, RESET, Small, begin, command, complete,
-    give, phase, rest, sends, settings, started, turn, up,
+    ADVERTISE, CONNECTABLE_B, MASK, PUBLIC_A, PUBLIC_B, RESET, Small, begin, begin_noting, command,
+    complete, give, phase, rest, sends, settings, started, turn, up,
 };
 use crate::{Controller, Intent};
-use ble_base::{Address, ErrCode, EventNo, Note, Outbox, Role, SlotNo, Verdict};
+use ble_base::{Address, ErrCode, EventNo, Note, Outbox, Role, Verdict};
 use std::alloc::Global;
 use std::process::Abort;
 
@@ -148,7 +148,7 @@ fn turn_noting(
     told: &[&[u8]],
 ) {
     let mut out = Outbox::new();
-    controller.begin_turn(SlotNo(u64::from(slot)), true, &mut out);
+    begin_noting(rt, controller, slot, true, &mut out);
     match expected {
         None => assert!(rt; out.is_empty(), "in {slot}"),
         Some(note) => noted(rt, &out, &note, told),
@@ -180,7 +180,7 @@ fn connects<const L: usize>(
     connect: &[u8],
     told: &[&[u8]],
 ) {
-    assert_eq!(rt; begin(central, slot), Intent::Listen { channel: 37 });
+    assert_eq!(rt; begin(rt, central, slot), Intent::Listen { channel: 37 });
     assert_eq!(rt; central.judge(&CONNECTABLE_B), Verdict::Good);
     assert_eq!(rt;
         phase(rt, central, Some(&CONNECTABLE_B)),
@@ -195,7 +195,7 @@ fn connects<const L: usize>(
 
 /// In slot 0 the advertiser sends ADV_IND, hears CONNECT_IND and opens its link.
 fn is_connected(rt: &impl Abort, peripheral: &mut Small, told: &[&[u8]]) {
-    assert_eq!(rt; begin(peripheral, 0), sends(rt, 37, &CONNECTABLE_B));
+    assert_eq!(rt; begin(rt, peripheral, 0), sends(rt, 37, &CONNECTABLE_B));
     assert_eq!(rt; phase(rt, peripheral, None), Intent::Listen { channel: 37 });
     assert_eq!(rt; peripheral.judge(&CONNECT_IND), Verdict::Good);
     let mut out = Outbox::new();
@@ -211,7 +211,7 @@ fn is_connected(rt: &impl Abort, peripheral: &mut Small, told: &[&[u8]]) {
 }
 
 /// A link between the two, made in slot 0.
-fn linked(rt: &impl Abort, alloc: Global) -> Pair {
+pub(crate) fn linked(rt: &impl Abort, alloc: Global) -> Pair {
     let mut pair = ready(rt, alloc);
     connects(rt, &mut pair.central, 0, &CONNECT_IND, &[&COMPLETE_CENTRAL]);
     is_connected(rt, &mut pair.peripheral, &[&COMPLETE_PERIPHERAL]);
@@ -219,10 +219,10 @@ fn linked(rt: &impl Abort, alloc: Global) -> Pair {
 }
 
 /// Nothing is noted and nothing is wanted in these slots.
-fn pauses(rt: &impl Abort, controller: &mut Small, first: u32, end: u32) {
+pub(crate) fn pauses(rt: &impl Abort, controller: &mut Small, first: u32, end: u32) {
     for slot in first..end {
         let mut out = Outbox::new();
-        let wanted = controller.begin_turn(SlotNo(u64::from(slot)), true, &mut out);
+        let wanted = begin_noting(rt, controller, slot, true, &mut out);
         assert_eq!(rt; wanted, Intent::Idle, "in {slot}");
         assert!(rt; out.is_empty(), "in {slot}");
         controller.unheard(&mut out);
@@ -238,7 +238,7 @@ fn central_event(
     [packet, reply]: &[[u8; 9]; 2],
 ) {
     let mut out = Outbox::new();
-    let wanted = central.begin_turn(SlotNo(u64::from(slot)), true, &mut out);
+    let wanted = begin_noting(rt, central, slot, true, &mut out);
     assert_eq!(rt; wanted, sends(rt, channel, packet));
     noted(rt, &out, &entered(event, channel), &[]);
     assert_eq!(rt; phase(rt, central, None), Intent::Listen { channel });
@@ -256,7 +256,7 @@ fn peripheral_event(
     [packet, reply]: &[[u8; 9]; 2],
 ) {
     let mut out = Outbox::new();
-    let wanted = peripheral.begin_turn(SlotNo(u64::from(slot)), true, &mut out);
+    let wanted = begin_noting(rt, peripheral, slot, true, &mut out);
     assert_eq!(rt; wanted, Intent::Listen { channel });
     noted(rt, &out, &entered(event, channel), &[]);
     assert_eq!(rt; peripheral.judge(packet), Verdict::Good);
@@ -312,7 +312,7 @@ fn a_link_that_is_not_answered_ends(rt: HostRuntime) {
     let event = disconnected(0x3E);
     for mut controller in [central, peripheral] {
         for slot in 1..143 {
-            turn(&mut controller, slot, true);
+            turn(&rt, &mut controller, slot, true);
         }
         turn_noting(&rt, &mut controller, 143, None, &[]);
         turn_noting(&rt, &mut controller, 144, Some(shut(0x3E)), &[&event]);
@@ -336,7 +336,7 @@ fn a_silent_link_times_out(rt: HostRuntime) {
     let event = disconnected(0x08);
     for mut controller in [pair.central, pair.peripheral] {
         for slot in 3..577 {
-            turn(&mut controller, slot, true);
+            turn(&rt, &mut controller, slot, true);
         }
         turn_noting(&rt, &mut controller, 577, None, &[]);
         turn_noting(&rt, &mut controller, 578, Some(shut(0x08)), &[&event]);
@@ -381,7 +381,7 @@ fn a_connection_is_cancelled(rt: HostRuntime) {
     let cancel = [0x01, 0x0E, 0x20, 0x00];
     let mut failed = [0x00; 22];
     failed[..5].copy_from_slice(&[0x04, 0x3E, 0x13, 0x01, 0x02]);
-    assert_eq!(rt; begin(&mut central, 0), Intent::Listen { channel: 37 });
+    assert_eq!(rt; begin(&rt, &mut central, 0), Intent::Listen { channel: 37 });
     rest(&mut central);
     give(
         &rt,
@@ -435,13 +435,13 @@ fn events_without_a_good_packet(rt: HostRuntime) {
     pauses(&rt, &mut pair.peripheral, 1, 2);
     let mut out = Outbox::new();
     assert_eq!(rt;
-        pair.central.begin_turn(SlotNo(2), false, &mut out),
+        begin_noting(&rt, &mut pair.central, 2, false, &mut out),
         Intent::Idle
     );
     noted(&rt, &out, &entered(0, 25), &[]);
     let ([mut packet, _], mut out) = (FIRST_PACKETS, Outbox::new());
     packet[8] ^= 0x01;
-    pair.peripheral.begin_turn(SlotNo(2), true, &mut out);
+    begin_noting(&rt, &mut pair.peripheral, 2, true, &mut out);
     assert_eq!(rt; pair.peripheral.judge(&packet), Verdict::Broken);
     assert_eq!(rt;
         phase(&rt, &mut pair.peripheral, Some(&packet)),

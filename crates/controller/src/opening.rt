@@ -1,6 +1,8 @@
 //! Links that are opened and shut, and what the host receives of that.
-ghost use Rattle.std.specs.Prelude.{◌≡◌, ◌≤◌, ◌<◌, ◌+◌, ◌*◌, ◌^◌, ◌++◌, length, map, flat_map, fold};
+ghost use Rattle.std.specs.Prelude.{◌≡◌, ◌≤◌, ◌<◌, ◌+◌, ◌*◌, ◌^◌, ◌++◌, ℕ, List, length, map, flat_map, fold};
 ghost use Rattle.arrayvec.specs.ArrayVec.{array_vec_len};
+ghost use Rattle.acl_banks.specs.declared.pieces.Piece.{Piece};
+ghost use Rattle.open_links.specs.Data.{received_ended};
 ghost use Rattle.open_links.specs.Knowing.{Knows as KnowsLinks};
 ghost use Rattle.open_links.specs.OpenLinks.{Links};
 ghost use Rattle.open_links.specs.Turns.{ends_from, links_staying};
@@ -10,6 +12,7 @@ ghost use Rattle.one_side.specs.Links.{facts_ending, facts_opened, note_opened, 
 ghost use Rattle.one_side.specs.Links.{notes_ended, notes_ending, notes_opened, role_code};
 ghost use Rattle.controller.specs.Fitting.{IsOpenable};
 ghost use Rattle.controller.specs.Knowing.{IsAt};
+ghost use Rattle.controller.specs.Order.{Stays};
 ghost use Rattle.controller.specs.Steps.{held_shut};
 
 use crate::controllers::Controller;
@@ -126,6 +129,7 @@ fn note_opened(link: &LinkSetup) -> Note
 fn tell_opened(view: &HostView, link: &LinkSetup, out: &mut Outbox)
     requires { array_vec_len out.old ≤ 50 }
     ensures notes { out.new.items ≡ out.old.items ++ notes_opened view.now link.now }
+    ensures few { array_vec_len out.new ≤ array_vec_len out.old + 3 }
 {
     let selection = Event::ChannelSelection {
         handle: link.handle,
@@ -194,7 +198,8 @@ impl<const L: usize, const T: usize, const R: usize> Controller<L, T, R> {
             → IsAt has self.new (facts_opened link facts) }
         ensures notes { (has : Setup) (facts : Facts) → IsAt has self.old facts
             → out.new.items ≡ out.old.items ++ notes_opened facts.view link }
-        ensures framer { self.new.framer ≡ self.old.framer }
+        ensures few { array_vec_len out.new ≤ array_vec_len out.old + 3 }
+        ensures stays { Stays self.old self.new }
     {
         tell_opened(&self.view, &link, out);
         self.view.note(&note_opened(&link));
@@ -235,10 +240,13 @@ impl<const L: usize, const T: usize, const R: usize> Controller<L, T, R> {
     /// Takes out the links that are due at the start of a turn in this slot, and gives them.
     fn take_due(&mut self, slot: SlotNo) -> ArrayVec<LinkEnded, MOST_LINKS>
         ensures rest { self.new ≡ record self.old { links = self.new.links } }
-        ensures links { (links : Links) → KnowsLinks self.old.links links
-            → KnowsLinks self.new.links (links_staying slot.0 links) }
-        ensures ends { (links : Links) → KnowsLinks self.old.links links
-            → result.items ≡ ends_from slot.0 0 links }
+        ensures links { (links : Links) (received : List (ℕ × Piece))
+            → KnowsLinks self.old.links links received
+            → KnowsLinks self.new.links (links_staying slot.0 links)
+            (received_ended (ends_from slot.0 0 links) received) }
+        ensures ends { (links : Links) (received : List (ℕ × Piece))
+            → KnowsLinks self.old.links links received → result.items ≡ ends_from slot.0 0 links }
+        ensures stays { Stays self.old self.new }
     {
         self.links.shut_due(slot)
     }
@@ -251,7 +259,7 @@ impl<const L: usize, const T: usize, const R: usize> Controller<L, T, R> {
         ensures notes { (has : Setup) (facts : Facts) → IsAt has self.old facts
             → out.new.items ≡ out.old.items ++ notes_ending slot.0 facts }
         ensures few { array_vec_len out.new ≤ array_vec_len out.old + 12 }
-        ensures framer { self.new.framer ≡ self.old.framer }
+        ensures stays { Stays self.old self.new }
     {
         let ended = self.take_due(slot);
         tell_ends(&self.view, ended.as_slice(), out);

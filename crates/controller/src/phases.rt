@@ -1,7 +1,8 @@
 //! A phase of a turn: what is made of a packet that was heard, or of none.
-ghost use Rattle.std.specs.Prelude.{◌≡◌, ◌≤◌, ◌<◌, ◌^◌, ℕ, List, IfSome};
+ghost use Rattle.std.specs.Prelude.{◌≡◌, ◌≤◌, ◌<◌, ◌+◌, ◌^◌, ℕ, false, List, IfSome};
 ghost use Rattle.std.specs.Option.{option_and_then, option_to_list};
 ghost use Rattle.arrayvec.specs.ArrayVec.{array_vec_len};
+ghost use Rattle.acl_banks.specs.declared.pieces.Piece.{Piece};
 ghost use Rattle.ble_base.specs.declared.notes.Note.{Note};
 ghost use Rattle.adv_pdu.specs.Pdu.{FitsBits, body_of, sender_of};
 ghost use Rattle.adv_pdu.specs.Ranges.{IsInRange};
@@ -18,8 +19,9 @@ ghost use Rattle.one_side.specs.Heard.{does_report, events_reported, facts_conne
 ghost use Rattle.one_side.specs.Heard.{fields_sent, heard, initiator_heard, is_new_between};
 ghost use Rattle.one_side.specs.Heard.{link_heard, link_to, next_access_of, octets_reported};
 ghost use Rattle.one_side.specs.Heard.{report_event, scanner_heard, taken_under, unheard};
-ghost use Rattle.controller.specs.Fitting.{CanDo, IsAnswerable, IsOpenable};
-ghost use Rattle.controller.specs.Knowing.{IsAt, Passes};
+ghost use Rattle.controller.specs.Fitting.{CanDo, CanFollow, IsAnswerable, IsOpenable};
+ghost use Rattle.controller.specs.Knowing.{IsAt, Passes, PassesOn};
+ghost use Rattle.controller.specs.Order.{HasNotReceived, ReceivesOnce, Stays, listens_on_link};
 ghost use Rattle.controller.specs.Steps.{held_connecting};
 
 use crate::advertising::MOST_DATA;
@@ -102,7 +104,7 @@ fn event_reported(answer: ScanAnswer, pdu: &AdvPdu) -> Option<Event>
 fn asks_if(asks: bool, channel: u8, pdu: &AdvPdu) -> Doing
     requires { channel < 40 }
     ensures value { result ≡ asks_if asks channel pdu.now }
-    ensures can { (links : ℕ) → CanDo links result }
+    ensures can { (links : ℕ) → CanFollow links result }
 {
     if asks {
         Doing::Requests {
@@ -135,7 +137,8 @@ fn advertiser_answer(on: &AdvOn, pdu: &AdvPdu, list: &AcceptList) -> AdvAnswer
 impl<const L: usize, const T: usize, const R: usize> Controller<L, T, R> {
     /// Whether it has no link between these two addresses.
     fn is_new_between(&self, own: &Address, peer: &Address) -> bool
-        ensures { (links : Links) → KnowsLinks self.now.links links
+        ensures { (links : Links) (received : List (ℕ × Piece))
+            → KnowsLinks self.now.links links received
             → result ≡ is_new_between own.now peer.now links }
     {
         !self.links.has_link_between(own, peer)
@@ -156,8 +159,9 @@ impl<const L: usize, const T: usize, const R: usize> Controller<L, T, R> {
         ensures passes { (has : Setup) (facts : Facts) → IsAt has self.old facts
             → Passes has self.new out.old.items out.new.items result
             (taken_under (free_from 0 facts.links) own pdu.now fields facts) }
-        ensures can { CanDo L result }
-        ensures framer { self.new.framer ≡ self.old.framer }
+        ensures few { array_vec_len out.new ≤ array_vec_len out.old + 5 }
+        ensures can { CanFollow L result }
+        ensures stays { Stays self.old self.new }
     {
         if let Some(handle) = self.links.free_handle() {
             let link = LinkSetup {
@@ -190,8 +194,9 @@ impl<const L: usize, const T: usize, const R: usize> Controller<L, T, R> {
         ensures passes { (has : Setup) (facts : Facts) → IsAt has self.old facts
             → Passes has self.new out.old.items out.new.items result
             (taken_if is_new own pdu.now fields facts) }
-        ensures can { CanDo L result }
-        ensures framer { self.new.framer ≡ self.old.framer }
+        ensures few { array_vec_len out.new ≤ array_vec_len out.old + 5 }
+        ensures can { CanFollow L result }
+        ensures stays { Stays self.old self.new }
     {
         if is_new {
             self.take_link(own, pdu, fields, out)
@@ -216,8 +221,9 @@ impl<const L: usize, const T: usize, const R: usize> Controller<L, T, R> {
             → Passes has self.new out.old.items out.new.items result
             (taken_if (is_new_between own (sender_of pdu.now) facts.links) own pdu.now fields
             facts) }
-        ensures can { CanDo L result }
-        ensures framer { self.new.framer ≡ self.old.framer }
+        ensures few { array_vec_len out.new ≤ array_vec_len out.old + 5 }
+        ensures can { CanFollow L result }
+        ensures stays { Stays self.old self.new }
     {
         let is_new = self.is_new_between(&own, &pdu.sender());
         self.take_if(is_new, own, pdu, fields, out)
@@ -238,8 +244,9 @@ impl<const L: usize, const T: usize, const R: usize> Controller<L, T, R> {
         ensures passes { (has : Setup) (facts : Facts) → IsAt has self.old facts
             → Passes has self.new out.old.items out.new.items result
             (advertiser_answers answer channel own pdu.now facts) }
-        ensures can { CanDo L result }
-        ensures framer { self.new.framer ≡ self.old.framer }
+        ensures few { array_vec_len out.new ≤ array_vec_len out.old + 5 }
+        ensures can { CanFollow L result }
+        ensures stays { Stays self.old self.new }
     {
         match answer {
             AdvAnswer::Ignore => Doing::Rests,
@@ -256,8 +263,9 @@ impl<const L: usize, const T: usize, const R: usize> Controller<L, T, R> {
             → Passes has self.new out.old.items out.new.items result
             (if_pdu (pdu_heard channel octets.now) facts
             (λ pdu. advertiser_heard facts.advertising.on channel pdu facts)) }
-        ensures can { CanDo L result }
-        ensures framer { self.new.framer ≡ self.old.framer }
+        ensures few { array_vec_len out.new ≤ array_vec_len out.old + 5 }
+        ensures can { CanFollow L result }
+        ensures stays { Stays self.old self.new }
     {
         let Some(pdu) = read_pdu(channel, octets) else {
             return Doing::Rests;
@@ -284,8 +292,9 @@ impl<const L: usize, const T: usize, const R: usize> Controller<L, T, R> {
             → Passes has self.new out.old.items out.new.items result
             (if_pdu (pdu_heard channel octets.now) facts
             (λ pdu. scanner_heard facts.scanning.on may_ask channel pdu facts)) }
-        ensures can { CanDo L result }
-        ensures framer { self.new.framer ≡ self.old.framer }
+        ensures few { array_vec_len out.new ≤ array_vec_len out.old + 5 }
+        ensures can { CanFollow L result }
+        ensures stays { Stays self.old self.new }
     {
         let Some(pdu) = read_pdu(channel, octets) else {
             return Doing::Rests;
@@ -374,8 +383,8 @@ impl<const L: usize, const T: usize, const R: usize> Controller<L, T, R> {
         requires link { IfSome link (IsOpenable L) }
         ensures passes { (has : Setup) (facts : Facts) (noted : List Note) → IsAt has self.old facts
             → Passes has self.new noted noted result (connects link has channel facts) }
-        ensures can { CanDo L result }
-        ensures framer { self.new.framer ≡ self.old.framer }
+        ensures can { CanFollow L result }
+        ensures stays { Stays self.old self.new }
     {
         match link {
             None => Doing::Rests,
@@ -392,8 +401,8 @@ impl<const L: usize, const T: usize, const R: usize> Controller<L, T, R> {
         ensures passes { (has : Setup) (facts : Facts) (noted : List Note) → IsAt has self.old facts
             → Passes has self.new noted noted result (if_pdu (pdu_heard channel octets.now) facts
             (λ pdu. initiator_heard facts.initiator has channel pdu facts)) }
-        ensures can { CanDo L result }
-        ensures framer { self.new.framer ≡ self.old.framer }
+        ensures can { CanFollow L result }
+        ensures stays { Stays self.old self.new }
     {
         let Some(pdu) = read_pdu(channel, octets) else {
             return Doing::Rests;
@@ -405,16 +414,24 @@ impl<const L: usize, const T: usize, const R: usize> Controller<L, T, R> {
         self.connect(link, channel)
     }
 
-    /// The link under a handle receives a packet. A peripheral may answer it.
-    fn hear_on_link(&mut self, handle: u16, octets: &[u8]) -> Doing
-        ensures at { (has : Setup) (facts : Facts) → IsAt has self.old facts
-            → IsAt has self.new (link_heard handle octets.now facts).facts }
-        ensures next { (has : Setup) (facts : Facts) → IsAt has self.old facts
-            → result ≡ (link_heard handle octets.now facts).next }
-        ensures can { CanDo L result }
+    /// The link under a handle takes octets, after which the phase is over. A peripheral may answer
+    /// them.
+    fn hear_on_link(&mut self, handle: u16, octets: &[u8], out: &mut Outbox) -> Doing
+        requires none { HasNotReceived self.old.between self.old.turn self.old.links }
+        requires room { array_vec_len out.old ≤ 50 }
+        ensures passes { (has : Setup) (facts : Facts) → IsAt has self.old facts
+            → PassesOn has self.new out.old.items out.new.items result
+            (link_heard has handle octets.now facts) }
+        ensures can { CanFollow L result }
+        ensures few { array_vec_len out.new ≤ array_vec_len out.old + 5 }
         ensures framer { self.new.framer ≡ self.old.framer }
+        ensures begun { self.new.turn.begun ≡ self.old.turn.begun }
+        ensures between { self.new.between ≡ self.old.between }
     {
-        match self.links.heard(handle, octets, SlotNo(self.turn.slot)) {
+        let slot = SlotNo(self.turn.slot);
+        let step = self.links.heard(handle, octets, slot, out);
+        self.turn.doing = Doing::Rests;
+        match step {
             Some(step) if step.reply => Doing::PeripheralSends { handle },
             _ => Doing::Rests,
         }
@@ -426,8 +443,10 @@ impl<const L: usize, const T: usize, const R: usize> Controller<L, T, R> {
         ensures passes { (has : Setup) (facts : Facts) → IsAt has self.old facts
             → Passes has self.new out.old.items out.new.items result
             (unheard facts.turn.doing facts) }
+        ensures few { array_vec_len out.new ≤ array_vec_len out.old + 5 }
         ensures can { CanDo L result }
-        ensures framer { self.new.framer ≡ self.old.framer }
+        ensures once { ReceivesOnce self.new.between self.new.turn self.new.links result }
+        ensures stays { Stays self.old self.new }
     {
         match self.turn.doing {
             Doing::Advertises { channel } => Doing::AwaitsRequest { channel },
@@ -441,14 +460,18 @@ impl<const L: usize, const T: usize, const R: usize> Controller<L, T, R> {
         }
     }
 
-    /// Takes a packet that was heard in a phase. Where it does not listen nothing is heard.
-    pub(crate) fn hear(&mut self, octets: &[u8], out: &mut Outbox) -> Doing
+    /// Takes a packet that was heard in a phase, but on a link. Where it does not listen nothing is
+    /// heard.
+    fn hear_elsewhere(&mut self, octets: &[u8], out: &mut Outbox) -> Doing
+        requires elsewhere { listens_on_link self.old.turn.doing ≡ false }
         requires room { array_vec_len out.old ≤ 50 }
         ensures passes { (has : Setup) (facts : Facts) → IsAt has self.old facts
             → Passes has self.new out.old.items out.new.items result
             (heard has facts.turn.doing octets.now facts) }
+        ensures few { array_vec_len out.new ≤ array_vec_len out.old + 5 }
         ensures can { CanDo L result }
-        ensures framer { self.new.framer ≡ self.old.framer }
+        ensures once { ReceivesOnce self.new.between self.new.turn self.new.links result }
+        ensures stays { Stays self.old self.new }
     {
         match self.turn.doing {
             Doing::AwaitsRequest { channel } => self.hear_request(channel, octets, out),
@@ -457,9 +480,7 @@ impl<const L: usize, const T: usize, const R: usize> Controller<L, T, R> {
                 self.hear_advertisement(false, channel, octets, out)
             }
             Doing::Initiates { channel } => self.hear_connectable(channel, octets),
-            Doing::CentralListens { handle } | Doing::PeripheralListens { handle } => {
-                self.hear_on_link(handle, octets)
-            }
+            Doing::CentralListens { .. } | Doing::PeripheralListens { .. } => unreachable!(),
             Doing::Advertises { .. }
             | Doing::Responds { .. }
             | Doing::Requests { .. }
@@ -467,6 +488,31 @@ impl<const L: usize, const T: usize, const R: usize> Controller<L, T, R> {
             | Doing::CentralSends { .. }
             | Doing::PeripheralSends { .. }
             | Doing::Rests => self.hear_nothing(out),
+        }
+    }
+
+    /// Takes a packet that was heard in a phase, which is over then.
+    pub(crate) fn hear(&mut self, octets: &[u8], out: &mut Outbox) -> Doing
+        requires room { array_vec_len out.old ≤ 50 }
+        ensures passes { (has : Setup) (facts : Facts) → IsAt has self.old facts
+            → PassesOn has self.new out.old.items out.new.items result
+            (heard has facts.turn.doing octets.now facts) }
+        ensures few { array_vec_len out.new ≤ array_vec_len out.old + 5 }
+        ensures can { CanDo L result }
+        ensures once { ReceivesOnce self.new.between self.new.turn self.new.links result }
+        ensures framer { self.new.framer ≡ self.old.framer }
+        ensures begun { self.new.turn.begun ≡ self.old.turn.begun }
+        ensures between { self.new.between ≡ self.old.between }
+    {
+        match self.turn.doing {
+            Doing::CentralListens { handle } | Doing::PeripheralListens { handle } => {
+                self.hear_on_link(handle, octets, out)
+            }
+            _ => {
+                let doing = self.hear_elsewhere(octets, out);
+                self.rest();
+                doing
+            }
         }
     }
 }

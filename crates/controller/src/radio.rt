@@ -1,5 +1,7 @@
 //! What a controller wants of the radio for what it does, and its verdict on what reaches it.
-ghost use Rattle.std.specs.Prelude.{◌≡◌, ◌<◌, ◌^◌, IfSome};
+ghost use Rattle.std.specs.Prelude.{◌≡◌, ◌<◌, ◌≤◌, ◌^◌, ◌++◌, ℕ, List, IfSome};
+ghost use Rattle.arrayvec.specs.ArrayVec.{array_vec_len};
+ghost use Rattle.acl_banks.specs.declared.pieces.Piece.{Piece};
 ghost use Rattle.adv_pdu.specs.Pdu.{FitsBits};
 ghost use Rattle.open_links.specs.Knowing.{Knows as KnowsLinks};
 ghost use Rattle.open_links.specs.OpenLinks.{Links, link_after, link_at, with_change};
@@ -7,16 +9,18 @@ ghost use Rattle.one_end.specs.Step.{PacketSent};
 ghost use Rattle.one_side.specs.declared.doing.Doing.TheVariants.{Rests};
 ghost use Rattle.one_side.specs.Facts.{Setup, Facts};
 ghost use Rattle.one_side.specs.Packets.{advertisement_sent, facts_doing, links_sending, listens_on};
-ghost use Rattle.one_side.specs.Packets.{request_sent, response_sent, sends_on, use_for};
+ghost use Rattle.one_side.specs.Packets.{notes_doing, notes_sent, request_sent, response_sent};
+ghost use Rattle.one_side.specs.Packets.{sends_on, use_for};
 ghost use Rattle.one_side.specs.Packets.{verdict_of, verdict_of_link};
 ghost use Rattle.controller.specs.Fitting.{CanDo};
 ghost use Rattle.controller.specs.Knowing.{IsAt, use_wanted};
+ghost use Rattle.controller.specs.Order.{MayBegin, ReceivesOnce, Stays};
 
 use crate::controllers::Controller;
 use crate::intents::Intent;
 use crate::packets::{connect_ind, judge, send_packet, send_pdu};
 use adv_pdu::AdvPdu;
-use ble_base::{Address, SlotNo, Verdict};
+use ble_base::{Address, Outbox, SlotNo, Verdict};
 use one_side::Doing;
 
 impl<const L: usize, const T: usize, const R: usize> Controller<L, T, R> {
@@ -32,24 +36,30 @@ impl<const L: usize, const T: usize, const R: usize> Controller<L, T, R> {
         })
     }
 
-    /// Sends on the link under a handle.
-    fn send_on(&mut self, handle: u16) -> Intent
+    /// Sends on the link under a handle, and notes a new PDU in that.
+    fn send_on(&mut self, handle: u16, out: &mut Outbox) -> Intent
+        requires { array_vec_len out.old ≤ 59 }
         ensures at { (has : Setup) (facts : Facts) → IsAt has self.old facts
             → IsAt has self.new (record facts {
               links = with_change handle (link_after (PacketSent facts.turn.slot)) facts.links;
             }) }
-        ensures wanted { (links : Links) → KnowsLinks self.old.links links
+        ensures notes { (has : Setup) (facts : Facts) → IsAt has self.old facts
+            → out.new.items
+            ≡ out.old.items ++ notes_sent facts.turn.slot (link_at handle facts.links) }
+        ensures wanted { (links : Links) (received : List (ℕ × Piece))
+            → KnowsLinks self.old.links links received
             → use_wanted result ≡ sends_on (link_at handle links) }
-        ensures framer { self.new.framer ≡ self.old.framer }
+        ensures stays { Stays self.old self.new }
     {
         let channel = self.links.channel(handle);
-        let packet = self.links.to_send(handle, SlotNo(self.turn.slot));
+        let packet = self.links.to_send(handle, SlotNo(self.turn.slot), out);
         send_packet(channel, packet)
     }
 
     /// Listens on the link under a handle.
     fn listen_on(&self, handle: u16) -> Intent
-        ensures { (links : Links) → KnowsLinks self.now.links links
+        ensures { (links : Links) (received : List (ℕ × Piece))
+            → KnowsLinks self.now.links links received
             → use_wanted result ≡ listens_on (link_at handle links) }
     {
         match self.links.channel(handle) {
@@ -58,16 +68,19 @@ impl<const L: usize, const T: usize, const R: usize> Controller<L, T, R> {
         }
     }
 
-    /// What it wants of the radio, for what it does.
-    fn intent(&mut self, doing: Doing) -> Intent
-        requires { CanDo L doing }
+    /// What it wants of the radio, for what it does. A new PDU that it is to send is noted.
+    fn intent(&mut self, doing: Doing, out: &mut Outbox) -> Intent
+        requires can { CanDo L doing }
+        requires room { array_vec_len out.old ≤ 59 }
         ensures at { (has : Setup) (facts : Facts) → IsAt has self.old facts
             → IsAt has self.new (record facts {
               links = links_sending facts.turn.slot doing facts.links;
             }) }
+        ensures notes { (has : Setup) (facts : Facts) → IsAt has self.old facts
+            → out.new.items ≡ out.old.items ++ notes_doing doing facts }
         ensures wanted { (has : Setup) (facts : Facts) → IsAt has self.old facts
             → use_wanted result ≡ use_for facts doing }
-        ensures framer { self.new.framer ≡ self.old.framer }
+        ensures stays { Stays self.old self.new }
     {
         match doing {
             Doing::AwaitsRequest { channel }
@@ -75,7 +88,7 @@ impl<const L: usize, const T: usize, const R: usize> Controller<L, T, R> {
             | Doing::AwaitsResponse { channel }
             | Doing::Initiates { channel } => Intent::Listen { channel },
             Doing::CentralSends { handle } | Doing::PeripheralSends { handle } => {
-                self.send_on(handle)
+                self.send_on(handle, out)
             }
             Doing::CentralListens { handle } | Doing::PeripheralListens { handle } => {
                 self.listen_on(handle)
@@ -93,7 +106,8 @@ impl<const L: usize, const T: usize, const R: usize> Controller<L, T, R> {
 
     /// It does this in the phase that comes next.
     fn set_doing(&mut self, doing: Doing)
-        requires { CanDo L doing }
+        requires can { CanDo L doing }
+        requires once { ReceivesOnce self.old.between self.old.turn self.old.links doing }
         ensures { self.new
             ≡ record self.old { turn = record self.old.turn { doing = doing } } }
     {
@@ -104,45 +118,67 @@ impl<const L: usize, const T: usize, const R: usize> Controller<L, T, R> {
     pub(crate) fn rest(&mut self)
         ensures at { (has : Setup) (facts : Facts) → IsAt has self.old facts
             → IsAt has self.new (facts_doing Rests facts) }
-        ensures framer { self.new.framer ≡ self.old.framer }
+        ensures stays { Stays self.old self.new }
     {
         self.set_doing(Doing::Rests);
     }
 
-    /// It does this in the phase that comes next. It gives what it wants of the radio for that.
-    pub(crate) fn prepare(&mut self, doing: Doing) -> Intent
-        requires { CanDo L doing }
+    /// The turn has ended: it does nothing until the next one begins.
+    pub(crate) fn end(&mut self)
+        requires { self.old.links.unreported ≡ 0 }
+        ensures at { (has : Setup) (facts : Facts) → IsAt has self.old facts
+            → IsAt has self.new (facts_doing Rests facts) }
+        ensures framer { self.new.framer ≡ self.old.framer }
+        ensures order { MayBegin self.old.turn.begun self.new }
+    {
+        self.turn.doing = Doing::Rests;
+        self.between = true;
+    }
+
+    /// It does this in the phase that comes next. It gives what it wants of the radio for that, and
+    /// notes a new PDU that it is to send.
+    pub(crate) fn prepare(&mut self, doing: Doing, out: &mut Outbox) -> Intent
+        requires can { CanDo L doing }
+        requires once { ReceivesOnce self.old.between self.old.turn self.old.links doing }
+        requires room { array_vec_len out.old ≤ 59 }
         ensures at { (has : Setup) (facts : Facts) → IsAt has self.old facts
             → IsAt has self.new (facts_doing doing facts) }
+        ensures notes { (has : Setup) (facts : Facts) → IsAt has self.old facts
+            → out.new.items ≡ out.old.items ++ notes_doing doing facts }
         ensures wanted { (has : Setup) (facts : Facts) → IsAt has self.old facts
             → use_wanted result ≡ use_for facts doing }
-        ensures framer { self.new.framer ≡ self.old.framer }
+        ensures stays { Stays self.old self.new }
     {
         if let Doing::Rests = doing {
             self.rest();
             return Intent::Idle;
         }
-        self.prepare_radio(doing)
+        self.prepare_radio(doing, out)
     }
 
     /// The same where it uses the radio. Most phases are idle, so this is kept out of their code.
     #[inline(never)]
-    fn prepare_radio(&mut self, doing: Doing) -> Intent
-        requires { CanDo L doing }
+    fn prepare_radio(&mut self, doing: Doing, out: &mut Outbox) -> Intent
+        requires can { CanDo L doing }
+        requires once { ReceivesOnce self.old.between self.old.turn self.old.links doing }
+        requires room { array_vec_len out.old ≤ 59 }
         ensures at { (has : Setup) (facts : Facts) → IsAt has self.old facts
             → IsAt has self.new (facts_doing doing facts) }
+        ensures notes { (has : Setup) (facts : Facts) → IsAt has self.old facts
+            → out.new.items ≡ out.old.items ++ notes_doing doing facts }
         ensures wanted { (has : Setup) (facts : Facts) → IsAt has self.old facts
             → use_wanted result ≡ use_for facts doing }
-        ensures framer { self.new.framer ≡ self.old.framer }
+        ensures stays { Stays self.old self.new }
     {
-        let intent = self.intent(doing);
+        let intent = self.intent(doing, out);
         self.set_doing(doing);
         intent
     }
 
     /// What the link under a handle makes of octets.
     fn judge_on_link(&self, handle: u16, octets: &[u8]) -> Verdict
-        ensures { (links : Links) → KnowsLinks self.now.links links
+        ensures { (links : Links) (received : List (ℕ × Piece))
+            → KnowsLinks self.now.links links received
             → result ≡ verdict_of_link (link_at handle links) octets.now }
     {
         match self.links.judge(handle, octets) {

@@ -79,7 +79,7 @@ const RESPONSE_REPORT: [u8; 18] = [
 
 /// In this slot it scans on this channel.
 fn scans(rt: &impl Abort, controller: &mut Small, slot: u32, channel: u8) {
-    let (first, second) = turn(controller, slot, true);
+    let (first, second) = turn(rt, controller, slot, true);
     assert_eq!(rt; channel_of(first), Some(channel), "in {slot}");
     assert_eq!(rt; second, Intent::Idle, "in {slot}");
 }
@@ -94,7 +94,7 @@ fn hearing(
     report: Option<&[u8]>,
 ) {
     let mut out = Outbox::new();
-    assert_eq!(rt; begin(controller, slot), Intent::Listen { channel: 37 });
+    assert_eq!(rt; begin(rt, controller, slot), Intent::Listen { channel: 37 });
     assert_eq!(rt; controller.judge(packet), Verdict::Good);
     assert_eq!(rt; controller.heard(packet, &mut out), Intent::Idle);
     assert_eq!(rt; controller.judge(packet), Verdict::Missed);
@@ -132,7 +132,7 @@ fn hearing_from(rt: &impl Abort, controller: &mut Small, slot: u32, device: u8, 
     let mut report = REPORT;
     report[7] = device;
     let mut out = Outbox::new();
-    let channel = channel_of(begin(controller, slot)).unwrap_or(0);
+    let channel = channel_of(begin(rt, controller, slot)).unwrap_or(0);
     assert!(rt; (37..40).contains(&channel), "in {slot}");
     controller.heard(advertisement(channel, public).as_slice(), &mut out);
     assert_eq!(rt;
@@ -156,7 +156,10 @@ fn reports_what_it_scans(rt: HostRuntime) {
     hearing(&rt, &mut controller, 4, &TO_ANOTHER, None);
     let mut damaged = advertisement;
     damaged[6] ^= 0x01;
-    assert_eq!(rt; begin(&mut controller, 5), Intent::Listen { channel: 37 });
+    assert_eq!(rt;
+        begin(&rt, &mut controller, 5),
+        Intent::Listen { channel: 37 }
+    );
     assert_eq!(rt; controller.judge(&damaged), Verdict::Broken);
     damaged[0] ^= 0x01;
     assert_eq!(rt; controller.judge(&damaged), Verdict::Missed);
@@ -184,7 +187,7 @@ fn withholds_duplicates_until_a_reset(rt: HostRuntime) {
     hearing(&rt, &mut controller, 1, &advertisement, None);
     command(&rt, &mut controller, &RESET, 0x00);
     assert_eq!(rt;
-        turn(&mut controller, 2, true),
+        turn(&rt, &mut controller, 2, true),
         (Intent::Idle, Intent::Idle)
     );
     command(&rt, &mut controller, &MASK, 0x00);
@@ -227,7 +230,7 @@ fn a_scanner_begins_anew(rt: HostRuntime) {
     let mut scanner = started(&rt, rt.alloc(), PUBLIC_B, &[2]);
     command(&rt, &mut scanner, &SCAN, 0x00);
     for slot in 0..10 {
-        turn(&mut scanner, slot, true);
+        turn(&rt, &mut scanner, slot, true);
     }
     command(&rt, &mut scanner, &STOP_SCANNING, 0x00);
     command(&rt, &mut scanner, &SCAN, 0x00);
@@ -245,7 +248,10 @@ fn asks_for_a_scan_response(rt: HostRuntime) {
     command(&rt, &mut controller, &MASK, 0x00);
     command(&rt, &mut controller, &ACTIVE, 0x00);
     command(&rt, &mut controller, &SCAN, 0x00);
-    assert_eq!(rt; begin(&mut controller, 0), Intent::Listen { channel: 37 });
+    assert_eq!(rt;
+        begin(&rt, &mut controller, 0),
+        Intent::Listen { channel: 37 }
+    );
     let mut out = Outbox::new();
     assert_eq!(rt;
         controller.heard(&CONNECTABLE_B, &mut out),

@@ -1,5 +1,5 @@
 //! What the tests of this crate share: controllers, hosts and turns.
-ghost use Rattle.std.specs.Prelude.{◌≤◌, length};
+ghost use Rattle.std.specs.Prelude.{◌≡◌, ◌≤◌, [], length};
 
 use super::*;
 use arrayvec::ArrayVec;
@@ -135,14 +135,38 @@ pub(crate) fn rest<const L: usize>(controller: &mut Controller<L, 8, 8>) {
     controller.end_turn(&mut Outbox::new());
 }
 
+/// A turn begins in this slot, with the radio on or off.
+pub(crate) fn begin_noting<const L: usize>(
+    rt: &impl Abort,
+    controller: &mut Controller<L, 8, 8>,
+    slot: u32,
+    on: bool,
+    out: &mut Outbox,
+) -> Intent
+    requires { out.old.items ≡ [] }
+{
+    let slot = SlotNo(u64::from(slot));
+    assert!(rt; controller.between && controller.turn.begun <= slot.0);
+    controller.begin_turn(slot, on, out)
+}
+
 /// A turn begins in this slot, and the radio is on.
-pub(crate) fn begin<const L: usize>(controller: &mut Controller<L, 8, 8>, slot: u32) -> Intent {
-    controller.begin_turn(SlotNo(u64::from(slot)), true, &mut Outbox::new())
+pub(crate) fn begin<const L: usize>(
+    rt: &impl Abort,
+    controller: &mut Controller<L, 8, 8>,
+    slot: u32,
+) -> Intent {
+    begin_noting(rt, controller, slot, true, &mut Outbox::new())
 }
 
 /// A turn in which nothing is heard, and what was wanted in its first two phases.
-pub(crate) fn turn(controller: &mut Small, slot: u32, on: bool) -> (Intent, Intent) {
-    let first = controller.begin_turn(SlotNo(u64::from(slot)), on, &mut Outbox::new());
+pub(crate) fn turn(
+    rt: &impl Abort,
+    controller: &mut Small,
+    slot: u32,
+    on: bool,
+) -> (Intent, Intent) {
+    let first = begin_noting(rt, controller, slot, on, &mut Outbox::new());
     let second = controller.unheard(&mut Outbox::new());
     rest(controller);
     (first, second)

@@ -1,6 +1,7 @@
 //! The beginning of a turn: which links end, what has the radio, and what is done first.
-ghost use Rattle.std.specs.Prelude.{◌≡◌, ◌≤◌, ◌<◌, ◌+◌, ◌*◌, ◌^◌, ◌++◌, ℕ, length, IfSome};
+ghost use Rattle.std.specs.Prelude.{◌≡◌, ◌≤◌, ◌<◌, ◌+◌, ◌*◌, ◌^◌, ◌++◌, ℕ, List, length, IfSome};
 ghost use Rattle.arrayvec.specs.ArrayVec.{array_vec_len};
+ghost use Rattle.acl_banks.specs.declared.pieces.Piece.{Piece};
 ghost use Rattle.open_links.specs.Knowing.{Knows as KnowsLinks};
 ghost use Rattle.open_links.specs.OpenLinks.{Links, link_at, link_served, with_change};
 ghost use Rattle.open_links.specs.Turns.{links_entered, notes_entering, wants_from};
@@ -9,11 +10,13 @@ ghost use Rattle.one_side.specs.Facts.{Setup, Facts};
 ghost use Rattle.one_side.specs.Radio.{advertises_at, doing_held, doing_won, exchange_begins};
 ghost use Rattle.one_side.specs.Radio.{facts_entering, winner_served};
 ghost use Rattle.one_side.specs.Radio.{facts_won, first_exchange, initiator_channel};
-ghost use Rattle.one_side.specs.Radio.{initiates_on, outcome_begun, plan_in, radio_held};
+ghost use Rattle.one_side.specs.Radio.{initiates_on, links_fixing, outcome_begun, plan_in};
+ghost use Rattle.one_side.specs.Radio.{radio_held};
 ghost use Rattle.one_side.specs.Radio.{scanner_channel, scans_on, second_exchange, served};
 ghost use Rattle.one_side.specs.Radio.{slots_since, turn_begins, want_if};
 ghost use Rattle.controller.specs.Fitting.{CanDo};
 ghost use Rattle.controller.specs.Knowing.{IsAt, Passes};
+ghost use Rattle.controller.specs.Order.{HasNotReceived, MayBegin, Stays};
 
 use crate::controllers::Controller;
 use ble_base::{Outbox, Role, SlotNo};
@@ -68,7 +71,8 @@ impl<const L: usize, const T: usize, const R: usize> Controller<L, T, R> {
             → out.new.items ≡ out.old.items ++ notes_entering slot.0 facts.links }
         ensures winner { (has : Setup) (facts : Facts) → IsAt has self.old facts
             → result ≡ winner_of (plan_in slot.0 facts) slot.0 }
-        ensures framer { self.new.framer ≡ self.old.framer }
+        ensures few { array_vec_len out.new ≤ array_vec_len out.old + 30 }
+        ensures stays { Stays self.old self.new }
     {
         self.plan.clear();
         self.links.enter(slot, &mut self.plan, out);
@@ -83,7 +87,8 @@ impl<const L: usize, const T: usize, const R: usize> Controller<L, T, R> {
 
     /// The first exchange of the event of the link under a handle.
     fn first_exchange(&self, handle: u16) -> Doing
-        ensures value { (links : Links) → KnowsLinks self.now.links links
+        ensures value { (links : Links) (received : List (ℕ × Piece))
+            → KnowsLinks self.now.links links received
             → result ≡ first_exchange handle (link_at handle links) }
         ensures can { CanDo L result }
     {
@@ -95,7 +100,8 @@ impl<const L: usize, const T: usize, const R: usize> Controller<L, T, R> {
 
     /// The second exchange of the event of the link under a handle, if it has one.
     fn second_exchange(&self, handle: u16) -> Doing
-        ensures value { (links : Links) → KnowsLinks self.now.links links
+        ensures value { (links : Links) (received : List (ℕ × Piece))
+            → KnowsLinks self.now.links links received
             → result ≡ second_exchange handle (link_at handle links) }
         ensures can { CanDo L result }
     {
@@ -172,7 +178,7 @@ impl<const L: usize, const T: usize, const R: usize> Controller<L, T, R> {
         requires { slot.0 < 2 ^ 32 }
         ensures at { (has : Setup) (facts : Facts) → IsAt has self.old facts
             → IsAt has self.new (facts_won slot.0 activity facts) }
-        ensures framer { self.new.framer ≡ self.old.framer }
+        ensures stays { Stays self.old self.new }
     {
         match activity {
             Activity::Link(handle) => {
@@ -195,7 +201,7 @@ impl<const L: usize, const T: usize, const R: usize> Controller<L, T, R> {
         ensures next { (has : Setup) (facts : Facts) → IsAt has self.old facts
             → result ≡ (winner_served slot.0 winner facts).next }
         ensures can { CanDo L result }
-        ensures framer { self.new.framer ≡ self.old.framer }
+        ensures stays { Stays self.old self.new }
     {
         match winner {
             None => Doing::Rests,
@@ -216,7 +222,7 @@ impl<const L: usize, const T: usize, const R: usize> Controller<L, T, R> {
         ensures next { (has : Setup) (facts : Facts) → IsAt has self.old facts
             → result ≡ (served on slot.0 winner facts).next }
         ensures can { CanDo L result }
-        ensures framer { self.new.framer ≡ self.old.framer }
+        ensures stays { Stays self.old self.new }
     {
         if !on {
             return Doing::Rests;
@@ -227,30 +233,56 @@ impl<const L: usize, const T: usize, const R: usize> Controller<L, T, R> {
         self.serve_winner(slot, winner)
     }
 
+    /// The link that has the radio, if one has it, fixes the PDU that it sends next.
+    fn fix(&mut self, doing: Doing)
+        ensures links { (links : Links) (received : List (ℕ × Piece))
+            → KnowsLinks self.old.links links received
+            → KnowsLinks self.new.links (links_fixing doing links) received }
+        ensures rest { self.new ≡ record self.old { links = self.new.links } }
+        ensures stays { Stays self.old self.new }
+    {
+        match doing {
+            Doing::CentralSends { handle } | Doing::PeripheralListens { handle } => {
+                self.links.ready(handle);
+            }
+            _ => {}
+        }
+    }
+
     /// A turn begins in this slot.
     fn begin_slot(&mut self, slot: SlotNo)
-        requires { slot.0 < 2 ^ 32 }
+        requires slot { slot.0 < 2 ^ 32 }
+        requires order { MayBegin slot.0 self.old }
         ensures at { (has : Setup) (facts : Facts) → IsAt has self.old facts
             → IsAt has self.new (turn_begins slot.0 facts) }
         ensures framer { self.new.framer ≡ self.old.framer }
+        ensures begun { self.new.turn.begun ≡ slot.0 + 1 }
+        ensures none { HasNotReceived self.new.between self.new.turn self.new.links }
     {
         self.turn.begun = slot.0 + 1;
         self.turn.slot = slot.0;
+        self.between = false;
     }
 
     /// A turn begins in this slot, with the radio on or off. It gives what is done first.
     pub(crate) fn begin(&mut self, slot: SlotNo, on: bool, out: &mut Outbox) -> Doing
         requires slot { slot.0 < 2 ^ 32 }
+        requires order { MayBegin slot.0 self.old }
         requires room { array_vec_len out.old ≤ 4 }
         ensures passes { (has : Setup) (facts : Facts) → IsAt has self.old facts
             → Passes has self.new out.old.items out.new.items result
             (outcome_begun slot.0 on facts) }
         ensures can { CanDo L result }
+        ensures few { array_vec_len out.new ≤ 50 }
         ensures framer { self.new.framer ≡ self.old.framer }
+        ensures begun { self.new.turn.begun ≡ slot.0 + 1 }
+        ensures none { HasNotReceived self.new.between self.new.turn self.new.links }
     {
         self.end_links(slot, out);
         self.begin_slot(slot);
         let winner = self.enter_events(slot, out);
-        self.serve(on, slot, winner)
+        let doing = self.serve(on, slot, winner);
+        self.fix(doing);
+        doing
     }
 }

@@ -1,15 +1,16 @@
 -- Proof of `controllers::Controller::end_links`.
-use Rattle.std.proofs.Common.{◌∙◌, ap}
+use Rattle.std.proofs.Common.{◌∙◌, sym, subst}
 use Rattle.controller.specs.Held.{Held}
-use Rattle.controller.proofs.Shutting.{ending_is, shut_framer}
+use Rattle.controller.specs.Order.{Stays}
+use Rattle.controller.proofs.Shutting.{both_stay, ending_is, shut_stays}
 use Rattle.controller.proofs.controllers.Controller.end_links.Goals as goal
 
 pub returns-clause-at : goal.returns-clause-at
 returns-clause-at g c = λ has facts k.
-    ending_is has _ _ _ facts _ _ c.take_due-ended.ensures.rest (c.take_due-ended.ensures.links facts.links k.links)
-    (c.as_slice-2.ensures.value ∙ c.take_due-ended.ensures.ends facts.links k.links) c.shut_all.ensures k
+    ending_is has _ _ _ facts _ _ c.take_due-ended.ensures.rest (c.take_due-ended.ensures.links facts.links facts.received k.links)
+    (c.as_slice-2.ensures.value ∙ c.take_due-ended.ensures.ends facts.links facts.received k.links) c.shut_all.ensures k
 
-pub returns-clause-framer : goal.returns-clause-framer
-returns-clause-framer g c =
-    ap (λ (held : Held). held.framer) c.shut_all.ensures ∙ shut_framer c.as_slice-2.result.now c.take_due-ended.new.self
-    ∙ ap (λ (held : Held). held.framer) c.take_due-ended.ensures.rest
+pub returns-clause-stays : goal.returns-clause-stays
+returns-clause-stays g c =
+    both_stay _ _ _ c.take_due-ended.ensures.stays
+    (subst (λ (held : Held). Stays c.take_due-ended.new.self held) (sym c.shut_all.ensures) (shut_stays c.as_slice-2.result.now c.take_due-ended.new.self))

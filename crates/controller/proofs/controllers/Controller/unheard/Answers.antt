@@ -7,11 +7,15 @@ use Rattle.controller.proofs.controllers.Controller.unheard.Goals as goal
 
 pub returns-clause-goes : goal.returns-clause-goes
 returns-clause-goes g c = λ setup past knows.
-    turn_goes setup past NothingHeard _ _ _ _ _ _ (outcome_unheard (facts_of setup past))
-    tt refl refl c.requires.empty (c.hear_nothing-doing.ensures.passes setup _ (at_facts setup _ past knows))
-    c.prepare.ensures.at (c.prepare.ensures.framer ∙ c.hear_nothing-doing.ensures.framer) knows
+    let passes = c.hear_nothing-doing.ensures.passes setup _ (at_facts setup _ past knows) in
+    turn_goes setup past NothingHeard _ _ _ _ _ _ _ (outcome_unheard (facts_of setup past))
+    tt refl refl c.requires.empty passes.notes passes.doing
+    (record { at = c.prepare.ensures.at setup _ passes.at; notes = c.prepare.ensures.notes setup _ passes.at; wants = c.prepare.ensures.wanted setup _ passes.at })
+    (c.prepare.ensures.stays.framer ∙ c.hear_nothing-doing.ensures.stays.framer) knows
 
 pub returns-clause-wants : goal.returns-clause-wants
 returns-clause-wants g c = λ setup past knows.
-    wants_then setup past NothingHeard _ _ _ _ (outcome_unheard (facts_of setup past)) _
-    refl (c.hear_nothing-doing.ensures.passes setup _ (at_facts setup _ past knows)) c.prepare.ensures.wanted
+    let passes = c.hear_nothing-doing.ensures.passes setup _ (at_facts setup _ past knows) in
+    wants_then setup past NothingHeard _ _ _ _ _ (outcome_unheard (facts_of setup past))
+    refl passes.doing
+    (record { at = c.prepare.ensures.at setup _ passes.at; notes = c.prepare.ensures.notes setup _ passes.at; wants = c.prepare.ensures.wanted setup _ passes.at })

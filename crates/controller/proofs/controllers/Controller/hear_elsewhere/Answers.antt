@@ -1,11 +1,11 @@
--- Proof of `controllers::Controller::hear`.
+-- Proof of `controllers::Controller::hear_elsewhere`.
 use Rattle.std.proofs.Common.{ap, sym, ◌∙◌, subst}
 use Rattle.one_side.specs.declared.doing.Doing.{Doing}
 use Rattle.one_side.specs.declared.doing.Turn.{Turn}
 use Rattle.one_side.specs.Heard.{heard}
 use Rattle.controller.specs.Held.{Held}
 use Rattle.controller.specs.Knowing.{Passes}
-use Rattle.controller.proofs.controllers.Controller.hear.Goals as goal
+use Rattle.controller.proofs.controllers.Controller.hear_elsewhere.Goals as goal
 
 pub returns-in-Initiates-clause-passes : goal.returns-in-Initiates-clause-passes
 returns-in-Initiates-clause-passes g c = λ has facts k.
