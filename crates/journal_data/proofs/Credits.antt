@@ -1,0 +1,271 @@
+-- In a run, where hosts send only between turns, what a host is credited is what was reported and its packets of no octet.
+use Rattle.std.proofs.Common.{◌≡◌, ℕ, suc, ◌+◌, ◌<◌, ◌≤◌, Bool, true, false, Option, Some, None, List, [], ◌∷◌, ◌++◌, refl, ap, sym, subst, ◌∙◌, arith}
+use Rattle.std.specs.Prelude.{◌&&◌}
+use Rattle.std.specs.List.{sum_by}
+use Rattle.std.proofs.Math.Nat.{mod-eq_of_lt}
+use Rattle.std.proofs.lemmas.Bool.{eq-eqb}
+use Rattle.std.proofs.lemmas.List.Sums.{sum_by-append}
+use Rattle.ble_base.specs.declared.notes.Note.{Note}
+use Rattle.ble_base.specs.declared.notes.Note.TheVariants.{Up}
+use Rattle.data_pdu.specs.Header.{header_in}
+use Rattle.hci_evt.specs.Event.{written}
+use Rattle.hci_evt.specs.declared.event.Event.TheVariants.{CompletedPackets}
+use Rattle.host_view.specs.Noted.{two_octets}
+use Rattle.wire_fields.specs.Field.{little_endian}
+use Rattle.one_end.specs.Acknowledgement.{Pdu, is_acked}
+use Rattle.one_end.specs.Data.{Data, data_acked_if, data_given, data_sent_if, is_data}
+use Rattle.one_end.specs.End.{facts_after as end_after, facts_of as end_facts, facts_received, has_acknowledged, notes_after as end_notes, sent_notes_if, took_notes, took_notes_if}
+use Rattle.one_end.specs.Facts.{Facts as EndFacts}
+use Rattle.one_end.specs.Packets.{good_pdu, pdu_of}
+use Rattle.one_end.specs.Setup.{Setup as EndSetup}
+use Rattle.one_end.specs.Step.{Step as EndStep, DataGiven, EventEntered, PduFixed, PacketSent, PacketReceived, DataReported}
+use Rattle.one_end.proofs.Pasts.{grows}
+use Rattle.open_links.specs.OpenLinks.{OpenLink, facts_in, link_at}
+use Rattle.one_side.specs.Between.{is_between_turns}
+use Rattle.one_side.specs.Data.{note_received}
+use Rattle.one_side.specs.Facts.{Setup}
+use Rattle.one_side.specs.Side.{facts_of, notes_after, notes_of}
+use Rattle.one_side.specs.Since.{empties_of, is_completed_on, note_completed, since_opened}
+use Rattle.one_side.specs.Step.{Step, HostOctet, TurnBegins, PacketHeard, NothingHeard, TurnEnds}
+use Rattle.one_side.proofs.Books.{Fact, IsKeptInBook, IsSilent}
+use Rattle.one_side.proofs.BooksAlways.{book_of}
+use Rattle.one_side.proofs.OtherNotes.{event_handle_is, two_octets_hold}
+use Rattle.runs.specs.Feeding.{HasNoted}
+use Rattle.runs.specs.History.{Event, HostFed, noted_by, past_of, steps_in}
+use Rattle.runs.specs.Run.{Given, after_call, after_feed, after_octets, facts_at, setup_at, step_of}
+use Rattle.runs.proofs.Calls.{flat_nothing, past_own}
+use Rattle.run_laws.proofs.OpenSteps.{open_has}
+use Rattle.journal_data.proofs.Booked.{count_if, count_up}
+use Rattle.journal_data.proofs.FewComplete.{HadFew, IsFedBetween, IsFew, MayFeed, between_more, fed_more, few_always, had_front, had_last}
+
+-- ---- the count of a note
+
+plain_up : (handle : ℕ) (note : Note) → is_completed_on handle note ≡ false → count_up handle note ≡ 0
+plain_up handle (Up packet) is = ap (λ (test : Bool). count_if test packet.items) is
+plain_up handle note is = refl
+
+abbrev octets_completed : ℕ → ℕ → List ℕ
+octets_completed handle count = written (CompletedPackets handle count)
+
+count_octets : (handle count : ℕ) → count < 65536 → two_octets 6 (octets_completed handle count) ≡ count
+unfolding little_endian
+count_octets handle count few = two_octets_hold count ∙ mod-eq_of_lt few
+
+count_completed : (handle count : ℕ) → handle < 65536 → count < 65536 → count_up handle (note_completed handle count) ≡ count
+unfolding little_endian
+count_completed handle count below few =
+    ap (λ (test : Bool). count_if test (octets_completed handle count)) (eq-eqb _ handle (event_handle_is handle count below))
+    ∙ count_octets handle count few
+
+none_sent : (handle : ℕ) (noted : Bool) (other : ℕ) (facts : EndFacts) → sum_by (count_up handle) (sent_notes_if noted other facts) ≡ 0
+none_sent handle true other facts = refl
+none_sent handle false other facts = refl
+
+none_took_if : (handle : ℕ) (noted : Bool) (other : ℕ) (pdu : Pdu) (facts : EndFacts) → sum_by (count_up handle) (took_notes_if noted other pdu facts) ≡ 0
+none_took_if handle true other pdu facts = refl
+none_took_if handle false other pdu facts = refl
+
+none_took : (handle other : ℕ) (room : Bool) (found : Option (List ℕ)) (facts : EndFacts) → sum_by (count_up handle) (took_notes other room found facts) ≡ 0
+none_took handle other room None facts = refl
+none_took handle other room (Some pdu) facts = none_took_if handle _ other (pdu_of pdu) facts
+
+-- ---- what an end counts as reported
+
+reported_given : (handle : ℕ) (start : Bool) (octets : List ℕ) (outgoing : Data) → (data_given handle start octets outgoing).reported ≡ outgoing.reported
+reported_given handle start [] outgoing = refl
+reported_given handle start (octet ∷ octets) outgoing = refl
+
+reported_silent : (setup : EndSetup) (facts : EndFacts) (step : EndStep) → IsSilent step
+    → (end_after setup facts step).outgoing.reported ≡ facts.outgoing.reported
+reported_silent setup facts (DataGiven start body) is = reported_given setup.link.handle start body facts.outgoing
+reported_silent setup facts (EventEntered slot) is = refl
+reported_silent setup facts PduFixed is = refl
+reported_silent setup facts step is = absurd is
+
+reported_sent : (is_new : Bool) (outgoing : Data) → (data_sent_if is_new outgoing).reported ≡ outgoing.reported
+reported_sent true outgoing = refl
+reported_sent false outgoing = refl
+
+reported_acked : (acked : Bool) (outgoing : Data) → (data_acked_if acked outgoing).reported ≡ outgoing.reported
+reported_acked true outgoing = refl
+reported_acked false outgoing = refl
+
+reported_received : (slot : ℕ) (room : Bool) (found : Option (List ℕ)) (facts : EndFacts)
+    → (facts_received slot room found facts).outgoing.reported ≡ facts.outgoing.reported
+reported_received slot room None facts = refl
+reported_received slot room (Some pdu) facts =
+    reported_acked (has_acknowledged facts (header_in pdu) && is_data facts.acknowledgement.last) facts.outgoing
+
+-- ---- the book
+
+module _ (many handle most : ℕ) (few_links : many ≤ 4096) (few : most ≤ 65535) where
+  -- if the packets that were complete and not reported were never more than this, an event has its count whole
+  abbrev IsCounted : Fact
+  IsCounted setup past waiting since count =
+      HadFew most setup past → sum_by (count_up handle) since ≡ (end_facts setup past).outgoing.reported + count
+
+  plain : (since more : List Note) (total : ℕ) → sum_by (count_up handle) more ≡ 0 → sum_by (count_up handle) since ≡ total
+      → sum_by (count_up handle) (since ++ more) ≡ total
+  plain since more total none is = let both = sum_by-append (count_up handle) since more in omega (arith, both, none, is)
+
+  one_more : (since : List Note) (note : Note) (total count : ℕ) → count_up handle note ≡ count → sum_by (count_up handle) since ≡ total
+      → sum_by (count_up handle) (since ++ note ∷ []) ≡ total + count
+  one_more since note total count one is =
+      let both = sum_by-append (count_up handle) since (note ∷ []) in
+      let last : sum_by (count_up handle) (note ∷ []) ≡ 0 + count_up handle note = refl in
+      omega (arith, both, last, one, is)
+
+  one_plain : (since : List Note) (note : Note) (total : ℕ) → count_up handle note ≡ 0 → sum_by (count_up handle) since ≡ total
+      → sum_by (count_up handle) (since ++ note ∷ []) ≡ total
+  one_plain since note total none is = let more = one_more since note total 0 none is in omega (arith, more)
+
+  reported_as : (setup : EndSetup) (past : List EndStep) (step : EndStep) (since : List Note) (count : ℕ)
+      → (end_after setup (end_facts setup past) step).outgoing.reported ≡ (end_facts setup past).outgoing.reported
+      → sum_by (count_up handle) since ≡ (end_facts setup past).outgoing.reported + count
+      → sum_by (count_up handle) since ≡ (end_facts setup (past ++ step ∷ [])).outgoing.reported + count
+  reported_as setup past step since count same is =
+      is ∙ ap (λ n. n + count) (sym (ap (λ (facts : EndFacts). facts.outgoing.reported) (grows setup past step) ∙ same))
+
+  first_counted : (setup : EndSetup) → sum_by (count_up handle) [] ≡ (end_facts setup []).outgoing.reported + 0
+  unfolding end_facts
+  first_counted setup = refl
+
+  reported_more : (setup : EndSetup) (past : List EndStep) (since : List Note) (count complete : ℕ) → handle < many
+      → (end_facts setup past).outgoing.complete ≡ suc complete → HadFew most setup past
+      → sum_by (count_up handle) since ≡ (end_facts setup past).outgoing.reported + count
+      → sum_by (count_up handle) (since ++ note_completed handle (suc complete) ∷ [])
+      ≡ (end_facts setup (past ++ DataReported ∷ [])).outgoing.reported + count
+  reported_more setup past since count complete below is had counted =
+      let after = ap (λ (facts : EndFacts). facts.outgoing.reported) (grows setup past DataReported) in
+      let last = had_last most setup past had in
+      let one = count_completed handle (suc complete) (omega (arith, below, few_links)) (omega (arith, is, last, few)) in
+      let more = one_more since (note_completed handle (suc complete)) _ (suc complete) one counted in
+      omega (arith, more, after, is)
+
+  counted_kept : IsKeptInBook many handle IsCounted
+  counted_kept = record {
+    opened = λ setup same had. first_counted setup;
+    other = λ setup past waiting since count note is counted had.
+        one_plain since note _ (plain_up handle note (is.completed_none few_links)) (counted had);
+    silent = λ setup past waiting since count step is counted had.
+        reported_as setup past step since count (reported_silent setup (end_facts setup past) step is) (counted (had_front most setup past step had));
+    sent = λ setup past waiting since count slot same counted had.
+        let facts = end_facts setup past in
+        let more = end_notes setup facts (PacketSent slot) in
+        reported_as setup past (PacketSent slot) (since ++ more) count (reported_sent (is_acked facts.acknowledgement) facts.outgoing)
+        (plain since more _ (none_sent handle _ setup.link.handle facts) (counted (had_front most setup past (PacketSent slot) had)));
+    received = λ setup past waiting since count slot octets room same counted had.
+        let facts = end_facts setup past in
+        let more = end_notes setup facts (PacketReceived slot octets room) in
+        reported_as setup past (PacketReceived slot octets room) (since ++ more) count
+        (reported_received slot room (good_pdu setup facts octets) facts)
+        (plain since more _ (none_took handle setup.link.handle room (good_pdu setup facts octets) facts)
+        (counted (had_front most setup past (PacketReceived slot octets room) had)));
+    handed = λ setup past piece waiting since count below same counted had. one_plain since (note_received piece) _ refl (counted had);
+    reported = λ setup past waiting since count complete below is counted had.
+        let front = had_front most setup past DataReported had in reported_more setup past since count complete below is front (counted front);
+    emptied = λ setup past waiting since count below counted had.
+        let more = one_more since (note_completed handle 1) _ 1 (count_completed handle 1 (omega (arith, below, few_links)) (omega arith)) (counted had) in
+        omega (arith, more);
+  }
+
+-- in a controller whose host sends only between turns
+pub credited_past : (setup : Setup) (past : List Step) (handle : ℕ) (link : OpenLink) → setup.links ≤ 4096 → setup.host_buffers ≤ 65535
+    → IsFedBetween past → link_at handle (facts_of setup past).links ≡ Some link
+    → sum_by (count_up handle) (since_opened handle (notes_of setup past)) ≡ (facts_in link).outgoing.reported + empties_of setup handle past
+credited_past setup past handle link few_links few fed is =
+    let most = setup.host_buffers in
+    (book_of handle (IsCounted setup.links handle most few_links few) setup (counted_kept setup.links handle most few_links few) past link is).1
+    (open_has (IsFew most) 0 handle (facts_of setup past).links link (few_always setup most past (omega arith) fed) is).1
+
+-- ---- a station of a run
+
+-- its host sent only between its turns
+pub record AreFew (given : Given) (station : ℕ) (history : List Event) : Type 0 where
+  pub fed : IsFedBetween (past_of station history)
+
+pub few_first : (given : Given) (station : ℕ) → AreFew given station []
+few_first given station = record { fed = tt }
+
+same_past : (given : Given) (station : ℕ) (before after : List Event) → past_of station after ≡ past_of station before → AreFew given station before
+    → AreFew given station after
+same_past given station before after same few = record { fed = subst IsFedBetween (sym same) few.fed }
+
+-- an event that is no call, and a call on another station
+pub few_event : (given : Given) (station : ℕ) (history : List Event) (event : Event) → steps_in station event ≡ [] → AreFew given station history
+    → AreFew given station (history ++ event ∷ [])
+few_event given station history event none few =
+    same_past given station history (history ++ event ∷ []) (flat_nothing (steps_in station) history event none) few
+
+-- a call on the station
+pub few_call : (given : Given) (station : ℕ) (step : Step) (history : List Event) → MayFeed (is_between_turns (past_of station history)) step
+    → AreFew given station history → AreFew given station (after_call given station step history)
+few_call given station step history may few = record {
+  fed = subst IsFedBetween (sym (past_own station step (notes_after (setup_at given station) (facts_at given station history) step) history))
+      (fed_more (past_of station history) step few.fed may);
+}
+
+pub few_begin : (given : Given) (station slot : ℕ) (on : Bool) (history : List Event) → AreFew given station history
+    → AreFew given station (after_call given station (TurnBegins slot on) history)
+few_begin given station slot on history few = few_call given station (TurnBegins slot on) history tt few
+
+pub few_pass : (given : Given) (station : ℕ) (received : Option (List ℕ)) (history : List Event) → AreFew given station history
+    → AreFew given station (after_call given station (step_of received) history)
+few_pass given station None history few = few_call given station NothingHeard history tt few
+few_pass given station (Some octets) history few = few_call given station (PacketHeard octets) history tt few
+
+pub few_end : (given : Given) (station : ℕ) (history : List Event) → AreFew given station history
+    → AreFew given station (after_call given station TurnEnds history)
+few_end given station history few = few_call given station TurnEnds history tt few
+
+-- octets of its host between turns, after which it is still between turns
+pub record IsFedWell (given : Given) (station : ℕ) (history : List Event) : Type 0 where
+  pub few : AreFew given station history
+  pub between : is_between_turns (past_of station history) ≡ true
+
+octet_fed : (given : Given) (station octet : ℕ) (history : List Event) → IsFedWell given station history
+    → IsFedWell given station (after_call given station (HostOctet octet) history)
+octet_fed given station octet history well = record {
+  few = few_call given station (HostOctet octet) history well.between well.few;
+  between = ap is_between_turns
+      (past_own station (HostOctet octet) (notes_after (setup_at given station) (facts_at given station history) (HostOctet octet)) history)
+      ∙ between_more (past_of station history) (HostOctet octet) ∙ well.between;
+}
+
+octets_fed : (given : Given) (station : ℕ) (octets : List ℕ) (history : List Event) → IsFedWell given station history
+    → IsFedWell given station (after_octets given station octets history)
+octets_fed given station [] history well = well
+octets_fed given station (octet ∷ octets) history well =
+    octets_fed given station octets (after_call given station (HostOctet octet) history) (octet_fed given station octet history well)
+
+event_fed : (given : Given) (station : ℕ) (history : List Event) (event : Event) → steps_in station event ≡ [] → IsFedWell given station history
+    → IsFedWell given station (history ++ event ∷ [])
+event_fed given station history event none well = record {
+  few = few_event given station history event none well.few;
+  between = ap is_between_turns (flat_nothing (steps_in station) history event none) ∙ well.between;
+}
+
+pub feed_fed : (given : Given) (station : ℕ) (octets : List ℕ) (history : List Event) → IsFedWell given station history
+    → IsFedWell given station (after_feed given station octets history)
+feed_fed given station [] history well = well
+feed_fed given station (octet ∷ octets) history well =
+    octets_fed given station (octet ∷ octets) (history ++ HostFed station (octet ∷ octets) ∷ [])
+    (event_fed given station history (HostFed station (octet ∷ octets)) refl well)
+
+pub few_feed : (given : Given) (station : ℕ) (octets : List ℕ) (history : List Event) → is_between_turns (past_of station history) ≡ true
+    → AreFew given station history → AreFew given station (after_feed given station octets history)
+few_feed given station octets history between few = (feed_fed given station octets history (record { few = few; between = between })).few
+
+-- ---- what its host is credited
+
+abbrev pub IsCredited : Given → ℕ → List Event → Type 0
+IsCredited given station history =
+    (link : OpenLink) → link_at 0 (facts_at given station history).links ≡ Some link
+    → sum_by (count_up 0) (since_opened 0 (noted_by station history))
+    ≡ (facts_in link).outgoing.reported + empties_of (setup_at given station) 0 (past_of station history)
+
+pub credited : (given : Given) (station : ℕ) (history : List Event) → (setup_at given station).links ≤ 1 → (setup_at given station).host_buffers ≡ 8
+    → HasNoted given station history → AreFew given station history → IsCredited given station history
+credited given station history one eight noted few link is =
+    ap (λ (notes : List Note). sum_by (count_up 0) (since_opened 0 notes)) noted
+    ∙ credited_past (setup_at given station) (past_of station history) 0 link (omega (arith, one)) (omega (arith, eight)) few.fed is

@@ -1,0 +1,77 @@
+-- The end that a station has of its link, and what is known of its lines.
+use Rattle.std.proofs.Common.{◌≡◌, ℕ, ◌≤◌, Option, Some, None, List, [], length, refl, sym, ap, ◌∙◌, append-nil, arith}
+use Rattle.std.specs.Option.{option_map}
+use Rattle.std.specs.Prelude.{not}
+use Rattle.std.specs.List.{filter}
+use Rattle.acl_banks.specs.History.{HostData}
+use Rattle.journal_data.specs.HostLines.{has_octets}
+use Rattle.one_end.proofs.Sending.{past_counted, past_in_order}
+use Rattle.open_links.specs.OpenLinks.{OpenLink, facts_in, link_at}
+use Rattle.one_side.specs.Since.{data_waiting}
+use Rattle.runs.specs.Feeding.{HasNoted}
+use Rattle.runs.specs.History.{Event}
+use Rattle.runs.specs.Run.{Given, facts_at, setup_at}
+use Rattle.journal_data.specs.Lines.{Lines, empties_on, submitted_on}
+use Rattle.journal_data.proofs.Credits.{AreFew, credited}
+use Rattle.journal_data.proofs.EachLine.{lines_at}
+use Rattle.journal_data.proofs.Middle.{IsFed}
+use Rattle.journal_data.proofs.Sides.{End, IsSound}
+use Rattle.journal_data.proofs.StationAdds.{IsSameOn}
+use Rattle.journal_data.proofs.StationLines.{IsStationBooked}
+use Rattle.journal_data.proofs.Submitting.{HasFed, IsSubmitted}
+use Rattle.journal_data.proofs.Tied.{tied}
+use Rattle.journal_data.proofs.EachLine.{number_of}
+
+abbrev pub end_of : ℕ → List Event → Given → OpenLink → End
+end_of station history given link =
+    record { link = number_of station history; facts = facts_in link; waiting = data_waiting 0 (facts_at given station history).received }
+
+abbrev pub end_at : Given → ℕ → List Event → Option End
+end_at given station history = option_map (end_of station history given) (link_at 0 (facts_at given station history).links)
+
+-- what is known of the lines of a station
+pub record IsWell (given : Given) (station : ℕ) (history : List Event) : Type 0 where
+  pub noted : HasNoted given station history
+  pub booked : IsStationBooked given station history
+  pub submitted : IsSubmitted given station history
+  pub fed : HasFed given station history
+  pub few : AreFew given station history
+
+pub sound : (given : Given) (station : ℕ) (history : List Event) (link : OpenLink) → (setup_at given station).links ≤ 1
+    → (setup_at given station).host_buffers ≡ 8 → IsWell given station history → link_at 0 (facts_at given station history).links ≡ Some link
+    → IsSound (end_of station history given link) (lines_at station history)
+sound given station history link one eight well at = record {
+  booked = tied given station history link one well.noted at well.booked.book
+      (credited given station history one eight well.noted well.few link at) (well.submitted.data_is link at) (well.submitted.empties_are link at);
+  order = past_in_order link.setup link.past;
+  one_out = (past_counted link.setup link.past).1;
+}
+
+-- the link of an end
+pub record IsEndOf (given : Given) (station : ℕ) (history : List Event) (end : End) : Type 0 where
+  pub link : OpenLink
+  pub at : link_at 0 (facts_at given station history).links ≡ Some link
+  pub is : end_of station history given link ≡ end
+
+pub from_end : (given : Given) (station : ℕ) (history : List Event) (end : End) → end_at given station history ≡ Some end → IsEndOf given station history end
+from_end given station history end is = by (link_at 0 (facts_at given station history).links) refl is
+  where
+    by : (place : Option OpenLink) → link_at 0 (facts_at given station history).links ≡ place
+        → option_map (end_of station history given) place ≡ Some end → IsEndOf given station history end
+    by None at is = absurd cc
+    by (Some link) at is =
+        let equal : Some (end_of station history given link) ≡ Some end = is in
+        record { link = link; at = at; is = cc }
+
+-- lines that say the same of a link
+pub same_fed : (link : ℕ) (before after : Lines) → IsSameOn link before after → submitted_on link after ≡ submitted_on link before → IsFed link before after
+same_fed link before after same submitted =
+    let credits = same.credited in
+    let empties : empties_on link after ≡ empties_on link before = ap (λ all. length (filter (λ (packet : HostData). not (has_octets packet)) all)) submitted in
+    record {
+      sent = same.sent;
+      taken = same.taken;
+      received = same.received;
+      credited = omega (arith, credits, empties);
+      submitted = record { more = []; is = submitted ∙ sym (append-nil (submitted_on link before)) };
+    }

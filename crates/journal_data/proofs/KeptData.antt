@@ -1,0 +1,314 @@
+-- Each step of a run of a pair keeps that the data of both sides arrives in order.
+use Rattle.std.proofs.Common.{◌≡◌, ℕ, zero, suc, ◌-◌, ◌<◌, ◌==◌, ◌⊎◌, inl, inr, Bool, true, false, Option, Some, None, List, [], ◌∷◌, ◌++◌, refl, sym, ap, subst, ◌∙◌, arith}
+use Rattle.std.specs.Prelude.{map, take, if◌then◌else◌}
+use Rattle.std.proofs.lemmas.Bool.{eqb-true}
+use Rattle.one_end.proofs.Received.{IsHeardWhole}
+use Rattle.open_links.specs.OpenLinks.{OpenLink, link_at}
+use Rattle.one_side.specs.Between.{is_between_turns}
+use Rattle.one_side.specs.Facts.{Facts}
+use Rattle.one_side.specs.Side.{notes_after}
+use Rattle.one_side.specs.Step.{Step, TurnBegins, TurnEnds}
+use Rattle.one_side.proofs.Always.{IsInTurn}
+use Rattle.runs.specs.Feeding.{AreDistinct}
+use Rattle.runs.specs.History.{Event, TurnBegan, Transmitted, packet_received, past_of, turns_begun}
+use Rattle.runs.specs.Journal.{side_of}
+use Rattle.runs.specs.LinkEnds.{HaveAddresses}
+use Rattle.runs.specs.Run.{Given, after_call, after_feed, facts_at, hearings_of, octets_left, setup_at, step_of}
+use Rattle.runs.proofs.Calls.{same_station, turns_called}
+use Rattle.runs.proofs.Journals.{two}
+use Rattle.runs.proofs.Stations.{is_in, among, in_more_same, not_before}
+use Rattle.runs.proofs.Walk.{Place, AtFeeds, AtBegins, AtListening, AtEnds, IsKept}
+use Rattle.run_laws.proofs.Hearings.{own_facts}
+use Rattle.run_laws.proofs.InAgreement.{IsPair, IsStation, OpenedBefore, differs_back}
+use Rattle.run_laws.proofs.OpenSteps.{open_has}
+use Rattle.run_laws.proofs.TurnPlaces.{Between, Within, at_stage}
+use Rattle.journal_packets.specs.Belonging.{is_side}
+use Rattle.journal_acks.proofs.Counting.{AreKnown}
+use Rattle.journal_acks.proofs.KeptCounts.{AreCountedAt, counts_kept}
+use Rattle.journal_acks.proofs.Standing.{PhasedBy, phased_at}
+use Rattle.journal_acks.proofs.TwoStations.{IsOfTwo, other_apart, other_is, other_of, own_differs}
+use Rattle.journal_acks.proofs.UnderHandles.{end_under}
+use Rattle.journal_data.proofs.Credits.{AreFew, few_begin, few_end, few_pass}
+use Rattle.journal_data.proofs.EachLine.{lines_at}
+use Rattle.journal_data.proofs.Ends.{IsWell, end_at}
+use Rattle.journal_data.proofs.FedInRuns.{between_standing}
+use Rattle.journal_data.proofs.FeedSide.{feed_arrives, feed_used, feed_well}
+use Rattle.journal_data.proofs.Mine.{AreMine, other_back, packet_mine}
+use Rattle.journal_data.proofs.MineKept.{heard_none_mine, hearing_mine}
+use Rattle.journal_data.proofs.Moves.{alike_aged, begin_moves, end_moves, phase_moves, station_aged}
+use Rattle.journal_data.proofs.OneCall.{HasMoved, IsAged, IsCallMade, arriving_after, used_after, well_after}
+use Rattle.journal_data.proofs.SameView.{SeesSame, same_end, same_used, same_well, sees_other_call, sees_other_feed, sees_packet, sees_turn}
+use Rattle.journal_data.proofs.Sides.{AreArriving}
+use Rattle.journal_data.proofs.StationLines.{OnlyOpenHaveNotes}
+use Rattle.journal_data.proofs.Used.{AreUsed, IsOldLink, old_call, old_event, old_feed}
+
+abbrev IsArriving : Given → ℕ → ℕ → List Event → Type 0
+IsArriving given station other history =
+    AreArriving (lines_at station history) (lines_at other history) (end_at given station history) (end_at given other history)
+
+-- what is known of all stations
+pub record AreWell (given : Given) (history : List Event) : Type 0 where
+  pub well : (station : ℕ) → is_in station given.stations ≡ true → IsWell given station history
+  pub used : (station : ℕ) → is_in station given.stations ≡ true → AreUsed station history
+  pub arriving : (station : ℕ) → is_in station given.stations ≡ true → IsArriving given station (other_of station) history
+
+pub record IsDataAt (given : Given) (Q : Place → List Event → Type 0) (place : Place) (history : List Event) : Type 0 where
+  pub counted : AreCountedAt given Q place history
+  pub mine : AreMine given history
+  pub are : AreWell given history
+
+-- ---- events that are of no call
+
+same_arriving : (given : Given) (station other : ℕ) (history after : List Event) → SeesSame station history after → SeesSame other history after
+    → IsArriving given station other history → IsArriving given station other after
+same_arriving given station other history after own far arriving =
+    subst (λ lines. AreArriving lines (lines_at other after) (end_at given station after) (end_at given other after)) (sym own.lines)
+    (subst (λ lines. AreArriving (lines_at station history) lines (end_at given station after) (end_at given other after)) (sym far.lines)
+    (subst (λ end. AreArriving (lines_at station history) (lines_at other history) end (end_at given other after)) (sym (same_end given station history after own))
+    (subst (AreArriving (lines_at station history) (lines_at other history) (end_at given station history)) (sym (same_end given other history after far)) arriving)))
+
+all_same : (given : Given) (history after : List Event) → ((station : ℕ) → SeesSame station history after)
+    → ((number : ℕ) → IsOldLink number history → IsOldLink number after) → AreWell given history → AreWell given after
+all_same given history after sees still are = record {
+  well = λ station is. same_well given station history after (sees station) (are.well station is);
+  used = λ station is. same_used given station history after (sees station) still (are.used station is);
+  arriving = λ station is. same_arriving given station (other_of station) history after (sees station) (sees (other_of station)) (are.arriving station is);
+}
+
+-- ---- a change of one station
+
+pub far_side : (station : ℕ) → is_side (side_of station) (side_of (other_of station)) ≡ false
+far_side zero = refl
+far_side (suc station) = refl
+
+abbrev pub IsBetween : Given → ℕ → List Event → Type 0
+IsBetween given station history = is_between_turns (past_of station history) ≡ true
+
+other_way : (given : Given) (station other : ℕ) (history : List Event) → IsArriving given station other history → IsArriving given other station history
+other_way given station other history arriving =
+    record { out = arriving.in_; in_ = arriving.out; ahead = arriving.behind; behind = arriving.ahead }
+
+record IsOwn (given : Given) (station : ℕ) (after : List Event) : Type 0 where
+  well : IsWell given station after
+  used : AreUsed station after
+  arriving : IsArriving given station (other_of station) after
+
+module _ (given : Given) (are_two : IsOfTwo given) where
+  pub other_in : (station : ℕ) → is_in station given.stations ≡ true → is_in (other_of station) given.stations ≡ true
+  other_in station is = ap (is_in (other_of station)) are_two ∙ by (two station (ap (is_in station) (sym are_two) ∙ is))
+    where
+      by : (station ≡ 0) ⊎ (station ≡ 1) → is_in (other_of station) (0 ∷ 1 ∷ []) ≡ true
+      by (inl zero_is) = ap (λ n. is_in (other_of n) (0 ∷ 1 ∷ [])) zero_is
+      by (inr one_is) = ap (λ n. is_in (other_of n) (0 ∷ 1 ∷ [])) one_is
+
+  own_all : (station : ℕ) (history after : List Event) → is_in station given.stations ≡ true
+      → ((one : ℕ) → is_side (side_of station) (side_of one) ≡ false → SeesSame one history after)
+      → ((number : ℕ) → IsOldLink number history → IsOldLink number after) → IsOwn given station after → AreWell given history → AreWell given after
+  own_all station history after is sees still own are = record {
+    well = λ one in_it. well_by one in_it (one == station) refl;
+    used = λ one in_it. used_by one in_it (one == station) refl;
+    arriving = λ one in_it. arriving_by one in_it (one == station) refl;
+  }
+    where
+      apart : (one : ℕ) → is_in one given.stations ≡ true → (one == station) ≡ false → is_side (side_of station) (side_of one) ≡ false
+      apart one in_it differs = other_apart given are_two one station in_it is (differs_back one station differs)
+
+      well_by : (one : ℕ) → is_in one given.stations ≡ true → (same : Bool) → (one == station) ≡ same → IsWell given one after
+      well_by one in_it true same = subst (λ n. IsWell given n after) (sym (eqb-true one station same)) own.well
+      well_by one in_it false differs = same_well given one history after (sees one (apart one in_it differs)) (are.well one in_it)
+
+      used_by : (one : ℕ) → is_in one given.stations ≡ true → (same : Bool) → (one == station) ≡ same → AreUsed one after
+      used_by one in_it true same = subst (λ n. AreUsed n after) (sym (eqb-true one station same)) own.used
+      used_by one in_it false differs = same_used given one history after (sees one (apart one in_it differs)) still (are.used one in_it)
+
+      arriving_by : (one : ℕ) → is_in one given.stations ≡ true → (same : Bool) → (one == station) ≡ same → IsArriving given one (other_of one) after
+      arriving_by one in_it true same = subst (λ n. IsArriving given n (other_of n) after) (sym (eqb-true one station same)) own.arriving
+      arriving_by one in_it false differs =
+          subst (λ n. IsArriving given n (other_of n) after) (sym (other_is given are_two station one is in_it differs))
+          (subst (λ n. IsArriving given (other_of station) n after) (sym (other_back given are_two station is))
+          (other_way given station (other_of station) after own.arriving))
+
+pub pass_in_turn : (received : Option (List ℕ)) → IsInTurn (step_of received)
+pass_in_turn None = tt
+pass_in_turn (Some octets) = tt
+
+-- ---- each step
+
+module _ (law : OnlyOpenHaveNotes) (whole : IsHeardWhole) (given : Given) (Q : Place → List Event → Type 0) (known : AreKnown given Q) (are_two : IsOfTwo given) (pair : IsPair given)
+    (six : HaveAddresses given) (distinct : AreDistinct given.stations) (eight : (station : ℕ) → (setup_at given station).host_buffers ≡ 8) where
+  abbrev P : Place → List Event → Type 0
+  P place history = IsDataAt given Q place history
+
+  abbrev C : Place → List Event → Type 0
+  C place history = AreCountedAt given Q place history
+
+  call_well : (station : ℕ) (step : Step) (history : List Event) (place : Place) → is_in station given.stations ≡ true → IsInTurn step
+      → C place (after_call given station step history)
+      → ((link : OpenLink) → link_at 0 (facts_at given station (after_call given station step history)).links ≡ Some link → HasMoved given station history link)
+      → ((link : OpenLink) → link_at 0 (facts_at given station (after_call given station step history)).links ≡ Some link → IsAged history link)
+      → (AreFew given station history → AreFew given station (after_call given station step history))
+      → AreMine given history → AreWell given history → AreWell given (after_call given station step history)
+  call_well station step history place is in_turn counted moved aged few mine are =
+      let after = after_call given station step history in
+      let other = other_of station in
+      let far = other_in given are_two station is in
+      let made : IsCallMade given station step history = record {
+        well = are.well station is;
+        far_well = are.well other far;
+        used = are.used station is;
+        arriving = are.arriving station is;
+        mine = mine station is;
+        begun = λ link at. known.begun place after counted.known station 0 link is at;
+        far_begun = λ link at. known.begun place after counted.known other 0 link far at;
+        agree = counted.holds.so_far.last.agree station other is far (own_differs station);
+        moved = moved;
+        aged = aged;
+        few = few (are.well station is).few;
+        in_turn = in_turn;
+      } in
+      own_all given are_two station history after is (λ one differs. sees_other_call given one station step history differs)
+      (old_call given station step history) (record {
+        well = well_after law given pair.links eight station step history made;
+        used = used_after law given pair.links eight station step history made;
+        arriving = arriving_after law given pair.links eight station step history made;
+      }) are
+
+  -- a station in a turn
+  turn_aged : (history after : List Event) (station phases : ℕ) (link : OpenLink) → turns_begun after ≡ turns_begun history
+      → IsStation (setup_at given station) (facts_at given station after) → PhasedBy given after station (at_stage (Within phases) (turns_begun after))
+      → link_at 0 (facts_at given station after).links ≡ Some link → IsAged history link
+  turn_aged history after station phases link turns is phased at =
+      station_aged history (setup_at given station) (facts_at given station after) link is (phased.uses.in_turn.begun_is ∙ turns) (phased.uses.in_turn.slot_is ∙ turns) at
+
+  feed_kept : (station : ℕ) (octets : List ℕ) (history : List Event) (place : Place) → is_in station given.stations ≡ true → C place history
+      → PhasedBy given history station (at_stage Between (turns_begun history - 1)) → IsBetween given station history
+      → AreWell given history → AreWell given (after_feed given station octets history)
+  feed_kept station octets history place is counted phased between are =
+      let after = after_feed given station octets history in
+      let other = other_of station in
+      let facts = facts_at given station history in
+      own_all given are_two station history after is (λ one differs. sees_other_feed given one station octets history differs)
+      (old_feed given station octets history) (record {
+        well = feed_well law given pair.links eight station octets history (are.well station is) between;
+        used = feed_used law given pair.links eight station octets history (are.well station is) between (λ link at.
+            let begun = known.begun place history counted.known station 0 link is at in
+            let before : link.setup.opened < facts.turn.begun =
+            open_has (OpenedBefore facts.turn.begun) 0 0 facts.links link (counted.holds.so_far.last.each station is).earlier at in
+            let now = phased.uses.in_turn.begun_is in
+            let slot = begun.slot in
+            record { link = begun.link; is_link = begun.is_link; before = omega (arith, before, now, slot) }) (are.used station is);
+        arriving = fed_arriving station octets history is between are;
+      }) are
+    where
+      fed_arriving : (station : ℕ) (octets : List ℕ) (history : List Event) → is_in station given.stations ≡ true → IsBetween given station history → AreWell given history
+          → IsArriving given station (other_of station) (after_feed given station octets history)
+      fed_arriving station octets history is between are =
+          let after = after_feed given station octets history in
+          let other = other_of station in
+          let far = sees_other_feed given other station octets history (far_side station) in
+          subst (λ lines. AreArriving (lines_at station after) lines (end_at given station after) (end_at given other after)) (sym far.lines)
+          (subst (AreArriving (lines_at station after) (lines_at other history) (end_at given station after)) (sym (same_end given other history after far))
+          (feed_arrives law given pair.links eight station octets history (are.well station is) between (lines_at other history) (end_at given other history) (are.arriving station is)))
+
+  pub data_kept : IsKept given (IsDataAt given Q)
+  data_kept = let kept = counts_kept whole given Q known are_two pair six distinct in record {
+    on_turn = λ slot plan history begun at is.
+        let radios = map plan.radio_of given.stations in
+        let after = history ++ TurnBegan slot radios ∷ [] in
+        let counted = kept.on_turn slot plan history begun at is.counted in record {
+          counted = counted;
+          mine = heard_none_mine given after counted.holds.hearing.hears;
+          are = all_same given history after (λ station. sees_turn station history slot radios) (old_event history (TurnBegan slot radios)) is.are;
+        };
+    on_feed = λ plan done left station history are some now is.
+        let octets = take (plan.feed_of station) (octets_left given station history) in
+        let counted = kept.on_feed plan done left station history are some now is.counted in
+        let in_it = among given.stations done left station are in
+        let place = AtFeeds done (station ∷ left) in
+        let stand = is.counted.holds.hearing.stand in record {
+          counted = counted;
+          mine = heard_none_mine given (after_feed given station octets history) counted.holds.hearing.hears;
+          are = feed_kept station octets history place in_it is.counted (phased_at given place history stand station in_it)
+              (between_standing (past_of station history) (at_stage Between (turns_begun history - 1)) (stand station in_it)) is.are;
+        };
+    on_fed = λ history is. record { counted = kept.on_fed history is.counted; mine = is.mine; are = is.are };
+    on_begin = λ slot plan done left station history are due is.
+        let on = plan.radio_of station in
+        let step = TurnBegins slot on in
+        let after = after_call given station step history in
+        let place = AtBegins (done ++ station ∷ []) left in
+        let counted = kept.on_begin slot plan done left station history are due is.counted in
+        let in_it = among given.stations done left station are in
+        let phased : PhasedBy given after station (at_stage (Within 0) (turns_begun after)) =
+        subst (λ b. PhasedBy given after station (if b then at_stage (Within 0) (turns_begun after) else at_stage Between (turns_begun after - 1)))
+        (in_more_same station station done (same_station station)) (phased_at given place after counted.holds.hearing.stand station in_it) in
+        let turns = turns_called station step (notes_after (setup_at given station) (facts_at given station history) step) history in record {
+          counted = counted;
+          mine = heard_none_mine given after counted.holds.hearing.hears;
+          are = call_well station step history place in_it tt counted (begin_moves given station slot on history)
+              (λ link at. turn_aged history after station 0 link turns (counted.holds.so_far.last.each station in_it) phased at)
+              (few_begin given station slot on history) is.mine is.are;
+        };
+    on_begun = λ history is. record { counted = kept.on_begun history is.counted; mine = is.mine; are = is.are };
+    on_phase = λ phases history few is. record { counted = kept.on_phase phases history few is.counted; mine = is.mine; are = is.are };
+    on_silence = λ phases done left station history are none is.
+        record { counted = kept.on_silence phases done left station history are none is.counted; mine = is.mine; are = is.are };
+    on_packet = λ phases plan done left station channel octets history are some due is.
+        let hearings = hearings_of given plan.fates station channel octets history in
+        let in_it = among given.stations done left station are in
+        let out = not_before given.stations done left station distinct are in record {
+          counted = kept.on_packet phases plan done left station channel octets history are some due is.counted;
+          mine = packet_mine whole given Q known are_two pair six distinct phases done left station channel octets plan.fates history are due.is_wanted is.counted.known is.counted.holds
+              is.counted.counted due.is_seen (λ other is_other differs. is.counted.silent other station is_other in_it differs out) is.mine;
+          are = all_same given history (history ++ Transmitted station channel octets hearings ∷ []) (λ one. sees_packet one history station channel octets hearings)
+              (old_event history (Transmitted station channel octets hearings)) is.are;
+        };
+    on_air = λ phases history is. record { counted = kept.on_air phases history is.counted; mine = is.mine; are = is.are };
+    on_hearing = λ phases done left station history are some is.
+        let received = packet_received station history in
+        let step = step_of received in
+        let after = after_call given station step history in
+        let place = AtListening phases (done ++ station ∷ []) left in
+        let counted = kept.on_hearing phases done left station history are some is.counted in
+        let in_it = among given.stations done left station are in
+        let before : PhasedBy given history station (at_stage (Within phases) (turns_begun history)) =
+        subst (λ b. PhasedBy given history station (if b then at_stage (Within (suc phases)) (turns_begun history) else at_stage (Within phases) (turns_begun history)))
+        (not_before given.stations done left station distinct are) (phased_at given (AtListening phases done (station ∷ left)) history is.counted.holds.hearing.stand station in_it) in
+        let phased : PhasedBy given after station (at_stage (Within (suc phases)) (turns_begun after)) =
+        subst (λ b. PhasedBy given after station (if b then at_stage (Within (suc phases)) (turns_begun after) else at_stage (Within phases) (turns_begun after)))
+        (in_more_same station station done (same_station station)) (phased_at given place after counted.holds.hearing.stand station in_it) in
+        let turns = turns_called station step (notes_after (setup_at given station) (facts_at given station history) step) history in record {
+          counted = counted;
+          mine = hearing_mine given are_two pair station history in_it is.mine;
+          are = call_well station step history place in_it (pass_in_turn received) counted
+              (λ link at. phase_moves given station history link before.uses.in_turn.slot_is before.uses.in_turn.listens at)
+              (λ link at. turn_aged history after station (suc phases) link turns (counted.holds.so_far.last.each station in_it) phased at)
+              (few_pass given station received history) is.mine is.are;
+        };
+    on_heard = λ phases history is. record { counted = kept.on_heard phases history is.counted; mine = is.mine; are = is.are };
+    on_phases = λ history is. record { counted = kept.on_phases history is.counted; mine = is.mine; are = is.are };
+    on_end = λ done left station history are some is.
+        let after = after_call given station TurnEnds history in
+        let place = AtEnds (done ++ station ∷ []) left in
+        let counted = kept.on_end done left station history are some is.counted in
+        let in_it = among given.stations done left station are in
+        let before : PhasedBy given history station (at_stage (Within 3) (turns_begun history)) =
+        subst (λ b. PhasedBy given history station (if b then at_stage Between (turns_begun history) else at_stage (Within 3) (turns_begun history)))
+        (not_before given.stations done left station distinct are) (phased_at given (AtEnds done (station ∷ left)) history is.counted.holds.hearing.stand station in_it) in
+        record {
+          counted = counted;
+          mine = heard_none_mine given after counted.holds.hearing.hears;
+          are = call_well station TurnEnds history place in_it tt counted (end_moves given station history)
+              (λ link at. ended_aged station history link (is.counted.holds.so_far.last.each station in_it) before at)
+              (few_end given station history) is.mine is.are;
+        };
+    on_ended = λ history is. record { counted = kept.on_ended history is.counted; mine = is.mine; are = is.are };
+  }
+    where
+      ended_aged : (station : ℕ) (history : List Event) (link : OpenLink) → IsStation (setup_at given station) (facts_at given station history)
+          → PhasedBy given history station (at_stage (Within 3) (turns_begun history))
+          → link_at 0 (facts_at given station (after_call given station TurnEnds history)).links ≡ Some link → IsAged history link
+      ended_aged station history link is before at =
+          let was = end_under (setup_at given station) (facts_at given station history) 0 link
+          (ap (λ (f : Facts). link_at 0 f.links) (sym (own_facts given station TurnEnds history)) ∙ at) in
+          alike_aged history was.link link was.setup was.ack (turn_aged history history station 3 was.link refl is before was.was)

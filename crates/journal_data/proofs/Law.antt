@@ -1,0 +1,152 @@
+-- In every journal of a run of a pair, after each of its lines, the data of both sides arrives in order.
+use Rattle.std.proofs.Common.{◌≡◌, ℕ, zero, suc, true, Some, None, List, [], ◌∷◌, ◌++◌, length, replicate, refl, sym, subst, ◌∙◌, append-nil, arith}
+use Rattle.std.specs.Option.{option_map}
+use Rattle.ble_base.specs.Side.{other_side}
+use Rattle.ble_base.specs.declared.roles.Side.{Side}
+use Rattle.ble_base.specs.declared.roles.Side.TheVariants.{A, B}
+use Rattle.journal.specs.declared.entries.Entry.{Entry}
+use Rattle.one_end.proofs.Received.{IsHeardWhole}
+use Rattle.open_links.specs.OpenLinks.{OpenLink, link_at}
+use Rattle.one_side.specs.Side.{facts_of, notes_of}
+use Rattle.one_side.proofs.OpenNotes.{open_after, open_before}
+use Rattle.radio_replay.specs.Script.{Script}
+use Rattle.runs.specs.Feeding.{AreDistinct, HasNoted}
+use Rattle.runs.specs.Journal.{journal_of, side_of}
+use Rattle.runs.specs.LinkEnds.{HaveAddresses}
+use Rattle.runs.specs.Pair.{given_of}
+use Rattle.runs.specs.Run.{Given, facts_at, history_of, run_of, setup_at}
+use Rattle.runs.proofs.EntryEvents.{is_of_event}
+use Rattle.runs.proofs.LinkEnds.{AreTaken, IsUnderstood, pair_addresses}
+use Rattle.runs.proofs.Ordered.{pair_distinct}
+use Rattle.runs.proofs.Stations.{is_in}
+use Rattle.runs.proofs.Walk.{NoTurn, IsStopped, IsWhole, ends_with, run_kept}
+use Rattle.run_laws.proofs.DistinctAccess.{AreApart}
+use Rattle.run_laws.proofs.InAgreement.{IsPair, is_pair}
+use Rattle.journal_packets.proofs.AccessOrder.{AreNth}
+use Rattle.journal_packets.proofs.SoFar.{IsBelongingSoFar}
+use Rattle.journal_acks.proofs.Known.{known_of}
+use Rattle.journal_acks.proofs.RunCounts.{counts_first}
+use Rattle.journal_acks.proofs.TwoStations.{IsOfTwo, other_of}
+use Rattle.journal_data.specs.Delivered.{ArrivesInOrder}
+use Rattle.journal_data.specs.Lines.{lines_of}
+use Rattle.journal_data.proofs.Credits.{few_first}
+use Rattle.journal_data.proofs.DataInRuns.{AllArrive, IsDataSoFar, so_far_kept, well_arrive}
+use Rattle.journal_data.proofs.EachLine.{lines_at}
+use Rattle.journal_data.proofs.Ends.{IsWell, end_at, end_of}
+use Rattle.journal_data.proofs.Fronts.{AreAlways, always_first}
+use Rattle.journal_data.proofs.KeptData.{AreWell}
+use Rattle.journal_data.proofs.MineKept.{heard_none_mine}
+use Rattle.journal_data.proofs.Sides.{AreArriving}
+use Rattle.journal_data.proofs.StationLines.{OnlyOpenHaveNotes, first_booked}
+use Rattle.journal_data.proofs.Submitting.{HasFed}
+use Rattle.journal_data.proofs.Used.{AreUsed, IsClear}
+
+only_open : OnlyOpenHaveNotes
+only_open setup past step few = record {
+  before = λ note noted data_is. open_before setup past step note 0 (omega (arith, few)) noted data_is;
+  after = λ note noted data_is. open_after setup past step note 0 (omega (arith, few)) noted data_is;
+}
+
+-- ---- as a run begins
+
+none_first : (places : ℕ) → link_at 0 (replicate places None) ≡ None
+none_first zero = refl
+none_first (suc places) = refl
+
+none_open : (given : Given) (station : ℕ) → link_at 0 (facts_at given station []).links ≡ None
+unfolding facts_of
+none_open given station = none_first (setup_at given station).links
+
+none_at : {X : Type 0} (given : Given) (station : ℕ) (link : OpenLink) → link_at 0 (facts_at given station []).links ≡ Some link → X
+none_at given station link at = absurd (let h : None ≡ Some link = sym (none_open given station) ∙ at in absurd cc)
+
+first_noted : (given : Given) (station : ℕ) → HasNoted given station []
+unfolding notes_of
+first_noted given station = refl
+
+first_fed : (given : Given) (station : ℕ) → HasFed given station []
+unfolding lines_of journal_of facts_of
+first_fed given station = refl
+
+first_well : (given : Given) (station : ℕ) → IsWell given station []
+first_well given station = record {
+  noted = first_noted given station;
+  booked = first_booked given station;
+  submitted = record { data_is = λ link at. none_at given station link at; empties_are = λ link at. none_at given station link at };
+  fed = first_fed given station;
+  few = few_first given station;
+}
+
+first_used : (station : ℕ) → AreUsed station []
+unfolding lines_of journal_of
+first_used station = λ number. IsClear (record {
+  unused = record { sent = refl; taken = refl; received = refl; credited = refl };
+  submitted = refl;
+})
+
+nothing_arrives : (one other link : ℕ) → ArrivesInOrder link (lines_at one []) (lines_at other [])
+unfolding lines_of journal_of
+nothing_arrives one other link = record {
+  reliable = record { in_order = refl; at_most_one_ahead = omega arith };
+  delivered = record { received = refl; accepted = refl; credited = omega arith };
+}
+
+first_arriving : (given : Given) (station other : ℕ) → AreArriving (lines_at station []) (lines_at other []) (end_at given station []) (end_at given other [])
+first_arriving given station other =
+    subst (λ place. AreArriving (lines_at station []) (lines_at other []) (option_map (end_of station [] given) place) (end_at given other [])) (sym (none_open given station))
+    (subst (λ place. AreArriving (lines_at station []) (lines_at other []) None (option_map (end_of other [] given) place)) (sym (none_open given other))
+    (record { out = nothing_arrives station other; in_ = nothing_arrives other station; ahead = tt; behind = tt }))
+
+first_are : (given : Given) → AreWell given []
+first_are given = record {
+  well = λ station is. first_well given station;
+  used = λ station is. first_used station;
+  arriving = λ station is. first_arriving given station (other_of station);
+}
+
+first_data : (given : Given) → IsDataSoFar given (IsBelongingSoFar given) NoTurn []
+first_data given = let counted = counts_first given in record {
+  is = record { counted = counted; mine = heard_none_mine given [] counted.holds.hearing.hears; are = first_are given };
+  always = always_first (AllArrive given) (well_arrive given [] (first_are given));
+}
+
+-- ---- in a whole run
+
+module _ (whole : IsHeardWhole) (understood : IsUnderstood) (taken : AreTaken) (nth : AreNth) (apart : AreApart) (given : Given) (are_two : IsOfTwo given) (pair : IsPair given)
+    (six : HaveAddresses given) (distinct : AreDistinct given.stations) (eight : (station : ℕ) → (setup_at given station).host_buffers ≡ 8) where
+  run_arrives : AreAlways (AllArrive given) (history_of (run_of given))
+  run_arrives =
+      ends_with (run_of given) (IsWhole given (IsDataSoFar given (IsBelongingSoFar given))) (IsStopped given (IsDataSoFar given (IsBelongingSoFar given)))
+      (AreAlways (AllArrive given))
+      (run_kept given (IsDataSoFar given (IsBelongingSoFar given))
+      (so_far_kept only_open whole given (IsBelongingSoFar given) (known_of understood taken nth apart given are_two six) are_two pair six distinct eight)
+      (first_data given))
+      (λ history is. is.is.always) (λ history stop is. is.kept.always)
+
+  -- a front of the journal is the journal of a front of the events
+  front_arrives : (front rest : List Entry) → journal_of (history_of (run_of given)) ≡ front ++ rest → (station : ℕ) → is_in station given.stations ≡ true → (link : ℕ)
+      → ArrivesInOrder link (lines_of 8 (side_of station) front) (lines_of 8 (side_of (other_of station)) front)
+  front_arrives front [] is station in_it link =
+      subst (λ journal. ArrivesInOrder link (lines_of 8 (side_of station) journal) (lines_of 8 (side_of (other_of station)) journal)) (is ∙ append-nil front)
+      (run_arrives (history_of (run_of given)) [] (sym (append-nil (history_of (run_of given)))) station in_it link)
+  front_arrives front (entry ∷ rest) is station in_it link =
+      let at = is_of_event (history_of (run_of given)) front rest entry is in
+      subst (λ journal. ArrivesInOrder link (lines_of 8 (side_of station) journal) (lines_of 8 (side_of (other_of station)) journal)) (sym at.front_is)
+      (run_arrives at.before (at.event ∷ at.after) at.is_at station in_it link)
+
+eight_of : (a b : List ℕ) (script : Script) (station : ℕ) → (setup_at (given_of a b script) station).host_buffers ≡ 8
+eight_of a b script zero = refl
+eight_of a b script (suc station) = refl
+
+pub data_arrives : IsHeardWhole → IsUnderstood → AreTaken → AreNth → AreApart → (a b : List ℕ) (script : Script) (front rest : List Entry) (side : Side) (link : ℕ)
+    → length script.a.public ≡ 6 → length script.b.public ≡ 6 → journal_of (history_of (run_of (given_of a b script))) ≡ front ++ rest
+    → ArrivesInOrder link (lines_of 8 side front) (lines_of 8 (other_side side) front)
+data_arrives whole understood taken nth apart a b script front rest side link six six_too is =
+    let given = given_of a b script in
+    let at = front_arrives whole understood taken nth apart given refl (is_pair a b script) (pair_addresses a b script six six_too) (pair_distinct a b script) (eight_of a b script) front rest is in
+    by side (at 0 refl link) (at 1 refl link)
+  where
+    by : (side : Side) → ArrivesInOrder link (lines_of 8 A front) (lines_of 8 B front) → ArrivesInOrder link (lines_of 8 B front) (lines_of 8 A front)
+        → ArrivesInOrder link (lines_of 8 side front) (lines_of 8 (other_side side) front)
+    by A one other = one
+    by B one other = other

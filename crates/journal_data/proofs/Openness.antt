@@ -1,0 +1,589 @@
+-- Which notes of a step say that the link under the handle 0 is opened or shut, and which other notes come in that step.
+use Rattle.std.proofs.Common.{◌≡◌, ℕ, ◌+◌, ◌<◌, ◌≤◌, ◌==◌, Bool, true, false, Option, Some, None, List, [], ◌∷◌, ◌++◌, ◌⊎◌, inl, inr, length, map, cond, refl, ap, sym, subst, ◌∙◌, arith}
+use Rattle.std.specs.Prelude.{◌||◌, filter, flat_map, fold, is_some, ⊤, if◌then◌else◌}
+use Rattle.std.specs.List.{AllByRecursion}
+use Rattle.std.proofs.lemmas.List.Sums.{fold-append}
+use Rattle.acl_banks.specs.declared.pieces.Piece.{Piece}
+use Rattle.ble_base.specs.declared.addresses.Address.{Address}
+use Rattle.ble_base.specs.declared.roles.Role.{Role}
+use Rattle.ble_base.specs.declared.notes.Note.{Note}
+use Rattle.ble_base.specs.declared.notes.Note.TheVariants.{Up, Opened, Shut}
+use Rattle.h4_frames.specs.declared.packet.HostPacket.TheVariants.{Command as HostCommand, Acl}
+use Rattle.h4_frames.specs.declared.packet.Fed.{Fed}
+use Rattle.h4_frames.specs.declared.packet.Fed.TheVariants.{More, Packet, LostSync}
+use Rattle.hci_cmd.specs.declared.command.Command.{Command}
+use Rattle.hci_cmd.specs.declared.command.Command.TheVariants.{LeCreateCancel, Reset}
+use Rattle.hci_cmd.specs.declared.command.CmdRead.{CmdRead}
+use Rattle.hci_cmd.specs.declared.command.CmdRead.TheVariants.{Known, UnknownOpcode, BadLength}
+use Rattle.hci_cmd.specs.Command.{command_of}
+use Rattle.hci_evt.specs.Event.{mask_bit_of, written}
+use Rattle.hci_evt.specs.declared.event.Event.{Event}
+use Rattle.hci_evt.specs.declared.event.Event.TheVariants.{CommandComplete, CommandStatus, CompletedPackets, BufferOverflow, DisconnectionComplete, HardwareError}
+use Rattle.wire_fields.specs.Field.{little_endian}
+use Rattle.host_view.specs.Noted.{is_acl_data}
+use Rattle.host_view.specs.View.{View}
+use Rattle.host_view.specs.Unbuilt.{status_of}
+use Rattle.adv_pdu.specs.declared.pdu.AdvPdu.{AdvPdu}
+use Rattle.instants.specs.Track.{next_number}
+use Rattle.one_end.specs.declared.setup.LinkSetup.{LinkSetup}
+use Rattle.one_end.specs.Acknowledgement.{Pdu}
+use Rattle.one_end.specs.Facts.{Facts as EndFacts}
+use Rattle.one_end.specs.Packets.{good_pdu, pdu_of}
+use Rattle.one_end.specs.Setup.{Setup as EndSetup}
+use Rattle.one_end.specs.Step.{DataGiven, PacketReceived}
+use Rattle.one_end.specs.End.{applied_notes, sent_notes_if, took_notes, took_notes_if}
+use Rattle.scan_init.specs.declared.reports.ReportKind.{ReportKind}
+use Rattle.scan_init.specs.declared.scanner.ScanAnswer.{ScanAnswer}
+use Rattle.scan_init.specs.Reports.{kind_of, scan_answer}
+use Rattle.open_links.specs.declared.ended.LinkEnded.{LinkEnded}
+use Rattle.open_links.specs.declared.offers.Offer.{Offer}
+use Rattle.open_links.specs.declared.offers.Offer.TheVariants.{NoLink, Empty, Overflow, Kept}
+use Rattle.open_links.specs.Data.{completed_from, link_reported}
+use Rattle.open_links.specs.OpenLinks.{Links, OpenLink, facts_in, handles_from, link_after, link_at, new_link, with_change_from, with_link, without_links}
+use Rattle.open_links.specs.Turns.{end_by, ends_from, is_anchor, link_entered, links_staying, notes_entering, notes_if, reason_in, staying_by}
+use Rattle.one_side.specs.declared.doing.Doing.{Doing}
+use Rattle.one_side.specs.declared.doing.Doing.TheVariants.{Advertises, CentralSends, PeripheralSends}
+use Rattle.one_side.specs.Step.{Step, HostOctet, TurnBegins, PacketHeard, NothingHeard, TurnEnds}
+use Rattle.one_side.specs.Facts.{Setup, Facts}
+use Rattle.one_side.specs.Answers.{AreOneAnswer, HasNoAnswer, IsAnswerTo, answer_to}
+use Rattle.one_side.specs.Commands.{events_caused, facts_commanded, facts_known, links_after, notes_before, notes_commanded, notes_known}
+use Rattle.one_side.specs.Data.{event_completed, facts_offered, note_received, notes_offered, offer_of}
+use Rattle.one_side.specs.Events.{notes_of_events, passes}
+use Rattle.one_side.specs.Heard.{events_reported, has_room, link_heard, link_taken, notes_taken, opens as opening, report_event, report_events, scanner_heard}
+use Rattle.one_side.specs.Links.{connection_complete, connection_failed, ends_in, events_opened, facts_ending, note_shut, notes_ended, notes_ending, wants_enhanced}
+use Rattle.one_side.specs.Notes.{is_event, is_opening}
+use Rattle.one_side.specs.Outcome.{Outcome, facts_passed, notes_passed}
+use Rattle.one_side.specs.Packets.{notes_doing, notes_sent}
+use Rattle.one_side.specs.Radio.{fixing, outcome_begun}
+use Rattle.one_side.specs.Side.{facts_after, facts_fed, facts_of, notes_after, notes_fed, result_of}
+use Rattle.one_side.proofs.Always.{IsInTurn, ending_is, facts_before_doing, opening_is, served_is, winner_before_doing}
+use Rattle.one_side.proofs.AnsweredOnce.{answered_once}
+use Rattle.one_side.proofs.Handles.{HaveOwnHandles, IsNew, free_is_new, own_handles}
+use Rattle.one_side.proofs.OpenPlaces.{changed_opens, fixed_opens, mapped_opens, opens, sent_opens, won_opens}
+use Rattle.one_side.proofs.Phases.{EachOutcome, heard_is, unheard_is}
+use Rattle.journal_acks.proofs.CallNotes.{is_taking}
+
+-- ---- what a note says
+
+-- whether the link under the handle 0 is open after a note
+abbrev pub note_open : Bool → Note → Bool
+note_open linked (Opened handle role own peer) = if handle == 0 then true else linked
+note_open linked (Shut handle reason) = if handle == 0 then false else linked
+note_open linked note = linked
+
+abbrev pub is_shutting : Note → Bool
+is_shutting (Shut handle reason) = true
+is_shutting note = false
+
+-- data for the host, or Number Of Completed Packets
+abbrev pub is_report : Note → Bool
+is_report (Up packet) = is_acl_data packet.items || is_event 0x13 packet.items
+is_report note = false
+
+-- none of these notes is of this kind
+abbrev pub AreNot : (Note → Bool) → List Note → Type 0
+AreNot kind notes = AllByRecursion (λ note. kind note ≡ false) notes
+
+-- what the notes of a step say of the link under the handle 0, which is open before the step or not, and after it
+pub data IsNotedAs (before after : Bool) (notes : List Note) : Type 0 where
+  -- none is opened or shut
+  stays : AreNot is_opening notes → AreNot is_shutting notes → after ≡ before → IsNotedAs before after notes
+  -- none is opened, and nothing is reported
+  shuts : AreNot is_opening notes → AreNot is_report notes → fold note_open before notes ≡ after → IsNotedAs before after notes
+  -- it is opened first, and then none is opened or shut, and nothing is reported
+  opens_first : (role : Role) (own peer : Address) (rest : List Note) → notes ≡ Opened 0 role own peer ∷ rest → AreNot is_opening rest
+      → AreNot is_shutting rest → AreNot is_report rest → before ≡ false → after ≡ true → IsNotedAs before after notes
+
+-- ---- notes that open and shut none
+
+pub open_still : (linked : Bool) (notes : List Note) → AreNot is_opening notes → AreNot is_shutting notes → fold note_open linked notes ≡ linked
+open_still linked [] none shut = refl
+open_still linked (Opened handle role own peer ∷ notes) none shut = absurd (let h : true ≡ false = none.0 in absurd cc)
+open_still linked (Shut handle reason ∷ notes) none shut = absurd (let h : true ≡ false = shut.0 in absurd cc)
+open_still linked (note ∷ notes) none shut = open_still linked notes none.1 shut.1
+
+-- a note that opens and shuts none, and reports nothing
+pub record IsQuiet (note : Note) : Type 0 where
+  pub no_opening : is_opening note ≡ false
+  pub no_shutting : is_shutting note ≡ false
+  pub no_report : is_report note ≡ false
+
+abbrev AreQuiet : List Note → Type 0
+AreQuiet notes = AllByRecursion IsQuiet notes
+
+all_of : (P Q : Note → Type 0) → ((note : Note) → P note → Q note) → (notes : List Note) → AllByRecursion P notes → AllByRecursion Q notes
+all_of P Q to [] all = tt
+all_of P Q to (note ∷ notes) all = (to note all.0, all_of P Q to notes all.1)
+
+none_open : (notes : List Note) → AreQuiet notes → AreNot is_opening notes
+none_open notes quiet = all_of IsQuiet _ (λ note is. is.no_opening) notes quiet
+
+none_shut : (notes : List Note) → AreQuiet notes → AreNot is_shutting notes
+none_shut notes quiet = all_of IsQuiet _ (λ note is. is.no_shutting) notes quiet
+
+none_report : (notes : List Note) → AreQuiet notes → AreNot is_report notes
+none_report notes quiet = all_of IsQuiet _ (λ note is. is.no_report) notes quiet
+
+both : (P : Note → Type 0) (xs ys : List Note) → AllByRecursion P xs → AllByRecursion P ys → AllByRecursion P (xs ++ ys)
+both P [] ys all more = more
+both P (x ∷ xs) ys all more = (all.0, both P xs ys all.1 more)
+
+both_quiet : (xs ys : List Note) → AreQuiet xs → AreQuiet ys → AreQuiet (xs ++ ys)
+both_quiet xs ys all more = both IsQuiet xs ys all more
+
+both_not : (kind : Note → Bool) (xs ys : List Note) → AreNot kind xs → AreNot kind ys → AreNot kind (xs ++ ys)
+both_not kind xs ys all more = both (λ note. kind note ≡ false) xs ys all more
+
+quiet_fold : (linked : Bool) (notes : List Note) → AreQuiet notes → fold note_open linked notes ≡ linked
+quiet_fold linked notes quiet = open_still linked notes (none_open notes quiet) (none_shut notes quiet)
+
+stays_quiet : (before after : Bool) (notes : List Note) → AreQuiet notes → after ≡ before → IsNotedAs before after notes
+stays_quiet before after notes quiet is = stays (none_open notes quiet) (none_shut notes quiet) is
+
+-- ---- events
+
+abbrev IsOtherEvent : Event → Type 0
+IsOtherEvent (CompletedPackets handle count) = ⊥
+IsOtherEvent event = ⊤
+
+event_quiet : (event : Event) → IsOtherEvent event → IsQuiet (Up (record { items = written event }))
+unfolding little_endian
+event_quiet (CompletedPackets handle count) is = absurd is
+event_quiet event is = record { no_opening = refl; no_shutting = refl; no_report = refl }
+
+quiet_if : (passed : Bool) (event : Event) (events : List Event) → IsOtherEvent event
+    → AreQuiet (map (λ event. Up (record { items = written event })) events)
+    → AreQuiet (map (λ event. Up (record { items = written event })) (cond passed (event ∷ events) events))
+quiet_if true event events is rest = (event_quiet event is, rest)
+quiet_if false event events is rest = rest
+
+events_quiet : (view : View) (events : List Event) → AllByRecursion IsOtherEvent events → AreQuiet (notes_of_events view events)
+events_quiet view [] are = tt
+events_quiet view (event ∷ events) are =
+    quiet_if (passes view (mask_bit_of event)) event (filter (λ event. passes view (mask_bit_of event)) events) are.0 (events_quiet view events are.1)
+
+packets_not : (kind : Note → Bool) → ((octets : List ℕ) → kind (Up (record { items = octets })) ≡ false) → (events : List Event)
+    → AreNot kind (map (λ event. Up (record { items = written event })) events)
+packets_not kind up [] = tt
+packets_not kind up (event ∷ events) = (up (written event), packets_not kind up events)
+
+events_not : (kind : Note → Bool) → ((octets : List ℕ) → kind (Up (record { items = octets })) ≡ false) → (view : View) (events : List Event)
+    → AreNot kind (notes_of_events view events)
+events_not kind up view events = packets_not kind up (filter (λ event. passes view (mask_bit_of event)) events)
+
+-- ---- data
+
+sent_if : (noted : Bool) (handle : ℕ) (facts : EndFacts) → AreQuiet (sent_notes_if noted handle facts)
+sent_if true handle facts = (record { no_opening = refl; no_shutting = refl; no_report = refl }, tt)
+sent_if false handle facts = tt
+
+sent_quiet : (slot : ℕ) (found : Option OpenLink) → AreQuiet (notes_sent slot found)
+sent_quiet slot None = tt
+sent_quiet slot (Some link) = sent_if _ link.setup.link.handle (facts_in link)
+
+doing_quiet : (doing : Doing) (facts : Facts) → AreQuiet (notes_doing doing facts)
+doing_quiet (CentralSends handle) facts = sent_quiet facts.turn.slot (link_at handle facts.links)
+doing_quiet (PeripheralSends handle) facts = sent_quiet facts.turn.slot (link_at handle facts.links)
+doing_quiet (Advertises channel) facts = tt
+doing_quiet other facts = tt
+
+took_if : (noted : Bool) (handle : ℕ) (pdu : Pdu) (facts : EndFacts) → AreQuiet (took_notes_if noted handle pdu facts)
+took_if true handle pdu facts = (record { no_opening = refl; no_shutting = refl; no_report = refl }, tt)
+took_if false handle pdu facts = tt
+
+took_by : (handle : ℕ) (room : Bool) (found : Option (List ℕ)) (facts : EndFacts) → AreQuiet (took_notes handle room found facts)
+took_by handle room None facts = tt
+took_by handle room (Some pdu) facts = took_if _ handle (pdu_of pdu) facts
+
+took_quiet : (slot : ℕ) (room : Bool) (found : Option OpenLink) (octets : List ℕ) → AreQuiet (notes_taken slot room found octets)
+took_quiet slot room None octets = tt
+took_quiet slot room (Some link) octets = took_by link.setup.link.handle room (good_pdu link.setup (facts_in link) octets) (facts_in link)
+
+pieces_not : (kind : Note → Bool) → ((octets : List ℕ) → kind (Up (record { items = octets })) ≡ false) → (pieces : List (ℕ × Piece))
+    → AreNot kind (map note_received pieces)
+pieces_not kind up [] = tt
+pieces_not kind up (piece ∷ pieces) = (up _, pieces_not kind up pieces)
+
+-- ---- the link under the handle 0
+
+abbrev pub is_open : Links → Bool
+is_open links = is_some (link_at 0 links)
+
+abbrev first_of : List Bool → Bool
+first_of [] = false
+first_of (linked ∷ places) = linked
+
+open_is : (links : Links) → is_open links ≡ first_of (opens links)
+open_is [] = refl
+open_is (place ∷ links) = refl
+
+pub same_open : (before after : Links) → opens after ≡ opens before → is_open after ≡ is_open before
+same_open before after same = open_is after ∙ ap first_of same ∙ sym (open_is before)
+
+reset_open : (links : Links) → is_open (without_links links) ≡ false
+reset_open [] = refl
+reset_open (place ∷ links) = refl
+
+-- ---- a packet of the host
+
+caused_events : (enhanced : Bool) → IsOtherEvent (connection_failed enhanced 0x02)
+caused_events true = tt
+caused_events false = tt
+
+caused_quiet : (facts : Facts) (command : Command) → AreQuiet (notes_of_events facts.view (events_caused facts command))
+caused_quiet facts LeCreateCancel =
+    events_quiet facts.view (connection_failed (wants_enhanced facts.view) 0x02 ∷ []) (caused_events (wants_enhanced facts.view), tt)
+caused_quiet facts other = tt
+
+answer_is : (opcode : ℕ) (event : Event) → IsAnswerTo opcode event → IsOtherEvent event
+answer_is opcode (CommandComplete number answered fields) is = tt
+answer_is opcode (CommandStatus status number answered) is = tt
+answer_is opcode other is = absurd is
+
+answers_are : (opcode : ℕ) (events : List Event) (none : Type 0) → AreOneAnswer opcode events none → AllByRecursion IsOtherEvent events
+answers_are opcode [] none are = tt
+answers_are opcode (event ∷ []) none are = (answer_is opcode event are, tt)
+answers_are opcode (event ∷ other ∷ events) none are = absurd are
+
+answer_quiet : (setup : Setup) (facts : Facts) (opcode : ℕ) (read : CmdRead) → AreQuiet (notes_of_events facts.view (answer_to setup facts opcode read))
+answer_quiet setup facts opcode read =
+    events_quiet facts.view (answer_to setup facts opcode read)
+    (answers_are opcode (answer_to setup facts opcode read) (HasNoAnswer facts read) (answered_once setup facts opcode read))
+
+-- a Reset shuts each link
+shuts_not : (kind : Note → Bool) → ((handle : ℕ) → kind (note_shut handle 0) ≡ false) → (handles : List ℕ)
+    → AreNot kind (map (λ handle. note_shut handle 0) handles)
+shuts_not kind shut [] = tt
+shuts_not kind shut (handle ∷ handles) = (shut handle, shuts_not kind shut handles)
+
+past_zero : (n : ℕ) → 0 < n → (n == 0) ≡ false
+past_zero n some = grind (arith, some)
+
+shut_past : (linked : Bool) (handle reason : ℕ) → 0 < handle → note_open linked (note_shut handle reason) ≡ linked
+shut_past linked handle reason later = ap (λ (b : Bool). cond b false linked) (past_zero handle later)
+
+later_shut : (linked : Bool) (first : ℕ) (links : Links) → 0 < first
+    → fold note_open linked (map (λ handle. note_shut handle 0) (handles_from first links)) ≡ linked
+later_shut linked first [] later = refl
+later_shut linked first (None ∷ links) later = later_shut linked (first + 1) links (omega arith)
+later_shut linked first (Some link ∷ links) later =
+    ap (λ (b : Bool). fold note_open b (map (λ handle. note_shut handle 0) (handles_from (first + 1) links))) (shut_past linked first 0 later)
+    ∙ later_shut linked (first + 1) links (omega arith)
+
+all_shut : (links : Links) → fold note_open (is_open links) (map (λ handle. note_shut handle 0) (handles_from 0 links)) ≡ false
+all_shut [] = refl
+all_shut (None ∷ links) = later_shut false (0 + 1) links (omega arith)
+all_shut (Some link ∷ links) = later_shut false (0 + 1) links (omega arith)
+
+fold_quiet : (linked : Bool) (xs ys : List Note) → AreQuiet ys → fold note_open linked (xs ++ ys) ≡ fold note_open linked xs
+fold_quiet linked xs ys quiet = fold-append note_open linked xs ys ∙ quiet_fold (fold note_open linked xs) ys quiet
+
+accepted_as : (setup : Setup) (facts : Facts) (opcode : ℕ) (command : Command)
+    → IsNotedAs (is_open facts.links) (is_open (links_after command facts.links)) (notes_known true setup facts opcode command)
+accepted_as setup facts opcode Reset =
+    let shut = notes_before facts Reset in
+    let answer = notes_of_events facts.view (answer_to setup facts opcode (Known Reset)) in
+    let caused = notes_of_events facts.view (events_caused facts Reset) in
+    let answers = answer_quiet setup facts opcode (Known Reset) in
+    let causes = caused_quiet facts Reset in
+    let handles = handles_from 0 facts.links in
+    shuts
+    (both_not is_opening (shut ++ answer) caused
+    (both_not is_opening shut answer (shuts_not is_opening (λ handle. refl) handles) (none_open answer answers)) (none_open caused causes))
+    (both_not is_report (shut ++ answer) caused
+    (both_not is_report shut answer (shuts_not is_report (λ handle. refl) handles) (none_report answer answers)) (none_report caused causes))
+    (fold_quiet (is_open facts.links) (shut ++ answer) caused causes ∙ fold_quiet (is_open facts.links) shut answer answers
+    ∙ all_shut facts.links ∙ sym (reset_open facts.links))
+accepted_as setup facts opcode other =
+    let answer = notes_of_events facts.view (answer_to setup facts opcode (Known other)) in
+    let caused = notes_of_events facts.view (events_caused facts other) in
+    stays_quiet (is_open facts.links) (is_open facts.links) (answer ++ caused)
+    (both_quiet answer caused (answer_quiet setup facts opcode (Known other)) (caused_quiet facts other)) refl
+
+known_as : (accepted : Bool) (setup : Setup) (facts : Facts) (opcode : ℕ) (command : Command)
+    → IsNotedAs (is_open facts.links) (is_open (facts_known accepted setup facts command).links) (notes_known accepted setup facts opcode command)
+known_as true setup facts opcode command = accepted_as setup facts opcode command
+known_as false setup facts opcode command =
+    stays_quiet (is_open facts.links) (is_open facts.links) _ (answer_quiet setup facts opcode (Known command)) refl
+
+read_as : (setup : Setup) (facts : Facts) (opcode : ℕ) (read : CmdRead)
+    → IsNotedAs (is_open facts.links) (is_open (facts_commanded setup facts read).links) (notes_commanded setup facts opcode read)
+read_as setup facts opcode (Known command) = known_as (status_of facts.view command == 0) setup facts opcode command
+read_as setup facts opcode UnknownOpcode =
+    stays_quiet (is_open facts.links) (is_open facts.links) _ (answer_quiet setup facts opcode UnknownOpcode) refl
+read_as setup facts opcode BadLength =
+    stays_quiet (is_open facts.links) (is_open facts.links) _ (answer_quiet setup facts opcode BadLength) refl
+
+event_stays : (linked : Bool) (view : View) (events : List Event) → IsNotedAs linked linked (notes_of_events view events)
+event_stays linked view events = stays (events_not is_opening (λ octets. refl) view events) (events_not is_shutting (λ octets. refl) view events) refl
+
+offered_as : (offer : Offer) (facts : Facts) (handle : ℕ) (start : Bool) (octets : List ℕ)
+    → IsNotedAs (is_open facts.links) (is_open (facts_offered offer handle start octets facts).links) (notes_offered facts.view offer handle)
+offered_as NoLink facts handle start octets = stays tt tt refl
+offered_as Empty facts handle start octets = event_stays (is_open facts.links) facts.view (CompletedPackets handle 1 ∷ [])
+offered_as Overflow facts handle start octets = event_stays (is_open facts.links) facts.view (BufferOverflow 1 ∷ [])
+offered_as Kept facts handle start octets = stays tt tt (same_open facts.links _ (changed_opens (link_after (DataGiven start octets)) handle facts.links))
+
+fed_as : (setup : Setup) (facts : Facts) (fed : Fed)
+    → IsNotedAs (is_open facts.links) (is_open (facts_fed setup facts fed).links) (notes_fed setup facts fed)
+fed_as setup facts (Packet (HostCommand opcode body)) = read_as setup facts opcode (command_of opcode body.items)
+fed_as setup facts (Packet (Acl handle start count body)) =
+    offered_as (offer_of setup facts handle count) facts handle start body.items
+fed_as setup facts LostSync = event_stays (is_open facts.links) facts.view (HardwareError 0x01 ∷ [])
+fed_as setup facts More = stays tt tt refl
+
+-- ---- a turn begins
+
+-- the links that end
+ends_not : (kind : Note → Bool) → ((one : LinkEnded) → kind (note_shut one.handle one.reason.0) ≡ false)
+    → ((note : Note) → IsQuiet note → kind note ≡ false) → (view : View) (ended : List LinkEnded) → AreNot kind (flat_map (notes_ended view) ended)
+ends_not kind shut quiet view [] = tt
+ends_not kind shut quiet view (one ∷ ended) =
+    both_not kind (notes_ended view one) (flat_map (notes_ended view) ended)
+    (shut one, all_of IsQuiet _ quiet _ (events_quiet view (DisconnectionComplete 0 one.handle one.reason.0 ∷ []) (tt, tt)))
+    (ends_not kind shut quiet view ended)
+
+ended_event : (view : View) (handle reason : ℕ) → AreQuiet (notes_of_events view (DisconnectionComplete 0 handle reason ∷ []))
+ended_event view handle reason = events_quiet view (DisconnectionComplete 0 handle reason ∷ []) (tt, tt)
+
+later_end : (linked : Bool) (view : View) (first : ℕ) (reason : Option ℕ) (others : List LinkEnded) → 0 < first
+    → fold note_open linked (flat_map (notes_ended view) (end_by first reason ++ others)) ≡ fold note_open linked (flat_map (notes_ended view) others)
+later_end linked view first None others later = refl
+later_end linked view first (Some reason) others later =
+    let event = notes_of_events view (DisconnectionComplete 0 first reason ∷ []) in
+    ap (λ (b : Bool). fold note_open b (event ++ flat_map (notes_ended view) others)) (shut_past linked first reason later)
+    ∙ fold-append note_open linked event (flat_map (notes_ended view) others)
+    ∙ ap (λ (b : Bool). fold note_open b (flat_map (notes_ended view) others)) (quiet_fold linked event (ended_event view first reason))
+
+later_ends : (linked : Bool) (view : View) (slot first : ℕ) (links : Links) → 0 < first
+    → fold note_open linked (flat_map (notes_ended view) (ends_from slot first links)) ≡ linked
+later_ends linked view slot first [] later = refl
+later_ends linked view slot first (None ∷ links) later = later_ends linked view slot (first + 1) links (omega arith)
+later_ends linked view slot first (Some link ∷ links) later =
+    later_end linked view first (reason_in slot link) (ends_from slot (first + 1) links) later
+    ∙ later_ends linked view slot (first + 1) links (omega arith)
+
+first_end : (view : View) (reason : Option ℕ) (link : OpenLink) (others : List LinkEnded)
+    → ((linked : Bool) → fold note_open linked (flat_map (notes_ended view) others) ≡ linked)
+    → fold note_open true (flat_map (notes_ended view) (end_by 0 reason ++ others)) ≡ is_some (staying_by reason link)
+first_end view None link others rest = rest true
+first_end view (Some reason) link others rest =
+    let event = notes_of_events view (DisconnectionComplete 0 0 reason ∷ []) in
+    fold-append note_open false event (flat_map (notes_ended view) others)
+    ∙ ap (λ (b : Bool). fold note_open b (flat_map (notes_ended view) others)) (quiet_fold false event (ended_event view 0 reason)) ∙ rest false
+
+ends_open : (view : View) (slot : ℕ) (links : Links)
+    → fold note_open (is_open links) (flat_map (notes_ended view) (ends_from slot 0 links)) ≡ is_open (links_staying slot links)
+ends_open view slot [] = refl
+ends_open view slot (None ∷ links) = later_ends false view slot (0 + 1) links (omega arith)
+ends_open view slot (Some link ∷ links) =
+    first_end view (reason_in slot link) link (ends_from slot (0 + 1) links) (λ linked. later_ends linked view slot (0 + 1) links (omega arith))
+
+-- the links that enter an event
+applied_quiet : (handle event : ℕ) (number : Option ℕ) → AreQuiet (applied_notes handle event number)
+applied_quiet handle event None = tt
+applied_quiet handle event (Some number) = (record { no_opening = refl; no_shutting = refl; no_report = refl }, tt)
+
+entry_quiet : (anchor : Bool) (slot : ℕ) (link : OpenLink) → AreQuiet (notes_if anchor slot link)
+entry_quiet false slot link = tt
+entry_quiet true slot link =
+    both_quiet (applied_notes link.setup.link.handle _ (next_number (facts_in link).parameters)) _
+    (applied_quiet link.setup.link.handle _ (next_number (facts_in link).parameters))
+    (record { no_opening = refl; no_shutting = refl; no_report = refl }, tt)
+
+entering_quiet : (slot : ℕ) (links : Links) → AreQuiet (notes_entering slot links)
+entering_quiet slot [] = tt
+entering_quiet slot (None ∷ links) = entering_quiet slot links
+entering_quiet slot (Some link ∷ links) =
+    both_quiet (notes_if (is_anchor slot link) slot link) (notes_entering slot links) (entry_quiet (is_anchor slot link) slot link)
+    (entering_quiet slot links)
+
+-- which are open then
+begun_opens : (slot : ℕ) (on : Bool) (facts : Facts)
+    → opens (facts_passed (outcome_begun slot on facts)).links ≡ opens (links_staying slot facts.links)
+begun_opens slot on facts =
+    let stay = opens (links_staying slot facts.links) in
+    served_is (λ (held : Facts). opens held.links ≡ stay) (λ slot activity held is. won_opens slot activity held.links ∙ is)
+    (λ outcome. opens (facts_passed (fixing outcome)).links ≡ stay)
+    (λ doing held may is. sent_opens held.turn.slot doing _ ∙ fixed_opens doing held.links ∙ is)
+    on slot (winner_before_doing slot facts) (facts_before_doing slot facts)
+    (mapped_opens (link_entered slot) (facts_ending slot facts).links ∙ ap (λ (held : Facts). opens held.links) (ending_is slot facts))
+
+begun_reports : (facts : Facts) (setup : Setup) (slot : ℕ) (on : Bool) → AreNot is_report (notes_after setup facts (TurnBegins slot on))
+begun_reports facts setup slot on =
+    let outcome = outcome_begun slot on facts in
+    let ends = notes_ending slot facts in
+    let enters = notes_entering slot (facts_ending slot facts).links in
+    let sends = notes_doing outcome.next outcome.facts in
+    both_not is_report (ends ++ enters) sends
+    (both_not is_report ends enters (ends_not is_report (λ one. refl) (λ note is. is.no_report) facts.view (ends_in slot facts))
+    (none_report enters (entering_quiet slot (facts_ending slot facts).links))) (none_report sends (doing_quiet outcome.next outcome.facts))
+
+begun_as : (setup : Setup) (facts : Facts) (slot : ℕ) (on : Bool)
+    → IsNotedAs (is_open facts.links) (is_open (facts_after setup facts (TurnBegins slot on)).links) (notes_after setup facts (TurnBegins slot on))
+begun_as setup facts slot on =
+    let outcome = outcome_begun slot on facts in
+    let ends = notes_ending slot facts in
+    let enters = notes_entering slot (facts_ending slot facts).links in
+    let sends = notes_doing outcome.next outcome.facts in
+    let entered = entering_quiet slot (facts_ending slot facts).links in
+    let sent = doing_quiet outcome.next outcome.facts in
+    shuts
+    (both_not is_opening (ends ++ enters) sends
+    (both_not is_opening ends enters (ends_not is_opening (λ one. refl) (λ note is. is.no_opening) facts.view (ends_in slot facts))
+    (none_open enters entered)) (none_open sends sent))
+    (begun_reports facts setup slot on)
+    (fold_quiet (is_open facts.links) (ends ++ enters) sends sent ∙ fold_quiet (is_open facts.links) ends enters entered
+    ∙ ends_open facts.view slot facts.links ∙ sym (same_open (links_staying slot facts.links) _ (begun_opens slot on facts)))
+
+-- ---- a phase
+
+abbrev OfOutcome : Facts → Outcome → Type 0
+OfOutcome facts outcome = IsNotedAs (is_open facts.links) (is_open (facts_passed outcome).links) (notes_passed outcome)
+
+passed_as : (facts : Facts) (outcome : Outcome) → AreQuiet outcome.notes → opens outcome.facts.links ≡ opens facts.links → OfOutcome facts outcome
+passed_as facts outcome quiet same =
+    stays_quiet (is_open facts.links) _ (notes_passed outcome)
+    (both_quiet outcome.notes (notes_doing outcome.next outcome.facts) quiet (doing_quiet outcome.next outcome.facts))
+    (same_open facts.links _ (sent_opens outcome.facts.turn.slot outcome.next outcome.facts.links ∙ same))
+
+opened_open : (end : EndSetup) (links : Links) → 0 < length links → end.link.handle ≡ 0 → is_open (with_link end links) ≡ true
+opened_open end [] some is = absurd (omega (arith, some))
+opened_open end (place ∷ links) some is = ap (λ n. is_open (with_change_from 0 n (λ before. Some (new_link end)) (place ∷ links))) is
+
+complete_other : (enhanced : Bool) (link : LinkSetup) → IsOtherEvent (connection_complete enhanced link)
+complete_other true link = tt
+complete_other false link = tt
+
+opened_as : (setup : Setup) (link : LinkSetup) (facts : Facts) → setup.links ≤ 1 → length facts.links ≡ setup.links → link.handle < length facts.links
+    → link_at link.handle facts.links ≡ None → OfOutcome facts (opening link facts)
+opened_as setup link facts few many within free =
+    let zero_is : link.handle ≡ 0 = omega (arith, few, many, within) in
+    let events = notes_of_events facts.view (events_opened facts.view link) in
+    let quiet = both_quiet events [] (events_quiet facts.view (events_opened facts.view link) (complete_other (wants_enhanced facts.view) link, (tt, tt))) tt in
+    let end : EndSetup = record { link = link; opened = facts.turn.slot } in
+    opens_first link.role link.own link.peer (events ++ []) (ap (λ n. Opened n link.role link.own link.peer ∷ (events ++ [])) zero_is)
+    (none_open (events ++ []) quiet) (none_shut (events ++ []) quiet) (none_report (events ++ []) quiet)
+    (ap (λ (place : Option OpenLink). is_some place) (subst (λ n. link_at n facts.links ≡ None) zero_is free))
+    (ap (λ (held : Facts). is_open held.links) (opening_is link facts) ∙ opened_open end facts.links (omega (arith, within)) zero_is)
+
+report_quiet : (reports : Bool) (view : View) (pdu : AdvPdu) (kind : Option ReportKind)
+    → AreQuiet (notes_of_events view (cond reports (report_events pdu kind) []))
+report_quiet true view pdu None = tt
+report_quiet true view pdu (Some kind) = events_quiet view (report_event pdu kind ∷ []) (tt, tt)
+report_quiet false view pdu kind = tt
+
+answered_quiet : (view : View) (answer : ScanAnswer) (pdu : AdvPdu) → AreQuiet (notes_of_events view (events_reported answer pdu))
+answered_quiet view answer pdu = report_quiet _ view pdu (kind_of pdu)
+
+phase_as : (setup : Setup) (facts : Facts) → setup.links ≤ 1 → HaveOwnHandles setup facts → EachOutcome setup facts (OfOutcome facts)
+phase_as setup facts few own = let nothing = stays tt tt refl in record {
+  rests = nothing;
+  awaits_request = λ channel doing. nothing;
+  awaits_response = λ channel advertiser doing. nothing;
+  central_listens = λ handle doing. nothing;
+  sent = λ channel link doing. let new = subst (IsNew facts.links) doing own.new in opened_as setup link facts few own.many new.0 new.1;
+  responds = λ channel on doing is_on. nothing;
+  taken = λ channel octets pdu on fields handle is_on hears takes free.
+      let new = free_is_new facts.links handle free in
+      opened_as setup (link_taken on.params.own pdu fields handle) facts few own.many new.0 new.1;
+  scanned = λ channel octets pdu on doing is_on hears.
+      passed_as facts (scanner_heard (Some on) true channel pdu facts)
+      (answered_quiet facts.view (scan_answer on.params facts.view.accepted on.recent pdu) pdu) refl;
+  answered = λ channel octets pdu on doing is_on hears.
+      passed_as facts (scanner_heard (Some on) false channel pdu facts)
+      (answered_quiet facts.view (scan_answer on.params facts.view.accepted on.recent pdu) pdu) refl;
+  connects = λ channel octets pdu on access handle doing is_on hears answers next free in_range. nothing;
+  received = λ handle octets.
+      let room = has_room setup facts in
+      passed_as facts (link_heard setup handle octets facts) (took_quiet facts.turn.slot room (link_at handle facts.links) octets)
+      (changed_opens (link_after (PacketReceived facts.turn.slot octets room)) handle facts.links);
+}
+
+-- ---- each step
+
+ended_as : (facts : Facts) (setup : Setup)
+    → IsNotedAs (is_open facts.links) (is_open (facts_after setup facts TurnEnds).links) (notes_after setup facts TurnEnds)
+ended_as facts setup =
+    let events = map event_completed (completed_from 0 facts.links) in
+    stays
+    (both_not is_opening (map note_received facts.received) (notes_of_events facts.view events)
+    (pieces_not is_opening (λ octets. refl) facts.received) (events_not is_opening (λ octets. refl) facts.view events))
+    (both_not is_shutting (map note_received facts.received) (notes_of_events facts.view events)
+    (pieces_not is_shutting (λ octets. refl) facts.received) (events_not is_shutting (λ octets. refl) facts.view events))
+    (same_open facts.links _ (mapped_opens link_reported facts.links))
+
+pub step_noted : (setup : Setup) (facts : Facts) (step : Step) → setup.links ≤ 1 → HaveOwnHandles setup facts
+    → IsNotedAs (is_open facts.links) (is_open (facts_after setup facts step).links) (notes_after setup facts step)
+step_noted setup facts (HostOctet octet) few own = fed_as setup facts (result_of facts.octets octet)
+step_noted setup facts (TurnBegins slot on) few own = begun_as setup facts slot on
+step_noted setup facts (PacketHeard octets) few own = heard_is setup facts (OfOutcome facts) (phase_as setup facts few own) facts.turn.doing octets refl
+step_noted setup facts NothingHeard few own = unheard_is setup facts (OfOutcome facts) (phase_as setup facts few own) facts.turn.doing refl
+step_noted setup facts TurnEnds few own = ended_as facts setup
+
+-- ---- what follows
+
+-- where a link is open none is opened
+none_more : (before after : Bool) (notes : List Note) → IsNotedAs before after notes → before ≡ true → AreNot is_opening notes
+none_more before after notes (stays opens shut same) linked = opens
+none_more before after notes (shuts opens reports is) linked = opens
+none_more before after notes (opens_first role own peer rest is opens shut reports free now) linked =
+    absurd (let h : true ≡ false = sym linked ∙ free in absurd cc)
+
+pub opens_where_free : (setup : Setup) (facts : Facts) (step : Step) → setup.links ≤ 1 → HaveOwnHandles setup facts
+    → is_some (link_at 0 facts.links) ≡ true → AreNot is_opening (notes_after setup facts step)
+opens_where_free setup facts step few own linked = none_more _ _ (notes_after setup facts step) (step_noted setup facts step few own) linked
+
+-- ---- a step of a turn that notes PDUs which are taken reports nothing
+
+abbrev NoReport : Outcome → Type 0
+NoReport outcome = AreNot is_report (notes_passed outcome)
+
+passed_reports : (outcome : Outcome) → AreQuiet outcome.notes → NoReport outcome
+passed_reports outcome quiet =
+    none_report (notes_passed outcome)
+    (both_quiet outcome.notes (notes_doing outcome.next outcome.facts) quiet (doing_quiet outcome.next outcome.facts))
+
+opened_reports : (link : LinkSetup) (facts : Facts) → NoReport (opening link facts)
+opened_reports link facts =
+    let events = notes_of_events facts.view (events_opened facts.view link) in
+    let quiet = events_quiet facts.view (events_opened facts.view link) (complete_other (wants_enhanced facts.view) link, (tt, tt)) in
+    (refl, none_report (events ++ []) (both_quiet events [] quiet tt))
+
+phase_reports : (setup : Setup) (facts : Facts) → EachOutcome setup facts NoReport
+phase_reports setup facts = record {
+  rests = tt;
+  awaits_request = λ channel doing. tt;
+  awaits_response = λ channel advertiser doing. tt;
+  central_listens = λ handle doing. tt;
+  sent = λ channel link doing. opened_reports link facts;
+  responds = λ channel on doing is_on. tt;
+  taken = λ channel octets pdu on fields handle is_on hears takes free. opened_reports (link_taken on.params.own pdu fields handle) facts;
+  scanned = λ channel octets pdu on doing is_on hears.
+      passed_reports (scanner_heard (Some on) true channel pdu facts)
+      (answered_quiet facts.view (scan_answer on.params facts.view.accepted on.recent pdu) pdu);
+  answered = λ channel octets pdu on doing is_on hears.
+      passed_reports (scanner_heard (Some on) false channel pdu facts)
+      (answered_quiet facts.view (scan_answer on.params facts.view.accepted on.recent pdu) pdu);
+  connects = λ channel octets pdu on access handle doing is_on hears answers next free in_range. tt;
+  received = λ handle octets.
+      passed_reports (link_heard setup handle octets facts)
+      (took_quiet facts.turn.slot (has_room setup facts) (link_at handle facts.links) octets);
+}
+
+pub turn_kinds : (setup : Setup) (facts : Facts) (step : Step) → IsInTurn step
+    → AreNot is_taking (notes_after setup facts step) ⊎ AreNot is_report (notes_after setup facts step)
+turn_kinds setup facts (HostOctet octet) turn = absurd turn
+turn_kinds setup facts (TurnBegins slot on) turn = inr (begun_reports facts setup slot on)
+turn_kinds setup facts (PacketHeard octets) turn = inr (heard_is setup facts NoReport (phase_reports setup facts) facts.turn.doing octets refl)
+turn_kinds setup facts NothingHeard turn = inr (unheard_is setup facts NoReport (phase_reports setup facts) facts.turn.doing refl)
+turn_kinds setup facts TurnEnds turn =
+    let events = map event_completed (completed_from 0 facts.links) in
+    inl (both_not is_taking (map note_received facts.received) (notes_of_events facts.view events)
+    (pieces_not is_taking (λ octets. refl) facts.received) (events_not is_taking (λ octets. refl) facts.view events))
+
+-- of a past
+pub past_noted : (setup : Setup) (past : List Step) (step : Step) → setup.links ≤ 1
+    → IsNotedAs (is_open (facts_of setup past).links) (is_open (facts_after setup (facts_of setup past) step).links)
+    (notes_after setup (facts_of setup past) step)
+past_noted setup past step few = step_noted setup (facts_of setup past) step few (own_handles setup past)

@@ -1,0 +1,280 @@
+-- In the calls of a turn the open link of a controller keeps the packets that it was given, and a new one has none.
+use Rattle.std.proofs.Common.{◌≡◌, ℕ, ◌==◌, ◌||◌, ◌⊎◌, inl, inr, Bool, true, false, Option, Some, None, List, [], ◌∷◌, ◌++◌, map, refl, sym, ap, subst, ◌∙◌, if◌then◌else◌}
+use Rattle.std.specs.Prelude.{◌&&◌, nat_lt, ⊤}
+use Rattle.ble_base.specs.declared.notes.Note.{Note}
+use Rattle.std.specs.Option.{option_map}
+use Rattle.acl_banks.specs.History.{HostData}
+use Rattle.one_end.specs.Data.{Data, data_acked_if, data_sent_if}
+use Rattle.one_end.specs.Facts.{Facts as EndFacts}
+use Rattle.one_end.specs.End.{facts_received}
+use Rattle.one_end.specs.Packets.{good_pdu}
+use Rattle.one_end.specs.Setup.{Setup as EndSetup}
+use Rattle.one_end.specs.Step.{Step as EndStep, EventEntered, PduFixed, PacketSent, PacketReceived, DataReported}
+use Rattle.one_end.specs.declared.setup.LinkSetup.{LinkSetup}
+use Rattle.one_end.proofs.Pasts.{grows}
+use Rattle.scan_init.specs.Reports.{does_ask, scan_answer}
+use Rattle.slot_plan.specs.declared.Activity.{Activity}
+use Rattle.slot_plan.specs.declared.Activity.TheVariants.{Link, Advertise, Scan, Initiate}
+use Rattle.open_links.specs.Data.{complete_in, link_reported}
+use Rattle.open_links.specs.OpenLinks.{Links, OpenLink, facts_in, link_after, link_at, link_served, new_link, with_change, with_change_from, with_link}
+use Rattle.open_links.specs.Turns.{entered_if, is_anchor, link_entered, place_staying, reason_in, staying_by}
+use Rattle.one_side.specs.declared.doing.Doing.{Doing}
+use Rattle.one_side.specs.declared.doing.Doing.TheVariants.{Advertises, CentralSends, PeripheralListens, PeripheralSends}
+use Rattle.one_side.specs.Facts.{Setup, Facts}
+use Rattle.one_side.specs.Events.{notes_of_events}
+use Rattle.one_side.specs.Heard.{asks_if, has_room, link_received, link_taken, opens, replies_in, reply_if, scanner_after, with_scanner}
+use Rattle.one_side.specs.Links.{events_opened}
+use Rattle.one_side.specs.Outcome.{Outcome, facts_passed, notes_passed}
+use Rattle.one_side.specs.Packets.{facts_doing, links_sending}
+use Rattle.one_side.specs.Radio.{links_fixing}
+use Rattle.one_side.specs.Side.{facts_after, facts_of, notes_after}
+use Rattle.one_side.specs.Step.{Step, HostOctet, TurnBegins, PacketHeard, NothingHeard, TurnEnds}
+use Rattle.one_side.proofs.Always.{IsInTurn, IsKeptAtStarts, links_won, opening_passes, start_keeps}
+use Rattle.one_side.proofs.Handles.{own_handles}
+use Rattle.one_side.proofs.Phases.{EachOutcome, heard_is, unheard_is}
+use Rattle.runs.proofs.OpenedNotes.{is_opened, opened_was_free}
+
+-- ---- one link
+
+abbrev pub given_in : OpenLink → List HostData
+given_in link = (facts_in link).outgoing.given
+
+after_step : (link : OpenLink) (step : EndStep) (facts : EndFacts) → facts_in (link_after step link) ≡ facts → facts.outgoing.given ≡ given_in link
+    → given_in (link_after step link) ≡ given_in link
+after_step link step facts is same = ap (λ (f : EndFacts). f.outgoing.given) is ∙ same
+
+sent_same : (new : Bool) (outgoing : Data) → (data_sent_if new outgoing).given ≡ outgoing.given
+sent_same true outgoing = refl
+sent_same false outgoing = refl
+
+acked_same : (acked : Bool) (outgoing : Data) → (data_acked_if acked outgoing).given ≡ outgoing.given
+acked_same true outgoing = refl
+acked_same false outgoing = refl
+
+received_same : (slot : ℕ) (room : Bool) (found : Option (List ℕ)) (facts : EndFacts)
+    → (facts_received slot room found facts).outgoing.given ≡ facts.outgoing.given
+received_same slot room None facts = refl
+received_same slot room (Some pdu) facts = acked_same _ facts.outgoing
+
+after_entered : (slot : ℕ) (link : OpenLink) → given_in (link_after (EventEntered slot) link) ≡ given_in link
+after_entered slot link = after_step link (EventEntered slot) _ (grows link.setup link.past (EventEntered slot)) refl
+
+after_fixed : (link : OpenLink) → given_in (link_after PduFixed link) ≡ given_in link
+after_fixed link = after_step link PduFixed _ (grows link.setup link.past PduFixed) refl
+
+after_sent : (slot : ℕ) (link : OpenLink) → given_in (link_after (PacketSent slot) link) ≡ given_in link
+after_sent slot link = after_step link (PacketSent slot) _ (grows link.setup link.past (PacketSent slot)) (sent_same _ (facts_in link).outgoing)
+
+after_received : (slot : ℕ) (octets : List ℕ) (room : Bool) (link : OpenLink) → given_in (link_after (PacketReceived slot octets room) link) ≡ given_in link
+after_received slot octets room link =
+    after_step link (PacketReceived slot octets room) _ (grows link.setup link.past (PacketReceived slot octets room))
+    (received_same slot room (good_pdu link.setup (facts_in link) octets) (facts_in link))
+
+after_reported : (link : OpenLink) → given_in (link_after DataReported link) ≡ given_in link
+after_reported link = after_step link DataReported _ (grows link.setup link.past DataReported) refl
+
+new_none : (end : EndSetup) → given_in (new_link end) ≡ []
+unfolding Rattle.one_end.specs.End.facts_of
+new_none end = refl
+
+-- ---- one place
+
+-- a link was there, which was given the same packets
+pub record WasGiven (before : Option OpenLink) (link : OpenLink) : Type 0 where
+  pub old : OpenLink
+  pub was : before ≡ Some old
+  pub same : given_in link ≡ given_in old
+
+-- it stays, or is gone
+abbrev Stays : Option OpenLink → Option OpenLink → Type 0
+Stays before None = ⊤
+Stays before (Some link) = WasGiven before link
+
+stays_same : (place : Option OpenLink) → Stays place place
+stays_same None = tt
+stays_same (Some link) = record { old = link; was = refl; same = refl }
+
+stays_then : (first second third : Option OpenLink) → Stays first second → Stays second third → Stays first third
+stays_then first second None one two = tt
+stays_then first second (Some link) one two =
+    let before = subst (Stays first) two.was one in
+    record { old = before.old; was = before.was; same = two.same ∙ before.same }
+
+-- a change of a link that is there
+changed_stays : (change : OpenLink → OpenLink) → ((link : OpenLink) → given_in (change link) ≡ given_in link) → (place : Option OpenLink)
+    → Stays place (option_map change place)
+changed_stays change keeps None = tt
+changed_stays change keeps (Some link) = record { old = link; was = refl; same = keeps link }
+
+-- ---- the first place
+
+-- under any handle
+under_stays : (handle : ℕ) (change : OpenLink → OpenLink) → ((link : OpenLink) → given_in (change link) ≡ given_in link) → (links : Links)
+    → Stays (link_at 0 links) (link_at 0 (with_change handle change links))
+under_stays handle change keeps [] = tt
+under_stays handle change keeps (place ∷ links) = by (0 == handle)
+  where
+    by : (own : Bool) → Stays place (link_at 0 (if own then option_map change place ∷ links else place ∷ with_change_from 1 handle (option_map change) links))
+    by true = changed_stays change keeps place
+    by false = stays_same place
+
+each_stays : (change : Option OpenLink → Option OpenLink) → ((place : Option OpenLink) → Stays place (change place)) → (links : Links)
+    → Stays (link_at 0 links) (link_at 0 (map change links))
+each_stays change keeps [] = tt
+each_stays change keeps (place ∷ links) = keeps place
+
+place_stays : (slot : ℕ) (place : Option OpenLink) → Stays place (place_staying slot place)
+place_stays slot None = tt
+place_stays slot (Some link) = by (reason_in slot link)
+  where
+    by : (reason : Option ℕ) → Stays (Some link) (staying_by reason link)
+    by None = stays_same (Some link)
+    by (Some reason) = tt
+
+entered_same : (slot : ℕ) (link : OpenLink) → given_in (link_entered slot link) ≡ given_in link
+entered_same slot link = by (is_anchor slot link)
+  where
+    by : (anchor : Bool) → given_in (entered_if anchor slot link) ≡ given_in link
+    by true = after_entered slot link
+    by false = refl
+
+reported_same : (link : OpenLink) → given_in (link_reported link) ≡ given_in link
+reported_same link = by (nat_lt 0 (complete_in link))
+  where
+    by : (complete : Bool) → given_in (if complete then link_after DataReported link else link) ≡ given_in link
+    by true = after_reported link
+    by false = refl
+
+won_stays : (slot : ℕ) (activity : Activity) (links : Links) → Stays (link_at 0 links) (link_at 0 (links_won slot activity links))
+won_stays slot (Link handle) links = under_stays handle (link_served slot) (λ link. refl) links
+won_stays slot Advertise links = stays_same (link_at 0 links)
+won_stays slot Scan links = stays_same (link_at 0 links)
+won_stays slot Initiate links = stays_same (link_at 0 links)
+
+fixing_stays : (doing : Doing) (links : Links) → Stays (link_at 0 links) (link_at 0 (links_fixing doing links))
+fixing_stays (CentralSends handle) links = under_stays handle (link_after PduFixed) after_fixed links
+fixing_stays (PeripheralListens handle) links = under_stays handle (link_after PduFixed) after_fixed links
+fixing_stays (Advertises channel) links = stays_same (link_at 0 links)
+fixing_stays other links = stays_same (link_at 0 links)
+
+sending_stays : (slot : ℕ) (doing : Doing) (links : Links) → Stays (link_at 0 links) (link_at 0 (links_sending slot doing links))
+sending_stays slot (CentralSends handle) links = under_stays handle (link_after (PacketSent slot)) (after_sent slot) links
+sending_stays slot (PeripheralSends handle) links = under_stays handle (link_after (PacketSent slot)) (after_sent slot) links
+sending_stays slot (Advertises channel) links = stays_same (link_at 0 links)
+sending_stays slot other links = stays_same (link_at 0 links)
+
+-- ---- a turn begins, and ends
+
+abbrev StaysIn : Option OpenLink → Facts → Type 0
+StaysIn before facts = Stays before (link_at 0 facts.links)
+
+sends_on : (before : Option OpenLink) (doing : Doing) (facts : Facts) → StaysIn before facts → StaysIn before (facts_doing doing facts)
+sends_on before doing facts stays = stays_then before (link_at 0 facts.links) _ stays (sending_stays facts.turn.slot doing facts.links)
+
+kept_starts : (before : Option OpenLink) → IsKeptAtStarts (StaysIn before) (StaysIn before)
+kept_starts before = record {
+  weakens = λ facts stays. stays;
+  ends = λ slot facts stays. stays_then before (link_at 0 facts.links) _ stays (each_stays (place_staying slot) (place_stays slot) facts.links);
+  begins = λ slot facts stays. stays;
+  enters = λ slot facts stays. stays_then before (link_at 0 facts.links) _ stays
+      (each_stays (option_map (link_entered slot)) (changed_stays (link_entered slot) (entered_same slot)) facts.links);
+  wins = λ slot activity facts stays. stays_then before (link_at 0 facts.links) _ stays (won_stays slot activity facts.links);
+  fixes = λ doing facts stays. stays_then before (link_at 0 facts.links) _ stays (fixing_stays doing facts.links);
+  does = λ doing facts may stays. sends_on before doing facts stays;
+}
+
+-- ---- a phase
+
+-- a new link is given nothing
+abbrev IsFresh : Option OpenLink → Type 0
+IsFresh None = ⊤
+IsFresh (Some link) = given_in link ≡ []
+
+abbrev Goes : Option OpenLink → List Note → Facts → Type 0
+Goes before notes after = StaysIn before after ⊎ (IsFresh (link_at 0 after.links) × is_opened 0 notes ≡ true)
+
+opened_by : (end : EndSetup) (place : Option OpenLink) (links : Links) (own : Bool)
+    → let after = if own then Some (new_link end) ∷ links else place ∷ with_change_from 1 end.link.handle (λ old. Some (new_link end)) links in
+    Stays place (link_at 0 after) ⊎ (IsFresh (link_at 0 after) × own ≡ true)
+opened_by end place links true = inr (new_none end, refl)
+opened_by end place links false = inl (stays_same place)
+
+opened_at : (end : EndSetup) (links : Links)
+    → Stays (link_at 0 links) (link_at 0 (with_link end links)) ⊎ (IsFresh (link_at 0 (with_link end links)) × (0 == end.link.handle) ≡ true)
+opened_at end [] = inl tt
+opened_at end (place ∷ links) = opened_by end place links (0 == end.link.handle)
+
+-- what comes of a phase
+abbrev Passes : Option OpenLink → Outcome → Type 0
+Passes before outcome = Goes before (notes_passed outcome) (facts_passed outcome)
+
+opens_goes : (link : LinkSetup) (facts : Facts) → Passes (link_at 0 facts.links) (opens link facts)
+opens_goes link facts = by (opened_at (record { link = link; opened = facts.turn.slot }) facts.links)
+  where
+    by : Stays (link_at 0 facts.links) (link_at 0 (with_link (record { link = link; opened = facts.turn.slot }) facts.links))
+        ⊎ (IsFresh (link_at 0 (with_link (record { link = link; opened = facts.turn.slot }) facts.links)) × (0 == link.handle) ≡ true)
+        → Passes (link_at 0 facts.links) (opens link facts)
+    by (inl stays) = inl (opening_passes (StaysIn (link_at 0 facts.links)) link facts stays)
+    by (inr new) = inr (
+      opening_passes (λ (after : Facts). IsFresh (link_at 0 after.links)) link facts new.0,
+      ap (λ b. b || is_opened 0 (notes_of_events facts.view (events_opened facts.view link) ++ [])) new.1,
+    )
+
+each_goes : (setup : Setup) (facts : Facts) → EachOutcome setup facts (Passes (link_at 0 facts.links))
+each_goes setup facts = let same = stays_same (link_at 0 facts.links) in record {
+  rests = inl same;
+  awaits_request = λ channel doing. inl same;
+  awaits_response = λ channel advertiser doing. inl same;
+  central_listens = λ handle doing. inl same;
+  sent = λ channel link doing. opens_goes link facts;
+  responds = λ channel on doing is_on. inl same;
+  taken = λ channel octets pdu on fields handle is_on hears takes free. opens_goes (link_taken on.params.own pdu fields handle) facts;
+  scanned = λ channel octets pdu on doing is_on hears.
+      inl (sends_on (link_at 0 facts.links) (asks_if (true && does_ask (scan_answer on.params facts.view.accepted on.recent pdu)) channel pdu)
+      (with_scanner (scanner_after on facts.view.accepted pdu) facts) same);
+  answered = λ channel octets pdu on doing is_on hears.
+      inl (sends_on (link_at 0 facts.links) (asks_if (false && does_ask (scan_answer on.params facts.view.accepted on.recent pdu)) channel pdu)
+      (with_scanner (scanner_after on facts.view.accepted pdu) facts) same);
+  connects = λ channel octets pdu on access handle doing is_on hears answers next free in_range. inl same;
+  received = λ handle octets.
+      inl (sends_on (link_at 0 facts.links) (reply_if (replies_in (link_at handle facts.links) octets) handle)
+      (link_received handle (has_room setup facts) octets facts)
+      (under_stays handle (link_after (PacketReceived facts.turn.slot octets (has_room setup facts)))
+      (after_received facts.turn.slot octets (has_room setup facts)) facts.links));
+}
+
+step_goes : (setup : Setup) (facts : Facts) (step : Step) → IsInTurn step
+    → Goes (link_at 0 facts.links) (notes_after setup facts step) (facts_after setup facts step)
+step_goes setup facts (HostOctet octet) turn = absurd turn
+step_goes setup facts (TurnBegins slot on) turn =
+    let before = link_at 0 facts.links in
+    inl (start_keeps (StaysIn before) (StaysIn before) (kept_starts before) slot on facts (stays_same before))
+step_goes setup facts (PacketHeard octets) turn =
+    heard_is setup facts (Passes (link_at 0 facts.links)) (each_goes setup facts) facts.turn.doing octets refl
+step_goes setup facts NothingHeard turn = unheard_is setup facts (Passes (link_at 0 facts.links)) (each_goes setup facts) facts.turn.doing refl
+step_goes setup facts TurnEnds turn = inl (each_stays (option_map link_reported) (changed_stays link_reported reported_same) facts.links)
+
+-- ---- a call of a turn
+
+-- where it opens the link, that was given nothing
+abbrev pub WasSo : Bool → Option OpenLink → OpenLink → Type 0
+WasSo true before link = given_in link ≡ []
+WasSo false before link = WasGiven before link
+
+no_old : (before : Option OpenLink) (link : OpenLink) (X : Type 0) → before ≡ None → WasGiven before link → X
+no_old before link X none was = absurd (let h : None ≡ Some was.old = sym none ∙ was.was in absurd cc)
+
+was_so : (before after : Option OpenLink) (link : OpenLink) (notes : List Note) (opened : Bool) → is_opened 0 notes ≡ opened
+    → (is_opened 0 notes ≡ true → before ≡ None) → after ≡ Some link → Stays before after ⊎ (IsFresh after × is_opened 0 notes ≡ true) → WasSo opened before link
+was_so before after link notes true is free at (inl stays) = no_old before link _ (free is) (subst (Stays before) at stays)
+was_so before after link notes true is free at (inr new) = subst IsFresh at new.0
+was_so before after link notes false is free at (inl stays) = subst (Stays before) at stays
+was_so before after link notes false is free at (inr new) = absurd (let h : true ≡ false = sym new.1 ∙ is in absurd cc)
+
+pub turn_given : (setup : Setup) (past : List Step) (step : Step) → IsInTurn step → let facts = facts_of setup past in
+    (link : OpenLink) → link_at 0 (facts_after setup facts step).links ≡ Some link
+    → (opened : Bool) → is_opened 0 (notes_after setup facts step) ≡ opened → WasSo opened (link_at 0 facts.links) link
+turn_given setup past step turn link at opened is =
+    let facts = facts_of setup past in
+    was_so (link_at 0 facts.links) (link_at 0 (facts_after setup facts step).links) link (notes_after setup facts step) opened is
+    (opened_was_free 0 setup facts step (own_handles setup past)) at (step_goes setup facts step turn)

@@ -1,0 +1,143 @@
+-- An event that is of no call of a station changes nothing of what is known of its lines.
+use Rattle.std.proofs.Common.{◌≡◌, ℕ, Bool, false, List, [], ◌∷◌, ◌++◌, refl, sym, ap, subst, ◌∙◌, append-nil}
+use Rattle.std.specs.Option.{option_map}
+use Rattle.ble_base.specs.declared.notes.Note.{Note}
+use Rattle.open_links.specs.OpenLinks.{OpenLink, facts_in, link_at}
+use Rattle.one_side.specs.Facts.{Facts}
+use Rattle.one_side.specs.Side.{facts_of, notes_after, notes_of}
+use Rattle.one_side.specs.Since.{data_waiting, empties_of, since_opened}
+use Rattle.one_side.specs.Step.{Step, HostOctet}
+use Rattle.runs.specs.History.{Event, TurnBegan, HostFed, Transmitted, Hearing, noted_by, notes_in, past_of, steps_in}
+use Rattle.runs.specs.Journal.{side_of}
+use Rattle.runs.specs.Run.{Given, after_call, after_feed, after_octets, facts_at, setup_at}
+use Rattle.runs.proofs.Calls.{flat_nothing, noted_called, past_other}
+use Rattle.runs.proofs.LinksKnown.{link_by_other}
+use Rattle.journal_packets.specs.Belonging.{is_side}
+use Rattle.journal_data.proofs.HostPackets.{links_for}
+use Rattle.journal_data.specs.Lines.{Lines, data_on, empties_on}
+use Rattle.journal_data.proofs.Booked.{IsBook}
+use Rattle.journal_data.proofs.EachLine.{air_lines, fed_other, lines_at, turn_lines}
+use Rattle.journal_data.proofs.Ends.{IsWell, end_at}
+use Rattle.journal_data.proofs.FewComplete.{IsFedBetween}
+use Rattle.journal_data.proofs.StationLines.{IsStationBooked, not_one, number_event, other_lines}
+use Rattle.journal_data.proofs.Submitting.{IsSubmitted}
+use Rattle.journal_data.proofs.EachLine.{number_of}
+use Rattle.journal_data.proofs.Used.{AreUsed, IsClear, IsClearOn, IsOld, IsOldLink, IsUsed}
+
+pub record SeesSame (station : ℕ) (history after : List Event) : Type 0 where
+  pub lines : lines_at station after ≡ lines_at station history
+  pub number : number_of station after ≡ number_of station history
+  pub past : past_of station after ≡ past_of station history
+  pub noted : noted_by station after ≡ noted_by station history
+
+pub sees_then : (station : ℕ) (first second third : List Event) → SeesSame station first second → SeesSame station second third → SeesSame station first third
+sees_then station first second third one next = record {
+  lines = next.lines ∙ one.lines;
+  number = next.number ∙ one.number;
+  past = next.past ∙ one.past;
+  noted = next.noted ∙ one.noted;
+}
+
+sees_itself : (station : ℕ) (history : List Event) → SeesSame station history history
+sees_itself station history = record { lines = refl; number = refl; past = refl; noted = refl }
+
+-- ---- what stays
+
+module _ (given : Given) (station : ℕ) (history after : List Event) (same : SeesSame station history after) where
+  pub same_facts : facts_at given station after ≡ facts_at given station history
+  same_facts = ap (facts_of (setup_at given station)) same.past
+
+  same_book : IsStationBooked given station history → IsStationBooked given station after
+  same_book booked = record {
+    book =
+        subst (λ (n : ℕ). IsBook n (lines_at station after) (since_opened 0 (noted_by station after))) (sym same.number)
+        (subst (λ (lines : Lines). IsBook (number_of station history) lines (since_opened 0 (noted_by station after))) (sym same.lines)
+        (subst (λ (noted : List Note). IsBook (number_of station history) (lines_at station history) (since_opened 0 noted)) (sym same.noted) booked.book));
+    links = ap (λ (lines : Lines). lines.links) same.lines ∙ booked.links
+        ∙ (λ i. links_for (sym same.number i) (link_at 0 (sym same_facts i).links));
+  }
+
+  same_submitted : IsSubmitted given station history → IsSubmitted given station after
+  same_submitted submitted = record {
+    data_is = λ link at. (λ i. data_on (same.number i) (same.lines i))
+        ∙ submitted.data_is link (ap (λ (f : Facts). link_at 0 f.links) (sym same_facts) ∙ at);
+    empties_are = λ link at. (λ i. empties_on (same.number i) (same.lines i))
+        ∙ submitted.empties_are link (ap (λ (f : Facts). link_at 0 f.links) (sym same_facts) ∙ at)
+        ∙ ap (empties_of (setup_at given station) 0) (sym same.past);
+  }
+
+  pub same_well : IsWell given station history → IsWell given station after
+  same_well well = record {
+    noted = same.noted ∙ well.noted ∙ ap (notes_of (setup_at given station)) (sym same.past);
+    booked = same_book well.booked;
+    submitted = same_submitted well.submitted;
+    fed = ap (λ (lines : Lines). lines.fed) same.lines ∙ well.fed ∙ ap (λ (f : Facts). f.octets) (sym same_facts);
+    few = record { fed = subst IsFedBetween (sym same.past) well.few.fed };
+  }
+
+  pub same_end : end_at given station after ≡ end_at given station history
+  same_end = λ i. option_map (λ (link : OpenLink). record { link = same.number i; facts = facts_in link; waiting = data_waiting 0 (same_facts i).received })
+      (link_at 0 (same_facts i).links)
+
+  pub same_used : ((number : ℕ) → IsOldLink number history → IsOldLink number after) → AreUsed station history → AreUsed station after
+  same_used still used = λ number. by number (used number)
+    where
+      by : (number : ℕ) → IsUsed station number history → IsUsed station number after
+      by number (IsOld old) = IsOld (still number old)
+      by number (IsClear clear) = IsClear (subst (IsClearOn number) (sym same.lines) clear)
+
+-- ---- events that are of no call of it
+
+pub sees_turn : (station : ℕ) (history : List Event) (slot : ℕ) (radios : List Bool) → SeesSame station history (history ++ TurnBegan slot radios ∷ [])
+sees_turn station history slot radios = record {
+  lines = turn_lines station history slot radios;
+  number = number_event station history (TurnBegan slot radios) refl;
+  past = flat_nothing (steps_in station) history (TurnBegan slot radios) refl;
+  noted = flat_nothing (notes_in station) history (TurnBegan slot radios) refl;
+}
+
+pub sees_packet : (station : ℕ) (history : List Event) (sender channel : ℕ) (octets : List ℕ) (hearings : List Hearing)
+    → SeesSame station history (history ++ Transmitted sender channel octets hearings ∷ [])
+sees_packet station history sender channel octets hearings = record {
+  lines = air_lines station history sender channel octets hearings;
+  number = number_event station history (Transmitted sender channel octets hearings) refl;
+  past = flat_nothing (steps_in station) history (Transmitted sender channel octets hearings) refl;
+  noted = flat_nothing (notes_in station) history (Transmitted sender channel octets hearings) refl;
+}
+
+pub sees_other_call : (given : Given) (station other : ℕ) (step : Step) (history : List Event) → is_side (side_of other) (side_of station) ≡ false
+    → SeesSame station history (after_call given other step history)
+sees_other_call given station other step history differs =
+    let notes = notes_after (setup_at given other) (facts_at given other history) step in
+    let apart = not_one station other differs in
+    record {
+      lines = other_lines station other step notes history differs;
+      number = link_by_other other step notes history station 0 apart;
+      past = past_other station other step notes history apart;
+      noted = noted_called station other step notes history false apart ∙ append-nil (noted_by station history);
+    }
+
+sees_fed : (station other : ℕ) (octets : List ℕ) (history : List Event) → is_side (side_of other) (side_of station) ≡ false
+    → SeesSame station history (history ++ HostFed other octets ∷ [])
+sees_fed station other octets history differs = record {
+  lines = fed_other station other history octets differs;
+  number = number_event station history (HostFed other octets) refl;
+  past = flat_nothing (steps_in station) history (HostFed other octets) refl;
+  noted = flat_nothing (notes_in station) history (HostFed other octets) refl;
+}
+
+sees_other_octets : (given : Given) (station other : ℕ) (octets : List ℕ) (history : List Event) → is_side (side_of other) (side_of station) ≡ false
+    → SeesSame station history (after_octets given other octets history)
+sees_other_octets given station other [] history differs = sees_itself station history
+sees_other_octets given station other (octet ∷ octets) history differs =
+    let next = after_call given other (HostOctet octet) history in
+    sees_then station history next _ (sees_other_call given station other (HostOctet octet) history differs)
+    (sees_other_octets given station other octets next differs)
+
+pub sees_other_feed : (given : Given) (station other : ℕ) (octets : List ℕ) (history : List Event) → is_side (side_of other) (side_of station) ≡ false
+    → SeesSame station history (after_feed given other octets history)
+sees_other_feed given station other [] history differs = sees_itself station history
+sees_other_feed given station other (octet ∷ octets) history differs =
+    let fed = history ++ HostFed other (octet ∷ octets) ∷ [] in
+    sees_then station history fed _ (sees_fed station other (octet ∷ octets) history differs)
+    (sees_other_octets given station other (octet ∷ octets) fed differs)

@@ -1,0 +1,432 @@
+-- What the lines of a side say that its host submitted is what the link of its controller was given, after each feed.
+use Rattle.std.proofs.Common.{◌≡◌, ℕ, ◌+◌, ◌≤◌, ◌==◌, Bool, true, false, List, [], ◌∷◌, ◌++◌, Option, Some, None, length, refl, sym, ap, subst, ◌∙◌, append-nil, append_assoc, arith}
+use Rattle.std.specs.Prelude.{◌-◌, ◌&&◌, fold, map, if◌then◌else◌}
+use Rattle.std.specs.List.{sum_by}
+use Rattle.std.proofs.lemmas.Bool.{or_parts}
+use Rattle.std.proofs.lemmas.Bool.Decides.{nat_tests}
+use Rattle.std.proofs.lemmas.List.{length-append, length-map}
+use Rattle.std.proofs.lemmas.List.Filters.{length-filter_both}
+use Rattle.std.proofs.lemmas.List.Sums.{sum_by-cons}
+use Rattle.std.proofs.lemmas.Option.{same_Some}
+use Rattle.ble_base.specs.declared.roles.Side.{Side}
+use Rattle.ble_base.specs.declared.notes.Note.{Note}
+use Rattle.ble_base.specs.declared.notes.Note.TheVariants.{Up, Opened, Shut, Sent, Took, Enter, Applied, Began, Refused, Done}
+use Rattle.h4_frames.specs.declared.packet.Fed.{Fed}
+use Rattle.h4_frames.specs.declared.packet.Fed.TheVariants.{More, Packet, LostSync}
+use Rattle.h4_frames.specs.declared.packet.HostPacket.TheVariants.{Command, Acl}
+use Rattle.acl_banks.specs.History.{HostData}
+use Rattle.acl_banks.specs.Packets.{DataPacket}
+use Rattle.one_end.proofs.Sending.{past_holds}
+use Rattle.open_links.specs.Data.{buffers_in, buffers_taken, complete_in}
+use Rattle.open_links.specs.OpenLinks.{Links as OpenLinks, OpenLink, facts_in, link_at}
+use Rattle.one_side.specs.Facts.{Setup, Facts, first_facts}
+use Rattle.one_side.specs.Side.{facts_after, facts_of, notes_after, result_of}
+use Rattle.one_side.specs.Step.{Step, HostOctet}
+use Rattle.one_side.proofs.Always.{IsInTurn}
+use Rattle.one_side.proofs.Feds.{more_octets, turn_octets}
+use Rattle.one_side.proofs.Handles.{own_handles}
+use Rattle.runs.specs.History.{Event, HostFed, Called, Noted, past_of}
+use Rattle.runs.specs.Journal.{entry_of, side_of}
+use Rattle.runs.specs.Links.{Links, links_of}
+use Rattle.runs.specs.Run.{Given, after_call, after_feed, after_octets, facts_at, setup_at}
+use Rattle.runs.proofs.Calls.{past_own, with_notes}
+use Rattle.runs.proofs.LinksKnown.{link_by_own, links_event}
+use Rattle.runs.proofs.OpenedNotes.{is_opened, outside_open}
+use Rattle.run_laws.proofs.Hearings.{own_facts}
+use Rattle.run_laws.proofs.TurnPlaces.{event_past}
+use Rattle.one_side.specs.Since.{count_fed, count_given, count_since, empties_from, empties_of}
+use Rattle.journal_data.specs.HostLines.{OpenUnder, Submitted, has_octets, kept_of, packets_framed}
+use Rattle.journal_data.specs.Lines.{Lines, buffers_taken as lines_taken, credited_on, data_on, empties_on, line_after, submitted_on}
+use Rattle.journal_data.proofs.EachLine.{number_of}
+use Rattle.journal_data.proofs.EachLine.{call_lines, fed_lines, lines_at, note_lines}
+use Rattle.journal_data.proofs.HostPackets.{HasAll, PlaceHas, has_none, links_for, more_framed, none_framed, octet_taken, packets_of}
+
+-- ---- the notes of a call say nothing of what is submitted
+
+note_submits : (lines : Lines) (side : Side) (link_of : ℕ → ℕ) (last : ℕ) (note : Note)
+    → (line_after 8 lines (entry_of side link_of last note)).submitted ≡ lines.submitted
+note_submits lines side link_of last (Up packet) = refl
+note_submits lines side link_of last (Opened handle role own peer) = refl
+note_submits lines side link_of last (Shut handle reason) = refl
+note_submits lines side link_of last (Sent handle number llid body) = refl
+note_submits lines side link_of last (Took handle number llid body) = refl
+note_submits lines side link_of last (Enter handle event channel) = refl
+note_submits lines side link_of last (Applied handle number event) = refl
+note_submits lines side link_of last (Began handle kind) = refl
+note_submits lines side link_of last (Refused handle kind code) = refl
+note_submits lines side link_of last (Done handle kind) = refl
+
+note_feeds : (lines : Lines) (side : Side) (link_of : ℕ → ℕ) (last : ℕ) (note : Note)
+    → (line_after 8 lines (entry_of side link_of last note)).fed ≡ lines.fed
+note_feeds lines side link_of last (Up packet) = refl
+note_feeds lines side link_of last (Opened handle role own peer) = refl
+note_feeds lines side link_of last (Shut handle reason) = refl
+note_feeds lines side link_of last (Sent handle number llid body) = refl
+note_feeds lines side link_of last (Took handle number llid body) = refl
+note_feeds lines side link_of last (Enter handle event channel) = refl
+note_feeds lines side link_of last (Applied handle number event) = refl
+note_feeds lines side link_of last (Began handle kind) = refl
+note_feeds lines side link_of last (Refused handle kind code) = refl
+note_feeds lines side link_of last (Done handle kind) = refl
+
+-- a field that notes leave as it is
+module _ {X : Type 0} (field : Lines → X)
+    (leaves : (lines : Lines) (side : Side) (link_of : ℕ → ℕ) (last : ℕ) (note : Note)
+    → field (line_after 8 lines (entry_of side link_of last note)) ≡ field lines) where
+  notes_leave : (station : ℕ) (notes : List Note) (history : List Event)
+      → field (lines_at station (history ++ map (Noted station) notes)) ≡ field (lines_at station history)
+  notes_leave station [] history = ap (λ (h : List Event). field (lines_at station h)) (append-nil history)
+  notes_leave station (note ∷ notes) history =
+      ap (λ (h : List Event). field (lines_at station h)) (sym (append_assoc history (Noted station note ∷ []) (map (Noted station) notes)))
+      ∙ notes_leave station notes (history ++ Noted station note ∷ [])
+      ∙ ap field (note_lines station history note)
+      ∙ leaves (lines_at station history) (side_of station) ((links_of history).link_of station) ((links_of history).last_of station) note
+
+  call_leaves : (station : ℕ) (step : Step) (notes : List Note) (history : List Event)
+      → field (lines_at station (with_notes station step notes history)) ≡ field (lines_at station history)
+  call_leaves station step notes history =
+      ap (λ (h : List Event). field (lines_at station h)) (sym (append_assoc history (Called station step ∷ []) (map (Noted station) notes)))
+      ∙ notes_leave station notes (history ++ Called station step ∷ [])
+      ∙ ap field (call_lines station history station step)
+
+pub call_submits : (station : ℕ) (step : Step) (notes : List Note) (history : List Event)
+    → (lines_at station (with_notes station step notes history)).submitted ≡ (lines_at station history).submitted
+call_submits station step notes history = call_leaves (λ lines. lines.submitted) note_submits station step notes history
+
+-- ---- how many packets of no octet
+
+empties_on_from : (setup : Setup) (handle : ℕ) (facts : Facts) (count : ℕ) (past : List Step) (step : Step)
+    → empties_from setup handle facts count (past ++ step ∷ [])
+    ≡ count_given handle (fold (facts_after setup) facts past) step
+    (fold (count_since handle) (empties_from setup handle facts count past) (notes_after setup (fold (facts_after setup) facts past) step))
+empties_on_from setup handle facts count [] step = refl
+empties_on_from setup handle facts count (first ∷ past) step =
+    empties_on_from setup handle (facts_after setup facts first)
+    (count_given handle facts first (fold (count_since handle) count (notes_after setup facts first))) past step
+
+pub empties_more : (setup : Setup) (handle : ℕ) (past : List Step) (step : Step)
+    → empties_of setup handle (past ++ step ∷ [])
+    ≡ count_given handle (facts_of setup past) step
+    (fold (count_since handle) (empties_of setup handle past) (notes_after setup (facts_of setup past) step))
+unfolding empties_of facts_of
+empties_more setup handle past step = empties_on_from setup handle (first_facts setup) 0 past step
+
+-- they are not counted anew where no link is opened
+pub other_handle : (handle : ℕ) → (0 == handle) ≡ false → (handle == 0) ≡ false
+other_handle handle is = grind (arith, nat_tests)
+
+pub counted_on : (count : ℕ) (notes : List Note) → is_opened 0 notes ≡ false → fold (count_since 0) count notes ≡ count
+counted_on count [] none = refl
+counted_on count (Opened handle role own peer ∷ notes) none =
+    let parts = or_parts (0 == handle) (is_opened 0 notes) none in
+    ap (λ (b : Bool). fold (count_since 0) (if b then 0 else count) notes) (other_handle handle parts.0)
+    ∙ counted_on count notes parts.1
+counted_on count (note ∷ notes) none = counted_on count notes none
+
+-- this number more
+counted_fed : (fed : Fed) (count : ℕ) → count_fed 0 fed count ≡ count_fed 0 fed 0 + count
+counted_fed (Packet (Acl handle start octets body)) count = by ((handle == 0) && (octets == 0))
+  where
+    by : (is : Bool) → (if is then count + 1 else count) ≡ (if is then 0 + 1 else 0) + count
+    by true = omega arith
+    by false = omega arith
+counted_fed (Packet (Command opcode body)) count = omega arith
+counted_fed LostSync count = omega arith
+counted_fed More count = omega arith
+
+empties_octet : (setup : Setup) (past : List Step) (octet : ℕ)
+    → empties_of setup 0 (past ++ HostOctet octet ∷ []) ≡ count_fed 0 (result_of (facts_of setup past).octets octet) 0 + empties_of setup 0 past
+empties_octet setup past octet =
+    let facts = facts_of setup past in
+    empties_more setup 0 past (HostOctet octet)
+    ∙ ap (count_fed 0 (result_of facts.octets octet))
+    (counted_on (empties_of setup 0 past) (notes_after setup facts (HostOctet octet)) (outside_open 0 setup facts (HostOctet octet) refl))
+    ∙ counted_fed (result_of facts.octets octet) (empties_of setup 0 past)
+
+-- ---- in the middle of what a turn feeds
+
+-- what is kept of octets that are left
+abbrev pub kept_left : ℕ → Facts → List ℕ → List Submitted
+kept_left number facts left =
+    kept_of 8 (links_for number (link_at 0 facts.links)) (buffers_taken facts.links) (packets_framed facts.octets left)
+
+pub none_left : (number : ℕ) (facts : Facts) → kept_left number facts [] ≡ []
+none_left number facts =
+    ap (kept_of 8 (links_for number (link_at 0 facts.links)) (buffers_taken facts.links)) (none_framed facts.octets)
+
+pub octet_left : (number : ℕ) (setup : Setup) (past : List Step) (octet : ℕ) (left : List ℕ) (one : setup.links ≤ 1) (eight : setup.host_buffers ≡ 8)
+    → kept_left number (facts_of setup past) (octet ∷ left)
+    ≡ (octet_taken number setup past octet one eight).kept ++ kept_left number (facts_after setup (facts_of setup past) (HostOctet octet)) left
+octet_left number setup past octet left one eight =
+    let facts = facts_of setup past in
+    let after = facts_after setup facts (HostOctet octet) in
+    let result = result_of facts.octets octet in
+    ap (kept_of 8 (links_for number (link_at 0 facts.links)) (buffers_taken facts.links))
+    (more_framed facts.octets octet left
+    ∙ ap (λ (before : List ℕ). packets_of result ++ packets_framed before left) (sym (more_octets setup facts octet)))
+    ∙ (octet_taken number setup past octet one eight).ahead (packets_framed after.octets left)
+
+-- the lines are ahead by that
+pub record IsAhead (number : ℕ) (submitted : List Submitted) (fed : List ℕ) (facts : Facts) (empties : ℕ) (left : List ℕ) : Type 0 where
+  pub so_far : List Submitted
+  pub submitted_are : submitted ≡ so_far ++ kept_left number facts left
+  pub has : PlaceHas number so_far empties (link_at 0 facts.links)
+  pub fed_are : fed ≡ facts.octets ++ left
+
+ahead_by : {number now : ℕ} {submitted later : List Submitted} {fed octets : List ℕ} {facts after : Facts} {empties count : ℕ} (left : List ℕ)
+    → now ≡ number → later ≡ submitted → octets ≡ fed → after ≡ facts → count ≡ empties
+    → IsAhead number submitted fed facts empties left → IsAhead now later octets after count left
+ahead_by left a b c d e ahead = rw (a, b, c, d, e) ahead
+
+octet_ahead : (number : ℕ) (submitted : List Submitted) (fed : List ℕ) (setup : Setup) (past : List Step) (empties octet : ℕ) (left : List ℕ)
+    → setup.links ≤ 1 → setup.host_buffers ≡ 8 → let facts = facts_of setup past in
+    IsAhead number submitted fed facts empties (octet ∷ left)
+    → IsAhead number submitted fed (facts_after setup facts (HostOctet octet)) (count_fed 0 (result_of facts.octets octet) 0 + empties) left
+octet_ahead number submitted fed setup past empties octet left one eight ahead =
+    let facts = facts_of setup past in
+    let takes = octet_taken number setup past octet one eight in
+    let octets_are = more_octets setup facts octet in
+    record {
+      so_far = ahead.so_far ++ takes.kept;
+      submitted_are = ahead.submitted_are
+          ∙ ap (λ (kept : List Submitted). ahead.so_far ++ kept) (octet_left number setup past octet left one eight)
+          ∙ sym (append_assoc ahead.so_far takes.kept (kept_left number (facts_after setup facts (HostOctet octet)) left));
+      has = takes.has ahead.so_far empties ahead.has;
+      fed_are = ahead.fed_are ∙ sym (append_assoc facts.octets (octet ∷ []) left)
+          ∙ ap (λ (before : List ℕ). before ++ left) (sym octets_are);
+    }
+
+abbrev pub AheadAt : Given → ℕ → List ℕ → List Event → Type 0
+AheadAt given station left history =
+    IsAhead (number_of station history) (lines_at station history).submitted (lines_at station history).fed (facts_at given station history)
+    (empties_of (setup_at given station) 0 (past_of station history)) left
+
+-- an octet opens no link
+pub same_number : (given : Given) (station octet : ℕ) (history : List Event)
+    → number_of station (after_call given station (HostOctet octet) history) ≡ number_of station history
+same_number given station octet history =
+    let setup = setup_at given station in
+    let facts = facts_at given station history in
+    link_by_own station (HostOctet octet) (notes_after setup facts (HostOctet octet)) history 0
+    ∙ ap (λ (b : Bool). if b then (links_of history).last_of station else number_of station history)
+    (outside_open 0 setup facts (HostOctet octet) refl)
+
+pub call_ahead : (given : Given) (station octet : ℕ) (left : List ℕ) (history : List Event) → (setup_at given station).links ≤ 1
+    → (setup_at given station).host_buffers ≡ 8 → AheadAt given station (octet ∷ left) history
+    → AheadAt given station left (after_call given station (HostOctet octet) history)
+call_ahead given station octet left history one eight ahead =
+    let setup = setup_at given station in
+    let facts = facts_at given station history in
+    let notes = notes_after setup facts (HostOctet octet) in
+    ahead_by left
+    (same_number given station octet history)
+    (call_submits station (HostOctet octet) notes history)
+    (call_leaves (λ lines. lines.fed) note_feeds station (HostOctet octet) notes history)
+    (own_facts given station (HostOctet octet) history)
+    (ap (empties_of setup 0) (past_own station (HostOctet octet) notes history) ∙ empties_octet setup (past_of station history) octet)
+    (octet_ahead (number_of station history) (lines_at station history).submitted (lines_at station history).fed setup (past_of station history)
+    (empties_of setup 0 (past_of station history)) octet left one eight ahead)
+
+octets_ahead : (given : Given) (station : ℕ) (left : List ℕ) (history : List Event) → (setup_at given station).links ≤ 1
+    → (setup_at given station).host_buffers ≡ 8 → AheadAt given station left history → AheadAt given station [] (after_octets given station left history)
+octets_ahead given station [] history one eight ahead = ahead
+octets_ahead given station (octet ∷ left) history one eight ahead =
+    octets_ahead given station left (after_call given station (HostOctet octet) history) one eight
+    (call_ahead given station octet left history one eight ahead)
+
+-- ---- between feeds
+
+-- the octets that the lines have are those of the controller
+abbrev pub HasFed : Given → ℕ → List Event → Type 0
+HasFed given station history = (lines_at station history).fed ≡ (facts_at given station history).octets
+
+-- so are the open link and the number of buffers that are taken
+pub record AreInStep (given : Given) (station : ℕ) (history : List Event) : Type 0 where
+  pub fed : HasFed given station history
+  pub links : (lines_at station history).links
+      ≡ links_for ((links_of history).link_of station 0) (link_at 0 (facts_at given station history).links)
+  pub taken : lines_taken (lines_at station history) ≡ buffers_taken (facts_at given station history).links
+
+-- what the lines have of the link under the handle 0 is what the controller has
+pub record IsSubmitted (given : Given) (station : ℕ) (history : List Event) : Type 0 where
+  pub data_is : (link : OpenLink) → link_at 0 (facts_at given station history).links ≡ Some link
+      → data_on ((links_of history).link_of station 0) (lines_at station history) ≡ (facts_in link).outgoing.given
+  pub empties_are : (link : OpenLink) → link_at 0 (facts_at given station history).links ≡ Some link
+      → empties_on ((links_of history).link_of station 0) (lines_at station history)
+      ≡ empties_of (setup_at given station) 0 (past_of station history)
+
+place_from : (number : ℕ) (submitted : List Submitted) (empties : ℕ) (place : Option OpenLink)
+    → ((link : OpenLink) → place ≡ Some link → HasAll number submitted empties link) → PlaceHas number submitted empties place
+place_from number submitted empties None has = tt
+place_from number submitted empties (Some link) has = has link refl
+
+place_to : (number : ℕ) (submitted : List Submitted) (empties : ℕ) (place : Option OpenLink) → PlaceHas number submitted empties place
+    → (link : OpenLink) → place ≡ Some link → HasAll number submitted empties link
+place_to number submitted empties None has link is = absurd (cc is)
+place_to number submitted empties (Some one) has link is =
+    subst (HasAll number submitted empties) (same_Some one link is) has
+
+pub fed_ahead : (given : Given) (station : ℕ) (octets : List ℕ) (history : List Event) → AreInStep given station history
+    → IsSubmitted given station history → AheadAt given station octets (history ++ HostFed station octets ∷ [])
+fed_ahead given station octets history step submitted =
+    let lines = lines_at station history in
+    let facts = facts_at given station history in
+    let number = number_of station history in
+    let setup = setup_at given station in
+    let fed = fed_lines station history octets in
+    let past = event_past station history (HostFed station octets) refl in
+    ahead_by octets
+    (ap (λ (links : Links). links.link_of station 0) (links_event history (HostFed station octets)))
+    (ap (λ (after : Lines). after.submitted) fed) (ap (λ (after : Lines). after.fed) fed)
+    (ap (facts_of setup) past) (ap (empties_of setup 0) past)
+    (record {
+      so_far = lines.submitted;
+      submitted_are = λ i. lines.submitted ++ kept_of 8 (step.links i) (step.taken i) (packets_framed (step.fed i) octets);
+      has = place_from number lines.submitted (empties_of setup 0 (past_of station history)) (link_at 0 facts.links)
+          (λ link is. record { data_is = submitted.data_is link is; empties_are = submitted.empties_are link is });
+      fed_are = ap (λ (before : List ℕ). before ++ octets) step.fed;
+    })
+
+none_ahead : (given : Given) (station : ℕ) (history : List Event) → AheadAt given station [] history → IsSubmitted given station history
+none_ahead given station history ahead =
+    let lines = lines_at station history in
+    let facts = facts_at given station history in
+    let number = number_of station history in
+    let empties = empties_of (setup_at given station) 0 (past_of station history) in
+    let all : lines.submitted ≡ ahead.so_far = ahead.submitted_are
+    ∙ ap (λ (kept : List Submitted). ahead.so_far ++ kept) (none_left number facts)
+    ∙ append-nil ahead.so_far in
+    let has = subst (λ (submitted : List Submitted). PlaceHas number submitted empties (link_at 0 facts.links)) (sym all) ahead.has in
+    record {
+      data_is = λ link is. (place_to number lines.submitted empties (link_at 0 facts.links) has link is).data_is;
+      empties_are = λ link is. (place_to number lines.submitted empties (link_at 0 facts.links) has link is).empties_are;
+    }
+
+pub feed_submitted : (given : Given) (station : ℕ) (octets : List ℕ) (history : List Event) → (setup_at given station).links ≤ 1
+    → (setup_at given station).host_buffers ≡ 8 → AreInStep given station history → IsSubmitted given station history
+    → IsSubmitted given station (after_feed given station octets history)
+feed_submitted given station [] history one eight step submitted = submitted
+feed_submitted given station (octet ∷ octets) history one eight step submitted =
+    none_ahead given station _
+    (octets_ahead given station (octet ∷ octets) (history ++ HostFed station (octet ∷ octets) ∷ []) one eight
+    (fed_ahead given station (octet ∷ octets) history step submitted))
+
+-- ---- the octets that the lines have
+
+own_octets : (given : Given) (station octet : ℕ) (history : List Event)
+    → (facts_at given station (after_call given station (HostOctet octet) history)).octets
+    ≡ (facts_at given station history).octets ++ octet ∷ []
+own_octets given station octet history =
+    ap (λ (facts : Facts). facts.octets) (own_facts given station (HostOctet octet) history)
+    ∙ more_octets (setup_at given station) (facts_at given station history) octet
+
+call_fed : (given : Given) (station : ℕ) (step : Step) (history : List Event)
+    → (lines_at station (after_call given station step history)).fed ≡ (lines_at station history).fed
+call_fed given station step history =
+    call_leaves (λ lines. lines.fed) note_feeds station step (notes_after (setup_at given station) (facts_at given station history) step) history
+
+octets_fed : (given : Given) (station : ℕ) (octets : List ℕ) (history : List Event)
+    → (lines_at station history).fed ≡ (facts_at given station history).octets ++ octets → HasFed given station (after_octets given station octets history)
+octets_fed given station [] history is = is ∙ append-nil (facts_at given station history).octets
+octets_fed given station (octet ∷ octets) history is =
+    octets_fed given station octets (after_call given station (HostOctet octet) history)
+    (call_fed given station (HostOctet octet) history ∙ is
+    ∙ sym (append_assoc (facts_at given station history).octets (octet ∷ []) octets)
+    ∙ ap (λ (before : List ℕ). before ++ octets) (sym (own_octets given station octet history)))
+
+-- a feed keeps them
+pub feed_fed : (given : Given) (station : ℕ) (octets : List ℕ) (history : List Event) → HasFed given station history
+    → HasFed given station (after_feed given station octets history)
+feed_fed given station [] history is = is
+feed_fed given station (octet ∷ octets) history is =
+    octets_fed given station (octet ∷ octets) (history ++ HostFed station (octet ∷ octets) ∷ [])
+    (ap (λ (lines : Lines). lines.fed) (fed_lines station history (octet ∷ octets))
+    ∙ ap (λ (before : List ℕ). before ++ octet ∷ octets) is
+    ∙ ap (λ (past : List Step). (facts_of (setup_at given station) past).octets ++ octet ∷ octets)
+    (sym (event_past station history (HostFed station (octet ∷ octets)) refl)))
+
+-- and so does any other call
+pub turn_fed : (given : Given) (station : ℕ) (step : Step) (history : List Event) → IsInTurn step → HasFed given station history
+    → HasFed given station (after_call given station step history)
+turn_fed given station step history turn is =
+    call_fed given station step history ∙ is
+    ∙ sym (ap (λ (facts : Facts). facts.octets) (own_facts given station step history)
+    ∙ turn_octets (setup_at given station) (facts_at given station history) step turn)
+
+-- ---- the buffers that are taken
+
+abbrev given_data : DataPacket → HostData
+given_data packet = record { start = packet.start; body = packet.body }
+
+-- each packet that an end was given is reported, complete, or waits
+pub all_given : (link : OpenLink) → let outgoing = (facts_in link).outgoing in
+    length outgoing.given ≡ outgoing.reported + outgoing.complete + length outgoing.packets
+all_given link =
+    let outgoing = (facts_in link).outgoing in
+    let kept = (past_holds link.setup link.past).kept in
+    let all = ap length kept.taken in
+    let parts = length-append kept.complete (map given_data outgoing.packets) in
+    let waiting = length-map outgoing.packets given_data in
+    let counted = kept.counted in
+    omega (arith, all, parts, waiting, counted)
+
+one_place : (links : OpenLinks) → length links ≤ 1 → buffers_taken links ≡ buffers_in (link_at 0 links)
+one_place [] few = refl
+one_place (place ∷ []) few = let sum = sum_by-cons buffers_in place [] in omega (arith, sum)
+one_place (first ∷ second ∷ links) few = absurd (omega (arith, few))
+
+-- the packets of a link that are not credited, by the lines
+abbrev taken_on : Lines → OpenUnder → ℕ
+taken_on lines one = length (submitted_on one.link lines) - credited_on one.link lines
+
+lines_place : (number : ℕ) (lines : Lines) (place : Option OpenLink) → lines.links ≡ links_for number place
+    → ((link : OpenLink) → place ≡ Some link → length (submitted_on number lines) - credited_on number lines ≡ length (facts_in link).outgoing.packets)
+    → lines_taken lines ≡ buffers_in place
+lines_place number lines None are waits = ap (sum_by (taken_on lines)) are
+lines_place number lines (Some link) are waits =
+    let one : OpenUnder = record { link = number; handle = 0 } in
+    let sum = ap (sum_by (taken_on lines)) are ∙ sum_by-cons (taken_on lines) one [] in
+    let each = waits link refl in
+    omega (arith, sum, each)
+
+uncredited : (number : ℕ) (lines : Lines) (link : OpenLink) → let outgoing = (facts_in link).outgoing in
+    data_on number lines ≡ outgoing.given → outgoing.complete ≡ 0 → credited_on number lines ≡ outgoing.reported + empties_on number lines
+    → length (submitted_on number lines) - credited_on number lines ≡ length outgoing.packets
+uncredited number lines link data_is none credited =
+    let both = length-filter_both has_octets has_none (λ packet. refl) (submitted_on number lines) in
+    let with_octets = ap length data_is in
+    let all = all_given link in
+    omega (arith, both, with_octets, all, none, credited)
+
+-- as a feed begins the lines and the controller have the same number
+pub taken_agree : (given : Given) (station : ℕ) (history : List Event) → (setup_at given station).links ≤ 1
+    → let number = (links_of history).link_of station 0 in
+    let lines = lines_at station history in
+    let links = (facts_at given station history).links in
+    lines.links ≡ links_for number (link_at 0 links)
+    → ((link : OpenLink) → link_at 0 links ≡ Some link → complete_in link ≡ 0)
+    → ((link : OpenLink) → link_at 0 links ≡ Some link → credited_on number lines ≡ (facts_in link).outgoing.reported + empties_on number lines)
+    → IsSubmitted given station history → lines_taken lines ≡ buffers_taken links
+taken_agree given station history one are none credited submitted =
+    let number = (links_of history).link_of station 0 in
+    let lines = lines_at station history in
+    let links = (facts_at given station history).links in
+    let many = (own_handles (setup_at given station) (past_of station history)).many in
+    lines_place number lines (link_at 0 links) are
+    (λ link is. uncredited number lines link (submitted.data_is link is) (none link is) (credited link is))
+    ∙ sym (one_place links (omega (arith, many, one)))
+
+-- and so they are in step
+pub in_step : (given : Given) (station : ℕ) (history : List Event) → (setup_at given station).links ≤ 1
+    → let number = (links_of history).link_of station 0 in
+    let lines = lines_at station history in
+    let links = (facts_at given station history).links in
+    HasFed given station history → lines.links ≡ links_for number (link_at 0 links)
+    → ((link : OpenLink) → link_at 0 links ≡ Some link → complete_in link ≡ 0)
+    → ((link : OpenLink) → link_at 0 links ≡ Some link → credited_on number lines ≡ (facts_in link).outgoing.reported + empties_on number lines)
+    → IsSubmitted given station history → AreInStep given station history
+in_step given station history one fed are none credited submitted = record {
+  fed = fed;
+  links = are;
+  taken = taken_agree given station history one are none credited submitted;
+}

@@ -1,0 +1,4 @@
+-- The definitions of this crate.
+pub mod HostLines
+pub mod Lines
+pub mod Delivered

@@ -1,0 +1,33 @@
+//! That data arrives in order in every run of a pair, from the lines of its journal. The body only
+//! calls the laws that it rests on: the contract is the law.
+ghost use Rattle.std.specs.Prelude.{◌≡◌, ℕ, List, length};
+ghost use Rattle.radio_replay.specs.Script.{Script};
+ghost use Rattle.runs.specs.Journal.{journal_of};
+ghost use Rattle.runs.specs.Pair.{given_of};
+ghost use Rattle.runs.specs.Run.{history_of, run_of};
+ghost use Rattle.journal_data.specs.Delivered.{AllDataArrives};
+
+/// In the journal of a run of a pair, whole or ended by damage, after each of its lines, on each
+/// link and from each side to the other (Core 5.2, volume 4 part E, section 4.1, and volume 6 part
+/// B, section 4.5.9):
+///
+/// - the PDUs with a payload that one side took are the first of those that the other sent, in
+///   order, each once, with their numbers, and at most one was sent and not taken;
+/// - the data that the host of one side received is the first octets of what its side accepted, and
+///   these are the first octets of what the other host submitted, each first octet of a message
+///   marked;
+/// - of the packets of a host no more are reported as complete than those that had no octet, and
+///   those that the other side accepted whole.
+///
+/// What a host submits are its packets that are kept, for a link that is open: one that is longer
+/// than a buffer is dropped, and so is one that comes while all eight buffers are taken.
+pub fn data_arrives_in_order_in_every_journal()
+    ensures { (a b : List ℕ) (script : Script) → length script.a.public ≡ 6
+        → length script.b.public ≡ 6
+        → AllDataArrives (journal_of (history_of (run_of (given_of a b script)))) }
+{
+    one_side::a_pdu_is_understood();
+    advertise::laws::connections_are_taken();
+    scan_init::laws::searches_give_each_valid_address();
+    air_frame::laws::packet_tells_its_pdu();
+}

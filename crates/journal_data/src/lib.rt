@@ -1,0 +1,12 @@
+//! What the hosts of a pair submit and receive on their links, from the lines of a journal, and the
+//! laws of each run of a pair about that. None of them names code.
+#![tactic(auto)]
+
+mod delivery;
+mod rows;
+
+pub use crate::delivery::data_arrives_in_order_in_every_journal;
+pub use crate::rows::{
+    worked_buffers, worked_delivery, worked_dropped, worked_next_link, worked_received,
+    worked_submitted,
+};
