@@ -4,6 +4,7 @@ use Rattle.outside.specs.Known.{WhereKnown}
 use Rattle.ble_base.specs.declared.Config.{Config}
 use Rattle.journal.specs.declared.entries.Entry.{Entry}
 use Rattle.journal.specs.Text.{text}
+use Rattle.journal_data.specs.Delivered.{AllDataArrives}
 use Rattle.runs.specs.Pair.{given_of, IsRun, EndsUnseen}
 use Rattle.runs.specs.Run.{Given}
 use Rattle.radio_replay.specs.Schedule.{Right, Wrong, TooMany, schedule_of, line_number}
@@ -47,7 +48,9 @@ AllFit reads = Fits reads A × Fits reads B × Fits reads Schedule
 -- ---- journals
 
 -- a fact of the text of some journal of this kind: a journal of these streams and of this schedule's text, which has
--- no line at fault
+-- no line at fault. After each line of that journal, on each link, what the host of one side received is the first
+-- octets of what the host of the other submitted, and no packet is reported as complete that the other side did not
+-- accept whole
 pub record OfJournal (is_journal : Given → List Entry → Type 0) (fact : List ℕ → Type 0) (a b schedule : List ℕ)
     : Type 0 where
   pub config_a : Config
@@ -56,6 +59,7 @@ pub record OfJournal (is_journal : Given → List Entry → Type 0) (fact : List
   pub journal : List Entry
   pub no_fault : schedule_of schedule ≡ Right config_a config_b turns
   pub is_of_kind : is_journal (given_of a b (record { a = config_a; b = config_b; turns = turns })) journal
+  pub arrives : AllDataArrives journal
   pub holds : fact (text journal)
 
 -- a fact of the text of the journal of the whole run

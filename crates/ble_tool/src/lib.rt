@@ -2,6 +2,8 @@
 #![tactic(auto)]
 
 mod commands;
+#[cfg(test)]
+mod data_tests;
 mod faults;
 #[cfg(test)]
 mod link_tests;

@@ -1,6 +1,7 @@
 -- Why a run has no whole journal (our choice).
 use Rattle.std.specs.Prelude.{ℕ, List, ⊤}
 use Rattle.journal.specs.declared.entries.Entry.{Entry}
+use Rattle.journal_data.specs.Delivered.{AllDataArrives}
 use Rattle.runs.specs.Pair.{EndsUnseen}
 use Rattle.runs.specs.Run.{Given}
 use Rattle.pair_world.specs.declared.run.RunFault.{RunFault}
@@ -12,6 +13,11 @@ use Rattle.pair_world.specs.declared.stops.Stop.TheVariants.{Unseen, Memory}
 abbrev pub IsRunFault : Given → RunFault → Type 0
 IsRunFault given OutOfMemory = ⊤
 IsRunFault given (UnseenFault turn packet sent heard journal) = EndsUnseen given turn packet sent heard journal
+
+-- in the journal before unseen damage, data arrives in order
+abbrev pub DataArrivesSoFar : RunFault → Type 0
+DataArrivesSoFar OutOfMemory = ⊤
+DataArrivesSoFar (UnseenFault turn packet sent heard journal) = AllDataArrives journal
 
 -- the fault of a stop in the turn of this slot, with the journal so far
 abbrev pub fault_of : Stop → ℕ → List Entry → RunFault

@@ -2,6 +2,7 @@
 pub mod KnownLinks
 pub mod Logs
 pub mod Stations
+pub mod Order
 pub mod Outcomes
 pub mod Wishes
 pub mod Air

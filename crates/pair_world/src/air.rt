@@ -126,6 +126,8 @@ fn number_link(
     ensures linked { HasLinked (begins_link channel octets.now) good sender.old listener.old log.old
         sender.new listener.new log.new }
     ensures count { log.new.links ≤ log.old.links + 1 }
+    ensures held { (sender.new.held ≡ sender.old.held) × (listener.new.held
+        ≡ listener.old.held) }
 {
     if !begins_link(channel, octets) {
         return;
@@ -166,6 +168,8 @@ fn send(
         (turn.old.packets + 1) stop) }
     ensures same { OnErr result (log.new.entries ≡ log.old.entries) }
     ensures links { log.new.links ≤ log.old.links + 1 }
+    ensures held { (sender.new.held ≡ sender.old.held) × (listener.new.held
+        ≡ listener.old.held) }
     ensures count { OnOk result (turn.new.packets ≡ turn.old.packets + 1) }
     ensures same_turn { (turn.new.schedule ≡ turn.old.schedule) × (turn.new.number
         ≡ turn.old.number) }
@@ -214,6 +218,8 @@ pub(crate) fn fly(
         → IsStopped (after_packet given plan.fates
         (number_of side) history) turn.old.number log.new.entries stop) }
     ensures links { log.new.links ≤ log.old.links + 1 }
+    ensures held { (sender.new.held ≡ sender.old.held) × (listener.new.held
+        ≡ listener.old.held) }
     ensures count { OnOk result (turn.new.packets ≤ turn.old.packets + 1) }
     ensures same_turn { (turn.new.schedule ≡ turn.old.schedule) × (turn.new.number
         ≡ turn.old.number) }

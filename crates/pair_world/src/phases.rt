@@ -5,6 +5,7 @@ ghost use Rattle.radio_replay.specs.Script.{Turn as Plan};
 ghost use Rattle.runs.specs.History.{Event};
 ghost use Rattle.runs.specs.Run.{Given, after_packets, after_phase, after_phases};
 ghost use Rattle.pair_world.specs.Air.{InPhase};
+ghost use Rattle.pair_world.specs.Order.{HaveBothBegun};
 ghost use Rattle.pair_world.specs.Wishes.{heard_of};
 ghost use Rattle.pair_world.specs.Outcomes.{Reaches, IsStopped};
 ghost use Rattle.pair_world.specs.Turns.{HasHeard, PairIsUpTo};
@@ -71,6 +72,7 @@ fn transmit(
         → IsStopped (after_packets given plan.fates given.stations history) turn.old.number
         log.new.entries stop) }
     ensures links { OnOk result (log.new.links ≤ log.old.links + 2) }
+    ensures held { (pair.new.a.held ≡ pair.old.a.held) × (pair.new.b.held ≡ pair.old.b.held) }
     ensures count { OnOk result (turn.new.packets ≤ turn.old.packets + 2) }
     ensures same_turn { (turn.new.schedule ≡ turn.old.schedule) × (turn.new.number
         ≡ turn.old.number) }
@@ -122,6 +124,8 @@ fn run_phase(
         → InPhase given turn.old.number pair.old.a pair.old.b log.old wanted.now.a wanted.now.b
         turn.old.packets history
         → IsStopped (after_phase given plan.fates history) turn.old.number log.new.entries stop) }
+    ensures begun { OnOk result ((slots : ℕ) → HaveBothBegun slots pair.old.a pair.old.b
+        → HaveBothBegun slots pair.new.a pair.new.b) }
     ensures links { OnOk result (log.new.links ≤ log.old.links + 2) }
     ensures count { OnOk result (turn.new.packets ≤ turn.old.packets + 2) }
     ensures same_turn { (turn.new.schedule ≡ turn.old.schedule) × (turn.new.number
@@ -160,6 +164,8 @@ pub(crate) fn run_phases(
         → InPhase given turn.old.number pair.old.a pair.old.b log.old wanted.old.a wanted.old.b 0
         history
         → IsStopped (after_phases given plan.fates history) turn.old.number log.new.entries stop) }
+    ensures begun { OnOk result ((slots : ℕ) → HaveBothBegun slots pair.old.a pair.old.b
+        → HaveBothBegun slots pair.new.a pair.new.b) }
     ensures links { OnOk result (log.new.links ≤ log.old.links + 6) }
     ensures empty { OnOk result (out.new.items ≡ []) }
 {

@@ -3,8 +3,10 @@ ghost use Rattle.std.specs.Prelude.{◌≡◌, ◌≤◌, [], length, IfOk, IfEr
 ghost use Rattle.one_side.specs.Facts.{setup_of};
 ghost use Rattle.runs.specs.Pair.{IsRun, given_of};
 ghost use Rattle.runs.specs.Run.{Given};
-ghost use Rattle.pair_world.specs.Faults.{IsRunFault, fault_of};
+ghost use Rattle.journal_data.specs.Delivered.{AllDataArrives};
+ghost use Rattle.pair_world.specs.Faults.{DataArrivesSoFar, IsRunFault, fault_of};
 ghost use Rattle.pair_world.specs.Logs.{first_log};
+ghost use Rattle.pair_world.specs.Order.{MayBothBegin};
 ghost use Rattle.pair_world.specs.Stations.{IsFirst};
 ghost use Rattle.pair_world.specs.Turns.{HasPlans, PairIsUpTo};
 
@@ -81,8 +83,9 @@ fn start_both<'s>(
 ) -> Result<Pair<'s>, AllocError>
     requires words_a { 1 ≤ length schedule.now.a.words.items }
     requires words_b { 1 ≤ length schedule.now.b.words.items }
-    ensures { IfOk result (λ pair. PairIsUpTo
+    ensures up { IfOk result (λ pair. PairIsUpTo
         (given_of a.now b.now schedule.now) 0 pair.a pair.b first_log []) }
+    ensures order { IfOk result (λ pair. MayBothBegin 0 pair.a pair.b) }
 {
     Ok(Pair {
         a: Station::start(alloc, schedule.a.copy(), a)?,
@@ -92,6 +95,7 @@ fn start_both<'s>(
 
 /// Runs all turns.
 fn run_turns(alloc: Global, schedule: &Schedule, mut pair: Pair<'_>) -> Result<Journal, RunFault>
+    requires order { MayBothBegin 0 pair.a pair.b }
     ensures ok { IfOk result (λ journal. (given : Given) → HasPlans given schedule.now.turns
         → PairIsUpTo given 0 pair.entry.a pair.entry.b first_log [] → IsRun given journal) }
     ensures err { IfErr result (λ fault. (given : Given) → HasPlans given schedule.now.turns
@@ -108,11 +112,31 @@ fn run_turns(alloc: Global, schedule: &Schedule, mut pair: Pair<'_>) -> Result<J
     Ok(log.into_journal())
 }
 
+/// A public address has six octets.
+fn is_six(public: [u8; 6])
+    ensures { length public ≡ 6 }
+{
+    let [_, _, _, _, _, _] = public;
+}
+
+/// Both public addresses have six octets.
+fn publics_are_six(schedule: &Schedule)
+    ensures a { length schedule.now.a.public ≡ 6 }
+    ensures b { length schedule.now.b.public ≡ 6 }
+{
+    is_six(schedule.a.public);
+    is_six(schedule.b.public);
+}
+
 /// Runs two controllers over the streams of their hosts and a schedule, and gives the journal of
 /// the run (our choice). Each can hold one link, and eight packets of data each way. `a` and `b`
 /// are the H4 octets of the two hosts, in the order in which they are fed; those that the schedule
 /// leaves unfed are not part of the run. `schedule` has at least one random word for each
 /// controller.
+///
+/// In the journal, after each of its lines, what one host receives of a link is the first octets of
+/// what the other submitted, and no packet is reported as complete that the other side did not
+/// accept whole (Core 5.2, volume 4 part E, section 4.1).
 ///
 /// Errors: `Unseen` exactly where a fate changes a packet and its receiver would judge the changed
 /// one good; `Memory` where there is no memory.
@@ -121,7 +145,12 @@ pub fn run_pair(alloc: Global, a: &[u8], b: &[u8], schedule: &Schedule) -> Resul
     requires words_b { 1 ≤ length schedule.now.b.words.items }
     ensures ok { IfOk result (IsRun (given_of a.now b.now schedule.now)) }
     ensures err { IfErr result (IsRunFault (given_of a.now b.now schedule.now)) }
+    // Data arrives in order.
+    ensures data { IfOk result AllDataArrives }
+    ensures data_so_far { IfErr result DataArrivesSoFar }
 {
+    journal_data::data_arrives_in_order_in_every_journal();
+    publics_are_six(schedule);
     let pair = start_both(alloc, a, b, schedule)?;
     run_turns(alloc, schedule, pair)
 }

@@ -8,6 +8,7 @@ ghost use Rattle.one_side.specs.Facts.{Setup, setup_of};
 ghost use Rattle.one_side.specs.Packets.{verdict_of, use_of};
 ghost use Rattle.one_side.specs.Side.{facts_of};
 ghost use Rattle.controller.specs.Knowing.{Knows};
+ghost use Rattle.controller.specs.Order.{MayBegin};
 ghost use Rattle.runs.specs.History.{Event};
 ghost use Rattle.runs.specs.Run.{Given, after_call, after_octets, after_feed, step_of};
 ghost use Rattle.pair_world.specs.Logs.{entries_noted, known_after, with_entries};
@@ -50,7 +51,8 @@ impl<'s> Station<'s> {
     /// The error is out of memory.
     pub(crate) fn start(alloc: Global, config: Config, stream: &'s [u8]) -> Result<Self, AllocError>
         requires { 1 ≤ length config.words.items }
-        ensures { IfOk result (IsFirst (setup_of config 1 8 8) stream.now) }
+        ensures first { IfOk result (IsFirst (setup_of config 1 8 8) stream.now) }
+        ensures order { IfOk result (λ station. MayBegin 0 station.held) }
     {
         Ok(Station {
             controller: Controller::start(alloc, config)?,
@@ -97,8 +99,9 @@ impl<'s> Station<'s> {
     /// The controller takes an octet of its host.
     fn host_octet(&mut self, octet: u8, out: &mut Outbox)
         requires empty { out.old.items ≡ [] }
-        ensures { (setup : Setup) (past : List Step) → Knows setup self.old.held past
+        ensures took { (setup : Setup) (past : List Step) → Knows setup self.old.held past
             → HasStepped setup past (HostOctet octet) self.old self.new out.new.items }
+        ensures order { (slot : ℕ) → MayBegin slot self.old.held → MayBegin slot self.new.held }
     {
         self.controller.host_octet(octet, out);
     }
@@ -116,6 +119,8 @@ impl<'s> Station<'s> {
             → StationIsUpTo given (number_of side) history self.old log.old
             → StationIsUpTo given (number_of side)
             (after_call given (number_of side) (HostOctet octet) history) self.new log.new) }
+        ensures order { OnOk result ((slot : ℕ) → MayBegin slot self.old.held
+            → MayBegin slot self.new.held) }
         ensures links { OnOk result (log.new.links ≡ log.old.links) }
         ensures empty { OnOk result (out.new.items ≡ []) }
     {
@@ -137,6 +142,8 @@ impl<'s> Station<'s> {
             → StationIsUpTo given (number_of side) history self.old log.old
             → StationIsUpTo given (number_of side)
             (after_octets given (number_of side) octets.now history) self.new log.new) }
+        ensures order { OnOk result ((slot : ℕ) → MayBegin slot self.old.held
+            → MayBegin slot self.new.held) }
         ensures links { OnOk result (log.new.links ≡ log.old.links) }
         ensures empty { OnOk result (out.new.items ≡ []) }
     {
@@ -171,6 +178,8 @@ impl<'s> Station<'s> {
             → StationIsUpTo given (number_of side)
             (after_feed given (number_of side) (take count self.old.unfed) history)
             self.new log.new) }
+        ensures order { OnOk result ((slot : ℕ) → MayBegin slot self.old.held
+            → MayBegin slot self.new.held) }
         ensures links { OnOk result (log.new.links ≡ log.old.links) }
         ensures empty { OnOk result (out.new.items ≡ []) }
     {
@@ -194,12 +203,14 @@ impl<'s> Station<'s> {
         out: &mut Outbox,
     )
         requires slot { slot.0 < 2 ^ 32 }
+        requires order { MayBegin slot.0 self.old.held }
         requires empty { out.old.items ≡ [] }
         ensures took { (setup : Setup) (past : List Step) → Knows setup self.old.held past
             → HasStepped setup past (TurnBegins slot.0 radio_on) self.old self.new out.new.items }
         ensures wants { (setup : Setup) (past : List Step) → Knows setup self.old.held past
             → wanted.new
             ≡ use_of (facts_of setup (past ++ TurnBegins slot.0 radio_on ∷ [])) }
+        ensures begun { self.new.held.turn.begun ≡ slot.0 + 1 }
     {
         wanted.set(self.controller.begin_turn(slot, radio_on, out));
     }
@@ -211,6 +222,7 @@ impl<'s> Station<'s> {
             → HasStepped setup past NothingHeard self.old self.new out.new.items }
         ensures wants { (setup : Setup) (past : List Step) → Knows setup self.old.held past
             → wanted.new ≡ use_of (facts_of setup (past ++ NothingHeard ∷ [])) }
+        ensures begun { self.new.held.turn.begun ≡ self.old.held.turn.begun }
     {
         wanted.set(self.controller.unheard(out));
     }
@@ -224,6 +236,7 @@ impl<'s> Station<'s> {
         ensures wants { (setup : Setup) (past : List Step) → Knows setup self.old.held past
             → wanted.new
             ≡ use_of (facts_of setup (past ++ PacketHeard octets.now ∷ [])) }
+        ensures begun { self.new.held.turn.begun ≡ self.old.held.turn.begun }
     {
         wanted.set(self.controller.heard(octets, out));
     }
@@ -238,6 +251,7 @@ impl<'s> Station<'s> {
         ensures wants { (setup : Setup) (past : List Step) → Knows setup self.old.held past
             → wanted.new
             ≡ use_of (facts_of setup (past ++ step_of (option_copied heard.entry) ∷ [])) }
+        ensures begun { self.new.held.turn.begun ≡ self.old.held.turn.begun }
     {
         match heard {
             None => self.hear_nothing(wanted, out),
@@ -248,8 +262,9 @@ impl<'s> Station<'s> {
     /// The controller ends the turn.
     pub(crate) fn end(&mut self, out: &mut Outbox)
         requires empty { out.old.items ≡ [] }
-        ensures { (setup : Setup) (past : List Step) → Knows setup self.old.held past
+        ensures took { (setup : Setup) (past : List Step) → Knows setup self.old.held past
             → HasStepped setup past TurnEnds self.old self.new out.new.items }
+        ensures order { MayBegin self.old.held.turn.begun self.new.held }
     {
         self.controller.end_turn(out);
     }

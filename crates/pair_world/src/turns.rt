@@ -6,6 +6,7 @@ ghost use Rattle.runs.specs.History.{Event};
 ghost use Rattle.runs.specs.Pair.{plan_of};
 ghost use Rattle.runs.specs.Run.{Given, after_begins, after_ends, after_opening, after_turn};
 ghost use Rattle.pair_world.specs.Air.{InPhase};
+ghost use Rattle.pair_world.specs.Order.{HaveBothBegun, MayBothBegin};
 ghost use Rattle.pair_world.specs.Outcomes.{Reaches, IsStopped};
 ghost use Rattle.pair_world.specs.Turns.{HasFed, PairIsUpTo, after_feeding};
 
@@ -27,12 +28,14 @@ fn feed_both(
     log: &mut Log,
 ) -> Result<(), AllocError>
     requires turn { number < length schedule.now.turns }
+    requires order { MayBothBegin number pair.old.a pair.old.b }
     requires empty { out.old.items ≡ [] }
     ensures ok { OnOk result ((given : Given) (plan : Plan) (history : List Event)
         → slice_get schedule.now.turns number ≡ Some plan
         → PairIsUpTo given number pair.old.a pair.old.b log.old history
         → HasFed given number pair.new.a pair.new.b log.new (after_feeding given number
         (plan_of plan) history)) }
+    ensures order { OnOk result (MayBothBegin number pair.new.a pair.new.b) }
     ensures links { OnOk result (log.new.links ≡ log.old.links) }
     ensures empty { OnOk result (out.new.items ≡ []) }
 {
@@ -55,12 +58,14 @@ fn begin_both(
     log: &mut Log,
 ) -> Result<(), AllocError>
     requires turn { number < length schedule.now.turns }
+    requires order { MayBothBegin number pair.old.a pair.old.b }
     requires empty { out.old.items ≡ [] }
     ensures ok { OnOk result ((given : Given) (plan : Plan) (history : List Event)
         → slice_get schedule.now.turns number ≡ Some plan
         → HasFed given number pair.old.a pair.old.b log.old history
         → InPhase given number pair.new.a pair.new.b log.new wanted.new.a wanted.new.b 0
         (after_begins given number (plan_of plan) given.stations history)) }
+    ensures begun { OnOk result (HaveBothBegun (number + 1) pair.new.a pair.new.b) }
     ensures links { OnOk result (log.new.links ≡ log.old.links) }
     ensures empty { OnOk result (out.new.items ≡ []) }
 {
@@ -84,12 +89,14 @@ fn open_turn(
     log: &mut Log,
 ) -> Result<(), AllocError>
     requires turn { number < length schedule.now.turns }
+    requires order { MayBothBegin number pair.old.a pair.old.b }
     requires empty { out.old.items ≡ [] }
     ensures ok { OnOk result ((given : Given) (plan : Plan) (history : List Event)
         → slice_get schedule.now.turns number ≡ Some plan
         → PairIsUpTo given number pair.old.a pair.old.b log.old history
         → InPhase given number pair.new.a pair.new.b log.new wanted.new.a wanted.new.b 0
         (after_opening given number (plan_of plan) history)) }
+    ensures begun { OnOk result (HaveBothBegun (number + 1) pair.new.a pair.new.b) }
     ensures links { OnOk result (log.new.links ≡ log.old.links) }
     ensures empty { OnOk result (out.new.items ≡ []) }
 {
@@ -104,6 +111,8 @@ fn end_both(pair: &mut Pair<'_>, out: &mut Outbox, log: &mut Log) -> Result<(), 
         → PairIsUpTo given turns pair.old.a pair.old.b log.old history
         → PairIsUpTo given turns pair.new.a pair.new.b log.new
         (after_ends given given.stations history)) }
+    ensures order { OnOk result ((slot : ℕ) → HaveBothBegun slot pair.old.a pair.old.b
+        → MayBothBegin slot pair.new.a pair.new.b) }
     ensures links { OnOk result (log.new.links ≡ log.old.links) }
     ensures empty { OnOk result (out.new.items ≡ []) }
 {
@@ -124,6 +133,7 @@ pub(crate) fn run_turn(
     log: &mut Log,
 ) -> Result<(), Stop>
     requires turn { number < length schedule.now.turns }
+    requires order { MayBothBegin number pair.old.a pair.old.b }
     requires links { log.old.links + 6 < 2 ^ 64 }
     requires empty { out.old.items ≡ [] }
     ensures ok { OnOk result ((given : Given) (plan : Plan) (history : List Event)
@@ -135,6 +145,7 @@ pub(crate) fn run_turn(
         → slice_get schedule.now.turns number ≡ Some plan
         → PairIsUpTo given number pair.old.a pair.old.b log.old history
         → IsStopped (after_turn given number (plan_of plan) history) number log.new.entries stop) }
+    ensures order { OnOk result (MayBothBegin (number + 1) pair.new.a pair.new.b) }
     ensures links { OnOk result (log.new.links ≤ log.old.links + 6) }
     ensures empty { OnOk result (out.new.items ≡ []) }
 {

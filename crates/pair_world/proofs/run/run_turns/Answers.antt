@@ -8,6 +8,7 @@ pub loop-turn-init : goal.loop-turn-init
 loop-turn-init c = record {
   empty = c.new-out.ensures;
   links = omega (arith, ap (λ (log : LogState). log.links) c.new-log.ensures);
+  order = c.requires.order;
   at = λ given plans up. at_first given c.args.pair.a c.args.pair.b c.new-log.result c.new-log.ensures up;
 }
 
@@ -15,6 +16,7 @@ pub loop-turn-preserved : goal.loop-turn-preserved
 loop-turn-preserved c = record {
   empty = c.in_default.ensures.empty;
   links = omega (arith, c.in_default.ensures.links, c.loop-turn.invariant.links);
+  order = c.in_default.ensures.order;
   at = λ given plans up.
       let turns = c.args.schedule.now.turns in
       let n = c.loop-turn.turn in

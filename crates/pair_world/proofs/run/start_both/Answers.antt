@@ -7,12 +7,12 @@ use Rattle.pair_world.specs.Stations.{IsFirst}
 use Rattle.pair_world.proofs.WholeRuns.{both_first}
 use Rattle.pair_world.proofs.run.start_both.Goals as goal
 
-pub returns : goal.returns
-returns c =
+pub returns-clause-up : goal.returns-clause-up
+returns-clause-up c =
     let setup_a = ap (λ (config : Config). setup_of config 1 8 8) c.copy.ensures
     ∙ ap (λ (script : Script). setup_of script.a 1 8 8) c.schedule.view_is in
     let setup_b = ap (λ (config : Config). setup_of config 1 8 8) c.copy-2.ensures
     ∙ ap (λ (script : Script). setup_of script.b 1 8 8) c.schedule.view_is in
     both_first c.args.a.now c.args.b.now c.args.schedule.now c.in_ok-start.field-0 c.in_ok-start-2.field-0
-    (subst (λ (setup : Setup). IsFirst setup c.args.a.now c.in_ok-start.field-0) setup_a c.in_ok-start.ensures)
-    (subst (λ (setup : Setup). IsFirst setup c.args.b.now c.in_ok-start-2.field-0) setup_b c.in_ok-start-2.ensures)
+    (subst (λ (setup : Setup). IsFirst setup c.args.a.now c.in_ok-start.field-0) setup_a c.in_ok-start.ensures.first)
+    (subst (λ (setup : Setup). IsFirst setup c.args.b.now c.in_ok-start-2.field-0) setup_b c.in_ok-start-2.ensures.first)

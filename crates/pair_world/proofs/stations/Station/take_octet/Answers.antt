@@ -13,5 +13,5 @@ returns-clause-at c =
     on_ok_two c.write_notes.result _ _ _ (λ log_is written_is given history at.
     called c.notes_name_links_of_the_controller.ensures.step given side (HostOctet c.args.octet) history c.args.self.now c.host_octet.new.self
     c.write_notes.new.self c.args.log.now c.write_notes.new.log c.host_octet.new.out.items at
-    (c.host_octet.ensures (setup_at given (number_of side)) (past_of (number_of side) history) at.keeps.knows) log_is written_is)
+    (c.host_octet.ensures.took (setup_at given (number_of side)) (past_of (number_of side) history) at.keeps.knows) log_is written_is)
     c.write_notes.ensures.log c.write_notes.ensures.links

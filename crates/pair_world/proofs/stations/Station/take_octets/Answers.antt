@@ -20,6 +20,7 @@ loop-octet-preserved c =
           (sym (ap (λ (octets : List ℕ). after_octets given station octets history) (take_more octets place 0 c.loop-octet-test.true)
           ∙ octets_one_more given station (take place octets) (get_or octets place 0) history))
           (c.in_ok-take_octet.ensures.at given (after_octets given station (take place octets) history) (at.at given history before));
+      order = λ slot may. c.in_ok-take_octet.ensures.order slot (at.order slot may);
     }
 
 pub returns-clause-at : goal.returns-clause-at

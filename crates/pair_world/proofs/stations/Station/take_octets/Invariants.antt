@@ -1,5 +1,6 @@
 -- Invariants of `stations::Station::take_octets`.
-use Rattle.std.proofs.Common.{◌≡◌, List, [], take}
+use Rattle.std.proofs.Common.{◌≡◌, ℕ, List, [], take}
+use Rattle.controller.specs.Order.{MayBegin}
 use Rattle.runs.specs.History.{Event}
 use Rattle.runs.specs.Run.{Given, after_octets}
 use Rattle.pair_world.specs.Stations.{StationIsUpTo, number_of}
@@ -11,4 +12,5 @@ invariant-loop-octet l = record {
   links : l.log.links ≡ l.fn.log.links;
   at : (given : Given) (history : List Event) → StationIsUpTo given (number_of l.fn.side) history l.fn.self l.fn.log
       → StationIsUpTo given (number_of l.fn.side) (after_octets given (number_of l.fn.side) (take l.octet-index l.octets) history) l.self l.log;
+  order : (slot : ℕ) → MayBegin slot l.fn.self.held → MayBegin slot l.self.held;
 }
