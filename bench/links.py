@@ -51,4 +51,5 @@ def main():
               f" times the text of the journal, which is {text / idle_text:.2f} times as long")
 
 
-main()
+if __name__ == "__main__":
+    main()
