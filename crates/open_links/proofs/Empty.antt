@@ -1,10 +1,9 @@
 -- No link is open where nothing is held.
-use Rattle.std.proofs.Common.{◌≡◌, ℕ, zero, suc, ◌+◌, ◌<◌, ◌==◌, Bool, true, false, List, [], ◌∷◌, length, replicate, get_or, Option, None, if◌then◌else◌, refl, ap, sym, ◌∙◌, subst, arith}
+use Rattle.std.proofs.Common.{◌≡◌, ℕ, zero, suc, ◌+◌, ◌<◌, ◌==◌, Bool, true, false, List, [], ◌∷◌, length, replicate, get_or, Option, None, if◌then◌else◌, refl, ap, sym, subst, arith}
 use Rattle.std.specs.List.{filter}
-use Rattle.acl_banks.specs.declared.pieces.Piece.{Piece}
-use Rattle.acl_banks.specs.Packets.{DataPacket, is_of}
+use Rattle.acl_banks.specs.Packets.{is_of}
 use Rattle.acl_banks.specs.Banks.{Bank, credits_of}
-use Rattle.open_links.specs.OpenLinks.{OpenLink, link_at, link_from}
+use Rattle.open_links.specs.OpenLinks.{link_from}
 use Rattle.open_links.specs.Knowing.{HeldLink, HeldLinks, HasNone, HoldsUnder, Knows, KnowsPlace, KnowsPlaces}
 use Rattle.open_links.specs.Sound.{AreSound, IsWithinAt}
 use Rattle.open_links.proofs.Handles.{none_have}

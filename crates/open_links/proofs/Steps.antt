@@ -1,24 +1,23 @@
 -- Each call on the links that know their pasts: they know the pasts after it.
-use Rattle.std.proofs.Common.{◌≡◌, ◌≢◌, ℕ, ◌+◌, ◌<◌, ◌≤◌, ◌==◌, nat_lt, Bool, true, false, List, [], ◌∷◌, ◌++◌, drop, fold, length, map, Option, Some, None, is_some, if◌then◌else◌, refl, ap, sym, ◌∙◌, subst, arith}
+use Rattle.std.proofs.Common.{◌≡◌, ℕ, ◌+◌, ◌<◌, ◌≤◌, nat_lt, Bool, true, false, List, [], ◌∷◌, fold, length, map, Option, Some, None, is_some, if◌then◌else◌, refl, sym, ◌∙◌, subst}
 use Rattle.std.specs.Option.{option_map}
 use Rattle.acl_banks.specs.declared.pieces.Piece.{Piece}
 use Rattle.acl_banks.specs.Packets.{new_packet}
 use Rattle.acl_banks.specs.Banks.{Bank, bank_after_credited, bank_after_drop, bank_after_offer, taken_buffers}
 use Rattle.one_end.specs.Setup.{Setup}
-use Rattle.one_end.specs.Step.{Step, DataGiven, DataReported, PacketReceived, PacketSent, PduFixed}
-use Rattle.one_end.specs.End.{facts_of}
-use Rattle.link_end.specs.Tied.{HoldsData, LeavesOthers}
+use Rattle.one_end.specs.Step.{DataGiven, DataReported}
+use Rattle.link_end.specs.Tied.{HoldsData}
 use Rattle.link_end.proofs.Banked.{drop_leaves, offer_leaves}
 use Rattle.link_end.proofs.Keeping.{begun, given_holds}
 use Rattle.open_links.specs.declared.ended.LinkEnded.{LinkEnded}
 use Rattle.open_links.specs.declared.offers.Completed.{Completed}
 use Rattle.open_links.specs.declared.offers.Offer.{Offer}
 use Rattle.open_links.specs.declared.offers.Offer.TheVariants.{NoLink, Empty, Overflow, Kept}
-use Rattle.open_links.specs.OpenLinks.{Links, OpenLink, HasHandle, HaveHandles, facts_in, handles_from, link_after, link_at, link_from, link_served, new_link, with_change, with_change_from, with_link, without_link, without_links}
+use Rattle.open_links.specs.OpenLinks.{Links, OpenLink, HasHandle, HaveHandles, facts_in, handles_from, link_after, link_at, link_from, link_served, new_link, with_change, with_link, without_link, without_links}
 use Rattle.open_links.specs.Data.{buffers_taken, complete_in, completed_from, links_given, links_offered, links_reported, offer_by, received_past, received_without}
 use Rattle.open_links.specs.Turns.{ends_from, links_entered, links_staying}
-use Rattle.open_links.specs.Knowing.{BankGoes, BankStep, CanHearIn, HeldLink, HeldLinks, HasNone, HoldsPlace, HoldsPlaces, HoldsUnder, IsTiedIn, Knows, KnowsPlace, KnowsPlaces, bank_offered, held_from}
-use Rattle.open_links.specs.Sound.{AreSound, IsWithin, IsWithinAt}
+use Rattle.open_links.specs.Knowing.{BankGoes, BankStep, CanHearIn, HeldLink, HeldLinks, HoldsPlace, HoldsPlaces, HoldsUnder, IsTiedIn, Knows, KnowsPlace, KnowsPlaces, bank_offered, held_from}
+use Rattle.open_links.specs.Sound.{AreSound, IsWithin}
 use Rattle.open_links.proofs.Handles.{changed_have, has_its_handle, opened_has, other_stays, shut_have}
 use Rattle.open_links.proofs.Ends.{enter_with_handles, stay_with_handles}
 use Rattle.open_links.proofs.UnderHandles.{given_places, held_at, hears_at, hold_places, reported_places, some_where_held, tied_at}

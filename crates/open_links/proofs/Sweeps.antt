@@ -3,8 +3,7 @@ use Rattle.std.proofs.Common.{◌≡◌, ◌≢◌, ℕ, zero, suc, ◌+◌, ◌
 use Rattle.std.specs.Option.{option_map}
 use Rattle.std.proofs.lemmas.Bool.{eqb-true}
 use Rattle.acl_banks.specs.Banks.{Bank, bank_after_credited, bank_after_drop}
-use Rattle.one_end.specs.Setup.{Setup}
-use Rattle.one_end.specs.Step.{Step, DataReported}
+use Rattle.one_end.specs.Step.{DataReported}
 use Rattle.one_end.proofs.Pasts.{grows}
 use Rattle.link_end.specs.Tied.{HoldsData, LeavesOthers}
 use Rattle.link_end.proofs.Banked.{credited_leaves, drop_leaves, holds_reported}
@@ -13,7 +12,7 @@ use Rattle.open_links.specs.declared.offers.Completed.{Completed}
 use Rattle.open_links.specs.OpenLinks.{Links, OpenLink, facts_in, handles_from, link_after, link_at, link_from, without_links}
 use Rattle.open_links.specs.Data.{complete_in, completed_by, completed_from, link_reported, links_reported}
 use Rattle.open_links.specs.Turns.{end_by, ends_from, entered_if, is_anchor, link_entered, links_entered, links_staying, place_staying, reason_at, reason_in, staying_by}
-use Rattle.open_links.specs.Knowing.{HasNone, HoldsUnder}
+use Rattle.open_links.specs.Knowing.{HoldsUnder}
 use Rattle.open_links.proofs.Handles.{here, later}
 use Rattle.open_links.proofs.UnderHandles.{entered_data, map_at}
 use Rattle.open_links.proofs.Banks.{LeavesAt, dropped, holds_left}

@@ -12,7 +12,7 @@ use Rattle.link_end.specs.Tied.{HoldsData, LeavesOthers}
 use Rattle.link_end.proofs.Keeping.{given, held_is, knows_tied, reported}
 use Rattle.open_links.specs.OpenLinks.{Links, OpenLink, HasHandle, HaveHandles, facts_in, link_after, link_from, with_change_from}
 use Rattle.open_links.specs.Data.{complete_in, link_reported, links_reported}
-use Rattle.open_links.specs.Knowing.{BankStep, CanHear, CanHearIn, HeldLink, HoldsUnder, HoldsPlaces, IsTiedIn, KnowsLink, KnowsPlace, KnowsPlaces, held_from}
+use Rattle.open_links.specs.Knowing.{BankStep, CanHearIn, HeldLink, HoldsUnder, HoldsPlaces, IsTiedIn, KnowsLink, KnowsPlace, KnowsPlaces, held_from}
 use Rattle.open_links.specs.Sound.{IsWithinAt}
 use Rattle.open_links.proofs.Handles.{here, later}
 

@@ -1,8 +1,7 @@
 -- The answers of `OpenLinks::give`.
-use Rattle.std.proofs.Common.{◌≡◌, ◌∙◌, ◌==◌, ap, length, subst, sym, refl}
-use Rattle.acl_banks.specs.Banks.{taken_buffers}
+use Rattle.std.proofs.Common.{◌∙◌, ◌==◌, ap, length, subst, sym, refl}
 use Rattle.open_links.specs.OpenLinks.{link_at}
-use Rattle.open_links.specs.Data.{links_offered, offer_by, offer_of}
+use Rattle.open_links.specs.Data.{links_offered, offer_by}
 use Rattle.open_links.specs.Knowing.{HeldLinks, Knows}
 use Rattle.open_links.proofs.Steps.{buffers_are, give_known, is_open, knows_pieces, open_where_kept, sound_after}
 use Rattle.open_links.proofs.Within.{offer_within}

@@ -1,5 +1,5 @@
 -- The answers of `OpenLinks::shut_all`.
-use Rattle.std.proofs.Common.{◌∙◌, ◌++◌, ap, fold, map, None, subst, sym, refl}
+use Rattle.std.proofs.Common.{◌∙◌, ◌++◌, ap, fold, subst, sym}
 use Rattle.acl_banks.specs.Banks.{bank_after_drop}
 use Rattle.open_links.specs.OpenLinks.{handles_from, without_links}
 use Rattle.open_links.specs.Knowing.{HeldLinks, Knows}
