@@ -1,9 +1,9 @@
 -- Data arrives in order in the journal of a run, whole or ended by damage.
-use Rattle.std.proofs.Common.{◌≡◌, List, refl, sym, ap, subst, ◌∙◌}
+use Rattle.std.proofs.Common.{List, sym, ap, subst, ◌∙◌}
 use Rattle.journal.specs.declared.entries.Entry.{Entry}
 use Rattle.journal_data.specs.Delivered.{AllDataArrives}
 use Rattle.runs.specs.Journal.{journal_of}
-use Rattle.runs.specs.Pair.{EndsUnseen, IsRun}
+use Rattle.runs.specs.Pair.{IsRun}
 use Rattle.runs.specs.Run.{Given, history_of, run_of}
 use Rattle.pair_world.specs.Faults.{DataArrivesSoFar, IsRunFault}
 use Rattle.pair_world.specs.declared.run.RunFault.{RunFault}
