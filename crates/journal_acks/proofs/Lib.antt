@@ -16,6 +16,7 @@ pub mod PhaseNotes
 pub mod DataCalls
 pub mod AirCounts
 pub mod KeptCounts
+pub mod EachCall
 pub mod Known
 pub mod Seen
 pub mod RunCounts
@@ -25,4 +26,5 @@ pub mod KeptChannels
 pub mod FixedPdus
 pub mod KeptLines
 pub mod LinkPackets
+pub mod SentInCalls
 pub mod NewPdus

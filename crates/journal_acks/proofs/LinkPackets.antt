@@ -29,6 +29,7 @@ use Rattle.run_laws.proofs.DistinctAccess.{AreApart}
 use Rattle.run_laws.proofs.InAgreement.{IsPair}
 use Rattle.run_laws.proofs.OpenSteps.{none_open, open_has}
 use Rattle.run_laws.proofs.TurnPlaces.{Within, turned}
+use Rattle.journal_packets.specs.Senders.{IsOfSendersLink}
 use Rattle.journal_packets.proofs.AccessOrder.{AreNth}
 use Rattle.journal_packets.proofs.SoFar.{IsBelongingSoFar}
 use Rattle.journal_acks.specs.Carried.{IsLinkPacket, bits_of, carried_of, pdu_octets}
@@ -38,7 +39,7 @@ use Rattle.journal_acks.proofs.AirCounts.{link_sent, own_number, sender_counted,
 use Rattle.journal_acks.proofs.ChannelLines.{channel_at}
 use Rattle.journal_acks.proofs.Counting.{AreKnown}
 use Rattle.journal_acks.proofs.EnteredLinks.{AreEntered, HasEntered, entered_first, entered_kept, entries_sent}
-use Rattle.journal_acks.proofs.Exchanging.{exchange_at}
+use Rattle.journal_acks.proofs.Exchanging.{exchange_at, number_at}
 use Rattle.journal_acks.proofs.FixedPdus.{sent_out}
 use Rattle.journal_acks.proofs.KeptChannels.{AreOnChannels, IsOnChannel, NotYet, OnChannel}
 use Rattle.journal_acks.proofs.KeptLines.{AreLined, AreLinedAt, lines_kept}
@@ -64,11 +65,18 @@ packet_is link end pdu channel access init on has begins acked accepted same =
     λ i. on_air (sym on i) (sym has i) (sym begins i)
     (pdu_octets (record { sn = is_odd (sym acked i); nesn = is_odd (sym accepted i) }) (more_sent (facts_in link)) (sym same i))
 
+-- a packet of the link that its sender has open, with the MD of its end
+pub record IsPacketOf (given : Given) (history : List Event) (station channel : ℕ) (octets : List ℕ) (from : IsOfSendersLink given history station channel octets) : Type 0 where
+  pub packet : IsLinkPacket (journal_of history) (side_of station) channel octets
+  pub number_is : packet.number ≡ number_at station from.handle history
+  pub more_is : packet.md ≡ more_sent (facts_in from.link)
+
 module _ (whole : IsHeardWhole) (given : Given) (Q : Place → List Event → Type 0) (known : AreKnown given Q) (are_two : IsOfTwo given) (pair : IsPair given) (six : HaveAddresses given)
     (distinct : AreDistinct given.stations) where
-  pub link_packet : (phases : ℕ) (done left : List ℕ) (station channel : ℕ) (octets : List ℕ) (history : List Event) → given.stations ≡ done ++ station ∷ left
-      → use_at given station history ≡ Sends channel octets → AreLinedAt given Q (AtPackets phases done (station ∷ left)) history
-      → is_advertising channel ≡ false → IsLinkPacket (journal_of history) (side_of station) channel octets
+  pub link_packet : (phases : ℕ) (done left : List ℕ) (station channel : ℕ) (octets : List ℕ) (history : List Event) (are : given.stations ≡ done ++ station ∷ left)
+      (wanted : use_at given station history ≡ Sends channel octets) (lined : AreLinedAt given Q (AtPackets phases done (station ∷ left)) history)
+      (off : is_advertising channel ≡ false)
+      → IsPacketOf given history station channel octets (known.sends phases done left station history are lined.channelled.is.known channel octets wanted off)
   link_packet phases done left station channel octets history are wanted lined off =
       let has = lined.channelled in
       let place = AtPackets phases done (station ∷ left) in
@@ -88,17 +96,21 @@ module _ (whole : IsHeardWhole) (given : Given) (Q : Place → List Event → Ty
       let last = (lined.lines station from.handle sender in_it from.is_open).last end.acked
       (ap (λ n. n + 1) acked ∙ sent_out from.link ∙ ap (λ (a : Acknowledgement). length a.sent) (sym (ack_sent from.slot from.link))) in
       record {
-        number = number;
-        belongs = from.belongs;
-        link = begun.link;
-        is_link = begun.is_link;
-        in_event = on_its_channel from.link sender (channel_at number station history) channel refl (entries_sent true from.slot from.link)
-            (entered.sends from.handle sender from.is_open on) from.channel_is (has.channels station from.handle sender in_it from.is_open);
-        md = more_sent (facts_in from.link);
-        carries = from.packet ∙ packet_is from.link end (carried_of number (journal_of history) (side_of station)) channel begun.link.fields.access begun.link.fields.crc_init from.channel_is
-            (ap (λ f. f.access) begun.fields) (ap (λ f. f.crc_init) begun.fields) acked
-            (counted.accepted ∙ ap (λ (a : Acknowledgement). length a.accepted) (ack_sent from.slot from.link))
-            (sym last ∙ ap (λ (a : Acknowledgement). a.last) (ack_sent from.slot from.link));
+        packet = record {
+          number = number;
+          belongs = from.belongs;
+          link = begun.link;
+          is_link = begun.is_link;
+          in_event = on_its_channel from.link sender (channel_at number station history) channel refl (entries_sent true from.slot from.link)
+              (entered.sends from.handle sender from.is_open on) from.channel_is (has.channels station from.handle sender in_it from.is_open);
+          md = more_sent (facts_in from.link);
+          carries = from.packet ∙ packet_is from.link end (carried_of number (journal_of history) (side_of station)) channel begun.link.fields.access begun.link.fields.crc_init from.channel_is
+              (ap (λ f. f.access) begun.fields) (ap (λ f. f.crc_init) begun.fields) acked
+              (counted.accepted ∙ ap (λ (a : Acknowledgement). length a.accepted) (ack_sent from.slot from.link))
+              (sym last ∙ ap (λ (a : Acknowledgement). a.last) (ack_sent from.slot from.link));
+        };
+        number_is = refl;
+        more_is = refl;
       }
 
 -- ---- in a run of a pair
@@ -116,7 +128,7 @@ unfolding facts_of
 none_lined given = λ station handle link in_it at.
     absurd (open_has (λ one. ⊥) 0 handle (replicate (setup_at given station).links None) link (none_open (λ one. ⊥) (setup_at given station).links) at)
 
-lines_first : (given : Given) → AreLinedAt given (IsBelongingSoFar given) NoTurn []
+pub lines_first : (given : Given) → AreLinedAt given (IsBelongingSoFar given) NoTurn []
 lines_first given = record { channelled = record { is = counts_first given; channels = none_on given }; lines = none_lined given }
 
 pub packet_of_line : IsHeardWhole → IsUnderstood → AreTaken → AreNth → AreApart → (given : Given) → IsOfTwo given → IsPair given → HaveAddresses given → AreDistinct given.stations
@@ -128,6 +140,7 @@ packet_of_line whole understood taken nth apart given are_two pair six distinct 
     let seen = seen_packet given (AreLinedAt given Q) (lines_kept whole given Q known are_two pair six distinct) (λ history. Unit {0}) AreLinkPackets
     (record {
       turn = λ history has. tt;
-      packet = λ phases done left station sent_on sent_octets history are wanted has. link_packet whole given Q known are_two pair six distinct phases done left station sent_on sent_octets history are wanted has;
+      packet = λ phases done left station sent_on sent_octets history are wanted has off.
+          (link_packet whole given Q known are_two pair six distinct phases done left station sent_on sent_octets history are wanted has off).packet;
     }) (lines_first given) aired.before aired.after aired.station channel octets (aired.hearing ∷ aired.others) aired.is_at off in
     subst (λ xs. IsLinkPacket xs side channel octets) (sym aired.front_is) (subst (λ s. IsLinkPacket (journal_of aired.before) s channel octets) (sym aired.side_is) seen)

@@ -1,6 +1,6 @@
 -- Each line of a new PDU comes where all PDUs before it on its side are acknowledged.
 use Rattle.std.proofs.Common.{◌≡◌, ℕ, ◌-◌, ◌&&◌, not, Bool, true, false, Option, Some, None, List, [], ◌∷◌, ◌++◌, length, refl, sym, ap, subst, ◌∙◌, append_assoc}
-use Rattle.std.specs.Prelude.{All, ⊤, map, take, if◌then◌else◌}
+use Rattle.std.specs.Prelude.{All, ⊤, map, if◌then◌else◌}
 use Rattle.std.proofs.lemmas.Bool.{eqb-true}
 use Rattle.std.proofs.lemmas.List.Elements.{All-append, All-cons, All-head, All-nil, All-tail}
 use Rattle.ble_base.specs.declared.notes.Note.{Note}
@@ -24,19 +24,15 @@ use Rattle.one_side.specs.Outcome.{notes_passed}
 use Rattle.one_side.specs.Packets.{notes_doing, notes_sent}
 use Rattle.one_side.specs.Radio.{outcome_begun}
 use Rattle.one_side.specs.Side.{notes_after}
-use Rattle.runs.specs.Due.{Each}
 use Rattle.runs.specs.Feeding.{AreDistinct}
-use Rattle.runs.specs.History.{Event, TurnBegan, HostFed, Called, Noted, Transmitted, packet_received, turns_begun}
-use Rattle.runs.specs.Journal.{entries_of, entry_of, journal_of, side_of}
+use Rattle.runs.specs.History.{Event, Called, Noted, packet_received, turns_begun}
+use Rattle.runs.specs.Journal.{journal_of, side_of}
 use Rattle.runs.specs.LinkEnds.{HaveAddresses}
-use Rattle.runs.specs.Links.{Links, links_of}
-use Rattle.runs.specs.Run.{Given, after_call, after_feed, after_octets, facts_at, hearings_of, history_of, octets_left, run_of, setup_at, step_of}
-use Rattle.runs.proofs.CallNotes.{noted_in_call}
-use Rattle.runs.proofs.EntryEvents.{is_of_event}
+use Rattle.runs.specs.Run.{Given, after_call, facts_at, history_of, run_of, setup_at, step_of}
 use Rattle.runs.proofs.LinkEnds.{AreTaken, IsUnderstood}
-use Rattle.runs.proofs.Places.{each_at, each_called, each_event}
+use Rattle.runs.proofs.Places.{each_at}
 use Rattle.runs.proofs.Stations.{among, is_in, not_before}
-use Rattle.runs.proofs.Walk.{Place, AtBegins, AtListening, NoTurn, IsKept, IsStopped, IsWhole, ends_with, run_kept}
+use Rattle.runs.proofs.Walk.{Place, AtBegins, AtListening}
 use Rattle.run_laws.proofs.Agreed.{ack_of}
 use Rattle.run_laws.proofs.ByCalls.{Holds}
 use Rattle.run_laws.proofs.DistinctAccess.{AreApart}
@@ -48,6 +44,7 @@ use Rattle.journal_acks.specs.Carried.{IsNewPdu}
 use Rattle.journal_acks.proofs.CallNotes.{HasNoData, IsOfStarts, all_more, end_noted, no_data, octet_noted, start_noted}
 use Rattle.journal_acks.proofs.Counting.{AreKnown, plain}
 use Rattle.journal_acks.proofs.DataCalls.{on_link_notes, own_begun, received_at, sent_at, unfound}
+use Rattle.journal_acks.proofs.EachCall.{HaveCalls, OfCall, run_calls}
 use Rattle.journal_acks.proofs.Exchanging.{OpensNone, exchange_at, notes_counts, number_at, number_notes}
 use Rattle.journal_acks.proofs.FirstCounts.{IsCallOf, IsOnly, OfLink, OfNone}
 use Rattle.journal_acks.proofs.KeptCounts.{AreCountedAt, before_call, begun_call, call_is, counts_kept, station_is, was_taking}
@@ -57,6 +54,7 @@ use Rattle.journal_acks.proofs.LinkCalls.{base_ack, begins_under, taken_noted}
 use Rattle.journal_acks.proofs.LinkUses.{listens_under}
 use Rattle.journal_acks.proofs.PhaseNotes.{IsOnLink, IsPhaseOf, IsPlainPhase, SendsFrom, SendsNothing, SendsOne, phase_of, same_but, sends_from}
 use Rattle.journal_acks.proofs.RunCounts.{counts_first}
+use Rattle.journal_acks.proofs.SentInCalls.{sent_in_call, to_line}
 use Rattle.journal_acks.proofs.Standing.{PhasedBy, phased_at}
 use Rattle.journal_acks.proofs.TwoStations.{IsOfTwo, same_number}
 
@@ -131,7 +129,7 @@ end_new given history station =
     }
 
 -- a station that has not begun the turn
-between_turns : (given : Given) (Q : Place → List Event → Type 0) (distinct : AreDistinct given.stations) (done left : List ℕ) (station : ℕ) (history : List Event)
+pub between_turns : (given : Given) (Q : Place → List Event → Type 0) (distinct : AreDistinct given.stations) (done left : List ℕ) (station : ℕ) (history : List Event)
     → given.stations ≡ done ++ station ∷ left → AreCountedAt given Q (AtBegins done (station ∷ left)) history
     → PhasedBy given history station (at_stage Between (turns_begun history - 1))
 between_turns given Q distinct done left station history are is =
@@ -220,118 +218,22 @@ module _ (given : Given) (Q : Place → List Event → Type 0) (known : AreKnown
 
 -- ---- at each place of a run
 
-module _ (given : Given) where
-  abbrev IsNewEvent : List Event → Event → Type 0
-  IsNewEvent history (Called station step) = IsNewCall given history station step
-  IsNewEvent history (TurnBegan slot radios) = ⊤
-  IsNewEvent history (HostFed station octets) = ⊤
-  IsNewEvent history (Noted station note) = ⊤
-  IsNewEvent history (Transmitted station channel octets hearings) = ⊤
-
-  call_new : (station : ℕ) (step : Step) (history : List Event) → IsNewCall given history station step → Each IsNewEvent [] history → Each IsNewEvent [] (after_call given station step history)
-  call_new station step history new each =
-      each_called IsNewEvent station step (notes_after (setup_at given station) (facts_at given station history) step) history each new (λ before note. tt)
-
-  octets_new : (station : ℕ) (octets : List ℕ) (history : List Event) → Each IsNewEvent [] history → Each IsNewEvent [] (after_octets given station octets history)
-  octets_new station [] history each = each
-  octets_new station (octet ∷ octets) history each =
-      octets_new station octets (after_call given station (HostOctet octet) history) (call_new station (HostOctet octet) history (octet_new given history station octet) each)
-
-  feed_new : (station : ℕ) (octets : List ℕ) (history : List Event) → Each IsNewEvent [] history → Each IsNewEvent [] (after_feed given station octets history)
-  feed_new station [] history each = each
-  feed_new station (octet ∷ octets) history each =
-      octets_new station (octet ∷ octets) (history ++ HostFed station (octet ∷ octets) ∷ []) (each_event IsNewEvent history (HostFed station (octet ∷ octets)) each tt)
-
-  record AreNewAt (Q : Place → List Event → Type 0) (place : Place) (history : List Event) : Type 0 where
-    is : AreCountedAt given Q place history
-    each : Each IsNewEvent [] history
-
-  module _ (whole : IsHeardWhole) (Q : Place → List Event → Type 0) (known : AreKnown given Q) (are_two : IsOfTwo given) (pair : IsPair given) (six : HaveAddresses given) (distinct : AreDistinct given.stations) where
-    new_kept : IsKept given (AreNewAt Q)
-    new_kept = let kept = counts_kept whole given Q known are_two pair six distinct in record {
-      on_turn = λ slot plan history begun at has. record {
-        is = kept.on_turn slot plan history begun at has.is;
-        each = each_event IsNewEvent history (TurnBegan slot (map plan.radio_of given.stations)) has.each tt;
-      };
-      on_feed = λ plan done left station history are some now has. record {
-        is = kept.on_feed plan done left station history are some now has.is;
-        each = feed_new station (take (plan.feed_of station) (octets_left given station history)) history has.each;
-      };
-      on_fed = λ history has. record { is = kept.on_fed history has.is; each = has.each };
-      on_begin = λ slot plan done left station history are due has. record {
-        is = kept.on_begin slot plan done left station history are due has.is;
-        each = call_new station (TurnBegins slot (plan.radio_of station)) history (record {
-          new = begin_new given Q distinct done left station slot (plan.radio_of station) history are has.is;
-          of = begun_call whole given Q known are_two pair six distinct done left station slot (plan.radio_of station) history are (between_turns given Q distinct done left station history are has.is).uses.in_turn has.is;
-        }) has.each;
-      };
-      on_begun = λ history has. record { is = kept.on_begun history has.is; each = has.each };
-      on_phase = λ phases history few has. record { is = kept.on_phase phases history few has.is; each = has.each };
-      on_silence = λ phases done left station history are none has. record { is = kept.on_silence phases done left station history are none has.is; each = has.each };
-      on_packet = λ phases plan done left station channel octets history are some due has. record {
-        is = kept.on_packet phases plan done left station channel octets history are some due has.is;
-        each = each_event IsNewEvent history (Transmitted station channel octets (hearings_of given plan.fates station channel octets history)) has.each tt;
-      };
-      on_air = λ phases history has. record { is = kept.on_air phases history has.is; each = has.each };
-      on_hearing = λ phases done left station history are some has.
-          let next = kept.on_hearing phases done left station history are some has.is in record {
-            is = next;
-            each = call_new station (step_of (packet_received station history)) history (record {
-              new = phase_new given Q known pair distinct phases done left station history are has.is next.known next.holds;
-              of = call_is given Q known pair distinct phases done left station history are has.is next.known next.holds;
-            }) has.each;
-          };
-      on_heard = λ phases history has. record { is = kept.on_heard phases history has.is; each = has.each };
-      on_phases = λ history has. record { is = kept.on_phases history has.is; each = has.each };
-      on_end = λ done left station history are some has. record {
-        is = kept.on_end done left station history are some has.is;
-        each = call_new station TurnEnds history (end_new given history station) has.each;
-      };
-      on_ended = λ history has. record { is = kept.on_ended history has.is; each = has.each };
-    }
-
-    run_new : AreCountedAt given Q NoTurn [] → Each IsNewEvent [] (history_of (run_of given))
-    run_new first =
-        ends_with (run_of given) (IsWhole given (AreNewAt Q)) (IsStopped given (AreNewAt Q)) (Each IsNewEvent []) (run_kept given (AreNewAt Q) new_kept (record { is = first; each = tt }))
-        (λ history wholly. wholly.is.each) (λ history stop stopped. stopped.kept.each)
-
--- ---- the note of a line
-
-record IsSentNote (links : Links) (event : Event) (side : Side) (number llid : ℕ) (body : List ℕ) : Type 0 where
-  station : ℕ
-  handle : ℕ
-  count : ℕ
-  is : event ≡ Noted station (SentNote handle count llid (record { items = body }))
-  side_is : side_of station ≡ side
-  number_is : links.link_of station handle ≡ number
-
-note_is : (links : Links) (station : ℕ) (note : Note) (side : Side) (number count llid : ℕ) (body : List ℕ)
-    → entry_of (side_of station) (links.link_of station) (links.last_of station) note ∷ [] ≡ Sent side number count llid body ∷ []
-    → IsSentNote links (Noted station note) side number llid body
-note_is links station (SentNote handle has one octets) side number count llid body is =
-    let same : Sent (side_of station) (links.link_of station handle) has one octets.items ≡ Sent side number count llid body = cc in
-    let sides : side_of station ≡ side = cc in
-    let numbers : links.link_of station handle ≡ number = cc in
-    let llids : one ≡ llid = cc in
-    let bodies : octets.items ≡ body = cc in record {
-      station = station;
-      handle = handle;
-      count = has;
-      is = λ i. Noted station (SentNote handle has (llids i) (record { items = bodies i }));
-      side_is = sides;
-      number_is = numbers;
-    }
-note_is links station (UpNote packet) side number count llid body is = absurd cc
-note_is links station note side number count llid body is = absurd cc
-
-sent_note : (links : Links) (event : Event) (side : Side) (number count llid : ℕ) (body : List ℕ) → entries_of links event ≡ Sent side number count llid body ∷ []
-    → IsSentNote links event side number llid body
-sent_note links (TurnBegan slot radios) side number count llid body is = absurd cc
-sent_note links (HostFed station octets) side number count llid body is = absurd cc
-sent_note links (Called station step) side number count llid body is = absurd cc
-sent_note links (Noted station note) side number count llid body is = note_is links station note side number count llid body is
-sent_note links (Transmitted station on octets []) side number count llid body is = absurd cc
-sent_note links (Transmitted station on octets (hearing ∷ hearings)) side number count llid body is = absurd cc
+module _ (whole : IsHeardWhole) (given : Given) (Q : Place → List Event → Type 0) (known : AreKnown given Q) (are_two : IsOfTwo given) (pair : IsPair given) (six : HaveAddresses given)
+    (distinct : AreDistinct given.stations) where
+  have_new : HaveCalls given (IsNewCall given) (AreCountedAt given Q)
+  have_new = record {
+    feeds = λ station octet history. octet_new given history station octet;
+    begins = λ plan slot done left station history are is next. record {
+      new = begin_new given Q distinct done left station slot (plan.radio_of station) history are is;
+      of = begun_call whole given Q known are_two pair six distinct done left station slot (plan.radio_of station) history are
+          (between_turns given Q distinct done left station history are is).uses.in_turn is;
+    };
+    passes = λ phases done left station history are is next. record {
+      new = phase_new given Q known pair distinct phases done left station history are is next.known next.holds;
+      of = call_is given Q known pair distinct phases done left station history are is next.known next.holds;
+    };
+    ends = λ station history. end_new given history station;
+  }
 
 -- ---- a line
 
@@ -345,7 +247,7 @@ first_part P (first ∷ earlier) later all =
     All-cons P first earlier (All-head P first (earlier ++ later) all) (first_part P earlier later (All-tail P first (earlier ++ later) all))
 
 -- before a note of a new PDU no link is opened under its handle
-none_opened : (given : Given) (station : ℕ) (step : Step) (base : List Event) (earlier later : List Note) (handle count llid : ℕ) (body : List ℕ)
+pub none_opened : (given : Given) (station : ℕ) (step : Step) (base : List Event) (earlier later : List Note) (handle count llid : ℕ) (body : List ℕ)
     → notes_after (setup_at given station) (facts_at given station base) step ≡ earlier ++ SentNote handle count llid (record { items = body }) ∷ later
     → IsCallOf given station step base → All (OpensNone handle) earlier
 none_opened given station step base earlier later handle count llid body are (OfNone none) =
@@ -377,20 +279,11 @@ pub sent_line_is_new : IsHeardWhole → IsUnderstood → AreTaken → AreNth →
     → (front rest : List Entry) (side : Side) (number count llid : ℕ) (body : List ℕ) → journal_of (history_of (run_of given)) ≡ front ++ Sent side number count llid body ∷ rest
     → IsNewPdu number front side (record { llid = llid; body = body })
 sent_line_is_new whole understood taken nth apart given are_two pair six distinct front rest side number count llid body is =
+    let Q = IsBelongingSoFar given in
     let known = known_of understood taken nth apart given are_two six in
-    let history = history_of (run_of given) in
-    let one = is_of_event history front rest (Sent side number count llid body) is in
-    let note = sent_note (links_of one.before) one.event side number count llid body one.entry_is in
-    let noted = SentNote note.handle note.count llid (record { items = body }) in
-    let at : history ≡ one.before ++ Noted note.station noted ∷ one.after = one.is_at ∙ ap (λ e. one.before ++ e ∷ one.after) note.is in
-    let call = noted_in_call given one.before one.after note.station noted at in
-    let after = map (Noted note.station) call.earlier ++ Noted note.station noted ∷ one.after in
-    let called : history ≡ call.base ++ Called note.station call.step ∷ after =
-    at ∙ ap (λ xs. xs ++ Noted note.station noted ∷ one.after) call.before_is
-    ∙ append_assoc call.base (Called note.station call.step ∷ map (Noted note.station) call.earlier) (Noted note.station noted ∷ one.after) in
-    let new = new_after given note.station call.step call.base one.before call.earlier call.later note.handle note.count llid body call.notes_are call.before_is
-    (each_at (IsNewEvent given) history call.base after (Called note.station call.step)
-    (run_new given whole (IsBelongingSoFar given) known are_two pair six distinct (counts_first given)) called) in
-    subst (λ xs. IsNewPdu number xs side (record { llid = llid; body = body })) (sym one.front_is)
-    (subst (λ s. IsNewPdu number (journal_of one.before) s (record { llid = llid; body = body })) note.side_is
-    (subst (λ n. IsNewPdu n (journal_of one.before) (side_of note.station) (record { llid = llid; body = body })) note.number_is new))
+    let call = sent_in_call given front rest side number count llid body is in
+    to_line (λ link entries one. IsNewPdu link entries one (record { llid = llid; body = body })) given front side number count llid body call
+    (new_after given call.station call.step call.base call.before call.earlier call.later call.handle count llid body call.notes_are call.before_is
+    (each_at (OfCall given (IsNewCall given)) (history_of (run_of given)) call.base call.after (Called call.station call.step)
+    (run_calls given (IsNewCall given) (AreCountedAt given Q) (counts_kept whole given Q known are_two pair six distinct) (have_new whole given Q known are_two pair six distinct) (counts_first given))
+    call.called))

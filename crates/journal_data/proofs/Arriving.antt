@@ -42,7 +42,7 @@ abbrev pub pdu_lines : ℕ → ℕ → List Pdu → List PduLine
 pdu_lines link number [] = []
 pdu_lines link number (pdu ∷ pdus) = record { link = link; number = number; pdu = pdu } ∷ pdu_lines link (number + 1) pdus
 
-lines_length : (link number : ℕ) (pdus : List Pdu) → length (pdu_lines link number pdus) ≡ length pdus
+pub lines_length : (link number : ℕ) (pdus : List Pdu) → length (pdu_lines link number pdus) ≡ length pdus
 lines_length link number [] = refl
 lines_length link number (pdu ∷ pdus) = ap (λ n. suc n) (lines_length link (number + 1) pdus)
 
@@ -52,7 +52,7 @@ lines_take link number (suc count) [] = refl
 lines_take link number (suc count) (pdu ∷ pdus) =
     ap (λ rest. record { link = link; number = number; pdu = pdu } ∷ rest) (lines_take link (number + 1) count pdus)
 
-lines_data : (link number : ℕ) (pdus : List Pdu) → flat_map (λ (one : PduLine). data_in one.pdu) (pdu_lines link number pdus) ≡ data_of pdus
+pub lines_data : (link number : ℕ) (pdus : List Pdu) → flat_map (λ (one : PduLine). data_in one.pdu) (pdu_lines link number pdus) ≡ data_of pdus
 lines_data link number [] = refl
 lines_data link number (pdu ∷ pdus) = ap (λ rest. data_in pdu ++ rest) (lines_data link (number + 1) pdus)
 
@@ -73,7 +73,7 @@ kept_data true pdu rest more is same =
     same ∙ sym (ap (λ (b : Bool). cond b (marked_octets (pdu.llid == 2) pdu.body) [] ++ data_of more) (no_data pdu.llid (pdu.llid == 0) (length pdu.body == 0) refl is))
 kept_data false pdu rest more is same = ap (λ octets. data_in pdu ++ octets) same
 
-data_nonempty : (pdus : List Pdu) → data_of (nonempty is_empty pdus) ≡ data_of pdus
+pub data_nonempty : (pdus : List Pdu) → data_of (nonempty is_empty pdus) ≡ data_of pdus
 data_nonempty [] = refl
 data_nonempty (pdu ∷ pdus) = kept_data (is_empty pdu) pdu (nonempty is_empty pdus) pdus refl (data_nonempty pdus)
 

@@ -78,7 +78,7 @@ module _ {X : Type 0} (kind : Note → Bool) (field : Lines → X)
       ∙ ap field (note_lines station history note)
       ∙ leaves (lines_at station history) (side_of station) ((links_of history).link_of station) ((links_of history).last_of station) note none.0
 
-  call_leaves : (station : ℕ) (step : Step) (notes : List Note) (history : List Event) → AreNot kind notes
+  pub call_leaves : (station : ℕ) (step : Step) (notes : List Note) (history : List Event) → AreNot kind notes
       → field (lines_at station (with_notes station step notes history)) ≡ field (lines_at station history)
   call_leaves station step notes history none =
       ap (λ (h : List Event). field (lines_at station h)) (sym (append_assoc history (Called station step ∷ []) (map (Noted station) notes)))

@@ -41,7 +41,7 @@ use Rattle.journal_data.proofs.StationLines.{OnlyOpenHaveNotes, first_booked}
 use Rattle.journal_data.proofs.Submitting.{HasFed}
 use Rattle.journal_data.proofs.Used.{AreUsed, IsClear}
 
-only_open : OnlyOpenHaveNotes
+pub only_open : OnlyOpenHaveNotes
 only_open setup past step few = record {
   before = λ note noted data_is. open_before setup past step note 0 (omega (arith, few)) noted data_is;
   after = λ note noted data_is. open_after setup past step note 0 (omega (arith, few)) noted data_is;
@@ -104,7 +104,7 @@ first_are given = record {
   arriving = λ station is. first_arriving given station (other_of station);
 }
 
-first_data : (given : Given) → IsDataSoFar given (IsBelongingSoFar given) NoTurn []
+pub first_data : (given : Given) → IsDataSoFar given (IsBelongingSoFar given) NoTurn []
 first_data given = let counted = counts_first given in record {
   is = record { counted = counted; mine = heard_none_mine given [] counted.holds.hearing.hears; are = first_are given };
   always = always_first (AllArrive given) (well_arrive given [] (first_are given));
@@ -134,7 +134,7 @@ module _ (whole : IsHeardWhole) (understood : IsUnderstood) (taken : AreTaken) (
       subst (λ journal. ArrivesInOrder link (lines_of 8 (side_of station) journal) (lines_of 8 (side_of (other_of station)) journal)) (sym at.front_is)
       (run_arrives at.before (at.event ∷ at.after) at.is_at station in_it link)
 
-eight_of : (a b : List ℕ) (script : Script) (station : ℕ) → (setup_at (given_of a b script) station).host_buffers ≡ 8
+pub eight_of : (a b : List ℕ) (script : Script) (station : ℕ) → (setup_at (given_of a b script) station).host_buffers ≡ 8
 eight_of a b script zero = refl
 eight_of a b script (suc station) = refl
 

@@ -1,34 +1,34 @@
 -- The lemmas of this crate.
-mod EachLine
-mod Booked
-mod Arriving
-mod NotedPdus
-mod Middle
+pub mod EachLine
+pub mod Booked
+pub mod Arriving
+pub mod NotedPdus
+pub mod Middle
 mod HostPackets
-mod Submitting
+pub mod Submitting
 mod Feeds
-mod SameGiven
+pub mod SameGiven
 mod KeptSubmitted
-mod Tied
-mod Sides
-mod Mine
-mod MineKept
-mod Openness
-mod StationLines
-mod StationAdds
+pub mod Tied
+pub mod Sides
+pub mod Mine
+pub mod MineKept
+pub mod Openness
+pub mod StationLines
+pub mod StationAdds
 mod FewComplete
 mod Credits
-mod FedInRuns
-mod Ends
-mod Used
+pub mod FedInRuns
+pub mod Ends
+pub mod Used
 mod FedOthers
 mod SameView
 mod NotedStays
-mod OneCall
-mod Moves
+pub mod OneCall
+pub mod Moves
 mod FeedSide
-mod KeptData
+pub mod KeptData
 mod Fronts
-mod CallMiddle
+pub mod CallMiddle
 mod DataInRuns
-mod Law
+pub mod Law

@@ -62,7 +62,7 @@ after_entered slot link = after_step link (EventEntered slot) _ (grows link.setu
 after_fixed : (link : OpenLink) → given_in (link_after PduFixed link) ≡ given_in link
 after_fixed link = after_step link PduFixed _ (grows link.setup link.past PduFixed) refl
 
-after_sent : (slot : ℕ) (link : OpenLink) → given_in (link_after (PacketSent slot) link) ≡ given_in link
+pub after_sent : (slot : ℕ) (link : OpenLink) → given_in (link_after (PacketSent slot) link) ≡ given_in link
 after_sent slot link = after_step link (PacketSent slot) _ (grows link.setup link.past (PacketSent slot)) (sent_same _ (facts_in link).outgoing)
 
 after_received : (slot : ℕ) (octets : List ℕ) (room : Bool) (link : OpenLink) → given_in (link_after (PacketReceived slot octets room) link) ≡ given_in link

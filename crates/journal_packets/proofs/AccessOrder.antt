@@ -1,7 +1,7 @@
 -- The links that one station began have different access addresses, so the first one that fits a packet is the link of
 -- that packet.
 use Rattle.std.proofs.Common.{◌≡◌, ◌≢◌, ℕ, zero, suc, ◌+◌, ◌-◌, ◌^◌, ◌<◌, ◌≤◌, ◌==◌, ◌⊎◌, inl, inr, ◌&&◌, Bool, true, false, Option, Some, List, [], ◌∷◌, ◌++◌, take, refl, sym, ap, subst, ◌∙◌, arith}
-use Rattle.std.specs.Prelude.{⊤, IfSome, slice_get, if◌then◌else◌}
+use Rattle.std.specs.Prelude.{IfSome, slice_get, if◌then◌else◌}
 use Rattle.std.specs.Int.{from_le_bytes, w32}
 use Rattle.std.specs.Str.{bytes_eq}
 use Rattle.std.proofs.Math.Nat.{mod-lt}
@@ -26,6 +26,7 @@ use Rattle.run_laws.specs.Access.{connects_in, connects_sent}
 use Rattle.run_laws.proofs.ConnectInds.{TakenInOrder, count_event}
 use Rattle.run_laws.proofs.DistinctAccess.{AreApart, found_at}
 use Rattle.journal_links.specs.Begun.{LinkBegun, begun_by}
+use Rattle.journal_packets.specs.Addresses.{AreInOrder}
 use Rattle.journal_packets.specs.Belonging.{first_number, fits, is_side}
 use Rattle.journal_packets.proofs.SentLinks.{IsOfTwo, link_in, links_sent}
 
@@ -57,13 +58,6 @@ differ_before nth apart cursor m n a b less is is_too = λ same.
     (same_octets a b (access_below nth cursor m a is) (access_below nth cursor n b is_too) same)
 
 -- ---- the links of one side
-
--- they have the addresses from this number on, in order
-abbrev pub AreInOrder : Side → ℕ → ℕ → List LinkBegun → Type 0
-AreInOrder side cursor number [] = ⊤
-AreInOrder side cursor number (link ∷ links) =
-    (is_side link.central side ≡ true → access_found (nth_access cursor number) ≡ Some link.fields.access)
-    × AreInOrder side cursor (number + (if is_side link.central side then 1 else 0)) links
 
 record IsLater (cursor number access : ℕ) : Type 0 where
   at : ℕ

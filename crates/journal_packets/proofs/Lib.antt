@@ -7,3 +7,4 @@ pub mod EachEvent
 pub mod AskedSoFar
 pub mod SendersLink
 pub mod SoFar
+pub mod NextAddresses

@@ -1,3 +1,4 @@
 -- The definitions of this crate.
 pub mod Belonging
 pub mod Senders
+pub mod Addresses

@@ -1,0 +1,43 @@
+-- In every journal of a run of a pair each line is the one that is due, and nothing waits between turns.
+use Rattle.std.proofs.Common.{◌≡◌, ℕ, List, length, refl}
+use Rattle.one_end.proofs.Received.{IsHeardWhole}
+use Rattle.radio_replay.specs.Script.{Script}
+use Rattle.runs.specs.History.{Event}
+use Rattle.runs.specs.Journal.{journal_of}
+use Rattle.runs.specs.Pair.{given_of}
+use Rattle.runs.specs.Run.{GoesOn, history_of, run_of}
+use Rattle.runs.proofs.LinkEnds.{AreTaken, IsUnderstood, pair_addresses}
+use Rattle.runs.proofs.Ordered.{pair_distinct}
+use Rattle.run_laws.proofs.DistinctAccess.{AreApart}
+use Rattle.run_laws.proofs.InAgreement.{is_pair}
+use Rattle.journal_packets.proofs.AccessOrder.{AreNth}
+use Rattle.journal_data.proofs.Law.{eight_of}
+use Rattle.journal_pdus.specs.Exchanged.{AllAreNew, PdusAreDue}
+use Rattle.journal_pdus.specs.Settled.{AreSettled}
+use Rattle.journal_pdus.proofs.NextPdus.{next_of_lines}
+use Rattle.journal_pdus.proofs.SettledRuns.{settled_last, settled_lines}
+use Rattle.journal_pdus.proofs.TakenInRuns.{some_air, taken_lines}
+use Rattle.journal_pdus.proofs.ToldInRuns.{told_lines}
+use Rattle.journal_pdus.proofs.WhatWaitsInRuns.{AreAired, waits_of_lines}
+
+module _ (whole : IsHeardWhole) (understood : IsUnderstood) (taken : AreTaken) (nth : AreNth) (apart : AreApart) (a b : List ℕ) (script : Script)
+    (six : length script.a.public ≡ 6) (six_too : length script.b.public ≡ 6) where
+  pub journal_due : AllAreNew (journal_of (history_of (run_of (given_of a b script)))) → AreAired (given_of a b script)
+      → PdusAreDue (journal_of (history_of (run_of (given_of a b script))))
+  journal_due new aired =
+      let given = given_of a b script in
+      let pair = is_pair a b script in
+      let addresses = pair_addresses a b script six six_too in
+      let distinct = pair_distinct a b script in
+      let eight = eight_of a b script in record {
+        new = new;
+        next = next_of_lines whole understood taken nth apart given refl pair addresses distinct eight;
+        tell_what_waits = waits_of_lines whole understood taken nth apart given refl pair addresses distinct eight aired;
+        go_out_at_once = told_lines whole understood taken nth apart given refl pair addresses distinct eight;
+        taken_at_once = taken_lines whole understood taken nth apart given refl pair addresses distinct eight (some_air a b script);
+        settled = settled_lines whole understood taken nth apart given refl pair addresses distinct eight;
+      }
+
+  pub journal_settled : (history : List Event) → run_of (given_of a b script) ≡ GoesOn history → AreSettled (journal_of history)
+  journal_settled =
+      settled_last whole understood taken nth apart (given_of a b script) refl (is_pair a b script) (pair_addresses a b script six six_too) (pair_distinct a b script) (eight_of a b script)

@@ -1,0 +1,87 @@
+-- The end that is to transmit a packet on its link, by what the lines before it say.
+use Rattle.std.proofs.Common.{◌≡◌, ℕ, ◌+◌, true, false, Some, List, [], ◌∷◌, ◌++◌, length, sym, ap, subst, ◌∙◌}
+use Rattle.one_end.proofs.Received.{IsHeardWhole}
+use Rattle.one_end.specs.Acknowledgement.{Acknowledgement}
+use Rattle.one_end.specs.Step.{PacketSent}
+use Rattle.open_links.specs.OpenLinks.{OpenLink, facts_in, link_after, link_at}
+use Rattle.one_side.specs.Facts.{Facts, Sends}
+use Rattle.one_side.specs.Since.{data_waiting}
+use Rattle.runs.specs.Feeding.{AreDistinct}
+use Rattle.runs.specs.History.{Event}
+use Rattle.runs.specs.Journal.{journal_of, side_of}
+use Rattle.runs.specs.LinkEnds.{HaveAddresses}
+use Rattle.runs.specs.Links.{is_advertising}
+use Rattle.runs.specs.Run.{Given, facts_at, setup_at, use_at}
+use Rattle.runs.proofs.Stations.{is_in, among}
+use Rattle.runs.proofs.Walk.{Place, AtPackets}
+use Rattle.run_laws.proofs.Agreed.{ack_of, ack_sent, sent_ack}
+use Rattle.run_laws.proofs.InAgreement.{IsPair, few_links}
+use Rattle.journal_packets.specs.Senders.{IsOfSendersLink}
+use Rattle.journal_acks.specs.Carried.{carried_of}
+use Rattle.journal_acks.specs.Counted.{IsCounted}
+use Rattle.journal_acks.specs.Exchange.{Exchanged, with_sent}
+use Rattle.journal_acks.proofs.AirCounts.{sender_counted, sends_it}
+use Rattle.journal_acks.proofs.Counting.{AreKnown}
+use Rattle.journal_acks.proofs.Exchanging.{exchange_at, number_at}
+use Rattle.journal_acks.proofs.FixedPdus.{sent_out}
+use Rattle.journal_acks.proofs.KeptCounts.{AreCountedAt}
+use Rattle.journal_acks.proofs.LinkUses.{sends_under}
+use Rattle.journal_acks.proofs.Standing.{first_handle}
+use Rattle.journal_acks.proofs.TwoStations.{IsOfTwo}
+use Rattle.journal_data.proofs.Arriving.{IsEndBooked}
+use Rattle.journal_data.proofs.EachLine.{lines_at}
+use Rattle.journal_data.proofs.Ends.{sound}
+use Rattle.journal_pdus.proofs.Together.{IsKnownAt}
+
+module _ (whole : IsHeardWhole) (given : Given) (Q : Place → List Event → Type 0) (known : AreKnown given Q) (are_two : IsOfTwo given) (pair : IsPair given)
+    (six : HaveAddresses given) (distinct : AreDistinct given.stations) (eight : (station : ℕ) → (setup_at given station).host_buffers ≡ 8)
+    (phases : ℕ) (done left : List ℕ) (station channel : ℕ) (octets : List ℕ) (history : List Event) (are : given.stations ≡ done ++ station ∷ left)
+    (wanted : use_at given station history ≡ Sends channel octets) (has : IsKnownAt given Q (AtPackets phases done (station ∷ left)) history)
+    (off : is_advertising channel ≡ false) where
+  abbrev counted : AreCountedAt given Q (AtPackets phases done (station ∷ left)) history
+  counted = has.lined.channelled.is
+
+  abbrev sender : Facts
+  sender = facts_at given station history
+
+  in_it : is_in station given.stations ≡ true
+  in_it = among given.stations done left station are
+
+  abbrev pub from : IsOfSendersLink given history station channel octets
+  from = known.sends phases done left station history are counted.known channel octets wanted off
+
+  -- the end as it sent
+  abbrev pub sent_end : OpenLink
+  sent_end = link_after (PacketSent from.slot) from.link
+
+  abbrev pub number : ℕ
+  number = number_at station 0 history
+
+  abbrev pub end : Exchanged
+  end = exchange_at number history (side_of station)
+
+  -- its station has no other link
+  pub first : from.handle ≡ 0
+  first = first_handle sender.links from.handle sent_end (few_links given pair station sender (counted.holds.so_far.last.each station in_it)) from.is_open
+
+  pub at_first : link_at 0 sender.links ≡ Some sent_end
+  at_first = subst (λ n. link_at n sender.links ≡ Some sent_end) first from.is_open
+
+  pub sends_first : sends_under 0 sender.turn.doing ≡ true
+  sends_first = sends_it whole given Q known are_two pair six distinct phases done left station channel octets [] history are wanted counted.known counted.holds counted.counted off 0 sent_end at_first
+
+  pub acked_is : end.acked ≡ (ack_of from.link).acked
+  acked_is =
+      (subst (λ h. IsCounted (with_sent (exchange_at (number_at station h history) history (side_of station))) (ack_of sent_end)) first
+      (sender_counted whole given Q known are_two pair six distinct phases done left station channel octets [] history are wanted counted.known counted.holds counted.counted off)).acked
+      ∙ ap (λ (a : Acknowledgement). a.acked) (ack_sent from.slot from.link)
+
+  -- the packet carries what it sent last
+  pub carried_is : carried_of number (journal_of history) (side_of station) ≡ (sent_ack (facts_in from.link)).last
+  carried_is =
+      sym ((has.lined.lines station 0 sent_end in_it at_first).last end.acked
+      (ap (λ n. n + 1) acked_is ∙ sent_out from.link ∙ ap (λ (a : Acknowledgement). length a.sent) (sym (ack_sent from.slot from.link))))
+      ∙ ap (λ (a : Acknowledgement). a.last) (ack_sent from.slot from.link)
+
+  pub booked_is : IsEndBooked number (lines_at station history) (facts_in sent_end) (data_waiting 0 sender.received)
+  booked_is = (sound given station history sent_end (pair.links station) (eight station) (has.data_is.are.well station in_it) at_first).booked

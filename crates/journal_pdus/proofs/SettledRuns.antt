@@ -1,0 +1,151 @@
+-- Before each turn of a run of a pair, and at its end, each host has received all data that its side took, and is told of
+-- all its packets that are acknowledged.
+use Rattle.std.proofs.Common.{◌≡◌, ℕ, true, Bool, Option, Some, None, List, [], ◌∷◌, ◌++◌, refl, sym, ap, subst, ◌∙◌}
+use Rattle.std.specs.Prelude.{is_some}
+use Rattle.ble_base.specs.declared.notes.Note.{Note}
+use Rattle.ble_base.specs.declared.notes.Note.TheVariants.{Up as UpNote}
+use Rattle.ble_base.specs.declared.roles.Side.{Side}
+use Rattle.ble_base.specs.declared.roles.Side.TheVariants.{A, B}
+use Rattle.journal.specs.declared.entries.Entry.TheVariants.{Turn}
+use Rattle.one_end.proofs.Received.{IsHeardWhole}
+use Rattle.one_end.proofs.Sending.{past_holds}
+use Rattle.open_links.specs.OpenLinks.{OpenLink, facts_in, link_at}
+use Rattle.one_side.specs.Between.{is_between_turns}
+use Rattle.one_side.specs.Since.{data_waiting}
+use Rattle.one_side.proofs.BetweenTurns.{none_complete, nothing_waits}
+use Rattle.runs.specs.Feeding.{AreDistinct}
+use Rattle.runs.specs.History.{Event, TurnBegan, HostFed, Called, Noted, Transmitted, past_of, turns_begun}
+use Rattle.runs.specs.Journal.{entries_of, entry_of, journal_of, side_of}
+use Rattle.runs.specs.LinkEnds.{HaveAddresses}
+use Rattle.runs.specs.Links.{Links, links_of}
+use Rattle.runs.specs.Run.{Given, GoesOn, facts_at, history_of, run_of, setup_at}
+use Rattle.runs.proofs.EntryEvents.{is_of_event}
+use Rattle.runs.proofs.LinkEnds.{AreTaken, IsUnderstood}
+use Rattle.runs.proofs.Stations.{is_in}
+use Rattle.runs.proofs.Walk.{Place, NoTurn, IsKept}
+use Rattle.run_laws.proofs.DistinctAccess.{AreApart}
+use Rattle.run_laws.proofs.InAgreement.{IsPair}
+use Rattle.run_laws.proofs.TurnPlaces.{stands_at}
+use Rattle.journal_packets.proofs.AccessOrder.{AreNth}
+use Rattle.journal_packets.proofs.SoFar.{IsBelongingSoFar}
+use Rattle.journal_acks.proofs.Known.{known_of}
+use Rattle.journal_acks.proofs.RunCounts.{between_turns}
+use Rattle.journal_acks.proofs.Seen.{IsSeen, seen_last, seen_turn}
+use Rattle.journal_acks.proofs.TwoStations.{IsOfTwo}
+use Rattle.journal_data.specs.HostLines.{OpenUnder}
+use Rattle.journal_data.specs.Lines.{lines_of}
+use Rattle.journal_data.proofs.EachLine.{number_of}
+use Rattle.journal_data.proofs.Ends.{sound}
+use Rattle.journal_data.proofs.FedInRuns.{between_standing}
+use Rattle.journal_data.proofs.StationLines.{for_open, links_open}
+use Rattle.journal_pdus.specs.Exchanged.{AllAreSettled}
+use Rattle.journal_pdus.specs.Settled.{AreSettled, IsSettled}
+use Rattle.journal_pdus.proofs.SettledEnds.{settled_end}
+use Rattle.journal_pdus.proofs.Together.{IsKnownAt, known_first, known_kept}
+
+-- ---- the links that are open by the lines
+
+-- it is the link in this place
+record IsOfPlace (number : ℕ) (place : Option OpenLink) (one : OpenUnder) : Type 0 where
+  link : OpenLink
+  at : place ≡ Some link
+  number_is : one.link ≡ number
+
+open_in : (number : ℕ) (place : Option OpenLink) (before after : List OpenUnder) (one : OpenUnder) → links_open number (is_some place) ≡ before ++ one ∷ after
+    → IsOfPlace number place one
+open_in number None [] after one are = absurd cc
+open_in number None (first ∷ before) after one are = absurd cc
+open_in number (Some link) [] after one are =
+    let same : record { link = number; handle = 0 } ≡ one = cc in
+    record { link = link; at = refl; number_is = sym (ap (λ (o : OpenUnder). o.link) same) }
+open_in number (Some link) (first ∷ []) after one are = absurd (let rest : [] ≡ one ∷ after = cc in absurd cc)
+open_in number (Some link) (first ∷ second ∷ before) after one are = absurd (let rest : [] ≡ second ∷ (before ++ one ∷ after) = cc in absurd cc)
+
+-- ---- between two turns
+
+-- each side is that of a station
+by_side : (given : Given) → IsOfTwo given → (T : Side → Type 0) → ((station : ℕ) → is_in station given.stations ≡ true → T (side_of station)) → (side : Side) → T side
+by_side given are_two T all A = all 0 (ap (is_in 0) are_two)
+by_side given are_two T all B = all 1 (ap (is_in 1) are_two)
+
+module _ (given : Given) (Q : Place → List Event → Type 0) (are_two : IsOfTwo given) (pair : IsPair given) (eight : (station : ℕ) → (setup_at given station).host_buffers ≡ 8)
+    (history : List Event) (is : IsKnownAt given Q NoTurn history) where
+  rests : (station : ℕ) → is_in station given.stations ≡ true → is_between_turns (past_of station history) ≡ true
+  rests station in_it =
+      between_standing (past_of station history) (stands_at NoTurn station (turns_begun history)) (is.data_is.counted.holds.hearing.stand station in_it)
+
+  settled_on : (station : ℕ) → is_in station given.stations ≡ true → (link : OpenLink) → link_at 0 (facts_at given station history).links ≡ Some link
+      → IsSettled (number_of station history) (side_of station) (journal_of history)
+  settled_on station in_it link at =
+      let setup = setup_at given station in
+      let past = past_of station history in
+      settled_end (number_of station history) (side_of station) (journal_of history) (facts_in link) (data_waiting 0 (facts_at given station history).received)
+      (sound given station history link (pair.links station) (eight station) (is.data_is.are.well station in_it) at).booked
+      (ap (data_waiting 0) (nothing_waits setup past (rests station in_it)))
+      (past_holds link.setup link.past)
+      (none_complete setup past 0 link (rests station in_it) at)
+      (is.lined.lines station 0 link in_it at)
+      (between_turns given Q history is.data_is.counted station 0 link in_it at).acked
+
+  abbrev IsSettledSide : Side → Type 0
+  IsSettledSide side = (before after : List OpenUnder) (one : OpenUnder) → (lines_of 8 side (journal_of history)).links ≡ before ++ one ∷ after
+      → IsSettled one.link side (journal_of history)
+
+  settled_side : (station : ℕ) → is_in station given.stations ≡ true → IsSettledSide (side_of station)
+  settled_side station in_it = λ before after one are.
+      let number = number_of station history in
+      let found = open_in number (link_at 0 (facts_at given station history).links) before after one
+      (sym (for_open number (link_at 0 (facts_at given station history).links)) ∙ sym (is.data_is.are.well station in_it).booked.links ∙ are) in
+      subst (λ n. IsSettled n (side_of station) (journal_of history)) (sym found.number_is) (settled_on station in_it found.link found.at)
+
+  settled_between : AreSettled (journal_of history)
+  settled_between = λ side before after one are. by_side given are_two IsSettledSide settled_side side before after one are
+
+-- ---- the event of a line
+
+record IsTurnEvent (event : Event) : Type 0 where
+  slot : ℕ
+  radios : List Bool
+  is : event ≡ TurnBegan slot radios
+
+no_note : (side : Side) (link_of : ℕ → ℕ) (last : ℕ) (note : Note) (slot : ℕ) (a_on : Bool) (b_on : Option Bool) (X : Type 0)
+    → entry_of side link_of last note ∷ [] ≡ Turn slot a_on b_on ∷ [] → X
+no_note side link_of last (UpNote packet) slot a_on b_on X is = absurd cc
+no_note side link_of last note slot a_on b_on X is = absurd cc
+
+turn_event : (links : Links) (event : Event) (slot : ℕ) (a_on : Bool) (b_on : Option Bool) → entries_of links event ≡ Turn slot a_on b_on ∷ [] → IsTurnEvent event
+turn_event links (TurnBegan now radios) slot a_on b_on is = record { slot = now; radios = radios; is = refl }
+turn_event links (HostFed station octets) slot a_on b_on is = absurd cc
+turn_event links (Called station step) slot a_on b_on is = absurd cc
+turn_event links (Noted station note) slot a_on b_on is =
+    no_note (side_of station) (links.link_of station) (links.last_of station) note slot a_on b_on (IsTurnEvent (Noted station note)) is
+turn_event links (Transmitted station channel octets []) slot a_on b_on is = absurd cc
+turn_event links (Transmitted station channel octets (hearing ∷ hearings)) slot a_on b_on is = absurd cc
+
+-- ---- in a run
+
+module _ (whole : IsHeardWhole) (understood : IsUnderstood) (taken : AreTaken) (nth : AreNth) (apart : AreApart) (given : Given) (are_two : IsOfTwo given) (pair : IsPair given)
+    (six : HaveAddresses given) (distinct : AreDistinct given.stations) (eight : (station : ℕ) → (setup_at given station).host_buffers ≡ 8) where
+  abbrev P : Place → List Event → Type 0
+  P place history = IsKnownAt given (IsBelongingSoFar given) place history
+
+  run_kept : IsKept given P
+  run_kept = known_kept whole given (IsBelongingSoFar given) (known_of understood taken nth apart given are_two six) are_two pair six distinct eight
+
+  sees : IsSeen given P (λ history. AreSettled (journal_of history)) (λ history station channel octets. Unit {0})
+  sees = record {
+    turn = settled_between given (IsBelongingSoFar given) are_two pair eight;
+    packet = λ phases done left station channel octets history are wanted is. tt;
+  }
+
+  pub settled_lines : AllAreSettled (journal_of (history_of (run_of given)))
+  settled_lines = λ front rest slot a_on b_on is.
+      let one = is_of_event (history_of (run_of given)) front rest (Turn slot a_on b_on) is in
+      let turn = turn_event (links_of one.before) one.event slot a_on b_on one.entry_is in
+      subst AreSettled (sym one.front_is)
+      (seen_turn given P run_kept (λ history. AreSettled (journal_of history)) (λ history station channel octets. Unit {0}) sees (known_first given)
+      one.before one.after turn.slot turn.radios (one.is_at ∙ ap (λ event. one.before ++ event ∷ one.after) turn.is))
+
+  pub settled_last : (history : List Event) → run_of given ≡ GoesOn history → AreSettled (journal_of history)
+  settled_last history goes =
+      seen_last given P run_kept (λ history. AreSettled (journal_of history)) (λ history station channel octets. Unit {0}) sees (known_first given) history goes

@@ -1,0 +1,443 @@
+-- What the last line of a side tells of the packet that its station is to send.
+use Rattle.std.proofs.Common.{◌≡◌, ℕ, ◌+◌, ◌≤◌, ◌==◌, ◌&&◌, not, Bool, true, false, Option, Some, None, List, [], ◌∷◌, ◌++◌, cond, length, refl, sym, ap, subst, ◌∙◌, append-nil, arith}
+use Rattle.std.specs.Prelude.{All, if◌then◌else◌}
+use Rattle.std.proofs.lemmas.Bool.{eqb-true}
+use Rattle.std.proofs.lemmas.List.{length-append}
+use Rattle.std.proofs.lemmas.List.Elements.{All-append, filter-append}
+use Rattle.ack_bit.specs.Nonempty.{nonempty}
+use Rattle.ble_base.specs.declared.notes.Note.{Note}
+use Rattle.ble_base.specs.declared.roles.Side.{Side}
+use Rattle.journal.specs.declared.entries.Entry.{Entry}
+use Rattle.journal.specs.declared.entries.Entry.TheVariants.{Air}
+use Rattle.one_end.specs.Acknowledgement.{Acknowledgement, Pdu, is_acked, next_sent}
+use Rattle.one_end.specs.Data.{is_empty, numbered}
+use Rattle.one_end.specs.End.{sent_notes_if}
+use Rattle.one_end.specs.Facts.{Facts as EndFacts}
+use Rattle.one_end.specs.Step.{PacketReceived, PacketSent}
+use Rattle.open_links.specs.OpenLinks.{OpenLink, facts_in, link_after, link_at}
+use Rattle.open_links.specs.Turns.{notes_entering}
+use Rattle.open_links.proofs.Counts.{count_changing}
+use Rattle.open_links.proofs.Handles.{handle_is}
+use Rattle.one_side.specs.declared.doing.Doing.{Doing}
+use Rattle.one_side.specs.declared.doing.Doing.TheVariants.{Rests}
+use Rattle.one_side.specs.Step.{Step, HostOctet, TurnBegins}
+use Rattle.one_side.specs.Facts.{Setup, Facts}
+use Rattle.one_side.specs.Heard.{has_room, heard, link_heard, link_received, notes_taken, replies_in, reply_if}
+use Rattle.one_side.specs.Links.{facts_ending, notes_ending}
+use Rattle.one_side.specs.Outcome.{Outcome, facts_passed, notes_passed}
+use Rattle.one_side.specs.Packets.{notes_doing}
+use Rattle.one_side.specs.Radio.{outcome_begun}
+use Rattle.one_side.specs.Side.{facts_after, notes_after}
+use Rattle.runs.specs.Feeding.{AreDistinct}
+use Rattle.runs.specs.History.{Event, TurnBegan, HostFed, Transmitted, Hearing, is_good, packet_received}
+use Rattle.runs.specs.Journal.{air_entries, journal_of, mark_of, side_of}
+use Rattle.runs.specs.Links.{is_advertising}
+use Rattle.runs.specs.Run.{Given, after_call, after_feed, after_octets, facts_at, setup_at, step_of}
+use Rattle.runs.proofs.Parts.{journal_event}
+use Rattle.runs.proofs.Stations.{is_in}
+use Rattle.runs.proofs.Walk.{Place, AtListening}
+use Rattle.run_laws.proofs.Agreed.{ack_of}
+use Rattle.run_laws.proofs.ByCalls.{Holds}
+use Rattle.run_laws.proofs.Hearings.{other_facts, own_facts}
+use Rattle.run_laws.proofs.InAgreement.{AreStations, IsPair, IsStation, differs_back, few_links}
+use Rattle.journal_links.specs.Begun.{link_numbered}
+use Rattle.journal_packets.specs.Belonging.{is_side, link_of_packet}
+use Rattle.journal_acks.specs.Exchange.{Exchanged, after_packet, carries_empty, exchange_of, is_number, with_heard, with_sent}
+use Rattle.journal_acks.proofs.CallNotes.{HasNoData, SendsNone, all_more, doing_noted, no_data, start_noted}
+use Rattle.journal_acks.proofs.Counting.{AreCountedSo, AreKnown, facts_event, plain}
+use Rattle.journal_acks.proofs.DataCalls.{on_link_notes, own_begun, sent_at}
+use Rattle.journal_acks.proofs.Exchanging.{OpensNone, exchange_at, exchange_more, exchange_other, exchange_same, feed_quiet, number_at, number_called, number_other, number_quiet, number_sent as number_aired, opening_none, turn_quiet}
+use Rattle.journal_acks.proofs.KeptCounts.{AreCountedAt, before_call, own_at, phased, station_is, unsent, was_taking}
+use Rattle.journal_acks.proofs.KeptLines.{rests_deaf, rests_none}
+use Rattle.journal_acks.proofs.LinkCalls.{HasPassed, IsNew, Stays, Takes, base_ack, begins_under, off_sends, passes_under, taken_noted}
+use Rattle.journal_acks.proofs.LinkUses.{listens_under, sends_under}
+use Rattle.journal_acks.proofs.PhaseNotes.{IsOnLink, IsPhaseOf, IsPlainPhase, SendsFrom, SendsNothing, SendsOne, doing_notes, notes_when, phase_of, same_but, sends_from}
+use Rattle.journal_acks.proofs.Standing.{first_handle}
+use Rattle.journal_acks.proofs.TwoStations.{IsOfTwo, other_apart}
+use Rattle.journal_acks.proofs.UnderHandles.{change_if, change_under, sending_under}
+use Rattle.journal_data.specs.Lines.{PduLine}
+use Rattle.journal_pdus.specs.Announced.{announced_pdu, is_first_sent, pdu_line_if}
+use Rattle.journal_pdus.proofs.ToldLines.{air_other_told, called_none, called_other, called_sent, fed_other_told, told_at, turn_told}
+
+-- ---- a new PDU, over plain variables
+
+-- the new PDU with a payload that an end sends next, as its line tells it
+abbrev pub line_to_send : ℕ → EndFacts → Option PduLine
+line_to_send number facts =
+    pdu_line_if (is_acked facts.acknowledgement && not (is_empty facts.outgoing.fixed)) number (numbered facts.acknowledgement.sent + 1) facts.outgoing.fixed
+
+numbered_more : (pdus : List Pdu) (pdu : Pdu) → is_empty pdu ≡ false → numbered (pdus ++ pdu ∷ []) ≡ numbered pdus + 1
+numbered_more pdus pdu full =
+    ap length (filter-append (λ (one : Pdu). not (is_empty one)) pdus (pdu ∷ [])) ∙ length-append (nonempty is_empty pdus) (nonempty is_empty (pdu ∷ []))
+    ∙ ap (λ (b : Bool). numbered pdus + length (cond (not b) (pdu ∷ []) [])) full
+
+-- the packet of an end brings what its line tells
+pub brings_line : (acked empty : Bool) (ack : Acknowledgement) (fixed carried : Pdu) (end : Exchanged) (number count : ℕ) → is_empty fixed ≡ empty → (end.acked == end.sent) ≡ acked
+    → carried ≡ (next_sent acked fixed ack).last → count ≡ numbered (next_sent acked fixed ack).sent
+    → pdu_line_if (acked && not empty) number (numbered ack.sent + 1) fixed ≡ pdu_line_if (is_first_sent end carried) number count carried
+brings_line false empty ack fixed carried end number count empty_is all last many = sym (ap (λ b. pdu_line_if (b && not (is_empty carried)) number count carried) all)
+brings_line true true ack fixed carried end number count empty_is all last many =
+    sym (ap (λ b. pdu_line_if (b && not (is_empty carried)) number count carried) all ∙ ap (λ b. pdu_line_if (not b) number count carried) (ap is_empty last ∙ empty_is))
+brings_line true false ack fixed carried end number count empty_is all last many =
+    sym (ap (λ b. pdu_line_if (b && not (is_empty carried)) number count carried) all ∙ ap (λ b. pdu_line_if (not b) number count carried) (ap is_empty last ∙ empty_is)
+    ∙ (λ i. pdu_line_if true number ((many ∙ numbered_more ack.sent fixed empty_is) i) (last i)))
+
+-- ---- what is told of a packet that is still to come
+
+-- a link that sends: the last line of its station tells the new PDU of its packet, if that has one
+pub record Tells (station : ℕ) (history : List Event) (after : OpenLink) : Type 0 where
+  pub slot : ℕ
+  pub base : OpenLink
+  pub after_is : after ≡ link_after (PacketSent slot) base
+  pub sent : (exchange_at (number_at station 0 history) history (side_of station)).sent ≡ length (ack_of base).sent
+  pub told_is : told_at station history ≡ line_to_send (number_at station 0 history) (facts_in base)
+
+abbrev pub TellsBy : Bool → Option OpenLink → ℕ → List Event → Type 0
+TellsBy true (Some after) station history = Tells station history after
+TellsBy true None station history = told_at station history ≡ None
+TellsBy false found station history = told_at station history ≡ None
+
+-- and nothing where it sends on no link, or its packet was on the air
+abbrev pub IsTold : Given → Bool → ℕ → List Event → Type 0
+IsTold given unsent station history =
+    TellsBy (unsent && sends_under 0 (facts_at given station history).turn.doing) (link_at 0 (facts_at given station history).links) station history
+
+none_tells : (sends : Bool) (found : Option OpenLink) (station : ℕ) (history : List Event) → told_at station history ≡ None
+    → (sends ≡ true → (link : OpenLink) → found ≡ Some link → ⊥) → TellsBy sends found station history
+none_tells true (Some link) station history none never = absurd (never refl link refl)
+none_tells true None station history none never = none
+none_tells false found station history none never = none
+
+pub tells_none : (sends : Bool) (found : Option OpenLink) (station : ℕ) (history : List Event) → TellsBy sends found station history
+    → (sends ≡ true → (link : OpenLink) → found ≡ Some link → ⊥) → told_at station history ≡ None
+tells_none true (Some link) station history tells never = absurd (never refl link refl)
+tells_none true None station history tells never = tells
+tells_none false found station history tells never = tells
+
+-- ---- what changes nothing for a station
+
+pub record StaysTold (given : Given) (station : ℕ) (history after : List Event) : Type 0 where
+  pub told_is : told_at station after ≡ told_at station history
+  pub facts : facts_at given station after ≡ facts_at given station history
+  pub number : number_at station 0 after ≡ number_at station 0 history
+  pub sent : (number : ℕ) → (exchange_at number after (side_of station)).sent ≡ (exchange_at number history (side_of station)).sent
+
+stays_then : (given : Given) (station : ℕ) (history mid after : List Event) → StaysTold given station history mid → StaysTold given station mid after → StaysTold given station history after
+stays_then given station history mid after one two = record {
+  told_is = two.told_is ∙ one.told_is;
+  facts = two.facts ∙ one.facts;
+  number = two.number ∙ one.number;
+  sent = λ number. two.sent number ∙ one.sent number;
+}
+
+still_tells : (given : Given) (station : ℕ) (history after : List Event) → StaysTold given station history after → (sends : Bool) (found : Option OpenLink)
+    → TellsBy sends found station history → TellsBy sends found station after
+still_tells given station history after stays true (Some link) tells = record {
+  slot = tells.slot;
+  base = tells.base;
+  after_is = tells.after_is;
+  sent = ap (λ n. (exchange_at n after (side_of station)).sent) stays.number ∙ stays.sent (number_at station 0 history) ∙ tells.sent;
+  told_is = stays.told_is ∙ tells.told_is ∙ ap (λ n. line_to_send n (facts_in tells.base)) (sym stays.number);
+}
+still_tells given station history after stays true None tells = stays.told_is ∙ tells
+still_tells given station history after stays false found tells = stays.told_is ∙ tells
+
+pub still_told : (given : Given) (unsent : Bool) (station : ℕ) (history after : List Event) → StaysTold given station history after → IsTold given unsent station history
+    → IsTold given unsent station after
+still_told given unsent station history after stays told =
+    subst (λ (f : Facts). TellsBy (unsent && sends_under 0 f.turn.doing) (link_at 0 f.links) station after) (sym stays.facts)
+    (still_tells given station history after stays (unsent && sends_under 0 (facts_at given station history).turn.doing) (link_at 0 (facts_at given station history).links) told)
+
+pub turn_stays : (given : Given) (station : ℕ) (history : List Event) (slot : ℕ) (radios : List Bool) → StaysTold given station history (history ++ TurnBegan slot radios ∷ [])
+turn_stays given station history slot radios = record {
+  told_is = turn_told station history slot radios;
+  facts = facts_event given station history (TurnBegan slot radios) refl;
+  number = number_quiet station 0 history (TurnBegan slot radios) (λ links. refl);
+  sent = λ number. ap (λ (ends : Side → Exchanged). (ends (side_of station)).sent) (turn_quiet number history slot radios);
+}
+
+-- a packet changes how many PDUs its sender sent, and no other
+heard_sent : (own good empty : Bool) (one from end : Exchanged) → own ≡ false → (if own then one else (if good then with_heard empty from end else end)).sent ≡ end.sent
+heard_sent true good empty one from end is = absurd cc
+heard_sent false true empty one from end is = refl
+heard_sent false false empty one from end is = refl
+
+aired_sent : (ours good empty : Bool) (sender side : Side) (ends : Side → Exchanged) → is_side side sender ≡ false
+    → ((if ours then after_packet sender good empty ends else ends) side).sent ≡ (ends side).sent
+aired_sent true good empty sender side ends differs = heard_sent (is_side side sender) good empty (with_sent (ends sender)) (with_sent (ends sender)) (ends side) differs
+aired_sent false good empty sender side ends differs = refl
+
+entries_sent : (number : ℕ) (front : List Entry) (side sender : Side) (channel : ℕ) (octets : List ℕ) (hearings : List Hearing) → is_side side sender ≡ false
+    → (exchange_of number (front ++ air_entries sender channel octets hearings) side).sent ≡ (exchange_of number front side).sent
+entries_sent number front side sender channel octets [] differs = ap (λ xs. (exchange_of number xs side).sent) (append-nil front)
+entries_sent number front side sender channel octets (hearing ∷ hearings) differs =
+    ap (λ (ends : Side → Exchanged). (ends side).sent) (exchange_more number front (Air sender channel octets (mark_of hearing.fate) hearing.verdict))
+    ∙ aired_sent (not (is_advertising channel) && is_number (link_of_packet front sender octets) number) (is_good hearing.verdict)
+    (carries_empty (link_numbered number front) channel octets) sender side (exchange_of number front) differs
+
+pub packet_stays : (given : Given) (station sender : ℕ) (history : List Event) (channel : ℕ) (octets : List ℕ) (hearings : List Hearing)
+    → is_side (side_of sender) (side_of station) ≡ false → is_side (side_of station) (side_of sender) ≡ false
+    → StaysTold given station history (history ++ Transmitted sender channel octets hearings ∷ [])
+packet_stays given station sender history channel octets hearings differs back = record {
+  told_is = air_other_told station sender history channel octets hearings differs;
+  facts = facts_event given station history (Transmitted sender channel octets hearings) refl;
+  number = number_aired station 0 history sender channel octets hearings;
+  sent = λ number.
+      ap (λ xs. (exchange_of number xs (side_of station)).sent) (journal_event history (Transmitted sender channel octets hearings))
+      ∙ entries_sent number (journal_of history) (side_of station) (side_of sender) channel octets hearings back;
+}
+
+pub call_stays : (given : Given) (station other : ℕ) (step : Step) (history : List Event) → is_side (side_of other) (side_of station) ≡ false
+    → is_side (side_of station) (side_of other) ≡ false → (station == other) ≡ false → StaysTold given station history (after_call given other step history)
+call_stays given station other step history differs back apart = record {
+  told_is = called_other given station other step history differs;
+  facts = other_facts given other step history station apart;
+  number = number_other given other step history station 0 apart;
+  sent = λ number. ap (λ (e : Exchanged). e.sent) (exchange_other given number other step history (side_of station) back);
+}
+
+octets_stay : (given : Given) (station other : ℕ) (octets : List ℕ) (history : List Event) → is_side (side_of other) (side_of station) ≡ false
+    → is_side (side_of station) (side_of other) ≡ false → (station == other) ≡ false → StaysTold given station history (after_octets given other octets history)
+octets_stay given station other [] history differs back apart = record { told_is = refl; facts = refl; number = refl; sent = λ number. refl }
+octets_stay given station other (octet ∷ octets) history differs back apart =
+    let mid = after_call given other (HostOctet octet) history in
+    stays_then given station history mid (after_octets given other octets mid) (call_stays given station other (HostOctet octet) history differs back apart)
+    (octets_stay given station other octets mid differs back apart)
+
+pub feed_stays : (given : Given) (station other : ℕ) (octets : List ℕ) (history : List Event) → is_side (side_of other) (side_of station) ≡ false
+    → is_side (side_of station) (side_of other) ≡ false → (station == other) ≡ false → StaysTold given station history (after_feed given other octets history)
+feed_stays given station other [] history differs back apart = record { told_is = refl; facts = refl; number = refl; sent = λ number. refl }
+feed_stays given station other (octet ∷ octets) history differs back apart =
+    let fed = HostFed other (octet ∷ octets) in
+    let mid = history ++ fed ∷ [] in
+    stays_then given station history mid (after_octets given other (octet ∷ octets) mid) (record {
+      told_is = fed_other_told station other history (octet ∷ octets) differs;
+      facts = facts_event given station history fed refl;
+      number = number_quiet station 0 history fed (λ links. refl);
+      sent = λ number. ap (λ (ends : Side → Exchanged). (ends (side_of station)).sent) (feed_quiet number history other (octet ∷ octets));
+    }) (octets_stay given station other (octet ∷ octets) mid differs back apart)
+
+-- ---- all stations
+
+abbrev pub AreTold : Given → List Event → (ℕ → Bool) → Type 0
+AreTold given history unsent = (station : ℕ) → is_in station given.stations ≡ true → IsTold given (unsent station) station history
+
+-- a step of one station
+pub told_step : (given : Given) (are_two : IsOfTwo given) (station : ℕ) (history after : List Event) (unsent unsent_too : ℕ → Bool) → is_in station given.stations ≡ true
+    → IsTold given (unsent_too station) station after
+    → ((other : ℕ) → is_in other given.stations ≡ true → (other == station) ≡ false → unsent_too other ≡ unsent other)
+    → ((other : ℕ) → is_side (side_of station) (side_of other) ≡ false → is_side (side_of other) (side_of station) ≡ false → (other == station) ≡ false → StaysTold given other history after)
+    → AreTold given history unsent → AreTold given after unsent_too
+told_step given are_two station history after unsent unsent_too in_it own same stays are = λ other is. by other is (other == station) refl
+  where
+    by : (other : ℕ) → is_in other given.stations ≡ true → (one : Bool) → (other == station) ≡ one → IsTold given (unsent_too other) other after
+    by other is true one = subst (λ n. IsTold given (unsent_too n) n after) (sym (eqb-true other station one)) own
+    by other is false differs =
+        subst (λ b. IsTold given b other after) (sym (same other is differs))
+        (still_told given (unsent other) other history after
+        (stays other (other_apart given are_two other station is in_it (differs_back other station differs)) (other_apart given are_two station other in_it is differs) differs) (are other is))
+
+pub same_told : (given : Given) (history : List Event) (unsent unsent_too : ℕ → Bool) → ((station : ℕ) → is_in station given.stations ≡ true → unsent_too station ≡ unsent station)
+    → AreTold given history unsent → AreTold given history unsent_too
+same_told given history unsent unsent_too same are = λ station is. subst (λ b. IsTold given b station history) (sym (same station is)) (are station is)
+
+-- a station that sends on no link
+pub off_told : (given : Given) (station : ℕ) (history : List Event) → sends_under 0 (facts_at given station history).turn.doing ≡ false → IsTold given true station history
+    → told_at station history ≡ None
+off_told given station history off told = subst (λ b. TellsBy b (link_at 0 (facts_at given station history).links) station history) off told
+
+pub from_off : (given : Given) (station : ℕ) (history : List Event) → sends_under 0 (facts_at given station history).turn.doing ≡ false → told_at station history ≡ None
+    → IsTold given true station history
+from_off given station history off none = subst (λ b. TellsBy b (link_at 0 (facts_at given station history).links) station history) (sym off) none
+
+-- ---- a call after which a station may send
+
+quiet_doing : (doing : Doing) (facts : Facts) → length facts.links ≤ 1 → (sends_under 0 doing ≡ true → (base : OpenLink) → link_at 0 facts.links ≡ Some base → ⊥)
+    → notes_doing doing facts ≡ []
+quiet_doing doing facts few never = by (sends_from doing facts)
+  where
+    by : SendsFrom doing facts → notes_doing doing facts ≡ []
+    by (SendsNothing none) = none
+    by (SendsOne other link is on noted) =
+        let first = first_handle facts.links other link few is in
+        absurd (never (subst (λ n. sends_under n doing ≡ true) first on) link (subst (λ n. link_at n facts.links ≡ Some link) first is))
+
+module _ (given : Given) (station : ℕ) (step : Step) (history : List Event) (outcome : Outcome) (earlier : List Note)
+    (facts_are : facts_after (setup_at given station) (facts_at given station history) step ≡ facts_passed outcome)
+    (notes_are : notes_after (setup_at given station) (facts_at given station history) step ≡ earlier ++ notes_doing outcome.next outcome.facts)
+    (none : All SendsNone earlier) (opens : All (OpensNone 0) earlier) (few : length outcome.facts.links ≤ 1)
+    (own : (base : OpenLink) → link_at 0 outcome.facts.links ≡ Some base → base.setup.link.handle ≡ 0)
+    (sent : (base : OpenLink) → link_at 0 outcome.facts.links ≡ Some base → sends_under 0 outcome.next ≡ true
+    → (exchange_at (number_at station 0 history) history (side_of station)).sent ≡ length (ack_of base).sent)
+    (before : told_at station history ≡ None) where
+  abbrev after : List Event
+  after = after_call given station step history
+
+  number_same : number_at station 0 after ≡ number_at station 0 history
+  number_same =
+      number_called given station step history 0 (subst (All (OpensNone 0)) (sym notes_are)
+      (All-append (OpensNone 0) earlier (notes_doing outcome.next outcome.facts) opens (doing_noted (OpensNone 0) (λ handle count llid octets. refl) outcome.next outcome.facts)))
+
+  quiet : notes_doing outcome.next outcome.facts ≡ [] → told_at station after ≡ None
+  quiet nothing =
+      called_none given station step history before (subst (All SendsNone) (sym (notes_are ∙ ap (λ xs. earlier ++ xs) nothing ∙ append-nil earlier)) none)
+
+  told_if : (base : OpenLink) → link_at 0 outcome.facts.links ≡ Some base → (noted : Bool)
+      → notes_doing outcome.next outcome.facts ≡ sent_notes_if noted base.setup.link.handle (facts_in base)
+      → told_at station after ≡ pdu_line_if noted (number_at station 0 history) (numbered (ack_of base).sent + 1) (facts_in base).outgoing.fixed
+  told_if base at false are = quiet are
+  told_if base at true are =
+      called_sent given station step history base.setup.link.handle _ _ _ earlier (notes_are ∙ ap (λ xs. earlier ++ xs) are)
+      (subst (λ h. All (OpensNone h) earlier) (sym (own base at)) opens)
+      ∙ ap (λ h. pdu_line_if true (number_at station h history) (numbered (ack_of base).sent + 1) (facts_in base).outgoing.fixed) (own base at)
+
+  no_link : link_at 0 outcome.facts.links ≡ None → (link : OpenLink) → link_at 0 (facts_passed outcome).links ≡ Some link → ⊥
+  no_link absent link at =
+      let was = sending_under outcome.facts.turn.slot 0 outcome.next outcome.facts.links link at in
+      absurd (let h : None ≡ Some was.link = sym absent ∙ was.was in absurd cc)
+
+  tells_next : (sends : Bool) → sends_under 0 outcome.next ≡ sends → (found : Option OpenLink) → link_at 0 outcome.facts.links ≡ found
+      → TellsBy sends (link_at 0 (facts_passed outcome).links) station after
+  tells_next false off found at =
+      quiet (quiet_doing outcome.next outcome.facts few (λ on base is. let h : true ≡ false = sym on ∙ off in absurd cc))
+  tells_next true on None at =
+      none_tells true (link_at 0 (facts_passed outcome).links) station after
+      (quiet (quiet_doing outcome.next outcome.facts few (λ sends base is. let h : None ≡ Some base = sym at ∙ is in absurd cc)))
+      (λ sends link is. no_link at link is)
+  tells_next true on (Some base) at =
+      subst (λ place. TellsBy true place station after) (sym (sent_at outcome.facts.turn.slot 0 outcome.next outcome.facts.links base on at)) (record {
+        slot = outcome.facts.turn.slot;
+        base = base;
+        after_is = refl;
+        sent = (exchange_same given (number_at station 0 after) station step history (side_of station)).sent
+            ∙ ap (λ n. (exchange_at n history (side_of station)).sent) number_same ∙ sent base at on;
+        told_is = told_if base at (is_acked (ack_of base) && not (is_empty (facts_in base).outgoing.fixed))
+            (doing_notes outcome.next outcome.facts 0 base few at ∙ ap (λ b. notes_when b base) on)
+            ∙ ap (λ n. line_to_send n (facts_in base)) (sym number_same);
+      })
+
+  call_tells : IsTold given true station after
+  call_tells =
+      subst (λ (f : Facts). TellsBy (sends_under 0 f.turn.doing) (link_at 0 f.links) station after) (sym (own_facts given station step history ∙ facts_are))
+      (tells_next (sends_under 0 outcome.next) refl (link_at 0 outcome.facts.links) refl)
+
+-- ---- a turn begins
+
+few_own : (given : Given) → IsPair given → (station : ℕ) (facts : Facts) → length facts.links ≡ (setup_at given station).links → length facts.links ≤ 1
+few_own given pair station facts many = let few = pair.links station in omega (arith, many, few)
+
+pub begin_tells : (given : Given) (pair : IsPair given) (station slot : ℕ) (on : Bool) (history : List Event) → is_in station given.stations ≡ true
+    → (facts_at given station history).turn.doing ≡ Rests → IsStation (setup_at given station) (facts_at given station history)
+    → AreCountedSo given history (λ one. true) (λ one. packet_received one history) → told_at station history ≡ None
+    → IsTold given true station (after_call given station (TurnBegins slot on) history)
+begin_tells given pair station slot on history in_it rests station_is counted before =
+    let setup = setup_at given station in
+    let facts = facts_at given station history in
+    let outcome = outcome_begun slot on facts in
+    let start = notes_ending slot facts ++ notes_entering slot (facts_ending slot facts).links in
+    let own = own_begun setup slot on facts station_is.own in
+    let end = exchange_at (number_at station 0 history) history (side_of station) in
+    call_tells given station (TurnBegins slot on) history outcome start refl refl
+    (all_more HasNoData SendsNone (λ note has. has.sends) start (start_noted HasNoData no_data slot facts))
+    (start_noted (OpensNone 0) (opening_none 0).starts slot facts)
+    (few_own given pair station outcome.facts own.many)
+    (λ base at. handle_is 0 0 outcome.facts.links base own.handles at)
+    (λ base at sends.
+    let sent = sent_at outcome.facts.turn.slot 0 outcome.next outcome.facts.links base sends at in
+    let next = link_after (PacketSent outcome.facts.turn.slot) base in
+    let begun = begins_under setup facts slot on 0 next sent in
+    let counts = plain true (packet_received station history) 0 facts.turn begun.link end (rests_none 0 facts.turn.doing rests)
+    (rests_deaf 0 facts.turn.doing (packet_received station history) rests) (counted station 0 begun.link in_it begun.was) in
+    let same = base_ack facts slot on 0 _ next begun in
+    let base_is : begun.base ≡ base = let some : Some begun.base ≡ Some base = sym begun.found ∙ at in cc in
+    counts.sent ∙ ap (λ (a : Acknowledgement). length a.sent) (sym same) ∙ ap (λ (l : OpenLink). length (ack_of l).sent) base_is)
+    before
+
+-- ---- a phase passes
+
+received_handle : (same : Bool) (slot : ℕ) (octets : List ℕ) (room : Bool) (link : OpenLink)
+    → (change_if same (link_after (PacketReceived slot octets room)) link).setup.link.handle ≡ link.setup.link.handle
+received_handle true slot octets room link = refl
+received_handle false slot octets room link = refl
+
+reply_sends : (replies : Bool) (other : ℕ) → sends_under 0 (reply_if replies other) ≡ true → (other == 0) ≡ true
+reply_sends true other on = on
+reply_sends false other on = absurd cc
+
+passed_off : (facts : Facts) (room : Bool) (received : Option (List ℕ)) (doing : Doing) (link : OpenLink)
+    → ((handle : ℕ) → listens_under handle facts.turn.doing ≡ true → received ≡ None) → HasPassed facts room received 0 doing link → sends_under 0 doing ≡ true → ⊥
+passed_off facts room received doing link none (IsNew end made opened off) on = let h : true ≡ false = sym on ∙ off_sends 0 doing off in absurd cc
+passed_off facts room received doing link none (Stays was off nothing listened) on = let h : true ≡ false = sym on ∙ off in absurd cc
+passed_off facts room received doing link none (Takes base octets was some listens same) on = let h : None ≡ Some octets = sym (none 0 listens) ∙ some in absurd cc
+
+module _ (given : Given) (Q : Place → List Event → Type 0) (known : AreKnown given Q) (pair : IsPair given) (distinct : AreDistinct given.stations) (phases : ℕ) (done left : List ℕ) (station : ℕ) (history : List Event)
+    (are : given.stations ≡ done ++ station ∷ left) (is : AreCountedAt given Q (AtListening phases done (station ∷ left)) history)
+    (q : Q (AtListening phases (done ++ station ∷ []) left) (after_call given station (step_of (packet_received station history)) history))
+    (holds : Holds given (AreStations given) (AtListening phases (done ++ station ∷ []) left) (after_call given station (step_of (packet_received station history)) history))
+    (before : told_at station history ≡ None) where
+  abbrev received : Option (List ℕ)
+  received = packet_received station history
+
+  abbrev setup : Setup
+  setup = setup_at given station
+
+  abbrev facts : Facts
+  facts = facts_at given station history
+
+  abbrev heard_after : List Event
+  heard_after = after_call given station (step_of received) history
+
+  abbrev room : Bool
+  room = has_room setup facts
+
+  station_has : IsStation setup facts
+  station_has = station_is given Q known pair distinct phases done left station history are is q holds
+
+  plain_tells : ((handle : ℕ) → listens_under handle facts.turn.doing ≡ true → received ≡ None) → All HasNoData (notes_after setup facts (step_of received))
+      → IsTold given true station heard_after
+  plain_tells none plain_too =
+      none_tells (sends_under 0 (facts_at given station heard_after).turn.doing) (link_at 0 (facts_at given station heard_after).links) station heard_after
+      (called_none given station (step_of received) history before (all_more HasNoData SendsNone (λ note has. has.sends) _ plain_too))
+      (λ on link at.
+      passed_off facts room received (facts_after setup facts (step_of received)).turn.doing link none
+      (passes_under setup facts received 0 link (phased given Q known pair distinct phases done left station history are is q holds).uses.in_turn.listens
+      (own_at given station (step_of received) history 0 link at))
+      (ap (λ (f : Facts). sends_under 0 f.turn.doing) (sym (own_facts given station (step_of received) history)) ∙ on))
+
+  -- a packet is received on a link
+  module _ (other : ℕ) (octets : List ℕ) (some : received ≡ Some octets) (listens : (handle : ℕ) → listens_under handle facts.turn.doing ≡ (other == handle)) where
+    abbrev taking : OpenLink → OpenLink
+    taking link = link_after (PacketReceived facts.turn.slot octets room) link
+
+    own_taken : (base : OpenLink) → link_at 0 (link_received other room octets facts).links ≡ Some base → base.setup.link.handle ≡ 0
+    own_taken base at =
+        let was = change_under other 0 taking facts.links base at in
+        ap (λ (l : OpenLink). l.setup.link.handle) was.is ∙ received_handle (other == 0) facts.turn.slot octets room was.link
+        ∙ handle_is 0 0 facts.links was.link station_has.own.handles was.was
+
+    sent_taken : (base : OpenLink) → link_at 0 (link_received other room octets facts).links ≡ Some base → (other == 0) ≡ true
+        → (exchange_at (number_at station 0 history) history (side_of station)).sent ≡ length (ack_of base).sent
+    sent_taken base at one =
+        let was = change_under other 0 taking facts.links base at in
+        let base_is : base ≡ taking was.link = was.is ∙ ap (λ b. change_if b taking was.link) one in
+        let counts = was_taking received octets 0 facts.turn was.link (exchange_at (number_at station 0 history) history (side_of station)) (listens 0 ∙ one) some
+        (before_call given Q known pair distinct phases done left station history are is q holds 0 was.link was.was) in
+        counts.sent ∙ ap length (same_but facts.turn.slot octets false room was.link).sent ∙ ap (λ (l : OpenLink). length (ack_of l).sent) (sym base_is)
+
+    link_tells : heard setup facts.turn.doing octets facts ≡ link_heard setup other octets facts → IsTold given true station heard_after
+    link_tells heard_is =
+        call_tells given station (step_of received) history (link_heard setup other octets facts) (notes_taken facts.turn.slot room (link_at other facts.links) octets)
+        (ap (λ may. facts_after setup facts (step_of may)) some ∙ ap facts_passed heard_is)
+        (on_link_notes setup facts received other octets some (ap notes_passed heard_is))
+        (taken_noted SendsNone (λ handle count llid body. refl) facts.turn.slot room (link_at other facts.links) octets)
+        (taken_noted (OpensNone 0) (λ handle count llid body. refl) facts.turn.slot room (link_at other facts.links) octets)
+        (subst (λ n. n ≤ 1) (sym (count_changing other taking facts.links)) (few_links given pair station facts station_has))
+        own_taken (λ base at on. sent_taken base at (reply_sends (replies_in (link_at other facts.links) octets) other on)) before
+
+  pub phase_tells : IsTold given true station heard_after
+  phase_tells = by (phase_of (setup_at given station) (facts_at given station history) (packet_received station history))
+    where
+      by : IsPhaseOf (setup_at given station) (facts_at given station history) (packet_received station history)
+          → IsTold given true station (after_call given station (step_of (packet_received station history)) history)
+      by (IsPlainPhase none plain_too) = plain_tells none plain_too
+      by (IsOnLink other octets some listens heard_is) = link_tells other octets some listens heard_is

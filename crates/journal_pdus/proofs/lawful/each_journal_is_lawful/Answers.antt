@@ -1,0 +1,21 @@
+-- Proof of `lawful::each_journal_is_lawful`.
+use Rattle.runs.specs.Pair.{given_of}
+use Rattle.journal_pdus.proofs.Law.{journal_due, journal_settled}
+use Rattle.journal_pdus.proofs.lawful.each_journal_is_lawful.Goals as goal
+
+pub returns-clause-lawful : goal.returns-clause-lawful
+returns-clause-lawful c = λ a b script six six_too. record {
+  addresses = c.each_link_has_the_next_address.ensures a b script six six_too;
+  opened = λ front rest side number handle role at. c.each_opened_line_names_its_link.ensures a b script front rest side number handle role six six_too at;
+  entered = λ front rest side number event channel at. c.each_enter_line_is_at_its_anchor.ensures a b script front rest side number event channel six six_too at;
+  due = journal_due c.packet_tells_its_pdu.ensures.heard c.a_pdu_is_understood.ensures.says c.connections_are_taken.ensures.taken
+      c.searches_give_each_valid_address.ensures.valid c.searches_give_each_valid_address.ensures.distinct a b script six six_too
+      (λ front rest side link count llid body at. c.each_sent_line_is_of_a_new_pdu.ensures a b script front rest side link count llid body six six_too at)
+      (c.each_packet_on_the_air_is_due.ensures.due (given_of a b script));
+  arrives = c.data_arrives_in_order_in_every_journal.ensures a b script six six_too;
+}
+
+pub returns-clause-settled_at_the_end : goal.returns-clause-settled_at_the_end
+returns-clause-settled_at_the_end c = λ a b script history six six_too whole.
+    journal_settled c.packet_tells_its_pdu.ensures.heard c.a_pdu_is_understood.ensures.says c.connections_are_taken.ensures.taken
+    c.searches_give_each_valid_address.ensures.valid c.searches_give_each_valid_address.ensures.distinct a b script six six_too history whole

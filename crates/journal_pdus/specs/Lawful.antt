@@ -1,0 +1,33 @@
+-- What is promised of the links and the data of each journal.
+use Rattle.std.specs.Prelude.{◌≡◌, ℕ, List, ◌∷◌, ◌++◌}
+use Rattle.ble_base.specs.declared.roles.Role.{Role}
+use Rattle.ble_base.specs.declared.roles.Side.{Side}
+use Rattle.journal.specs.declared.entries.Entry.{Entry}
+use Rattle.journal.specs.declared.entries.Entry.TheVariants.{Enter, Opened}
+use Rattle.radio_replay.specs.Script.{Script}
+use Rattle.journal_links.specs.Entered.{IsEnteredInTime}
+use Rattle.journal_links.specs.Opened.{IsOpenedInTime}
+use Rattle.journal_packets.specs.Addresses.{AllAddressesAreNext}
+use Rattle.journal_data.specs.Delivered.{AllDataArrives}
+use Rattle.journal_pdus.specs.Exchanged.{PdusAreDue}
+
+-- each line of a link that a side holds from there on is in the turn of the CONNECT_IND of that link
+abbrev pub AllAreOpened : List Entry → Type 0
+AllAreOpened journal = (front rest : List Entry) (side : Side) (number handle : ℕ) (role : Role)
+    → journal ≡ front ++ Opened side number handle role ∷ rest → IsOpenedInTime front side number role
+
+-- each event is entered in the turn of its anchor, on its channel
+abbrev pub AllAreEntered : List Entry → Type 0
+AllAreEntered journal = (front rest : List Entry) (side : Side) (number event channel : ℕ)
+    → journal ≡ front ++ Enter side number event channel ∷ rest → IsEnteredInTime front number event channel
+
+-- a journal of a run by this script
+pub record IsLawful (script : Script) (journal : List Entry) : Type 0 where
+  -- links and their events are those of their CONNECT_INDs, each of which has the next access address
+  pub addresses : AllAddressesAreNext script journal
+  pub opened : AllAreOpened journal
+  pub entered : AllAreEntered journal
+  -- what goes out on links and what is taken is what is due, line by line
+  pub due : PdusAreDue journal
+  -- data arrives in order, and is credited only as it is accepted
+  pub arrives : AllDataArrives journal

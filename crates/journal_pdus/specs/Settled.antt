@@ -1,0 +1,39 @@
+-- What a host has received of a link, and what is reported to it, between the turns of a run (Core 5.2, volume 4
+-- part E, section 7.7.19; when it is done is our choice).
+use Rattle.std.specs.Prelude.{◌≡◌, ℕ, ◌+◌, ◌-◌, ◌==◌, List, ◌∷◌, ◌++◌, length, take, Option, Some, None, if◌then◌else◌}
+use Rattle.ble_base.specs.declared.roles.Side.{Side}
+use Rattle.acl_banks.specs.History.{whole_packets}
+use Rattle.acl_banks.specs.Packets.{Marked}
+use Rattle.journal.specs.declared.entries.Entry.{Entry}
+use Rattle.journal_acks.specs.Carried.{SentLine, sent_line_of}
+use Rattle.journal_acks.specs.Exchange.{exchange_of}
+use Rattle.journal_data.specs.Delivered.{host_buffers}
+use Rattle.journal_data.specs.HostLines.{OpenUnder}
+use Rattle.journal_data.specs.Lines.{accepted_on, credited_on, data_on, empties_on, lines_of, pdus_on, received_on}
+use Rattle.journal_pdus.specs.Waiting.{data_of_lines}
+
+-- 1 where the PDU of the last `sent` line is not acknowledged: no PDU of its side was, since that line
+abbrev pub count_out : Option SentLine → ℕ → ℕ
+count_out None acked = 0
+count_out (Some line) acked = if line.acked == acked then 1 else 0
+
+-- the data of the PDUs that are acknowledged to a side: of all that it sent but the one that is not
+abbrev pub acked_on : ℕ → Side → List Entry → List Marked
+acked_on link side front =
+    let lines = pdus_on link (lines_of host_buffers side front).sent in
+    data_of_lines
+    (take (length lines - count_out (sent_line_of link front side) (exchange_of link front side).acked) lines)
+
+-- the host of a side has received all data that its side took; and of its own packets those are reported that had no
+-- octet, and those whose last octet is acknowledged
+pub record IsSettled (link : ℕ) (side : Side) (front : List Entry) : Type 0 where
+  pub received : received_on link (lines_of host_buffers side front)
+      ≡ accepted_on link (lines_of host_buffers side front)
+  pub credited : credited_on link (lines_of host_buffers side front)
+      ≡ empties_on link (lines_of host_buffers side front)
+      + whole_packets (data_on link (lines_of host_buffers side front)) (length (acked_on link side front))
+
+-- so it is on each link that a side has open
+abbrev pub AreSettled : List Entry → Type 0
+AreSettled front = (side : Side) (before after : List OpenUnder) (one : OpenUnder)
+    → (lines_of host_buffers side front).links ≡ before ++ one ∷ after → IsSettled one.link side front

@@ -1,0 +1,48 @@
+//! What is promised of links and data in every run of a pair, from the lines of its journal. The
+//! body only calls the laws that it rests on: the contract is the law.
+ghost use Rattle.std.specs.Prelude.{◌≡◌, ℕ, List, length};
+ghost use Rattle.radio_replay.specs.Script.{Script};
+ghost use Rattle.runs.specs.History.{Event};
+ghost use Rattle.runs.specs.Journal.{journal_of};
+ghost use Rattle.runs.specs.Pair.{given_of};
+ghost use Rattle.runs.specs.Run.{GoesOn, history_of, run_of};
+ghost use Rattle.journal_pdus.specs.Lawful.{IsLawful};
+ghost use Rattle.journal_pdus.specs.Settled.{AreSettled};
+
+/// In the journal of a run of a pair, whole or ended by damage, links and their events are those of
+/// their CONNECT_INDs, each of which has the next access address of its side; and data arrives in
+/// order (`journal_data::data_arrives_in_order_in_every_journal`). Line by line (Core 5.2, volume 6
+/// part B, sections 4.5.6 and 4.5.9, and volume 4 part E, section 7.7.19):
+///
+/// - each packet of a link has the channel, the access address, the CRCInit, SN and NESN that the
+///   lines before it give, and carries the PDU that its side sent last, until that is acknowledged;
+/// - each line of a new PDU comes after all PDUs before it on its side are acknowledged;
+/// - each new PDU is the next piece of what the host of its side submitted on the link, of at most
+///   27 octets of one packet, with the next number;
+/// - MD of each packet of a link says whether more data of the host waits there, and a new empty
+///   PDU goes out only where none waits;
+/// - the line of a new PDU is the last of its side before the packet that the PDU first goes out
+///   in;
+/// - the next line of a side after the first good packet that brings a PDU is that it takes it;
+/// - before each turn, and at the end of a whole run, the host of each side has received all data
+///   that its side took, and each of its packets that the other side acknowledged whole is reported
+///   to it.
+pub fn each_journal_is_lawful()
+    ensures lawful { (a b : List ℕ) (script : Script) → length script.a.public ≡ 6
+        → length script.b.public ≡ 6
+        → IsLawful script (journal_of (history_of (run_of (given_of a b script)))) }
+    ensures settled_at_the_end { (a b : List ℕ) (script : Script) (history : List Event)
+        → length script.a.public ≡ 6 → length script.b.public ≡ 6
+        → run_of (given_of a b script) ≡ GoesOn history → AreSettled (journal_of history) }
+{
+    one_side::a_pdu_is_understood();
+    advertise::laws::connections_are_taken();
+    scan_init::laws::searches_give_each_valid_address();
+    air_frame::laws::packet_tells_its_pdu();
+    runs::each_packet_on_the_air_is_due();
+    journal_links::each_opened_line_names_its_link();
+    journal_links::each_enter_line_is_at_its_anchor();
+    journal_packets::each_link_has_the_next_address();
+    journal_acks::each_sent_line_is_of_a_new_pdu();
+    journal_data::data_arrives_in_order_in_every_journal();
+}

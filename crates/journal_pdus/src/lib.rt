@@ -1,0 +1,11 @@
+//! What goes out on the links of a journal and what is taken, from its lines, and the law of each
+//! run of a pair about that and about data. None of them names code.
+#![tactic(auto)]
+
+mod lawful;
+mod rows;
+
+pub use crate::lawful::each_journal_is_lawful;
+pub use crate::rows::{
+    worked_acknowledged, worked_new_pdu, worked_next_pdu, worked_taking, worked_waiting,
+};
