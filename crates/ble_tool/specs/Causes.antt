@@ -4,7 +4,8 @@ use Rattle.outside.specs.Known.{WhereKnown}
 use Rattle.ble_base.specs.declared.Config.{Config}
 use Rattle.journal.specs.declared.entries.Entry.{Entry}
 use Rattle.journal.specs.Text.{text}
-use Rattle.journal_data.specs.Delivered.{AllDataArrives}
+use Rattle.journal_pdus.specs.Lawful.{IsLawful}
+use Rattle.journal_pdus.specs.Settled.{AreSettled}
 use Rattle.runs.specs.Pair.{given_of, IsRun, EndsUnseen}
 use Rattle.runs.specs.Run.{Given}
 use Rattle.radio_replay.specs.Schedule.{Right, Wrong, TooMany, schedule_of, line_number}
@@ -48,9 +49,9 @@ AllFit reads = Fits reads A × Fits reads B × Fits reads Schedule
 -- ---- journals
 
 -- a fact of the text of some journal of this kind: a journal of these streams and of this schedule's text, which has
--- no line at fault. After each line of that journal, on each link, what the host of one side received is the first
--- octets of what the host of the other submitted, and no packet is reported as complete that the other side did not
--- accept whole
+-- no line at fault. It is lawful: links are those of their CONNECT_INDs, and each PDU goes out and is taken as it is
+-- due; after each of its lines, on each link, what the host of one side received is the first octets of what the host of
+-- the other submitted, and no packet is reported as complete that the other side did not accept whole
 pub record OfJournal (is_journal : Given → List Entry → Type 0) (fact : List ℕ → Type 0) (a b schedule : List ℕ)
     : Type 0 where
   pub config_a : Config
@@ -59,12 +60,17 @@ pub record OfJournal (is_journal : Given → List Entry → Type 0) (fact : List
   pub journal : List Entry
   pub no_fault : schedule_of schedule ≡ Right config_a config_b turns
   pub is_of_kind : is_journal (given_of a b (record { a = config_a; b = config_b; turns = turns })) journal
-  pub arrives : AllDataArrives journal
+  pub lawful : IsLawful (record { a = config_a; b = config_b; turns = turns }) journal
   pub holds : fact (text journal)
+
+-- the journal of the whole run, at the end of which nothing waits for a host
+pub record IsSettledRun (given : Given) (journal : List Entry) : Type 0 where
+  pub is_run : IsRun given journal
+  pub settled : AreSettled journal
 
 -- a fact of the text of the journal of the whole run
 abbrev pub OfRun : (List ℕ → Type 0) → List ℕ → List ℕ → List ℕ → Type 0
-OfRun fact a b schedule = OfJournal IsRun fact a b schedule
+OfRun fact a b schedule = OfJournal IsSettledRun fact a b schedule
 
 -- a fact of the text of the journal of a run that ends because damage to this packet would be judged good
 abbrev pub OfUnseen : ℕ → ℕ → List ℕ → List ℕ → (List ℕ → Type 0) → List ℕ → List ℕ → List ℕ → Type 0

@@ -7,7 +7,7 @@ pub mod Outcomes
 pub mod Noting
 pub mod Feeding
 pub mod ConnectInds
-mod DataArrives
+mod Lawful
 pub mod Flying
 pub mod Transmitting
 pub mod BothCalled

@@ -1,7 +1,8 @@
 -- Why a run has no whole journal (our choice).
 use Rattle.std.specs.Prelude.{ℕ, List, ⊤}
 use Rattle.journal.specs.declared.entries.Entry.{Entry}
-use Rattle.journal_data.specs.Delivered.{AllDataArrives}
+use Rattle.journal_pdus.specs.Lawful.{IsLawful}
+use Rattle.radio_replay.specs.Script.{Script}
 use Rattle.runs.specs.Pair.{EndsUnseen}
 use Rattle.runs.specs.Run.{Given}
 use Rattle.pair_world.specs.declared.run.RunFault.{RunFault}
@@ -14,10 +15,10 @@ abbrev pub IsRunFault : Given → RunFault → Type 0
 IsRunFault given OutOfMemory = ⊤
 IsRunFault given (UnseenFault turn packet sent heard journal) = EndsUnseen given turn packet sent heard journal
 
--- in the journal before unseen damage, data arrives in order
-abbrev pub DataArrivesSoFar : RunFault → Type 0
-DataArrivesSoFar OutOfMemory = ⊤
-DataArrivesSoFar (UnseenFault turn packet sent heard journal) = AllDataArrives journal
+-- the journal before unseen damage is lawful
+abbrev pub IsLawfulSoFar : Script → RunFault → Type 0
+IsLawfulSoFar script OutOfMemory = ⊤
+IsLawfulSoFar script (UnseenFault turn packet sent heard journal) = IsLawful script journal
 
 -- the fault of a stop in the turn of this slot, with the journal so far
 abbrev pub fault_of : Stop → ℕ → List Entry → RunFault

@@ -3,8 +3,9 @@ ghost use Rattle.std.specs.Prelude.{◌≡◌, ◌≤◌, [], length, IfOk, IfEr
 ghost use Rattle.one_side.specs.Facts.{setup_of};
 ghost use Rattle.runs.specs.Pair.{IsRun, given_of};
 ghost use Rattle.runs.specs.Run.{Given};
-ghost use Rattle.journal_data.specs.Delivered.{AllDataArrives};
-ghost use Rattle.pair_world.specs.Faults.{DataArrivesSoFar, IsRunFault, fault_of};
+ghost use Rattle.journal_pdus.specs.Lawful.{IsLawful};
+ghost use Rattle.journal_pdus.specs.Settled.{AreSettled};
+ghost use Rattle.pair_world.specs.Faults.{IsLawfulSoFar, IsRunFault, fault_of};
 ghost use Rattle.pair_world.specs.Logs.{first_log};
 ghost use Rattle.pair_world.specs.Order.{MayBothBegin};
 ghost use Rattle.pair_world.specs.Stations.{IsFirst};
@@ -136,7 +137,9 @@ fn publics_are_six(schedule: &Schedule)
 ///
 /// In the journal, after each of its lines, what one host receives of a link is the first octets of
 /// what the other submitted, and no packet is reported as complete that the other side did not
-/// accept whole (Core 5.2, volume 4 part E, section 4.1).
+/// accept whole (Core 5.2, volume 4 part E, section 4.1). Each new PDU is the next piece of what a
+/// host submitted, and is taken as the first good packet brings it; MD says whether more waits; and
+/// between turns each host has all that its side took (volume 6 part B, sections 4.5.6 and 4.5.9).
 ///
 /// Errors: `Unseen` exactly where a fate changes a packet and its receiver would judge the changed
 /// one good; `Memory` where there is no memory.
@@ -145,11 +148,14 @@ pub fn run_pair(alloc: Global, a: &[u8], b: &[u8], schedule: &Schedule) -> Resul
     requires words_b { 1 ≤ length schedule.now.b.words.items }
     ensures ok { IfOk result (IsRun (given_of a.now b.now schedule.now)) }
     ensures err { IfErr result (IsRunFault (given_of a.now b.now schedule.now)) }
-    // Data arrives in order.
-    ensures data { IfOk result AllDataArrives }
-    ensures data_so_far { IfErr result DataArrivesSoFar }
+    // Links are those of their CONNECT_INDs, data arrives in order, and what goes out and what is
+    // taken is what is due.
+    ensures lawful { IfOk result (IsLawful schedule.now) }
+    ensures lawful_so_far { IfErr result (IsLawfulSoFar schedule.now) }
+    // At the end nothing waits for a host.
+    ensures settled { IfOk result AreSettled }
 {
-    journal_data::data_arrives_in_order_in_every_journal();
+    journal_pdus::each_journal_is_lawful();
     publics_are_six(schedule);
     let pair = start_both(alloc, a, b, schedule)?;
     run_turns(alloc, schedule, pair)
