@@ -8,8 +8,9 @@ run, by a plain reading of the journal's text and of nothing else:
 
 - what a host receives of a link is the first octets of what the other host submitted, with the starts of messages at
   the same places, so nothing is lost in between, exchanged or received twice;
-- each PDU that is taken is the next one that the other side sent, and was in a good packet just before; each that is
-  sent is the next piece, of at most 27 octets, of what was submitted;
+- each PDU that is taken is the next one that the other side sent, and is taken as its first good packet comes; each
+  that is sent is the next piece, of at most 27 octets, of what was submitted, and goes out in the next packet;
+- MD says whether more octets wait, and an empty PDU is sent as a new one only where none do;
 - all that was taken is received by the host in the same turn;
 - a packet is credited exactly where its last octet was acknowledged, or where it has no octet, and so never before the
   other side had all of it;
@@ -184,6 +185,8 @@ class Link:
         self.received = []  # the marked octets that its host received
         self.packets = 0  # in how many ACL packets
         self.acknowledged = 0  # how many of the PDUs that it sent are acknowledged
+        self.out = True  # its last PDU, also an empty one, is not acknowledged; the first one counts as sent
+        self.accepted = False  # the other side has accepted that PDU
 
     def keep(self, start, octets):
         self.submitted += marked(start, octets)
@@ -206,6 +209,8 @@ class Side:
         self.unread = b""  # octets of a packet that is not whole yet
         self.due = []  # the events that the packets of this turn require at once
         self.on_air = None  # the last packet of this side on a link: its LLID, its octets and its verdict
+        self.pending = False  # a good packet brought a PDU that it has not taken
+        self.announced = False  # its last line is that of a new PDU
 
     def link(self):
         if self.open is None:
@@ -292,12 +297,25 @@ def packet_on_air(side, other, channel, octets, verdict):
     llid, body = pdu[0] & 3, pdu[2 : 2 + pdu[1]]
     if body and (not link.sent or link.sent[-1] != (llid, body)):
         raise Fault("a packet carries another PDU than the last one sent")
+    waits = len(link.submitted) > sum(len(octets) for _, octets in link.sent)
+    if bool(pdu[0] & 0x10) != waits:
+        raise Fault("MD does not say whether more data waits")
+    if side.announced != (bool(body) and not link.out):
+        raise Fault("a packet with a new PDU, and no other, is just behind the line of that PDU")
+    if not link.out:
+        if waits and not body:
+            raise Fault("a new empty PDU while data waits")
+        link.out, link.accepted = True, False
     side.on_air = llid, body, verdict
     if verdict == "good":
         if other.open != side.open:
             raise Fault("a packet is good at another link")
         # it acknowledges all that its side has taken
-        other.link().acknowledged = len(link.took)
+        peer = other.link()
+        peer.acknowledged = len(link.took)
+        peer.out = peer.out and not peer.accepted
+        link.accepted = link.accepted or not body
+        other.pending = len(peer.took) < len(link.sent) and bool(body)
 
 
 def a_turn_is_over(sides):
@@ -320,6 +338,11 @@ def read_line(sides, words):
         a_turn_is_over(sides)
         return
     side, other = sides[words[1]], sides["b" if words[1] == "a" else "a"]
+    on_link = kind == "air" and int(words[2]) < 37
+    if side.announced and not on_link:
+        raise Fault("a line between that of a new PDU and its packet")
+    if side.pending != (kind == "took"):
+        raise Fault("a PDU is taken as its first good packet comes, and not at another time")
     if kind == "in":
         host_octets(side, bytes.fromhex(words[2]))
     elif kind == "up":
@@ -329,7 +352,7 @@ def read_line(sides, words):
         side.links[side.open] = Link(int(words[3]))
     elif kind == "shut":
         side.open = None
-    elif kind == "air" and int(words[2]) < 37:
+    elif on_link:
         packet_on_air(side, other, int(words[2]), bytes.fromhex(words[3]), words[5])
     elif kind in ("sent", "took"):
         link = side.link()
@@ -344,6 +367,9 @@ def read_line(sides, words):
             link.taken += len(pdus[-1][1])
             if side.peer(other).sent[len(pdus) - 1 :] != pdus[-1:] or other.on_air != (*pdus[-1], "good"):
                 raise Fault("another PDU was sent, or its packet was not received")
+            side.peer(other).accepted = True
+    side.pending = False
+    side.announced = kind == "sent"
 
 
 def compare(journal):
