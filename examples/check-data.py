@@ -301,7 +301,7 @@ def packet_on_air(side, other, channel, octets, verdict):
     if bool(pdu[0] & 0x10) != waits:
         raise Fault("MD does not say whether more data waits")
     if side.announced != (bool(body) and not link.out):
-        raise Fault("a packet with a new PDU, and no other, is just behind the line of that PDU")
+        raise Fault("a packet with a new PDU, and no other, comes just after the line of that PDU")
     if not link.out:
         if waits and not body:
             raise Fault("a new empty PDU while data waits")
