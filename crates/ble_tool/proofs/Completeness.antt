@@ -3,7 +3,7 @@ use Rattle.std.proofs.Common.{◌≡◌, ℕ, ◌<◌, List, length, Option, Som
 use Rattle.std.specs.Prelude.{◌⊎◌}
 use Rattle.outside.specs.Known.{WhereKnown}
 use Rattle.journal.specs.declared.entries.Entry.{Entry}
-use Rattle.runs.specs.Pair.{given_of, EndsUnseen}
+use Rattle.run_model.specs.Pair.{given_of, EndsUnseen}
 use Rattle.radio_replay.specs.Schedule.{Reading, Right, Wrong, TooMany, schedule_of, line_number}
 use Rattle.ble_tool.specs.declared.faults.Fault.TheVariants.{CannotRead, BadLine, CannotWrite, NoMemory, Unseen, TooLong, TooManyTurns}
 use Rattle.ble_tool.specs.declared.commands.Command.{Command}

@@ -8,8 +8,8 @@ use Rattle.journal.specs.Text.{text}
 use Rattle.journal_pdus.specs.Lawful.{IsLawful}
 use Rattle.journal_pdus.specs.Settled.{AreSettled}
 use Rattle.pair_world.specs.Faults.{IsLawfulSoFar, IsRunFault}
-use Rattle.runs.specs.Pair.{given_of, IsRun}
-use Rattle.runs.specs.Run.{Given}
+use Rattle.run_model.specs.Pair.{given_of, IsRun}
+use Rattle.run_model.specs.Run.{Given}
 use Rattle.pair_world.specs.declared.run.RunFault.{RunFault}
 use Rattle.pair_world.specs.declared.run.RunFault.TheVariants.{Unseen as EndedUnseen, Memory as NoRoomForRun}
 use Rattle.radio_replay.specs.declared.faults.ScheduleFault.{ScheduleFault}

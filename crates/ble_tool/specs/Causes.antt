@@ -6,8 +6,8 @@ use Rattle.journal.specs.declared.entries.Entry.{Entry}
 use Rattle.journal.specs.Text.{text}
 use Rattle.journal_pdus.specs.Lawful.{IsLawful}
 use Rattle.journal_pdus.specs.Settled.{AreSettled}
-use Rattle.runs.specs.Pair.{given_of, IsRun, EndsUnseen}
-use Rattle.runs.specs.Run.{Given}
+use Rattle.run_model.specs.Pair.{given_of, IsRun, EndsUnseen}
+use Rattle.run_model.specs.Run.{Given}
 use Rattle.radio_replay.specs.Schedule.{Right, Wrong, TooMany, schedule_of, line_number}
 use Rattle.radio_replay.specs.Script.{Turn}
 use Rattle.ble_tool.specs.declared.faults.Fault.{Fault}

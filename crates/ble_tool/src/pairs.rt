@@ -4,7 +4,7 @@ ghost use Rattle.outside.specs.Known.{WhereKnown};
 ghost use Rattle.journal.specs.Text.{text};
 ghost use Rattle.journal_pdus.specs.Lawful.{IsLawful};
 ghost use Rattle.journal_pdus.specs.Settled.{AreSettled};
-ghost use Rattle.runs.specs.Pair.{given_of};
+ghost use Rattle.run_model.specs.Pair.{given_of};
 ghost use Rattle.radio_replay.specs.Schedule.{Right, schedule_of};
 ghost use Rattle.ble_tool.specs.Causes.{IsWithinLimit, IsReadFault, IsWriteFault, OfRun};
 ghost use Rattle.ble_tool.specs.Causes.{IsScheduleFault, IsEndOf, IsWrittenEnd, IsOctetsFault};

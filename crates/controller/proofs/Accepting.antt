@@ -5,8 +5,8 @@ use Rattle.hci_cmd.specs.declared.command.Command.{Command}
 use Rattle.hci_cmd.specs.declared.command.Command.TheVariants.{LeRand}
 use Rattle.host_view.specs.Changes.{view_after}
 use Rattle.open_links.specs.Knowing.{Knows as KnowsLinks}
-use Rattle.one_side.specs.Commands.{advertising_after, drawn_after, facts_accepted, initiator_after, links_after, radio_after, received_after, scanning_after}
-use Rattle.one_side.specs.Facts.{Setup, Facts}
+use Rattle.controller_model.specs.Commands.{advertising_after, drawn_after, facts_accepted, initiator_after, links_after, radio_after, received_after, scanning_after}
+use Rattle.controller_model.specs.Facts.{Setup, Facts}
 use Rattle.controller.specs.Held.{Held}
 use Rattle.controller.specs.Knowing.{IsAt}
 use Rattle.controller.specs.Steps.{held_accepted, place_after}

@@ -7,11 +7,11 @@ use Rattle.slot_plan.specs.Holding.{winner_of}
 use Rattle.open_links.specs.Knowing.{Knows as KnowsLinks}
 use Rattle.open_links.specs.OpenLinks.{Links}
 use Rattle.open_links.specs.Turns.{notes_entering}
-use Rattle.one_side.specs.declared.doing.Doing.{Doing}
-use Rattle.one_side.specs.Facts.{Setup, Facts}
-use Rattle.one_side.specs.Links.{facts_ending, notes_ending}
-use Rattle.one_side.specs.Outcome.{Outcome}
-use Rattle.one_side.specs.Radio.{facts_entering, fixing, links_fixing, outcome_after_ends, outcome_begun, plan_in, served, turn_begins}
+use Rattle.controller_model.specs.declared.doing.Doing.{Doing}
+use Rattle.controller_model.specs.Facts.{Setup, Facts}
+use Rattle.controller_model.specs.Links.{facts_ending, notes_ending}
+use Rattle.controller_model.specs.Outcome.{Outcome}
+use Rattle.controller_model.specs.Radio.{facts_entering, fixing, links_fixing, outcome_after_ends, outcome_begun, plan_in, served, turn_begins}
 use Rattle.controller.specs.Held.{Held}
 use Rattle.controller.specs.Knowing.{IsAt, Passes}
 

@@ -14,12 +14,12 @@ use Rattle.advertise.specs.Advertising.{advertisement}
 use Rattle.advertise.specs.Answers.{advertiser_answer, is_connect_taken, is_scan_answered}
 use Rattle.advertise.proofs.Takings.{taken_connection}
 use Rattle.ble_base.specs.declared.notes.Note.{Note}
-use Rattle.one_end.specs.declared.setup.LinkSetup.{LinkSetup}
+use Rattle.link_model.specs.declared.setup.LinkSetup.{LinkSetup}
 use Rattle.scan_init.specs.Access.{nth_access}
 use Rattle.scan_init.specs.Initiating.{InitiatorFacts}
-use Rattle.one_side.specs.declared.doing.Doing.{Doing}
-use Rattle.one_side.specs.Facts.{Setup, Facts}
-use Rattle.one_side.specs.Heard.{connects, facts_connecting, if_pdu, initiator_heard, link_to}
+use Rattle.controller_model.specs.declared.doing.Doing.{Doing}
+use Rattle.controller_model.specs.Facts.{Setup, Facts}
+use Rattle.controller_model.specs.Heard.{connects, facts_connecting, if_pdu, initiator_heard, link_to}
 use Rattle.controller.specs.Fitting.{IsAnswerable}
 use Rattle.controller.specs.Held.{Held}
 use Rattle.controller.specs.Knowing.{IsAt, Passes}

@@ -9,7 +9,7 @@ use Rattle.h4_frames.specs.declared.packet.Fed.{Fed}
 use Rattle.h4_frames.specs.declared.packet.Fed.TheVariants.{Packet}
 use Rattle.h4_frames.specs.Frames.{first_reset, frames, frames_from, one_later, packet_entries, reset_octets}
 use Rattle.h4_frames.specs.Packets.{SizedPacket, first_acl, first_command, first_packet, is_indicator, word_of}
-use Rattle.one_side.specs.Side.{first_result, result_of}
+use Rattle.controller_model.specs.Side.{first_result, result_of}
 use Rattle.controller.specs.Framed.{HasOctets, IsFramed}
 
 abbrev IsFound : Option SizedPacket → Type 0

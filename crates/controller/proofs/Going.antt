@@ -7,17 +7,17 @@ use Rattle.h4_frames.specs.declared.packet.Fed.TheVariants.{More, Packet, LostSy
 use Rattle.h4_frames.specs.declared.stage.Stage.{Stage}
 use Rattle.h4_frames.specs.Frames.{frames, frame_entry}
 use Rattle.h4_frames.specs.Machine.{framer_after}
-use Rattle.one_side.specs.declared.doing.Doing.{Doing}
-use Rattle.one_side.specs.declared.doing.Doing.TheVariants.{Advertises, Rests}
-use Rattle.one_side.specs.Data.{facts_ended_turn, notes_ended_turn}
-use Rattle.one_side.specs.Step.{Step, HostOctet, TurnEnds}
-use Rattle.one_side.specs.Facts.{Setup, Facts, Use}
-use Rattle.one_side.specs.Outcome.{Outcome, facts_passed, notes_passed}
-use Rattle.one_side.specs.Packets.{facts_doing, notes_doing, use_for, use_of}
-use Rattle.one_side.specs.Side.{facts_after, facts_fed, facts_of, first_result, notes_after, notes_fed, result_of, with_octet}
-use Rattle.one_side.proofs.Feds.{fed_octets, turn_octets}
-use Rattle.one_side.proofs.Pasts.{facts_more}
-use Rattle.one_side.proofs.Always.{IsInTurn}
+use Rattle.controller_model.specs.declared.doing.Doing.{Doing}
+use Rattle.controller_model.specs.declared.doing.Doing.TheVariants.{Advertises, Rests}
+use Rattle.controller_model.specs.Data.{facts_ended_turn, notes_ended_turn}
+use Rattle.controller_model.specs.Step.{Step, HostOctet, TurnEnds}
+use Rattle.controller_model.specs.Facts.{Setup, Facts, Use}
+use Rattle.controller_model.specs.Outcome.{Outcome, facts_passed, notes_passed}
+use Rattle.controller_model.specs.Packets.{facts_doing, notes_doing, use_for, use_of}
+use Rattle.controller_model.specs.Side.{facts_after, facts_fed, facts_of, first_result, notes_after, notes_fed, result_of, with_octet}
+use Rattle.controller_model.proofs.Feds.{fed_octets, turn_octets}
+use Rattle.controller_model.proofs.Pasts.{facts_more}
+use Rattle.controller_model.proofs.Always.{IsInTurn}
 use Rattle.controller.specs.Framed.{IsFramed}
 use Rattle.controller.specs.Held.{Held}
 use Rattle.controller.specs.Knowing.{Goes, IsAt, IsWholeAt, Knows}

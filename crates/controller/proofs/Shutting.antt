@@ -8,8 +8,8 @@ use Rattle.open_links.specs.Knowing.{Knows as KnowsLinks}
 use Rattle.open_links.specs.declared.ended.LinkEnded.{LinkEnded}
 use Rattle.open_links.specs.Data.{received_ended}
 use Rattle.open_links.specs.Turns.{links_staying}
-use Rattle.one_side.specs.Facts.{Setup, Facts}
-use Rattle.one_side.specs.Links.{ends_in, facts_ending, facts_shut, note_shut, radio_without}
+use Rattle.controller_model.specs.Facts.{Setup, Facts}
+use Rattle.controller_model.specs.Links.{ends_in, facts_ending, facts_shut, note_shut, radio_without}
 use Rattle.controller.specs.Held.{Held}
 use Rattle.controller.specs.Knowing.{IsAt}
 use Rattle.controller.specs.Order.{Stays}

@@ -1,6 +1,6 @@
 -- What a controller does in a phase, without the octets that it sends.
 use Rattle.std.specs.Prelude.{ℕ, List}
-use Rattle.one_side.specs.Facts.{Use, Sends, Listens, Idle}
+use Rattle.controller_model.specs.Facts.{Use, Sends, Listens, Idle}
 use Rattle.controller.specs.declared.intents.Action.{Action}
 use Rattle.controller.specs.declared.intents.Action.TheVariants.{Transmit, Listen, Rest}
 

@@ -4,8 +4,8 @@ use Rattle.h4_frames.specs.declared.stage.Stage.{Stage}
 use Rattle.host_view.specs.View.{View}
 use Rattle.scan_init.specs.Initiating.{InitiatorFacts}
 use Rattle.open_links.specs.Knowing.{HeldLinks}
-use Rattle.one_side.specs.declared.doing.Turn.{Turn}
-use Rattle.one_side.specs.Facts.{Setup, Radio, Advertising, Scanning}
+use Rattle.controller_model.specs.declared.doing.Turn.{Turn}
+use Rattle.controller_model.specs.Facts.{Setup, Radio, Advertising, Scanning}
 
 pub record Held : Type 0 where
   -- what it is set up with

@@ -4,13 +4,13 @@ use Rattle.ble_base.specs.declared.notes.Note.{Note}
 use Rattle.h4_frames.specs.Machine.{framer_after}
 use Rattle.scan_init.specs.Access.{nth_access}
 use Rattle.open_links.specs.Knowing.{Knows as KnowsLinks}
-use Rattle.one_side.specs.declared.doing.Doing.{Doing}
-use Rattle.one_side.specs.declared.doing.Doing.TheVariants.{Rests}
-use Rattle.one_side.specs.Step.{Step}
-use Rattle.one_side.specs.Facts.{Setup, Facts, Use, Sends, Listens, Idle as Unused}
-use Rattle.one_side.specs.Outcome.{Outcome}
-use Rattle.one_side.specs.Packets.{facts_doing}
-use Rattle.one_side.specs.Side.{facts_of, notes_after}
+use Rattle.controller_model.specs.declared.doing.Doing.{Doing}
+use Rattle.controller_model.specs.declared.doing.Doing.TheVariants.{Rests}
+use Rattle.controller_model.specs.Step.{Step}
+use Rattle.controller_model.specs.Facts.{Setup, Facts, Use, Sends, Listens, Idle as Unused}
+use Rattle.controller_model.specs.Outcome.{Outcome}
+use Rattle.controller_model.specs.Packets.{facts_doing}
+use Rattle.controller_model.specs.Side.{facts_of, notes_after}
 use Rattle.controller.specs.declared.intents.Intent.{Intent}
 use Rattle.controller.specs.declared.intents.Intent.TheVariants.{Send, Listen, Idle}
 use Rattle.controller.specs.Held.{Held}

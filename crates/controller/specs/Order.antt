@@ -1,9 +1,9 @@
 -- The order of the calls on a controller: which turn it may begin, and that octets reach it on a link once in a turn.
 use Rattle.std.specs.Prelude.{◌≡◌, ℕ, ◌+◌, ◌≤◌, Bool, true, false}
 use Rattle.open_links.specs.Knowing.{HeldLinks}
-use Rattle.one_side.specs.declared.doing.Doing.{Doing}
-use Rattle.one_side.specs.declared.doing.Doing.TheVariants.{CentralSends, CentralListens, PeripheralListens}
-use Rattle.one_side.specs.declared.doing.Turn.{Turn}
+use Rattle.controller_model.specs.declared.doing.Doing.{Doing}
+use Rattle.controller_model.specs.declared.doing.Doing.TheVariants.{CentralSends, CentralListens, PeripheralListens}
+use Rattle.controller_model.specs.declared.doing.Turn.{Turn}
 use Rattle.controller.specs.Held.{Held}
 
 -- a turn may begin in this slot: the last one has ended, and began in an earlier slot

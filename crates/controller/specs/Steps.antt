@@ -9,8 +9,8 @@ use Rattle.host_view.specs.Noted.{view_noted}
 use Rattle.scan_init.specs.Access.{next_access_of}
 use Rattle.open_links.specs.declared.ended.LinkEnded.{LinkEnded}
 use Rattle.open_links.specs.OpenLinks.{Links, handles_from}
-use Rattle.one_side.specs.Commands.{advertising_after, initiator_after, radio_after, scanning_after}
-use Rattle.one_side.specs.Links.{note_shut, radio_without}
+use Rattle.controller_model.specs.Commands.{advertising_after, initiator_after, radio_after, scanning_after}
+use Rattle.controller_model.specs.Links.{note_shut, radio_without}
 use Rattle.controller.specs.Held.{Held}
 
 -- the place of the random word after an accepted command, of this number of words

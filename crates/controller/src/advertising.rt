@@ -4,9 +4,9 @@ ghost use Rattle.std.specs.Option.{option_map};
 ghost use Rattle.adv_pdu.specs.Pdu.{FitsBits};
 ghost use Rattle.adv_pdu.specs.declared.pdu.AdvPdu.TheVariants.{ScanRsp};
 ghost use Rattle.advertise.specs.Advertising.{advertisement, is_supported};
-ghost use Rattle.one_side.specs.Facts.{first_advertising};
-ghost use Rattle.one_side.specs.Commands.{advertiser_enabled, advertiser_turned_on};
-ghost use Rattle.one_side.specs.Radio.{advertiser_wants, advertises_at, advertises_on, served_if_on};
+ghost use Rattle.controller_model.specs.Facts.{first_advertising};
+ghost use Rattle.controller_model.specs.Commands.{advertiser_enabled, advertiser_turned_on};
+ghost use Rattle.controller_model.specs.Radio.{advertiser_wants, advertises_at, advertises_on, served_if_on};
 
 use adv_pdu::AdvPdu;
 use advertise::{AdvOff, AdvOn, AdvParams};
@@ -37,7 +37,7 @@ pub(crate) struct Advertising {
 }
 
 impl Model for Advertising {
-    ghost use Rattle.one_side.specs.Facts.{Advertising};
+    ghost use Rattle.controller_model.specs.Facts.{Advertising};
 
     ghost Value = { Advertising };
 

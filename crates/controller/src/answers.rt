@@ -7,10 +7,10 @@ ghost use Rattle.wire_fields.specs.Field.{little_endian};
 ghost use Rattle.hci_evt.specs.declared.event.Event.TheVariants.{CommandComplete};
 ghost use Rattle.open_links.specs.Knowing.{Knows as KnowsLinks};
 ghost use Rattle.open_links.specs.OpenLinks.{Links, link_at};
-ghost use Rattle.one_side.specs.Answers.{accepted_answer, answer_with, complete_answer};
-ghost use Rattle.one_side.specs.Answers.{has_status_answer, map_of, next_word, refused_fields};
-ghost use Rattle.one_side.specs.Answers.{returned, status_answer};
-ghost use Rattle.one_side.specs.Facts.{Setup, Facts};
+ghost use Rattle.controller_model.specs.Answers.{accepted_answer, answer_with, complete_answer};
+ghost use Rattle.controller_model.specs.Answers.{has_status_answer, map_of, next_word, refused_fields};
+ghost use Rattle.controller_model.specs.Answers.{returned, status_answer};
+ghost use Rattle.controller_model.specs.Facts.{Setup, Facts};
 ghost use Rattle.controller.specs.Knowing.{IsAt};
 
 use crate::controllers::Controller;

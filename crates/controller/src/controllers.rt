@@ -2,11 +2,11 @@
 ghost use Rattle.std.specs.Prelude.{◌≡◌, ◌*◌, ◌+◌, ◌<◌, ◌≤◌, ◌^◌};
 ghost use Rattle.std.specs.Prelude.{ℕ, List, [], ◌∷◌, ◌++◌, length, IfOk};
 ghost use Rattle.ble_base.specs.declared.Config.{Config};
-ghost use Rattle.one_side.specs.Facts.{Setup, free_radio, setup_of};
-ghost use Rattle.one_side.specs.Packets.{use_of, verdict_of};
-ghost use Rattle.one_side.specs.Side.{facts_of};
-ghost use Rattle.one_side.specs.Step.{Step, HostOctet, TurnBegins};
-ghost use Rattle.one_side.specs.Step.{PacketHeard, NothingHeard, TurnEnds};
+ghost use Rattle.controller_model.specs.Facts.{Setup, free_radio, setup_of};
+ghost use Rattle.controller_model.specs.Packets.{use_of, verdict_of};
+ghost use Rattle.controller_model.specs.Side.{facts_of};
+ghost use Rattle.controller_model.specs.Step.{Step, HostOctet, TurnBegins};
+ghost use Rattle.controller_model.specs.Step.{PacketHeard, NothingHeard, TurnEnds};
 ghost use Rattle.controller.specs.Knowing.{Goes, Knows, use_wanted};
 ghost use Rattle.controller.specs.Order.{MayBegin};
 
@@ -15,9 +15,9 @@ use crate::intents::Intent;
 use crate::scanning::Scanning;
 use arrayvec::ArrayVec;
 use ble_base::{Config, Outbox, RANDOM_WORDS, SlotNo, Verdict};
+use controller_model::{Doing, Turn};
 use h4_frames::Framer;
 use host_view::HostView;
-use one_side::{Doing, Turn};
 use open_links::OpenLinks;
 use scan_init::{Initiator, next_access};
 use slot_plan::{Activity, Plan};
@@ -96,7 +96,7 @@ impl<const L: usize, const T: usize, const R: usize> Controller<L, T, R> {
     /// # Errors
     ///
     /// Out of memory.
-    #[tactic(auto, unfolding(crate::specs::Knowing::Knows, one_side::specs::Side::facts_of))]
+    #[tactic(auto, unfolding(crate::specs::Knowing::Knows, controller_model::specs::Side::facts_of))]
     pub fn start(alloc: Global, config: Config) -> Result<Self, AllocError>
         requires words { 1 ≤ length config.words.items }
         requires sizes { (1 ≤ L) × (1 ≤ T) × (T ≤ 255) × (1 ≤ R) × (8 * L + R + 8 ≤ 64) }
@@ -202,7 +202,7 @@ impl<const L: usize, const T: usize, const R: usize> Controller<L, T, R> {
             → Goes setup self.new past TurnEnds out.new.items }
         ensures order { MayBegin self.old.turn.begun self.new }
     {
-        one_side::no_more_than_its_buffers();
+        controller_model::no_more_than_its_buffers();
         self.hand_over(out);
         self.end();
     }

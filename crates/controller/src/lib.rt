@@ -5,7 +5,7 @@
 //! initiates, keeps its links, and carries the data of their hosts over them (Core 5.2, volume 6
 //! part B, sections 2.4, 4.4 and 4.5, and volume 4 part E). A turn is a slot of 1.25 ms and has
 //! three phases; in each the controller sends a packet, listens on a channel, or is idle. What it
-//! does is defined in `one_side`, by the calls on it.
+//! does is defined in `controller_model`, by the calls on it.
 #![tactic(auto)]
 
 mod advertising;

@@ -3,8 +3,8 @@ ghost use Rattle.std.specs.Prelude.{◌≡◌, ◌<◌, ◌≤◌, ◌+◌, ◌+
 ghost use Rattle.std.specs.Option.{option_to_list};
 ghost use Rattle.arrayvec.specs.ArrayVec.{array_vec_len};
 ghost use Rattle.hci_evt.specs.Event.{mask_bit_of};
-ghost use Rattle.one_side.specs.Links.{wants_enhanced};
-ghost use Rattle.one_side.specs.Events.{notes_of_events, passes};
+ghost use Rattle.controller_model.specs.Links.{wants_enhanced};
+ghost use Rattle.controller_model.specs.Events.{notes_of_events, passes};
 
 use ble_base::{Note, Outbox, has_bit};
 use hci_evt::{Event, MaskBit, mask_bit, write};

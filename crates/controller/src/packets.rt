@@ -2,8 +2,8 @@
 ghost use Rattle.std.specs.Prelude.{◌≡◌, ◌<◌, Some, IfSome};
 ghost use Rattle.std.specs.Option.{option_map};
 ghost use Rattle.adv_pdu.specs.Pdu.{FitsBits};
-ghost use Rattle.one_side.specs.Packets.{advertising_packet, connect_sent, heard_on_channel};
-ghost use Rattle.one_side.specs.Packets.{pdu_heard, sends_pdu, verdict_advertising};
+ghost use Rattle.controller_model.specs.Packets.{advertising_packet, connect_sent, heard_on_channel};
+ghost use Rattle.controller_model.specs.Packets.{pdu_heard, sends_pdu, verdict_advertising};
 ghost use Rattle.controller.specs.Fitting.{IsTakeable};
 ghost use Rattle.controller.specs.Knowing.{sends_octets, use_wanted};
 
@@ -12,7 +12,7 @@ use adv_pdu::AdvPdu;
 use air_frame::{ADVERTISING_ACCESS, ADVERTISING_CRC_INIT, Heard, build, unframe};
 use arrayvec::ArrayVec;
 use ble_base::{AIR_PACKET_OCTETS, Verdict};
-use one_end::LinkSetup;
+use link_model::LinkSetup;
 
 /// A PDU on an advertising channel.
 fn advertising_packet(channel: u8, pdu: &AdvPdu) -> ArrayVec<u8, AIR_PACKET_OCTETS>
@@ -84,7 +84,7 @@ pub(crate) fn judge(channel: u8, octets: &[u8]) -> Verdict
 }
 
 /// The PDU of a packet that is heard whole on this advertising channel.
-#[tactic(auto, unfolding(one_side::specs::Packets::pdu_heard))]
+#[tactic(auto, unfolding(controller_model::specs::Packets::pdu_heard))]
 pub(crate) fn read_pdu(channel: u8, octets: &[u8]) -> Option<AdvPdu>
     requires { channel < 40 }
     ensures value { result ≡ pdu_heard channel octets.now }

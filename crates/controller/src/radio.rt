@@ -5,13 +5,13 @@ ghost use Rattle.acl_banks.specs.declared.pieces.Piece.{Piece};
 ghost use Rattle.adv_pdu.specs.Pdu.{FitsBits};
 ghost use Rattle.open_links.specs.Knowing.{Knows as KnowsLinks};
 ghost use Rattle.open_links.specs.OpenLinks.{Links, link_after, link_at, with_change};
-ghost use Rattle.one_end.specs.Step.{PacketSent};
-ghost use Rattle.one_side.specs.declared.doing.Doing.TheVariants.{Rests};
-ghost use Rattle.one_side.specs.Facts.{Setup, Facts};
-ghost use Rattle.one_side.specs.Packets.{advertisement_sent, facts_doing, links_sending, listens_on};
-ghost use Rattle.one_side.specs.Packets.{notes_doing, notes_sent, request_sent, response_sent};
-ghost use Rattle.one_side.specs.Packets.{sends_on, use_for};
-ghost use Rattle.one_side.specs.Packets.{verdict_of, verdict_of_link};
+ghost use Rattle.link_model.specs.Step.{PacketSent};
+ghost use Rattle.controller_model.specs.declared.doing.Doing.TheVariants.{Rests};
+ghost use Rattle.controller_model.specs.Facts.{Setup, Facts};
+ghost use Rattle.controller_model.specs.Packets.{advertisement_sent, facts_doing, links_sending, listens_on};
+ghost use Rattle.controller_model.specs.Packets.{notes_doing, notes_sent, request_sent, response_sent};
+ghost use Rattle.controller_model.specs.Packets.{sends_on, use_for};
+ghost use Rattle.controller_model.specs.Packets.{verdict_of, verdict_of_link};
 ghost use Rattle.controller.specs.Fitting.{CanDo};
 ghost use Rattle.controller.specs.Knowing.{IsAt, use_wanted};
 ghost use Rattle.controller.specs.Order.{MayBegin, ReceivesOnce, Stays};
@@ -21,7 +21,7 @@ use crate::intents::Intent;
 use crate::packets::{connect_ind, judge, send_packet, send_pdu};
 use adv_pdu::AdvPdu;
 use ble_base::{Address, Outbox, SlotNo, Verdict};
-use one_side::Doing;
+use controller_model::Doing;
 
 impl<const L: usize, const T: usize, const R: usize> Controller<L, T, R> {
     /// The SCAN_REQ to an advertiser. None where no scanner is on.
@@ -188,7 +188,7 @@ impl<const L: usize, const T: usize, const R: usize> Controller<L, T, R> {
     }
 
     /// What it makes of octets that reach it in the phase that comes next.
-    #[tactic(auto, unfolding(one_side::specs::Packets::verdict_of))]
+    #[tactic(auto, unfolding(controller_model::specs::Packets::verdict_of))]
     pub(crate) fn verdict(&self, octets: &[u8]) -> Verdict
         ensures { (has : Setup) (facts : Facts) → IsAt has self.now facts
             → result ≡ verdict_of facts octets.now }

@@ -1,8 +1,8 @@
 //! Scanning: what the host set, and the scanner while it is on.
 ghost use Rattle.std.specs.Prelude.{◌≡◌, ◌≤◌, ◌<◌, None, Some, IfSome, []};
-ghost use Rattle.one_side.specs.Commands.{scanner_enabled, scanner_turned_on};
-ghost use Rattle.one_side.specs.Facts.{first_scanning};
-ghost use Rattle.one_side.specs.Radio.{scanner_channel};
+ghost use Rattle.controller_model.specs.Commands.{scanner_enabled, scanner_turned_on};
+ghost use Rattle.controller_model.specs.Facts.{first_scanning};
+ghost use Rattle.controller_model.specs.Radio.{scanner_channel};
 
 use crate::advertising::ON;
 use ble_base::{Address, SlotNo};
@@ -26,7 +26,7 @@ pub(crate) struct Scanning {
 
 impl Model for Scanning {
     ghost use Rattle.std.specs.Prelude.{◌≤◌};
-    ghost use Rattle.one_side.specs.Facts.{Scanning};
+    ghost use Rattle.controller_model.specs.Facts.{Scanning};
 
     ghost Value = { Scanning };
 

@@ -6,21 +6,21 @@ ghost use Rattle.open_links.specs.Knowing.{Knows as KnowsLinks};
 ghost use Rattle.open_links.specs.OpenLinks.{Links, link_at, link_served, with_change};
 ghost use Rattle.open_links.specs.Turns.{links_entered, notes_entering, wants_from};
 ghost use Rattle.slot_plan.specs.Holding.{winner_of};
-ghost use Rattle.one_side.specs.Facts.{Setup, Facts};
-ghost use Rattle.one_side.specs.Radio.{advertises_at, doing_held, doing_won, exchange_begins};
-ghost use Rattle.one_side.specs.Radio.{facts_entering, winner_served};
-ghost use Rattle.one_side.specs.Radio.{facts_won, first_exchange, initiator_channel};
-ghost use Rattle.one_side.specs.Radio.{initiates_on, links_fixing, outcome_begun, plan_in};
-ghost use Rattle.one_side.specs.Radio.{radio_held};
-ghost use Rattle.one_side.specs.Radio.{scanner_channel, scans_on, second_exchange, served};
-ghost use Rattle.one_side.specs.Radio.{slots_since, turn_begins, want_if};
+ghost use Rattle.controller_model.specs.Facts.{Setup, Facts};
+ghost use Rattle.controller_model.specs.Radio.{advertises_at, doing_held, doing_won, exchange_begins};
+ghost use Rattle.controller_model.specs.Radio.{facts_entering, winner_served};
+ghost use Rattle.controller_model.specs.Radio.{facts_won, first_exchange, initiator_channel};
+ghost use Rattle.controller_model.specs.Radio.{initiates_on, links_fixing, outcome_begun, plan_in};
+ghost use Rattle.controller_model.specs.Radio.{radio_held};
+ghost use Rattle.controller_model.specs.Radio.{scanner_channel, scans_on, second_exchange, served};
+ghost use Rattle.controller_model.specs.Radio.{slots_since, turn_begins, want_if};
 ghost use Rattle.controller.specs.Fitting.{CanDo};
 ghost use Rattle.controller.specs.Knowing.{IsAt, Passes};
 ghost use Rattle.controller.specs.Order.{HasNotReceived, MayBegin, Stays};
 
 use crate::controllers::Controller;
 use ble_base::{Outbox, Role, SlotNo};
-use one_side::Doing;
+use controller_model::Doing;
 use slot_plan::{Activity, Plan};
 
 /// The slots for which the event of a link holds the radio, and that of an advertiser.

@@ -5,14 +5,14 @@ use Rattle.std.proofs.lemmas.Bool.{eqb-true, eqb-false}
 use Rattle.std.proofs.lemmas.List.{length_push}
 use Rattle.ack_bit.specs.AckBits.{is_new}
 use Rattle.ack_bit.proofs.Links.{acked_count, says}
-use Rattle.one_end.specs.Acknowledgement.{Acknowledgement, Pdu, after_sending, bits_of, empty_pdu, end_of, first_acknowledgement, is_acked, next_sent}
-use Rattle.one_end.specs.Data.{is_data, is_empty}
-use Rattle.one_end.specs.Facts.{Facts}
-use Rattle.one_end.specs.Packets.{header_sent, packet_sent, pdu_sent}
-use Rattle.one_end.specs.Pair.{AreInAgreement}
-use Rattle.one_end.specs.Step.{PacketSent, PacketReceived}
-use Rattle.one_end.proofs.Payloads.{IsShort, past_pdu_short}
-use Rattle.one_end.proofs.Received.{IsHeardWhole}
+use Rattle.link_model.specs.Acknowledgement.{Acknowledgement, Pdu, after_sending, bits_of, empty_pdu, end_of, first_acknowledgement, is_acked, next_sent}
+use Rattle.link_model.specs.Data.{is_data, is_empty}
+use Rattle.link_model.specs.Facts.{Facts}
+use Rattle.link_model.specs.Packets.{header_sent, packet_sent, pdu_sent}
+use Rattle.link_model.specs.Pair.{AreInAgreement}
+use Rattle.link_model.specs.Step.{PacketSent, PacketReceived}
+use Rattle.link_model.proofs.Payloads.{IsShort, past_pdu_short}
+use Rattle.link_model.proofs.Received.{IsHeardWhole}
 use Rattle.open_links.specs.OpenLinks.{OpenLink, facts_in, link_after}
 use Rattle.run_laws.proofs.Agreed.{ack_of, ack_sent, heard_ack, heard_by, out_after, packet_of, sent_ack}
 use Rattle.journal_acks.specs.Counted.{IsCounted}

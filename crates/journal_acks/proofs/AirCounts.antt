@@ -8,30 +8,30 @@ use Rattle.ble_base.specs.declared.roles.Role.TheVariants.{Central, Peripheral}
 use Rattle.ble_base.specs.declared.roles.Side.{Side}
 use Rattle.ble_base.specs.declared.roles.Side.TheVariants.{A, B}
 use Rattle.air_frame.specs.Packet.{access_octets}
-use Rattle.one_end.specs.Packets.{pdu_sent}
-use Rattle.one_end.specs.Data.{is_empty}
-use Rattle.one_end.specs.Pair.{AreInAgreement}
-use Rattle.one_end.proofs.Payloads.{past_pdu_short}
-use Rattle.one_end.proofs.Received.{IsHeardWhole}
-use Rattle.one_end.specs.Step.{PacketSent, PacketReceived}
+use Rattle.link_model.specs.Packets.{pdu_sent}
+use Rattle.link_model.specs.Data.{is_empty}
+use Rattle.link_model.specs.Pair.{AreInAgreement}
+use Rattle.link_model.proofs.Payloads.{past_pdu_short}
+use Rattle.link_model.proofs.Received.{IsHeardWhole}
+use Rattle.link_model.specs.Step.{PacketSent, PacketReceived}
 use Rattle.open_links.specs.OpenLinks.{OpenLink, facts_in, link_after, link_at}
-use Rattle.one_side.specs.declared.doing.Turn.{Turn}
-use Rattle.one_side.specs.Facts.{Facts, Sends, Listens}
-use Rattle.one_side.proofs.Always.{IsAdvertisingChannel}
-use Rattle.one_side.proofs.DataChannels.{link_channel}
-use Rattle.one_side.proofs.Sent.{sends_well}
-use Rattle.one_side.specs.Packets.{verdict_of}
+use Rattle.controller_model.specs.declared.doing.Turn.{Turn}
+use Rattle.controller_model.specs.Facts.{Facts, Sends, Listens}
+use Rattle.controller_model.proofs.Always.{IsAdvertisingChannel}
+use Rattle.controller_model.proofs.DataChannels.{link_channel}
+use Rattle.controller_model.proofs.Sent.{sends_well}
+use Rattle.controller_model.specs.Packets.{verdict_of}
 use Rattle.radio_replay.specs.declared.fates.Fate.{Fate}
 use Rattle.radio_replay.specs.Damage.{damaged_packet}
-use Rattle.runs.specs.Feeding.{AreDistinct}
-use Rattle.runs.specs.History.{Event, Transmitted, Hearing, fates_used, has_received, is_good, packet_received, past_of, turns_begun}
-use Rattle.runs.specs.Journal.{journal_of, side_of}
-use Rattle.runs.specs.LinkEnds.{HaveAddresses}
-use Rattle.runs.specs.Links.{is_advertising}
-use Rattle.runs.specs.Run.{Given, facts_at, fate_at, hearings_of, setup_at, unseen_in, use_at}
-use Rattle.runs.proofs.LinkEnds.{is_listener, received_event}
-use Rattle.runs.proofs.Stations.{is_in, among, in_more_other, in_more_same, not_before}
-use Rattle.runs.proofs.Walk.{Place, AtPackets}
+use Rattle.run_model.specs.Feeding.{AreDistinct}
+use Rattle.run_model.specs.History.{Event, Transmitted, Hearing, fates_used, has_received, is_good, packet_received, past_of, turns_begun}
+use Rattle.run_model.specs.Journal.{journal_of, side_of}
+use Rattle.run_model.specs.LinkEnds.{HaveAddresses}
+use Rattle.run_model.specs.Links.{is_advertising}
+use Rattle.run_model.specs.Run.{Given, facts_at, fate_at, hearings_of, setup_at, unseen_in, use_at}
+use Rattle.run_model.proofs.LinkEnds.{is_listener, received_event}
+use Rattle.run_model.proofs.Stations.{is_in, among, in_more_other, in_more_same, not_before}
+use Rattle.run_model.proofs.Walk.{Place, AtPackets}
 use Rattle.run_laws.specs.Ends.{HaveOneConnectInd}
 use Rattle.run_laws.proofs.Agreed.{Agree, ack_of}
 use Rattle.run_laws.proofs.ByCalls.{Holds}

@@ -19,28 +19,28 @@ use Rattle.hci_evt.specs.Event.{mask_bit_of, written}
 use Rattle.host_view.specs.View.{View}
 use Rattle.host_view.specs.Unbuilt.{status_of}
 use Rattle.instants.specs.Track.{next_number}
-use Rattle.one_end.specs.Acknowledgement.{is_acked}
-use Rattle.one_end.specs.Data.{is_empty}
-use Rattle.one_end.specs.End.{applied_notes, sent_notes_if}
-use Rattle.one_end.specs.Facts.{Facts as EndFacts}
+use Rattle.link_model.specs.Acknowledgement.{is_acked}
+use Rattle.link_model.specs.Data.{is_empty}
+use Rattle.link_model.specs.End.{applied_notes, sent_notes_if}
+use Rattle.link_model.specs.Facts.{Facts as EndFacts}
 use Rattle.open_links.specs.declared.ended.LinkEnded.{LinkEnded}
 use Rattle.open_links.specs.declared.offers.Offer.{Offer}
 use Rattle.open_links.specs.declared.offers.Offer.TheVariants.{NoLink, Empty, Overflow, Kept}
 use Rattle.open_links.specs.Data.{completed_from}
 use Rattle.open_links.specs.OpenLinks.{Links, OpenLink, facts_in, handles_from, link_at}
 use Rattle.open_links.specs.Turns.{is_anchor, notes_entering, notes_if}
-use Rattle.one_side.specs.declared.doing.Doing.{Doing}
-use Rattle.one_side.specs.declared.doing.Doing.TheVariants.{Advertises, CentralSends, PeripheralSends}
-use Rattle.one_side.specs.Step.{HostOctet, TurnBegins, TurnEnds}
-use Rattle.one_side.specs.Facts.{Setup, Facts}
-use Rattle.one_side.specs.Answers.{answer_to}
-use Rattle.one_side.specs.Commands.{events_caused, notes_before, notes_commanded, notes_known}
-use Rattle.one_side.specs.Data.{acl_packet, event_completed, note_received, notes_offered, offer_of}
-use Rattle.one_side.specs.Events.{notes_of_events, passes}
-use Rattle.one_side.specs.Links.{ends_in, facts_ending, note_shut, notes_ended, notes_ending}
-use Rattle.one_side.specs.Packets.{notes_doing, notes_sent}
-use Rattle.one_side.specs.Radio.{outcome_begun}
-use Rattle.one_side.specs.Side.{notes_after, notes_fed, result_of}
+use Rattle.controller_model.specs.declared.doing.Doing.{Doing}
+use Rattle.controller_model.specs.declared.doing.Doing.TheVariants.{Advertises, CentralSends, PeripheralSends}
+use Rattle.controller_model.specs.Step.{HostOctet, TurnBegins, TurnEnds}
+use Rattle.controller_model.specs.Facts.{Setup, Facts}
+use Rattle.controller_model.specs.Answers.{answer_to}
+use Rattle.controller_model.specs.Commands.{events_caused, notes_before, notes_commanded, notes_known}
+use Rattle.controller_model.specs.Data.{acl_packet, event_completed, note_received, notes_offered, offer_of}
+use Rattle.controller_model.specs.Events.{notes_of_events, passes}
+use Rattle.controller_model.specs.Links.{ends_in, facts_ending, note_shut, notes_ended, notes_ending}
+use Rattle.controller_model.specs.Packets.{notes_doing, notes_sent}
+use Rattle.controller_model.specs.Radio.{outcome_begun}
+use Rattle.controller_model.specs.Side.{notes_after, notes_fed, result_of}
 
 abbrev pub is_taking : Note → Bool
 is_taking (Took handle number llid body) = true

@@ -9,25 +9,25 @@ use Rattle.ble_base.specs.declared.notes.Note.{Note}
 use Rattle.ble_base.specs.declared.notes.Note.TheVariants.{Up, Enter, Applied}
 use Rattle.instants.specs.Track.{next_number}
 use Rattle.journal.specs.declared.entries.Entry.{Entry}
-use Rattle.one_end.specs.End.{applied_notes, facts_entered}
-use Rattle.one_end.specs.Events.{channel_after as channel_of_event, entries_in}
-use Rattle.one_end.specs.Facts.{Facts as EndFacts}
-use Rattle.one_end.specs.Step.{EventEntered}
-use Rattle.one_end.proofs.InEvents.{past_in}
+use Rattle.link_model.specs.End.{applied_notes, facts_entered}
+use Rattle.link_model.specs.Events.{channel_after as channel_of_event, entries_in}
+use Rattle.link_model.specs.Facts.{Facts as EndFacts}
+use Rattle.link_model.specs.Step.{EventEntered}
+use Rattle.link_model.proofs.InEvents.{past_in}
 use Rattle.open_links.specs.OpenLinks.{Links, OpenLink, facts_in, link_after, link_at}
 use Rattle.open_links.specs.Turns.{is_anchor, links_staying, notes_entering, notes_if}
-use Rattle.one_side.specs.Step.{Step, TurnBegins}
-use Rattle.one_side.specs.Facts.{Facts}
-use Rattle.one_side.specs.Links.{facts_ending, notes_ending}
-use Rattle.one_side.specs.Packets.{notes_doing}
-use Rattle.one_side.specs.Radio.{outcome_begun}
-use Rattle.one_side.specs.Side.{notes_after}
-use Rattle.one_side.proofs.Always.{ending_is}
-use Rattle.runs.specs.History.{Event, TurnBegan, HostFed, Called, Noted, Transmitted, Hearing}
-use Rattle.runs.specs.Journal.{air_entries, entries_of, entry_of, journal_of, side_of}
-use Rattle.runs.specs.Links.{links_of}
-use Rattle.runs.specs.Run.{Given, after_call, facts_at, setup_at}
-use Rattle.runs.proofs.Parts.{journal_event}
+use Rattle.controller_model.specs.Step.{Step, TurnBegins}
+use Rattle.controller_model.specs.Facts.{Facts}
+use Rattle.controller_model.specs.Links.{facts_ending, notes_ending}
+use Rattle.controller_model.specs.Packets.{notes_doing}
+use Rattle.controller_model.specs.Radio.{outcome_begun}
+use Rattle.controller_model.specs.Side.{notes_after}
+use Rattle.controller_model.proofs.Always.{ending_is}
+use Rattle.run_model.specs.History.{Event, TurnBegan, HostFed, Called, Noted, Transmitted, Hearing}
+use Rattle.run_model.specs.Journal.{air_entries, entries_of, entry_of, journal_of, side_of}
+use Rattle.run_model.specs.Links.{links_of}
+use Rattle.run_model.specs.Run.{Given, after_call, facts_at, setup_at}
+use Rattle.run_model.proofs.Parts.{journal_event}
 use Rattle.run_laws.proofs.Agreed.{step_facts}
 use Rattle.journal_packets.specs.Belonging.{is_side}
 use Rattle.journal_acks.specs.Carried.{channel_after, channel_entered}

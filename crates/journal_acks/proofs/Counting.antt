@@ -3,18 +3,18 @@ use Rattle.std.proofs.Common.{◌≡◌, ℕ, ◌==◌, ◌&&◌, Bool, true, fa
 use Rattle.ble_base.specs.Side.{other_side}
 use Rattle.ble_base.specs.declared.roles.Side.{Side}
 use Rattle.air_frame.specs.Packet.{access_octets}
-use Rattle.one_end.specs.Setup.{Setup as EndSetup}
-use Rattle.one_end.specs.Step.{PacketReceived}
+use Rattle.link_model.specs.Setup.{Setup as EndSetup}
+use Rattle.link_model.specs.Step.{PacketReceived}
 use Rattle.open_links.specs.OpenLinks.{OpenLink, link_after, link_at}
-use Rattle.one_side.specs.declared.doing.Turn.{Turn}
-use Rattle.one_side.specs.Step.{Step}
-use Rattle.one_side.specs.Facts.{Facts, Sends}
-use Rattle.runs.specs.History.{Event, packet_received, steps_in}
-use Rattle.runs.specs.Journal.{journal_of, side_of}
-use Rattle.runs.specs.Links.{is_advertising}
-use Rattle.runs.specs.Run.{Given, after_call, facts_at, setup_at, use_at}
-use Rattle.runs.proofs.Stations.{is_in}
-use Rattle.runs.proofs.Walk.{Place, AtPackets, IsKept}
+use Rattle.controller_model.specs.declared.doing.Turn.{Turn}
+use Rattle.controller_model.specs.Step.{Step}
+use Rattle.controller_model.specs.Facts.{Facts, Sends}
+use Rattle.run_model.specs.History.{Event, packet_received, steps_in}
+use Rattle.run_model.specs.Journal.{journal_of, side_of}
+use Rattle.run_model.specs.Links.{is_advertising}
+use Rattle.run_model.specs.Run.{Given, after_call, facts_at, setup_at, use_at}
+use Rattle.run_model.proofs.Stations.{is_in}
+use Rattle.run_model.proofs.Walk.{Place, AtPackets, IsKept}
 use Rattle.run_laws.proofs.Agreed.{ack_of}
 use Rattle.run_laws.proofs.Hearings.{other_facts}
 use Rattle.run_laws.proofs.TurnPlaces.{event_past}
@@ -28,7 +28,7 @@ use Rattle.journal_acks.proofs.Exchanging.{exchange_at, exchange_other, exchange
 use Rattle.journal_acks.proofs.LinkUses.{listens_under, sends_under}
 use Rattle.journal_acks.proofs.TwoStations.{IsOfTwo, other_apart}
 use Rattle.std.proofs.lemmas.Bool.{eqb-true}
-use Rattle.one_side.specs.Side.{facts_of}
+use Rattle.controller_model.specs.Side.{facts_of}
 
 -- ---- what is known of the links of a journal
 

@@ -5,30 +5,30 @@ use Rattle.std.specs.Option.{option_map}
 use Rattle.std.proofs.lemmas.List.Elements.{All-append, All-cons, All-nil}
 use Rattle.ble_base.specs.declared.notes.Note.{Note}
 use Rattle.ble_base.specs.declared.notes.Note.TheVariants.{Up, Sent, Took}
-use Rattle.one_end.specs.Acknowledgement.{Pdu, is_acked}
-use Rattle.one_end.specs.Data.{is_empty}
-use Rattle.one_end.specs.End.{notes_after as end_notes, sent_notes_if, took_notes, took_notes_if}
-use Rattle.one_end.specs.Facts.{Facts as EndFacts}
-use Rattle.one_end.specs.Packets.{good_pdu, pdu_of}
-use Rattle.one_end.specs.Step.{PacketSent, PacketReceived}
+use Rattle.link_model.specs.Acknowledgement.{Pdu, is_acked}
+use Rattle.link_model.specs.Data.{is_empty}
+use Rattle.link_model.specs.End.{notes_after as end_notes, sent_notes_if, took_notes, took_notes_if}
+use Rattle.link_model.specs.Facts.{Facts as EndFacts}
+use Rattle.link_model.specs.Packets.{good_pdu, pdu_of}
+use Rattle.link_model.specs.Step.{PacketSent, PacketReceived}
 use Rattle.open_links.specs.OpenLinks.{Links, OpenLink, facts_in, link_after, link_at, with_change}
 use Rattle.open_links.specs.Turns.{notes_entering}
 use Rattle.open_links.proofs.Handles.{handle_is}
-use Rattle.one_side.specs.declared.doing.Doing.{Doing}
-use Rattle.one_side.specs.declared.doing.Doing.TheVariants.{Advertises, CentralSends, CentralListens, PeripheralListens, PeripheralSends}
-use Rattle.one_side.specs.Step.{TurnBegins}
-use Rattle.one_side.specs.Facts.{Setup, Facts}
-use Rattle.one_side.specs.Heard.{has_room, link_heard, link_received, notes_taken, replies_in, reply_if}
-use Rattle.one_side.specs.Links.{facts_ending, notes_ending}
-use Rattle.one_side.specs.Outcome.{notes_passed}
-use Rattle.one_side.specs.Packets.{links_sending, notes_doing, notes_sent}
-use Rattle.one_side.specs.Radio.{outcome_begun}
-use Rattle.one_side.specs.Side.{notes_after}
-use Rattle.one_side.proofs.Always.{begun_doing}
-use Rattle.one_side.proofs.Handles.{HaveOwnHandles, handles_kept}
-use Rattle.runs.specs.History.{Event, turns_begun}
-use Rattle.runs.specs.Journal.{journal_of}
-use Rattle.runs.specs.Run.{Given, facts_at, setup_at, step_of}
+use Rattle.controller_model.specs.declared.doing.Doing.{Doing}
+use Rattle.controller_model.specs.declared.doing.Doing.TheVariants.{Advertises, CentralSends, CentralListens, PeripheralListens, PeripheralSends}
+use Rattle.controller_model.specs.Step.{TurnBegins}
+use Rattle.controller_model.specs.Facts.{Setup, Facts}
+use Rattle.controller_model.specs.Heard.{has_room, link_heard, link_received, notes_taken, replies_in, reply_if}
+use Rattle.controller_model.specs.Links.{facts_ending, notes_ending}
+use Rattle.controller_model.specs.Outcome.{notes_passed}
+use Rattle.controller_model.specs.Packets.{links_sending, notes_doing, notes_sent}
+use Rattle.controller_model.specs.Radio.{outcome_begun}
+use Rattle.controller_model.specs.Side.{notes_after}
+use Rattle.controller_model.proofs.Always.{begun_doing}
+use Rattle.controller_model.proofs.Handles.{HaveOwnHandles, handles_kept}
+use Rattle.run_model.specs.History.{Event, turns_begun}
+use Rattle.run_model.specs.Journal.{journal_of}
+use Rattle.run_model.specs.Run.{Given, facts_at, setup_at, step_of}
 use Rattle.run_laws.proofs.LinkPasses.{is_on_link}
 use Rattle.journal_links.specs.Begun.{LinkBegun, link_numbered}
 use Rattle.journal_acks.proofs.CallNotes.{HasNoData, all_more, begin_noted, no_data, start_noted}

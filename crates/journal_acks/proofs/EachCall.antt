@@ -1,13 +1,13 @@
 -- A fact of each call of a run, by what is kept at each place of it.
 use Rattle.std.proofs.Common.{◌≡◌, ℕ, List, [], ◌∷◌, ◌++◌}
 use Rattle.std.specs.Prelude.{⊤, map, take}
-use Rattle.one_side.specs.Step.{Step, HostOctet, TurnBegins, TurnEnds}
-use Rattle.one_side.specs.Side.{notes_after}
-use Rattle.runs.specs.Due.{Each}
-use Rattle.runs.specs.History.{Event, TurnBegan, HostFed, Called, Noted, Transmitted, packet_received}
-use Rattle.runs.specs.Run.{Given, Plan, after_call, after_feed, after_octets, facts_at, hearings_of, history_of, octets_left, run_of, setup_at, step_of}
-use Rattle.runs.proofs.Places.{each_called, each_event}
-use Rattle.runs.proofs.Walk.{Place, NoTurn, AtBegins, AtListening, IsKept, IsStopped, IsWhole, ends_with, run_kept}
+use Rattle.controller_model.specs.Step.{Step, HostOctet, TurnBegins, TurnEnds}
+use Rattle.controller_model.specs.Side.{notes_after}
+use Rattle.run_model.specs.Due.{Each}
+use Rattle.run_model.specs.History.{Event, TurnBegan, HostFed, Called, Noted, Transmitted, packet_received}
+use Rattle.run_model.specs.Run.{Given, Plan, after_call, after_feed, after_octets, facts_at, hearings_of, history_of, octets_left, run_of, setup_at, step_of}
+use Rattle.run_model.proofs.Places.{each_called, each_event}
+use Rattle.run_model.proofs.Walk.{Place, NoTurn, AtBegins, AtListening, IsKept, IsStopped, IsWhole, ends_with, run_kept}
 
 module _ (given : Given) (fact : List Event → ℕ → Step → Type 0) where
   -- of a call, after the events before it

@@ -8,12 +8,12 @@ use Rattle.std.proofs.lemmas.List.Sums.{fold-append}
 use Rattle.ble_base.specs.declared.roles.Role.{Role}
 use Rattle.ble_base.specs.declared.roles.Role.TheVariants.{Central, Peripheral}
 use Rattle.advertise.specs.Advertising.{AdvertiserFacts, event_channel}
-use Rattle.one_end.specs.End.{facts_of as end_facts}
-use Rattle.one_end.specs.Events.{count_entry, entries_in}
-use Rattle.one_end.specs.Facts.{Facts as EndFacts}
-use Rattle.one_end.specs.Setup.{Setup as EndSetup}
-use Rattle.one_end.specs.Step.{Step as EndStep, EventEntered, PduFixed, PacketSent, PacketReceived}
-use Rattle.one_end.specs.Times.{has_second_exchange}
+use Rattle.link_model.specs.End.{facts_of as end_facts}
+use Rattle.link_model.specs.Events.{count_entry, entries_in}
+use Rattle.link_model.specs.Facts.{Facts as EndFacts}
+use Rattle.link_model.specs.Setup.{Setup as EndSetup}
+use Rattle.link_model.specs.Step.{Step as EndStep, EventEntered, PduFixed, PacketSent, PacketReceived}
+use Rattle.link_model.specs.Times.{has_second_exchange}
 use Rattle.open_links.specs.OpenLinks.{Links, OpenLink, facts_in, link_after, link_at, new_link}
 use Rattle.open_links.specs.Turns.{entered_if, is_anchor, link_entered, links_entered, want_if as want_link, wants_entering, wants_from, wants_if}
 use Rattle.open_links.proofs.Ends.{entered_setup}
@@ -22,17 +22,17 @@ use Rattle.slot_plan.specs.Winner.{first_activity, first_of, is_before}
 use Rattle.slot_plan.specs.declared.Activity.{Activity}
 use Rattle.slot_plan.specs.declared.Activity.TheVariants.{Link, Advertise, Scan, Initiate}
 use Rattle.slot_plan.specs.declared.Want.{Want}
-use Rattle.one_side.specs.declared.doing.Doing.{Doing}
-use Rattle.one_side.specs.declared.doing.Doing.TheVariants.{Rests}
-use Rattle.one_side.specs.Step.{TurnBegins}
-use Rattle.one_side.specs.Facts.{Setup, Facts, first_facts}
-use Rattle.one_side.specs.Heard.{has_room}
-use Rattle.one_side.specs.Links.{facts_ending}
-use Rattle.one_side.specs.Radio.{advertiser_wants, advertises_at, advertises_on, doing_held, doing_won, exchange_begins, exchange_if, facts_entering, first_exchange, initiates_on, initiator_channel, plan_in, radio_served, scanner_channel, scans_on, second_exchange, served, slots_since, turn_begins, want_if, wants_in, winner_served}
-use Rattle.one_side.specs.Side.{facts_after}
-use Rattle.one_side.proofs.Always.{ending_is}
-use Rattle.one_side.proofs.LinkNotes.{AreIn, all_in, first_in, rest_in}
-use Rattle.runs.specs.Run.{step_of}
+use Rattle.controller_model.specs.declared.doing.Doing.{Doing}
+use Rattle.controller_model.specs.declared.doing.Doing.TheVariants.{Rests}
+use Rattle.controller_model.specs.Step.{TurnBegins}
+use Rattle.controller_model.specs.Facts.{Setup, Facts, first_facts}
+use Rattle.controller_model.specs.Heard.{has_room}
+use Rattle.controller_model.specs.Links.{facts_ending}
+use Rattle.controller_model.specs.Radio.{advertiser_wants, advertises_at, advertises_on, doing_held, doing_won, exchange_begins, exchange_if, facts_entering, first_exchange, initiates_on, initiator_channel, plan_in, radio_served, scanner_channel, scans_on, second_exchange, served, slots_since, turn_begins, want_if, wants_in, winner_served}
+use Rattle.controller_model.specs.Side.{facts_after}
+use Rattle.controller_model.proofs.Always.{ending_is}
+use Rattle.controller_model.proofs.LinkNotes.{AreIn, all_in, first_in, rest_in}
+use Rattle.run_model.specs.Run.{step_of}
 use Rattle.run_laws.proofs.Agreed.{step_facts}
 use Rattle.run_laws.proofs.LinkPasses.{is_on_link}
 use Rattle.run_laws.proofs.OpenSteps.{none_open, open_has}

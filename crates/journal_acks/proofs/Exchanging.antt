@@ -8,14 +8,14 @@ use Rattle.ble_base.specs.declared.roles.Side.TheVariants.{A, B}
 use Rattle.ble_base.specs.declared.notes.Note.{Note}
 use Rattle.ble_base.specs.declared.notes.Note.TheVariants.{Up, Opened, Took}
 use Rattle.journal.specs.declared.entries.Entry.{Entry}
-use Rattle.one_side.specs.Step.{Step}
-use Rattle.one_side.specs.Side.{notes_after}
-use Rattle.runs.specs.History.{Event, TurnBegan, HostFed, Called, Noted, Transmitted, Hearing}
-use Rattle.runs.specs.Journal.{entries_of, entry_of, journal_of, side_of}
-use Rattle.runs.specs.Links.{Links, begins_link, links_after, links_noted, links_of, with_link}
-use Rattle.runs.specs.Run.{Given, after_call, facts_at, setup_at}
-use Rattle.runs.proofs.LinksKnown.{links_event}
-use Rattle.runs.proofs.Parts.{journal_event}
+use Rattle.controller_model.specs.Step.{Step}
+use Rattle.controller_model.specs.Side.{notes_after}
+use Rattle.run_model.specs.History.{Event, TurnBegan, HostFed, Called, Noted, Transmitted, Hearing}
+use Rattle.run_model.specs.Journal.{entries_of, entry_of, journal_of, side_of}
+use Rattle.run_model.specs.Links.{Links, begins_link, links_after, links_noted, links_of, with_link}
+use Rattle.run_model.specs.Run.{Given, after_call, facts_at, setup_at}
+use Rattle.run_model.proofs.LinksKnown.{links_event}
+use Rattle.run_model.proofs.Parts.{journal_event}
 use Rattle.journal_packets.specs.Belonging.{is_side}
 use Rattle.journal_acks.specs.Exchange.{Exchanged, after_taking, exchange_after, exchange_from, exchange_of, first_exchanged, with_taken}
 use Rattle.journal_acks.proofs.CallNotes.{IsOfBegins, TakesNone, is_taking}

@@ -7,15 +7,15 @@ use Rattle.ble_base.specs.declared.roles.Side.{Side}
 use Rattle.ble_base.specs.declared.notes.Note.{Note}
 use Rattle.ble_base.specs.declared.notes.Note.TheVariants.{Up, Sent, Took}
 use Rattle.journal.specs.declared.entries.Entry.{Entry}
-use Rattle.one_end.specs.Setup.{Setup as EndSetup}
-use Rattle.one_side.specs.Step.{Step}
-use Rattle.one_side.specs.Side.{notes_after}
-use Rattle.runs.specs.History.{Event, Called, Noted, turns_begun}
-use Rattle.runs.specs.Journal.{entries_of, journal_from, journal_of, side_of}
-use Rattle.runs.specs.Links.{links_of}
-use Rattle.runs.specs.Run.{Given, after_call, facts_at, setup_at}
-use Rattle.runs.proofs.Calls.{turns_called, turns_more}
-use Rattle.runs.proofs.Parts.{journal_event, journal_more}
+use Rattle.link_model.specs.Setup.{Setup as EndSetup}
+use Rattle.controller_model.specs.Step.{Step}
+use Rattle.controller_model.specs.Side.{notes_after}
+use Rattle.run_model.specs.History.{Event, Called, Noted, turns_begun}
+use Rattle.run_model.specs.Journal.{entries_of, journal_from, journal_of, side_of}
+use Rattle.run_model.specs.Links.{links_of}
+use Rattle.run_model.specs.Run.{Given, after_call, facts_at, setup_at}
+use Rattle.run_model.proofs.Calls.{turns_called, turns_more}
+use Rattle.run_model.proofs.Parts.{journal_event, journal_more}
 use Rattle.journal_links.proofs.LinksBegun.{number_stays}
 use Rattle.journal_links.specs.Begun.{LinkBegun, link_numbered}
 use Rattle.journal_packets.specs.Belonging.{is_side}

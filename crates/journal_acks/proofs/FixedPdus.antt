@@ -8,9 +8,9 @@ use Rattle.std.proofs.lemmas.Bool.Decides.{nat_tests}
 use Rattle.std.proofs.lemmas.List.{length_push}
 use Rattle.acl_banks.specs.Packets.{DataPacket, piece_of, sent_length}
 use Rattle.acl_banks.proofs.Octets.{length-piece_of, length-unsent_octets}
-use Rattle.one_end.specs.Acknowledgement.{Acknowledgement, Pdu, empty_pdu, is_acked, next_sent}
-use Rattle.one_end.specs.Data.{is_empty, is_unsent, llid_of, pdu_with}
-use Rattle.one_end.proofs.Sending.{IsNext, none_next, past_holds, piece_next}
+use Rattle.link_model.specs.Acknowledgement.{Acknowledgement, Pdu, empty_pdu, is_acked, next_sent}
+use Rattle.link_model.specs.Data.{is_empty, is_unsent, llid_of, pdu_with}
+use Rattle.link_model.proofs.Sending.{IsNext, none_next, past_holds, piece_next}
 use Rattle.open_links.specs.OpenLinks.{OpenLink, facts_in}
 use Rattle.run_laws.proofs.Agreed.{ack_of, sent_ack}
 

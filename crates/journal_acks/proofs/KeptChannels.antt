@@ -2,29 +2,29 @@
 use Rattle.std.proofs.Common.{◌≡◌, ℕ, suc, ◌≤◌, ◌==◌, ◌⊎◌, inl, inr, Bool, true, false, Option, Some, None, List, [], ◌∷◌, ◌++◌, length, refl, sym, ap, subst, ◌∙◌}
 use Rattle.std.specs.Prelude.{All, map, take, if◌then◌else◌}
 use Rattle.std.proofs.lemmas.Bool.{eqb-true}
-use Rattle.one_end.proofs.Received.{IsHeardWhole}
-use Rattle.one_end.specs.End.{facts_entered}
-use Rattle.one_end.specs.Events.{channel_after as channel_of_event, entries_in}
-use Rattle.one_end.specs.Setup.{Setup as EndSetup}
-use Rattle.one_end.specs.Step.{PacketReceived}
+use Rattle.link_model.proofs.Received.{IsHeardWhole}
+use Rattle.link_model.specs.End.{facts_entered}
+use Rattle.link_model.specs.Events.{channel_after as channel_of_event, entries_in}
+use Rattle.link_model.specs.Setup.{Setup as EndSetup}
+use Rattle.link_model.specs.Step.{PacketReceived}
 use Rattle.open_links.specs.OpenLinks.{OpenLink, facts_in, link_after, link_at, new_link}
 use Rattle.open_links.specs.Turns.{entered_if, is_anchor, links_staying}
 use Rattle.open_links.proofs.Handles.{handle_is}
-use Rattle.one_side.specs.Step.{Step, HostOctet, TurnBegins, TurnEnds}
-use Rattle.one_side.specs.Facts.{Facts}
-use Rattle.one_side.specs.Heard.{has_room}
-use Rattle.one_side.specs.Outcome.{notes_passed}
-use Rattle.one_side.specs.Side.{facts_after, notes_after}
-use Rattle.one_side.proofs.Handles.{staying_opens}
-use Rattle.one_side.proofs.LinkNotes.{IsOfOthers, phase_too}
-use Rattle.one_side.proofs.Phases.{heard_is, unheard_is}
-use Rattle.runs.specs.Feeding.{AreDistinct}
-use Rattle.runs.specs.History.{Event, TurnBegan, HostFed, Transmitted, packet_received, steps_in, turns_begun}
-use Rattle.runs.specs.Journal.{side_of}
-use Rattle.runs.specs.LinkEnds.{HaveAddresses}
-use Rattle.runs.specs.Run.{Given, after_call, after_feed, after_octets, facts_at, hearings_of, octets_left, setup_at, step_of}
-use Rattle.runs.proofs.Stations.{is_in, among, not_before}
-use Rattle.runs.proofs.Walk.{Place, AtListening, IsKept}
+use Rattle.controller_model.specs.Step.{Step, HostOctet, TurnBegins, TurnEnds}
+use Rattle.controller_model.specs.Facts.{Facts}
+use Rattle.controller_model.specs.Heard.{has_room}
+use Rattle.controller_model.specs.Outcome.{notes_passed}
+use Rattle.controller_model.specs.Side.{facts_after, notes_after}
+use Rattle.controller_model.proofs.Handles.{staying_opens}
+use Rattle.controller_model.proofs.LinkNotes.{IsOfOthers, phase_too}
+use Rattle.controller_model.proofs.Phases.{heard_is, unheard_is}
+use Rattle.run_model.specs.Feeding.{AreDistinct}
+use Rattle.run_model.specs.History.{Event, TurnBegan, HostFed, Transmitted, packet_received, steps_in, turns_begun}
+use Rattle.run_model.specs.Journal.{side_of}
+use Rattle.run_model.specs.LinkEnds.{HaveAddresses}
+use Rattle.run_model.specs.Run.{Given, after_call, after_feed, after_octets, facts_at, hearings_of, octets_left, setup_at, step_of}
+use Rattle.run_model.proofs.Stations.{is_in, among, not_before}
+use Rattle.run_model.proofs.Walk.{Place, AtListening, IsKept}
 use Rattle.run_laws.proofs.Hearings.{other_facts}
 use Rattle.run_laws.proofs.InAgreement.{IsPair, IsStation, differs_back, few_links}
 use Rattle.run_laws.proofs.TurnPlaces.{Within, at_stage}

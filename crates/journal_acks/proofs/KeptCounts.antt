@@ -6,31 +6,31 @@ use Rattle.std.proofs.lemmas.List.Elements.{All-nil}
 use Rattle.ble_base.specs.Side.{other_side}
 use Rattle.ble_base.specs.declared.notes.Note.{Note}
 use Rattle.ble_base.specs.declared.roles.Side.{Side}
-use Rattle.one_end.proofs.Received.{IsHeardWhole}
-use Rattle.one_end.specs.Acknowledgement.{Acknowledgement}
-use Rattle.one_end.specs.Step.{PacketReceived, PacketSent}
+use Rattle.link_model.proofs.Received.{IsHeardWhole}
+use Rattle.link_model.specs.Acknowledgement.{Acknowledgement}
+use Rattle.link_model.specs.Step.{PacketReceived, PacketSent}
 use Rattle.open_links.specs.OpenLinks.{OpenLink, link_after, link_at}
 use Rattle.open_links.proofs.Handles.{handle_is}
-use Rattle.one_side.specs.declared.doing.Doing.TheVariants.{Rests}
-use Rattle.one_side.specs.declared.doing.Turn.{Turn}
-use Rattle.one_side.specs.Step.{Step, HostOctet, TurnBegins, TurnEnds}
-use Rattle.one_side.specs.Facts.{Setup, Facts, Sends}
-use Rattle.one_side.specs.Heard.{has_room, link_heard, link_received, notes_taken, replies_in, reply_if}
-use Rattle.one_side.specs.Outcome.{notes_passed}
-use Rattle.one_side.specs.Packets.{notes_doing}
-use Rattle.one_side.specs.Side.{facts_after, notes_after}
+use Rattle.controller_model.specs.declared.doing.Doing.TheVariants.{Rests}
+use Rattle.controller_model.specs.declared.doing.Turn.{Turn}
+use Rattle.controller_model.specs.Step.{Step, HostOctet, TurnBegins, TurnEnds}
+use Rattle.controller_model.specs.Facts.{Setup, Facts, Sends}
+use Rattle.controller_model.specs.Heard.{has_room, link_heard, link_received, notes_taken, replies_in, reply_if}
+use Rattle.controller_model.specs.Outcome.{notes_passed}
+use Rattle.controller_model.specs.Packets.{notes_doing}
+use Rattle.controller_model.specs.Side.{facts_after, notes_after}
 use Rattle.radio_replay.specs.declared.fates.Fate.{Fate}
-use Rattle.runs.specs.Due.{packet_in}
-use Rattle.runs.specs.Feeding.{AreDistinct}
-use Rattle.runs.specs.History.{Event, TurnBegan, HostFed, Transmitted, has_received, packet_received, turns_begun}
-use Rattle.runs.specs.Journal.{side_of}
-use Rattle.runs.specs.LinkEnds.{HaveAddresses}
-use Rattle.runs.specs.Links.{is_advertising}
-use Rattle.runs.specs.Run.{Given, after_call, after_feed, after_octets, facts_at, hearings_of, octets_left, setup_at, step_of, use_at}
-use Rattle.runs.proofs.Calls.{same_station, turns_called}
-use Rattle.runs.proofs.LinkEnds.{received_by, received_event}
-use Rattle.runs.proofs.Stations.{is_in, among, in_more_other, in_more_same, not_before}
-use Rattle.runs.proofs.Walk.{Place, NoTurn, AtFeeds, AtBegins, AfterPhases, AtPackets, AtListening, AtEnds, IsKept}
+use Rattle.run_model.specs.Due.{packet_in}
+use Rattle.run_model.specs.Feeding.{AreDistinct}
+use Rattle.run_model.specs.History.{Event, TurnBegan, HostFed, Transmitted, has_received, packet_received, turns_begun}
+use Rattle.run_model.specs.Journal.{side_of}
+use Rattle.run_model.specs.LinkEnds.{HaveAddresses}
+use Rattle.run_model.specs.Links.{is_advertising}
+use Rattle.run_model.specs.Run.{Given, after_call, after_feed, after_octets, facts_at, hearings_of, octets_left, setup_at, step_of, use_at}
+use Rattle.run_model.proofs.Calls.{same_station, turns_called}
+use Rattle.run_model.proofs.LinkEnds.{received_by, received_event}
+use Rattle.run_model.proofs.Stations.{is_in, among, in_more_other, in_more_same, not_before}
+use Rattle.run_model.proofs.Walk.{Place, NoTurn, AtFeeds, AtBegins, AfterPhases, AtPackets, AtListening, AtEnds, IsKept}
 use Rattle.run_laws.proofs.Agreed.{ack_of}
 use Rattle.run_laws.proofs.ByCalls.{Holds, holds_kept}
 use Rattle.run_laws.proofs.Hearings.{own_facts, use_sent_at, wanted_is}

@@ -5,33 +5,33 @@ use Rattle.std.proofs.lemmas.Bool.{eqb-true, eq-eqb, ne_eqb}
 use Rattle.std.proofs.lemmas.List.{length_push}
 use Rattle.std.proofs.lemmas.List.Elements.{All-nil}
 use Rattle.ble_base.specs.declared.notes.Note.{Note}
-use Rattle.one_end.specs.Acknowledgement.{Acknowledgement, Pdu, empty_pdu, first_acknowledgement, is_acked, next_sent}
-use Rattle.one_end.specs.Data.{is_empty}
-use Rattle.one_end.specs.End.{sent_notes_if}
-use Rattle.one_end.specs.Facts.{Facts as EndFacts}
-use Rattle.one_end.specs.Step.{PacketReceived}
-use Rattle.one_end.proofs.Received.{IsHeardWhole}
+use Rattle.link_model.specs.Acknowledgement.{Acknowledgement, Pdu, empty_pdu, first_acknowledgement, is_acked, next_sent}
+use Rattle.link_model.specs.Data.{is_empty}
+use Rattle.link_model.specs.End.{sent_notes_if}
+use Rattle.link_model.specs.Facts.{Facts as EndFacts}
+use Rattle.link_model.specs.Step.{PacketReceived}
+use Rattle.link_model.proofs.Received.{IsHeardWhole}
 use Rattle.open_links.specs.OpenLinks.{OpenLink, facts_in, link_after, link_at}
 use Rattle.open_links.specs.Turns.{notes_entering}
 use Rattle.open_links.proofs.Counts.{count_changing}
 use Rattle.open_links.proofs.Handles.{handle_is}
-use Rattle.one_side.specs.declared.doing.Doing.{Doing}
-use Rattle.one_side.specs.declared.doing.Doing.TheVariants.{Rests}
-use Rattle.one_side.specs.Step.{Step, HostOctet, TurnBegins, TurnEnds}
-use Rattle.one_side.specs.Facts.{Setup, Facts}
-use Rattle.one_side.specs.Heard.{has_room, link_heard, link_received, notes_taken, replies_in, reply_if}
-use Rattle.one_side.specs.Links.{facts_ending, notes_ending}
-use Rattle.one_side.specs.Outcome.{Outcome, notes_passed}
-use Rattle.one_side.specs.Radio.{outcome_begun}
-use Rattle.one_side.specs.Side.{facts_after, notes_after}
-use Rattle.runs.specs.Feeding.{AreDistinct}
-use Rattle.runs.specs.History.{Event, TurnBegan, HostFed, Transmitted, packet_received, steps_in, turns_begun}
-use Rattle.runs.specs.Journal.{side_of}
-use Rattle.runs.specs.LinkEnds.{HaveAddresses}
-use Rattle.runs.specs.Run.{Given, after_call, after_feed, after_octets, facts_at, hearings_of, octets_left, setup_at, step_of}
-use Rattle.runs.proofs.Calls.{turns_called}
-use Rattle.runs.proofs.Stations.{is_in, among, not_before}
-use Rattle.runs.proofs.Walk.{Place, AtBegins, AtListening, IsKept}
+use Rattle.controller_model.specs.declared.doing.Doing.{Doing}
+use Rattle.controller_model.specs.declared.doing.Doing.TheVariants.{Rests}
+use Rattle.controller_model.specs.Step.{Step, HostOctet, TurnBegins, TurnEnds}
+use Rattle.controller_model.specs.Facts.{Setup, Facts}
+use Rattle.controller_model.specs.Heard.{has_room, link_heard, link_received, notes_taken, replies_in, reply_if}
+use Rattle.controller_model.specs.Links.{facts_ending, notes_ending}
+use Rattle.controller_model.specs.Outcome.{Outcome, notes_passed}
+use Rattle.controller_model.specs.Radio.{outcome_begun}
+use Rattle.controller_model.specs.Side.{facts_after, notes_after}
+use Rattle.run_model.specs.Feeding.{AreDistinct}
+use Rattle.run_model.specs.History.{Event, TurnBegan, HostFed, Transmitted, packet_received, steps_in, turns_begun}
+use Rattle.run_model.specs.Journal.{side_of}
+use Rattle.run_model.specs.LinkEnds.{HaveAddresses}
+use Rattle.run_model.specs.Run.{Given, after_call, after_feed, after_octets, facts_at, hearings_of, octets_left, setup_at, step_of}
+use Rattle.run_model.proofs.Calls.{turns_called}
+use Rattle.run_model.proofs.Stations.{is_in, among, not_before}
+use Rattle.run_model.proofs.Walk.{Place, AtBegins, AtListening, IsKept}
 use Rattle.run_laws.proofs.Agreed.{ack_of, ack_sent, sent_ack}
 use Rattle.run_laws.proofs.ByCalls.{Holds}
 use Rattle.run_laws.proofs.Hearings.{other_facts, own_facts}

@@ -4,16 +4,16 @@ use Rattle.std.specs.Prelude.{slice_get}
 use Rattle.ble_base.specs.declared.roles.Role.{Role}
 use Rattle.ble_base.specs.declared.roles.Role.TheVariants.{Central, Peripheral}
 use Rattle.air_frame.specs.Packet.{access_octets}
-use Rattle.one_end.specs.Setup.{Setup as EndSetup}
-use Rattle.runs.specs.Due.{Each}
-use Rattle.runs.specs.History.{Event, Transmitted, turns_begun}
-use Rattle.runs.specs.Journal.{journal_of, side_of}
-use Rattle.runs.specs.LinkEnds.{ConnectInd, HaveAddresses, IsAtEnd}
-use Rattle.runs.specs.Links.{links_of}
-use Rattle.runs.specs.Numbers.{HasNumber}
-use Rattle.runs.specs.Run.{Given, setup_at}
-use Rattle.runs.proofs.LinkEnds.{AreTaken, IsUnderstood}
-use Rattle.runs.proofs.Places.{each_at}
+use Rattle.link_model.specs.Setup.{Setup as EndSetup}
+use Rattle.run_model.specs.Due.{Each}
+use Rattle.run_model.specs.History.{Event, Transmitted, turns_begun}
+use Rattle.run_model.specs.Journal.{journal_of, side_of}
+use Rattle.run_model.specs.LinkEnds.{ConnectInd, HaveAddresses, IsAtEnd}
+use Rattle.run_model.specs.Links.{links_of}
+use Rattle.run_model.specs.Numbers.{HasNumber}
+use Rattle.run_model.specs.Run.{Given, setup_at}
+use Rattle.run_model.proofs.LinkEnds.{AreTaken, IsUnderstood}
+use Rattle.run_model.proofs.Places.{each_at}
 use Rattle.run_laws.specs.Access.{connects_sent}
 use Rattle.run_laws.proofs.ConnectInds.{TakenInOrder}
 use Rattle.run_laws.proofs.DistinctAccess.{AreApart}

@@ -7,14 +7,14 @@ use Rattle.ble_base.specs.declared.notes.Note.{Note}
 use Rattle.ble_base.specs.declared.notes.Note.TheVariants.{Took}
 use Rattle.hci_evt.specs.declared.event.Event.{Event}
 use Rattle.host_view.specs.View.{View}
-use Rattle.one_end.specs.declared.setup.LinkSetup.{LinkSetup}
-use Rattle.one_end.specs.Acknowledgement.{Pdu}
-use Rattle.one_end.specs.End.{took_notes, took_notes_if}
-use Rattle.one_end.specs.Events.{entries_in}
-use Rattle.one_end.specs.Facts.{Facts as EndFacts}
-use Rattle.one_end.specs.Setup.{Setup as EndSetup}
-use Rattle.one_end.specs.Packets.{good_pdu, pdu_of}
-use Rattle.one_end.specs.Step.{EventEntered, PacketReceived, PduFixed}
+use Rattle.link_model.specs.declared.setup.LinkSetup.{LinkSetup}
+use Rattle.link_model.specs.Acknowledgement.{Pdu}
+use Rattle.link_model.specs.End.{took_notes, took_notes_if}
+use Rattle.link_model.specs.Events.{entries_in}
+use Rattle.link_model.specs.Facts.{Facts as EndFacts}
+use Rattle.link_model.specs.Setup.{Setup as EndSetup}
+use Rattle.link_model.specs.Packets.{good_pdu, pdu_of}
+use Rattle.link_model.specs.Step.{EventEntered, PacketReceived, PduFixed}
 use Rattle.scan_init.specs.Reports.{scan_answer}
 use Rattle.slot_plan.specs.declared.Activity.{Activity}
 use Rattle.slot_plan.specs.declared.Activity.TheVariants.{Link, Advertise, Scan, Initiate}
@@ -22,20 +22,20 @@ use Rattle.slot_plan.specs.Holding.{is_held_in, winner_of}
 use Rattle.open_links.specs.OpenLinks.{Links, OpenLink, facts_in, link_after, link_at, link_served, with_change, new_link}
 use Rattle.open_links.specs.Turns.{entered_if, is_anchor, link_entered, links_staying}
 use Rattle.open_links.proofs.Ends.{entered_setup}
-use Rattle.one_side.specs.declared.doing.Doing.{Doing}
-use Rattle.one_side.specs.declared.doing.Doing.TheVariants.{Advertises, CentralSends, CentralListens, PeripheralListens, PeripheralSends}
-use Rattle.one_side.specs.Step.{TurnBegins}
-use Rattle.one_side.specs.Facts.{Setup, Facts}
-use Rattle.one_side.specs.Events.{notes_of_events}
-use Rattle.one_side.specs.Heard.{events_reported, has_room, heard, link_heard, link_taken, notes_taken, opens, replies_in, reply_if, scanner_heard, unheard}
-use Rattle.one_side.specs.Links.{events_opened, facts_ending}
-use Rattle.one_side.specs.Outcome.{Outcome, facts_passed, notes_passed}
-use Rattle.one_side.specs.Packets.{notes_doing}
-use Rattle.one_side.specs.Radio.{facts_entering, outcome_begun, plan_in, radio_served, served, turn_begins, winner_served}
-use Rattle.one_side.specs.Side.{facts_after, notes_after}
-use Rattle.one_side.proofs.Always.{ending_is, links_won, opening_is, winning_is}
-use Rattle.one_side.proofs.Phases.{EachOutcome, heard_is, unheard_is}
-use Rattle.runs.specs.Run.{step_of}
+use Rattle.controller_model.specs.declared.doing.Doing.{Doing}
+use Rattle.controller_model.specs.declared.doing.Doing.TheVariants.{Advertises, CentralSends, CentralListens, PeripheralListens, PeripheralSends}
+use Rattle.controller_model.specs.Step.{TurnBegins}
+use Rattle.controller_model.specs.Facts.{Setup, Facts}
+use Rattle.controller_model.specs.Events.{notes_of_events}
+use Rattle.controller_model.specs.Heard.{events_reported, has_room, heard, link_heard, link_taken, notes_taken, opens, replies_in, reply_if, scanner_heard, unheard}
+use Rattle.controller_model.specs.Links.{events_opened, facts_ending}
+use Rattle.controller_model.specs.Outcome.{Outcome, facts_passed, notes_passed}
+use Rattle.controller_model.specs.Packets.{notes_doing}
+use Rattle.controller_model.specs.Radio.{facts_entering, outcome_begun, plan_in, radio_served, served, turn_begins, winner_served}
+use Rattle.controller_model.specs.Side.{facts_after, notes_after}
+use Rattle.controller_model.proofs.Always.{ending_is, links_won, opening_is, winning_is}
+use Rattle.controller_model.proofs.Phases.{EachOutcome, heard_is, unheard_is}
+use Rattle.run_model.specs.Run.{step_of}
 use Rattle.run_laws.proofs.Agreed.{ack_fixed, ack_of, step_facts}
 use Rattle.run_laws.proofs.LinkPasses.{IsPassing, Leaves, Opens, Receives, is_on_link, phase_passes}
 use Rattle.run_laws.proofs.TurnSteps.{IsListening, begins_slot}

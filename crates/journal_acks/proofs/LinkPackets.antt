@@ -6,24 +6,24 @@ use Rattle.air_frame.specs.Packet.{on_air}
 use Rattle.journal.specs.declared.entries.Entry.{Entry}
 use Rattle.journal.specs.declared.entries.Mark.{Mark}
 use Rattle.ble_base.specs.declared.verdicts.Verdict.{Verdict}
-use Rattle.one_end.proofs.InEvents.{past_in}
-use Rattle.one_end.proofs.Received.{IsHeardWhole}
-use Rattle.one_end.specs.Acknowledgement.{Acknowledgement, Pdu}
-use Rattle.one_end.specs.Events.{channel_after as channel_of_event, entries_in}
-use Rattle.one_end.specs.Packets.{more_sent, packet_sent, pdu_sent}
+use Rattle.link_model.proofs.InEvents.{past_in}
+use Rattle.link_model.proofs.Received.{IsHeardWhole}
+use Rattle.link_model.specs.Acknowledgement.{Acknowledgement, Pdu}
+use Rattle.link_model.specs.Events.{channel_after as channel_of_event, entries_in}
+use Rattle.link_model.specs.Packets.{more_sent, packet_sent, pdu_sent}
 use Rattle.open_links.specs.OpenLinks.{OpenLink, facts_in}
-use Rattle.one_side.specs.Facts.{Sends}
-use Rattle.one_side.specs.Side.{facts_of}
-use Rattle.runs.specs.Entries.{IsAired}
-use Rattle.runs.specs.Feeding.{AreDistinct}
-use Rattle.runs.specs.History.{Event, past_of, turns_begun}
-use Rattle.runs.specs.Journal.{journal_of, side_of}
-use Rattle.runs.specs.LinkEnds.{HaveAddresses}
-use Rattle.runs.specs.Links.{is_advertising}
-use Rattle.runs.specs.Run.{Given, setup_at, use_at}
-use Rattle.runs.proofs.LinkEnds.{AreTaken, IsUnderstood}
-use Rattle.runs.proofs.Stations.{among}
-use Rattle.runs.proofs.Walk.{Place, NoTurn, AtPackets}
+use Rattle.controller_model.specs.Facts.{Sends}
+use Rattle.controller_model.specs.Side.{facts_of}
+use Rattle.run_model.specs.Entries.{IsAired}
+use Rattle.run_model.specs.Feeding.{AreDistinct}
+use Rattle.run_model.specs.History.{Event, past_of, turns_begun}
+use Rattle.run_model.specs.Journal.{journal_of, side_of}
+use Rattle.run_model.specs.LinkEnds.{HaveAddresses}
+use Rattle.run_model.specs.Links.{is_advertising}
+use Rattle.run_model.specs.Run.{Given, setup_at, use_at}
+use Rattle.run_model.proofs.LinkEnds.{AreTaken, IsUnderstood}
+use Rattle.run_model.proofs.Stations.{among}
+use Rattle.run_model.proofs.Walk.{Place, NoTurn, AtPackets}
 use Rattle.run_laws.proofs.Agreed.{ack_of, ack_sent}
 use Rattle.run_laws.proofs.DistinctAccess.{AreApart}
 use Rattle.run_laws.proofs.InAgreement.{IsPair}

@@ -5,26 +5,26 @@ use Rattle.std.specs.Option.{option_map}
 use Rattle.std.proofs.lemmas.Bool.{false_from_ne_true}
 use Rattle.ble_base.specs.declared.roles.Role.{Role}
 use Rattle.ble_base.specs.declared.roles.Role.TheVariants.{Central, Peripheral}
-use Rattle.one_end.specs.End.{replies_by, replies_of}
-use Rattle.one_end.specs.Packets.{good_pdu}
-use Rattle.one_end.specs.Step.{PduFixed, PacketSent, PacketReceived}
-use Rattle.one_end.specs.Times.{has_second_exchange}
+use Rattle.link_model.specs.End.{replies_by, replies_of}
+use Rattle.link_model.specs.Packets.{good_pdu}
+use Rattle.link_model.specs.Step.{PduFixed, PacketSent, PacketReceived}
+use Rattle.link_model.specs.Times.{has_second_exchange}
 use Rattle.open_links.specs.OpenLinks.{Links, OpenLink, facts_in, link_after, link_at, link_served, with_change}
 use Rattle.slot_plan.specs.declared.Activity.{Activity}
 use Rattle.slot_plan.specs.declared.Activity.TheVariants.{Link, Advertise, Scan, Initiate}
 use Rattle.slot_plan.specs.Holding.{is_held_in, winner_of}
 use Rattle.advertise.specs.Advertising.{AdvertiserFacts}
-use Rattle.one_side.specs.declared.doing.Doing.{Doing}
-use Rattle.one_side.specs.declared.doing.Doing.TheVariants.{Advertises, CentralSends, CentralListens, PeripheralListens, PeripheralSends, Rests}
-use Rattle.one_side.specs.Step.{TurnBegins}
-use Rattle.one_side.specs.Facts.{Setup, Facts, first_facts}
-use Rattle.one_side.specs.Heard.{has_room, heard, link_heard, replies_in, reply_if, unheard}
-use Rattle.one_side.specs.Links.{facts_ending}
-use Rattle.one_side.specs.Outcome.{Outcome, facts_passed}
-use Rattle.one_side.specs.Packets.{facts_doing}
-use Rattle.one_side.specs.Radio.{advertises_at, advertises_on, doing_held, doing_won, exchange_begins, exchange_if, facts_entering, facts_won, first_exchange, initiates_on, initiator_channel, links_fixing, outcome_begun, plan_in, radio_served, scanner_channel, scans_on, second_exchange, served, slots_since, turn_begins, winner_served}
-use Rattle.one_side.specs.Side.{facts_after}
-use Rattle.runs.specs.Run.{step_of}
+use Rattle.controller_model.specs.declared.doing.Doing.{Doing}
+use Rattle.controller_model.specs.declared.doing.Doing.TheVariants.{Advertises, CentralSends, CentralListens, PeripheralListens, PeripheralSends, Rests}
+use Rattle.controller_model.specs.Step.{TurnBegins}
+use Rattle.controller_model.specs.Facts.{Setup, Facts, first_facts}
+use Rattle.controller_model.specs.Heard.{has_room, heard, link_heard, replies_in, reply_if, unheard}
+use Rattle.controller_model.specs.Links.{facts_ending}
+use Rattle.controller_model.specs.Outcome.{Outcome, facts_passed}
+use Rattle.controller_model.specs.Packets.{facts_doing}
+use Rattle.controller_model.specs.Radio.{advertises_at, advertises_on, doing_held, doing_won, exchange_begins, exchange_if, facts_entering, facts_won, first_exchange, initiates_on, initiator_channel, links_fixing, outcome_begun, plan_in, radio_served, scanner_channel, scans_on, second_exchange, served, slots_since, turn_begins, winner_served}
+use Rattle.controller_model.specs.Side.{facts_after}
+use Rattle.run_model.specs.Run.{step_of}
 use Rattle.run_laws.proofs.LinkPasses.{IsPassing, Leaves, Opens, Receives, is_on_link, phase_passes}
 use Rattle.run_laws.proofs.TurnPlaces.{Between, IsTurned, Stage, Within}
 use Rattle.journal_acks.proofs.LinkUses.{IsUsing, using_first, using_kept}

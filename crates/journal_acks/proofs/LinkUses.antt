@@ -3,18 +3,18 @@ use Rattle.std.proofs.Common.{◌≡◌, ℕ, ◌==◌, Bool, true, false, Optio
 use Rattle.std.specs.Prelude.{⊤}
 use Rattle.std.specs.Option.{option_map}
 use Rattle.std.proofs.lemmas.Bool.{eqb-true}
-use Rattle.one_end.specs.Packets.{packet_sent}
-use Rattle.one_end.specs.Step.{PacketSent}
+use Rattle.link_model.specs.Packets.{packet_sent}
+use Rattle.link_model.specs.Step.{PacketSent}
 use Rattle.open_links.specs.OpenLinks.{Links, OpenLink, facts_in, link_after, link_at, with_change}
 use Rattle.open_links.proofs.Handles.{changed_is}
-use Rattle.one_side.specs.declared.doing.Doing.{Doing}
-use Rattle.one_side.specs.declared.doing.Doing.TheVariants.{Advertises, Scans, AwaitsResponse, CentralSends, CentralListens, PeripheralListens, PeripheralSends, Rests}
-use Rattle.one_side.specs.Step.{HostOctet, TurnEnds}
-use Rattle.one_side.specs.Facts.{Setup, Facts, Use, Sends, Listens, first_facts}
-use Rattle.one_side.specs.Packets.{facts_doing, sends_on, use_for}
-use Rattle.one_side.specs.Radio.{outcome_begun}
-use Rattle.one_side.specs.Side.{facts_after, outcome_heard, outcome_unheard}
-use Rattle.runs.specs.Run.{step_of}
+use Rattle.controller_model.specs.declared.doing.Doing.{Doing}
+use Rattle.controller_model.specs.declared.doing.Doing.TheVariants.{Advertises, Scans, AwaitsResponse, CentralSends, CentralListens, PeripheralListens, PeripheralSends, Rests}
+use Rattle.controller_model.specs.Step.{HostOctet, TurnEnds}
+use Rattle.controller_model.specs.Facts.{Setup, Facts, Use, Sends, Listens, first_facts}
+use Rattle.controller_model.specs.Packets.{facts_doing, sends_on, use_for}
+use Rattle.controller_model.specs.Radio.{outcome_begun}
+use Rattle.controller_model.specs.Side.{facts_after, outcome_heard, outcome_unheard}
+use Rattle.run_model.specs.Run.{step_of}
 use Rattle.run_laws.proofs.TurnPlaces.{Between, IsTurned, Stage}
 use Rattle.run_laws.proofs.Entering.{IsInTurn, turn_first, turn_kept}
 

@@ -8,31 +8,31 @@ use Rattle.ble_base.specs.declared.notes.Note.TheVariants.{Up as UpNote, Sent as
 use Rattle.ble_base.specs.declared.roles.Side.{Side}
 use Rattle.journal.specs.declared.entries.Entry.{Entry}
 use Rattle.journal.specs.declared.entries.Entry.TheVariants.{Sent}
-use Rattle.one_end.specs.Acknowledgement.{Pdu, is_acked}
-use Rattle.one_end.specs.Data.{is_empty}
-use Rattle.one_end.specs.End.{sent_notes, sent_notes_if}
-use Rattle.one_end.specs.Step.{PacketReceived, PacketSent}
-use Rattle.one_end.proofs.Received.{IsHeardWhole}
+use Rattle.link_model.specs.Acknowledgement.{Pdu, is_acked}
+use Rattle.link_model.specs.Data.{is_empty}
+use Rattle.link_model.specs.End.{sent_notes, sent_notes_if}
+use Rattle.link_model.specs.Step.{PacketReceived, PacketSent}
+use Rattle.link_model.proofs.Received.{IsHeardWhole}
 use Rattle.open_links.specs.OpenLinks.{OpenLink, facts_in, link_after, link_at}
 use Rattle.open_links.specs.Turns.{notes_entering}
 use Rattle.open_links.proofs.Handles.{handle_is}
-use Rattle.one_side.specs.Step.{Step, HostOctet, TurnBegins, TurnEnds}
-use Rattle.one_side.specs.Facts.{Facts}
-use Rattle.one_side.specs.Heard.{has_room, link_heard, link_received, notes_taken, replies_in, reply_if}
-use Rattle.one_side.specs.Links.{facts_ending, notes_ending}
-use Rattle.one_side.specs.Outcome.{notes_passed}
-use Rattle.one_side.specs.Packets.{notes_doing, notes_sent}
-use Rattle.one_side.specs.Radio.{outcome_begun}
-use Rattle.one_side.specs.Side.{notes_after}
-use Rattle.runs.specs.Feeding.{AreDistinct}
-use Rattle.runs.specs.History.{Event, Called, Noted, packet_received, turns_begun}
-use Rattle.runs.specs.Journal.{journal_of, side_of}
-use Rattle.runs.specs.LinkEnds.{HaveAddresses}
-use Rattle.runs.specs.Run.{Given, after_call, facts_at, history_of, run_of, setup_at, step_of}
-use Rattle.runs.proofs.LinkEnds.{AreTaken, IsUnderstood}
-use Rattle.runs.proofs.Places.{each_at}
-use Rattle.runs.proofs.Stations.{among, is_in, not_before}
-use Rattle.runs.proofs.Walk.{Place, AtBegins, AtListening}
+use Rattle.controller_model.specs.Step.{Step, HostOctet, TurnBegins, TurnEnds}
+use Rattle.controller_model.specs.Facts.{Facts}
+use Rattle.controller_model.specs.Heard.{has_room, link_heard, link_received, notes_taken, replies_in, reply_if}
+use Rattle.controller_model.specs.Links.{facts_ending, notes_ending}
+use Rattle.controller_model.specs.Outcome.{notes_passed}
+use Rattle.controller_model.specs.Packets.{notes_doing, notes_sent}
+use Rattle.controller_model.specs.Radio.{outcome_begun}
+use Rattle.controller_model.specs.Side.{notes_after}
+use Rattle.run_model.specs.Feeding.{AreDistinct}
+use Rattle.run_model.specs.History.{Event, Called, Noted, packet_received, turns_begun}
+use Rattle.run_model.specs.Journal.{journal_of, side_of}
+use Rattle.run_model.specs.LinkEnds.{HaveAddresses}
+use Rattle.run_model.specs.Run.{Given, after_call, facts_at, history_of, run_of, setup_at, step_of}
+use Rattle.run_model.proofs.LinkEnds.{AreTaken, IsUnderstood}
+use Rattle.run_model.proofs.Places.{each_at}
+use Rattle.run_model.proofs.Stations.{among, is_in, not_before}
+use Rattle.run_model.proofs.Walk.{Place, AtBegins, AtListening}
 use Rattle.run_laws.proofs.Agreed.{ack_of}
 use Rattle.run_laws.proofs.ByCalls.{Holds}
 use Rattle.run_laws.proofs.DistinctAccess.{AreApart}

@@ -13,26 +13,26 @@ use Rattle.advertise.specs.declared.answers.AdvAnswer.TheVariants.{Ignore, Respo
 use Rattle.advertise.specs.Advertising.{AdvertiserFacts}
 use Rattle.advertise.specs.Answers.{advertiser_answer}
 use Rattle.data_pdu.specs.Header.{header_in}
-use Rattle.one_end.specs.Acknowledgement.{Acknowledgement, received_by}
-use Rattle.one_end.specs.Data.{is_data, is_empty}
-use Rattle.one_end.specs.End.{facts_received, has_acknowledged, has_new_pdu, is_accepted, notes_after as end_notes, sent_notes, took_notes, took_notes_if}
-use Rattle.one_end.specs.Facts.{Facts as EndFacts}
-use Rattle.one_end.specs.Packets.{good_pdu, pdu_of}
-use Rattle.one_end.specs.Step.{PacketReceived, PacketSent}
-use Rattle.one_end.specs.declared.setup.LinkSetup.{LinkSetup}
+use Rattle.link_model.specs.Acknowledgement.{Acknowledgement, received_by}
+use Rattle.link_model.specs.Data.{is_data, is_empty}
+use Rattle.link_model.specs.End.{facts_received, has_acknowledged, has_new_pdu, is_accepted, notes_after as end_notes, sent_notes, took_notes, took_notes_if}
+use Rattle.link_model.specs.Facts.{Facts as EndFacts}
+use Rattle.link_model.specs.Packets.{good_pdu, pdu_of}
+use Rattle.link_model.specs.Step.{PacketReceived, PacketSent}
+use Rattle.link_model.specs.declared.setup.LinkSetup.{LinkSetup}
 use Rattle.scan_init.specs.Initiating.{InitiatorFacts}
 use Rattle.scan_init.specs.Reports.{ScannerFacts, does_ask, scan_answer}
 use Rattle.open_links.specs.OpenLinks.{OpenLink, facts_in, free_from, link_after, link_at}
-use Rattle.one_side.specs.declared.doing.Doing.{Doing}
-use Rattle.one_side.specs.declared.doing.Doing.TheVariants.{Advertises, AwaitsRequest, Scans, Requests, AwaitsResponse, Initiates, Connects, CentralSends, CentralListens, PeripheralListens, PeripheralSends}
-use Rattle.one_side.specs.Facts.{Setup, Facts}
-use Rattle.one_side.specs.Heard.{advertiser_answers, advertiser_heard, asks_if, connects, events_reported, heard, if_pdu, initiator_heard, link_heard, link_taken, link_to, notes_taken, opens, scanner_after, scanner_heard, taken_if, taken_under, unheard, with_scanner}
-use Rattle.one_side.specs.Events.{notes_of_events}
-use Rattle.one_side.specs.Links.{events_opened, note_opened}
-use Rattle.one_side.specs.Outcome.{Outcome, notes_passed}
-use Rattle.one_side.specs.Packets.{notes_doing, notes_sent, pdu_heard}
-use Rattle.one_side.specs.Side.{notes_after}
-use Rattle.runs.specs.Run.{step_of}
+use Rattle.controller_model.specs.declared.doing.Doing.{Doing}
+use Rattle.controller_model.specs.declared.doing.Doing.TheVariants.{Advertises, AwaitsRequest, Scans, Requests, AwaitsResponse, Initiates, Connects, CentralSends, CentralListens, PeripheralListens, PeripheralSends}
+use Rattle.controller_model.specs.Facts.{Setup, Facts}
+use Rattle.controller_model.specs.Heard.{advertiser_answers, advertiser_heard, asks_if, connects, events_reported, heard, if_pdu, initiator_heard, link_heard, link_taken, link_to, notes_taken, opens, scanner_after, scanner_heard, taken_if, taken_under, unheard, with_scanner}
+use Rattle.controller_model.specs.Events.{notes_of_events}
+use Rattle.controller_model.specs.Links.{events_opened, note_opened}
+use Rattle.controller_model.specs.Outcome.{Outcome, notes_passed}
+use Rattle.controller_model.specs.Packets.{notes_doing, notes_sent, pdu_heard}
+use Rattle.controller_model.specs.Side.{notes_after}
+use Rattle.run_model.specs.Run.{step_of}
 use Rattle.run_laws.proofs.Agreed.{ack_of, step_facts}
 use Rattle.journal_acks.proofs.Acks.{empty_is_no_data}
 use Rattle.journal_acks.proofs.CallNotes.{HasNoData, events_noted, no_data}

@@ -1,16 +1,16 @@
 -- Each end of a link counts as the journal says, before each turn of a run and at its end.
 use Rattle.std.proofs.Common.{◌≡◌, ℕ, true, Some, None, Bool, List, [], ◌∷◌, ◌++◌, replicate, ap}
-use Rattle.one_end.proofs.Received.{IsHeardWhole}
+use Rattle.link_model.proofs.Received.{IsHeardWhole}
 use Rattle.open_links.specs.OpenLinks.{OpenLink, link_at}
-use Rattle.one_side.specs.Side.{facts_of}
-use Rattle.runs.specs.Feeding.{AreDistinct}
-use Rattle.runs.specs.History.{Event, TurnBegan, packet_received}
-use Rattle.runs.specs.Journal.{side_of}
-use Rattle.runs.specs.LinkEnds.{HaveAddresses}
-use Rattle.runs.specs.Run.{Given, GoesOn, facts_at, history_of, run_of, setup_at}
-use Rattle.runs.proofs.LinkEnds.{AreTaken, IsUnderstood}
-use Rattle.runs.proofs.Stations.{is_in}
-use Rattle.runs.proofs.Walk.{Place, NoTurn, IsKept}
+use Rattle.controller_model.specs.Side.{facts_of}
+use Rattle.run_model.specs.Feeding.{AreDistinct}
+use Rattle.run_model.specs.History.{Event, TurnBegan, packet_received}
+use Rattle.run_model.specs.Journal.{side_of}
+use Rattle.run_model.specs.LinkEnds.{HaveAddresses}
+use Rattle.run_model.specs.Run.{Given, GoesOn, facts_at, history_of, run_of, setup_at}
+use Rattle.run_model.proofs.LinkEnds.{AreTaken, IsUnderstood}
+use Rattle.run_model.proofs.Stations.{is_in}
+use Rattle.run_model.proofs.Walk.{Place, NoTurn, IsKept}
 use Rattle.run_laws.proofs.Agreed.{ack_of}
 use Rattle.run_laws.proofs.ByCalls.{all_facts, first_hears}
 use Rattle.run_laws.proofs.DistinctAccess.{AreApart}

@@ -1,13 +1,13 @@
 -- What is kept at each place of a run is seen before each turn, before each packet, and at the end.
 use Rattle.std.proofs.Common.{◌≡◌, ℕ, Bool, List, [], ◌∷◌, ◌++◌}
 use Rattle.std.specs.Prelude.{map, take}
-use Rattle.one_side.specs.Step.{TurnBegins, TurnEnds}
-use Rattle.one_side.specs.Facts.{Sends}
-use Rattle.runs.specs.Due.{Each}
-use Rattle.runs.specs.History.{Event, TurnBegan, HostFed, Called, Noted, Transmitted, Hearing, packet_received}
-use Rattle.runs.specs.Run.{Given, GoesOn, hearings_of, history_of, octets_left, run_of, step_of, use_at}
-use Rattle.runs.proofs.Places.{each_at, each_event}
-use Rattle.runs.proofs.Walk.{Place, NoTurn, AtPackets, IsKept, IsWhole, IsStopped, ends_whole, ends_with, run_kept}
+use Rattle.controller_model.specs.Step.{TurnBegins, TurnEnds}
+use Rattle.controller_model.specs.Facts.{Sends}
+use Rattle.run_model.specs.Due.{Each}
+use Rattle.run_model.specs.History.{Event, TurnBegan, HostFed, Called, Noted, Transmitted, Hearing, packet_received}
+use Rattle.run_model.specs.Run.{Given, GoesOn, hearings_of, history_of, octets_left, run_of, step_of, use_at}
+use Rattle.run_model.proofs.Places.{each_at, each_event}
+use Rattle.run_model.proofs.Walk.{Place, NoTurn, AtPackets, IsKept, IsWhole, IsStopped, ends_whole, ends_with, run_kept}
 use Rattle.journal_packets.proofs.EachEvent.{each_call, each_feed}
 
 -- what holds before a turn, and before a packet

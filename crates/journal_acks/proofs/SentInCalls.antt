@@ -6,14 +6,14 @@ use Rattle.ble_base.specs.declared.notes.Note.TheVariants.{Up as UpNote, Sent as
 use Rattle.ble_base.specs.declared.roles.Side.{Side}
 use Rattle.journal.specs.declared.entries.Entry.{Entry}
 use Rattle.journal.specs.declared.entries.Entry.TheVariants.{Sent}
-use Rattle.one_side.specs.Side.{notes_after}
-use Rattle.one_side.specs.Step.{Step}
-use Rattle.runs.specs.History.{Event, TurnBegan, HostFed, Called, Noted, Transmitted}
-use Rattle.runs.specs.Journal.{entries_of, entry_of, journal_of, side_of}
-use Rattle.runs.specs.Links.{Links, links_of}
-use Rattle.runs.specs.Run.{Given, facts_at, history_of, run_of, setup_at}
-use Rattle.runs.proofs.CallNotes.{noted_in_call}
-use Rattle.runs.proofs.EntryEvents.{is_of_event}
+use Rattle.controller_model.specs.Side.{notes_after}
+use Rattle.controller_model.specs.Step.{Step}
+use Rattle.run_model.specs.History.{Event, TurnBegan, HostFed, Called, Noted, Transmitted}
+use Rattle.run_model.specs.Journal.{entries_of, entry_of, journal_of, side_of}
+use Rattle.run_model.specs.Links.{Links, links_of}
+use Rattle.run_model.specs.Run.{Given, facts_at, history_of, run_of, setup_at}
+use Rattle.run_model.proofs.CallNotes.{noted_in_call}
+use Rattle.run_model.proofs.EntryEvents.{is_of_event}
 use Rattle.journal_acks.proofs.Exchanging.{number_at}
 
 -- ---- its note

@@ -5,13 +5,13 @@ use Rattle.ble_base.specs.declared.roles.Side.{Side}
 use Rattle.ble_base.specs.declared.notes.Note.{Note}
 use Rattle.ble_base.specs.declared.notes.Note.TheVariants.{Up, Sent}
 use Rattle.journal.specs.declared.entries.Entry.{Entry}
-use Rattle.one_side.specs.Step.{Step}
-use Rattle.one_side.specs.Side.{notes_after}
-use Rattle.runs.specs.History.{Event, TurnBegan, HostFed, Called, Noted, Transmitted, Hearing}
-use Rattle.runs.specs.Journal.{air_entries, entry_of, journal_of, side_of}
-use Rattle.runs.specs.Links.{links_of}
-use Rattle.runs.specs.Run.{Given, after_call, facts_at, setup_at}
-use Rattle.runs.proofs.Parts.{journal_event}
+use Rattle.controller_model.specs.Step.{Step}
+use Rattle.controller_model.specs.Side.{notes_after}
+use Rattle.run_model.specs.History.{Event, TurnBegan, HostFed, Called, Noted, Transmitted, Hearing}
+use Rattle.run_model.specs.Journal.{air_entries, entry_of, journal_of, side_of}
+use Rattle.run_model.specs.Links.{links_of}
+use Rattle.run_model.specs.Run.{Given, after_call, facts_at, setup_at}
+use Rattle.run_model.proofs.Parts.{journal_event}
 use Rattle.journal_packets.specs.Belonging.{is_side}
 use Rattle.journal_acks.specs.Carried.{SentLine, sent_line_after, sent_line_from, sent_line_of}
 use Rattle.journal_acks.specs.Exchange.{exchange_of}

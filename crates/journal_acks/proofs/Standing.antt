@@ -4,20 +4,20 @@ use Rattle.std.specs.Prelude.{if◌then◌else◌}
 use Rattle.std.proofs.lemmas.Bool.{eqb-true, false_from_ne_true}
 use Rattle.ble_base.specs.declared.roles.Role.{Role}
 use Rattle.ble_base.specs.declared.roles.Role.TheVariants.{Central, Peripheral}
-use Rattle.one_end.specs.Packets.{packet_sent}
+use Rattle.link_model.specs.Packets.{packet_sent}
 use Rattle.open_links.specs.OpenLinks.{Links, OpenLink, facts_in, link_at}
-use Rattle.one_side.specs.declared.doing.Doing.{Doing}
-use Rattle.one_side.specs.declared.doing.Doing.TheVariants.{Advertises, CentralSends, CentralListens, PeripheralListens, PeripheralSends}
-use Rattle.one_side.specs.Facts.{Setup, Facts, Sends, Listens}
-use Rattle.one_side.specs.Packets.{listens_on}
-use Rattle.one_side.specs.Sent.{SendsOn}
-use Rattle.one_side.proofs.DataChannels.{link_channel}
-use Rattle.runs.specs.Due.{packet_in}
-use Rattle.runs.specs.History.{Event, past_of, turns_begun}
-use Rattle.runs.specs.Links.{is_advertising}
-use Rattle.runs.specs.Run.{Given, facts_at, setup_at}
-use Rattle.runs.proofs.Stations.{is_in}
-use Rattle.runs.proofs.Walk.{Place}
+use Rattle.controller_model.specs.declared.doing.Doing.{Doing}
+use Rattle.controller_model.specs.declared.doing.Doing.TheVariants.{Advertises, CentralSends, CentralListens, PeripheralListens, PeripheralSends}
+use Rattle.controller_model.specs.Facts.{Setup, Facts, Sends, Listens}
+use Rattle.controller_model.specs.Packets.{listens_on}
+use Rattle.controller_model.specs.Sent.{SendsOn}
+use Rattle.controller_model.proofs.DataChannels.{link_channel}
+use Rattle.run_model.specs.Due.{packet_in}
+use Rattle.run_model.specs.History.{Event, past_of, turns_begun}
+use Rattle.run_model.specs.Links.{is_advertising}
+use Rattle.run_model.specs.Run.{Given, facts_at, setup_at}
+use Rattle.run_model.proofs.Stations.{is_in}
+use Rattle.run_model.proofs.Walk.{Place}
 use Rattle.run_laws.proofs.Agreed.{ack_of}
 use Rattle.run_laws.proofs.ConnectInds.{no_advertising}
 use Rattle.run_laws.proofs.InAgreement.{IsFresh, IsStation, OpenedBefore}

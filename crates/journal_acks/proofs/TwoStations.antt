@@ -11,29 +11,29 @@ use Rattle.air_frame.specs.Hearing.{heard_in}
 use Rattle.air_frame.specs.Packet.{IsPdu, access_octets, is_packet, pdu_in}
 use Rattle.air_frame.specs.declared.Heard.TheVariants.{NotOurs, Broken, Whole}
 use Rattle.data_pdu.specs.Header.{counts_as_empty, octets_of}
-use Rattle.one_end.specs.Data.{is_empty}
+use Rattle.link_model.specs.Data.{is_empty}
 use Rattle.journal.specs.declared.entries.Entry.TheVariants.{Air}
-use Rattle.one_end.specs.Facts.{Facts as EndFacts}
-use Rattle.one_end.specs.Packets.{header_sent, packet_sent, pdu_sent, verdict_by as verdict_by_end, verdict_of as verdict_of_end}
-use Rattle.one_end.specs.Setup.{Setup as EndSetup}
-use Rattle.one_end.proofs.Payloads.{IsShort}
-use Rattle.one_end.proofs.Received.{IsHeardWhole, header_read}
+use Rattle.link_model.specs.Facts.{Facts as EndFacts}
+use Rattle.link_model.specs.Packets.{header_sent, packet_sent, pdu_sent, verdict_by as verdict_by_end, verdict_of as verdict_of_end}
+use Rattle.link_model.specs.Setup.{Setup as EndSetup}
+use Rattle.link_model.proofs.Payloads.{IsShort}
+use Rattle.link_model.proofs.Received.{IsHeardWhole, header_read}
 use Rattle.open_links.specs.OpenLinks.{OpenLink, facts_in, link_at}
-use Rattle.one_side.specs.declared.doing.Doing.{Doing}
-use Rattle.one_side.specs.declared.doing.Doing.TheVariants.{Advertises, AwaitsRequest, Scans, AwaitsResponse, Initiates, CentralListens, PeripheralListens}
-use Rattle.one_side.specs.Facts.{Facts, Use, Sends, Listens, Idle}
-use Rattle.one_side.specs.Packets.{channel_listened, listens_on, verdict_doing, verdict_of, verdict_of_link}
-use Rattle.one_side.proofs.Always.{IsAdvertisingChannel}
-use Rattle.one_side.proofs.Sent.{DoingFits}
+use Rattle.controller_model.specs.declared.doing.Doing.{Doing}
+use Rattle.controller_model.specs.declared.doing.Doing.TheVariants.{Advertises, AwaitsRequest, Scans, AwaitsResponse, Initiates, CentralListens, PeripheralListens}
+use Rattle.controller_model.specs.Facts.{Facts, Use, Sends, Listens, Idle}
+use Rattle.controller_model.specs.Packets.{channel_listened, listens_on, verdict_doing, verdict_of, verdict_of_link}
+use Rattle.controller_model.proofs.Always.{IsAdvertisingChannel}
+use Rattle.controller_model.proofs.Sent.{DoingFits}
 use Rattle.radio_replay.specs.declared.fates.Fate.{Fate}
 use Rattle.radio_replay.specs.Damage.{damaged_packet}
-use Rattle.runs.specs.History.{Event, Transmitted, Hearing, fates_used, has_received, is_good}
-use Rattle.runs.specs.Journal.{air_entries, journal_of, mark_of, side_of}
-use Rattle.runs.specs.Links.{is_advertising}
-use Rattle.runs.specs.Run.{Given, fate_at, hearing_at, hearings_from, hearings_of, is_lost, others_than, reaches, unseen_in, verdict_where}
-use Rattle.runs.proofs.Journals.{two}
-use Rattle.runs.proofs.Parts.{journal_event}
-use Rattle.runs.proofs.Stations.{is_in}
+use Rattle.run_model.specs.History.{Event, Transmitted, Hearing, fates_used, has_received, is_good}
+use Rattle.run_model.specs.Journal.{air_entries, journal_of, mark_of, side_of}
+use Rattle.run_model.specs.Links.{is_advertising}
+use Rattle.run_model.specs.Run.{Given, fate_at, hearing_at, hearings_from, hearings_of, is_lost, others_than, reaches, unseen_in, verdict_where}
+use Rattle.run_model.proofs.Journals.{two}
+use Rattle.run_model.proofs.Parts.{journal_event}
+use Rattle.run_model.proofs.Stations.{is_in}
 use Rattle.run_laws.proofs.TurnSteps.{IsListening as IsListeningFor}
 use Rattle.journal_links.specs.Begun.{LinkBegun, link_numbered}
 use Rattle.journal_packets.specs.Belonging.{is_side, link_of_packet}

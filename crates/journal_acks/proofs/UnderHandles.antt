@@ -13,10 +13,10 @@ use Rattle.hci_cmd.specs.declared.command.CmdRead.{CmdRead}
 use Rattle.hci_cmd.specs.declared.command.CmdRead.TheVariants.{Known, UnknownOpcode, BadLength}
 use Rattle.hci_cmd.specs.Command.{command_of}
 use Rattle.host_view.specs.Unbuilt.{status_of}
-use Rattle.one_end.specs.Setup.{Setup as EndSetup}
-use Rattle.one_end.specs.Events.{count_entry, entries_in}
-use Rattle.one_end.specs.Facts.{Facts as EndFacts}
-use Rattle.one_end.specs.Step.{Step as EndStep, DataGiven, DataReported, PduFixed, PacketSent}
+use Rattle.link_model.specs.Setup.{Setup as EndSetup}
+use Rattle.link_model.specs.Events.{count_entry, entries_in}
+use Rattle.link_model.specs.Facts.{Facts as EndFacts}
+use Rattle.link_model.specs.Step.{Step as EndStep, DataGiven, DataReported, PduFixed, PacketSent}
 use Rattle.open_links.specs.declared.offers.Offer.{Offer}
 use Rattle.open_links.specs.declared.offers.Offer.TheVariants.{NoLink, Empty, Overflow, Kept}
 use Rattle.open_links.specs.Data.{complete_in, link_reported, links_given}
@@ -24,15 +24,15 @@ use Rattle.open_links.specs.OpenLinks.{Links, OpenLink, facts_in, link_after, li
 use Rattle.open_links.specs.Turns.{link_entered, links_entered, links_staying, place_staying, reason_in, staying_by}
 use Rattle.open_links.proofs.Ends.{stays_where_not_due}
 use Rattle.open_links.proofs.Handles.{changed_is, other_stays}
-use Rattle.one_side.specs.declared.doing.Doing.{Doing}
-use Rattle.one_side.specs.declared.doing.Doing.TheVariants.{Advertises, CentralSends, PeripheralListens, PeripheralSends}
-use Rattle.one_side.specs.Step.{HostOctet, TurnEnds}
-use Rattle.one_side.specs.Facts.{Setup, Facts}
-use Rattle.one_side.specs.Commands.{facts_commanded, facts_known, links_after}
-use Rattle.one_side.specs.Data.{facts_offered, offer_of}
-use Rattle.one_side.specs.Packets.{links_sending}
-use Rattle.one_side.specs.Radio.{links_fixing}
-use Rattle.one_side.specs.Side.{facts_after, facts_fed, result_of}
+use Rattle.controller_model.specs.declared.doing.Doing.{Doing}
+use Rattle.controller_model.specs.declared.doing.Doing.TheVariants.{Advertises, CentralSends, PeripheralListens, PeripheralSends}
+use Rattle.controller_model.specs.Step.{HostOctet, TurnEnds}
+use Rattle.controller_model.specs.Facts.{Setup, Facts}
+use Rattle.controller_model.specs.Commands.{facts_commanded, facts_known, links_after}
+use Rattle.controller_model.specs.Data.{facts_offered, offer_of}
+use Rattle.controller_model.specs.Packets.{links_sending}
+use Rattle.controller_model.specs.Radio.{links_fixing}
+use Rattle.controller_model.specs.Side.{facts_after, facts_fed, result_of}
 use Rattle.run_laws.proofs.Agreed.{ack_given, ack_of, ack_reported, step_facts}
 use Rattle.journal_acks.proofs.LinkUses.{sends_under}
 

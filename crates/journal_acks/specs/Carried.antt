@@ -4,8 +4,8 @@ use Rattle.ble_base.specs.declared.roles.Side.{Side}
 use Rattle.ack_bit.specs.AckBits.{AckBits, header_of, is_odd}
 use Rattle.air_frame.specs.Packet.{on_air}
 use Rattle.data_pdu.specs.Header.{octets_of}
-use Rattle.one_end.specs.Acknowledgement.{Pdu, empty_pdu}
-use Rattle.one_end.specs.Data.{is_empty}
+use Rattle.link_model.specs.Acknowledgement.{Pdu, empty_pdu}
+use Rattle.link_model.specs.Data.{is_empty}
 use Rattle.journal.specs.declared.entries.Entry.{Entry}
 use Rattle.journal.specs.declared.entries.Entry.TheVariants.{Enter, Sent}
 use Rattle.journal_links.specs.Begun.{LinkBegun, link_numbered}

@@ -9,8 +9,8 @@ use Rattle.air_frame.specs.Hearing.{heard_in}
 use Rattle.data_pdu.specs.Header.{counts_as_empty, header_in}
 use Rattle.journal.specs.declared.entries.Entry.{Entry}
 use Rattle.journal.specs.declared.entries.Entry.TheVariants.{Air, Took}
-use Rattle.runs.specs.History.{is_good}
-use Rattle.runs.specs.Links.{is_advertising}
+use Rattle.run_model.specs.History.{is_good}
+use Rattle.run_model.specs.Links.{is_advertising}
 use Rattle.journal_links.specs.Begun.{LinkBegun, link_numbered}
 use Rattle.journal_packets.specs.Belonging.{is_side, link_of_packet}
 

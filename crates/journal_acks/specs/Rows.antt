@@ -5,8 +5,8 @@ use Rattle.ble_base.specs.declared.verdicts.Verdict.TheVariants.{Good}
 use Rattle.journal.specs.declared.entries.Entry.{Entry}
 use Rattle.journal.specs.declared.entries.Entry.TheVariants.{Air, Sent, Took}
 use Rattle.journal.specs.declared.entries.Mark.TheVariants.{Pass as Passed}
-use Rattle.one_end.specs.Acknowledgement.{Pdu}
-use Rattle.runs.specs.Rows.{one_event_journal, turn_entry}
+use Rattle.link_model.specs.Acknowledgement.{Pdu}
+use Rattle.run_model.specs.Rows.{one_event_journal, turn_entry}
 
 -- the start of a message with one octet
 abbrev pub data_pdu : Pdu

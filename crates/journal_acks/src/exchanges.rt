@@ -4,11 +4,11 @@ ghost use Rattle.std.specs.Prelude.{◌≡◌, ◌++◌, ◌∷◌, ℕ, Bool, L
 ghost use Rattle.std.specs.List.{Contains};
 ghost use Rattle.open_links.specs.OpenLinks.{OpenLink, facts_in, link_at};
 ghost use Rattle.radio_replay.specs.Script.{Script};
-ghost use Rattle.runs.specs.History.{Event, TurnBegan};
-ghost use Rattle.runs.specs.Journal.{journal_of, side_of};
-ghost use Rattle.runs.specs.Links.{links_of};
-ghost use Rattle.runs.specs.Pair.{given_of};
-ghost use Rattle.runs.specs.Run.{GoesOn, facts_at, history_of, run_of};
+ghost use Rattle.run_model.specs.History.{Event, TurnBegan};
+ghost use Rattle.run_model.specs.Journal.{journal_of, side_of};
+ghost use Rattle.run_model.specs.Links.{links_of};
+ghost use Rattle.run_model.specs.Pair.{given_of};
+ghost use Rattle.run_model.specs.Run.{GoesOn, facts_at, history_of, run_of};
 ghost use Rattle.journal_acks.specs.Counted.{IsCounted};
 ghost use Rattle.journal_acks.specs.Exchange.{exchange_of};
 
@@ -33,7 +33,7 @@ pub fn each_end_counts_as_the_journal_says()
         → IsCounted (exchange_of ((links_of history).link_of station handle) (journal_of history)
         (side_of station)) (facts_in link).acknowledgement }
 {
-    one_side::a_pdu_is_understood();
+    controller_model::a_pdu_is_understood();
     advertise::laws::connections_are_taken();
     scan_init::laws::searches_give_each_valid_address();
     air_frame::laws::packet_tells_its_pdu();

@@ -7,10 +7,10 @@ ghost use Rattle.journal.specs.declared.entries.Entry.{Entry};
 ghost use Rattle.journal.specs.declared.entries.Entry.TheVariants.{Air, Sent};
 ghost use Rattle.journal.specs.declared.entries.Mark.{Mark};
 ghost use Rattle.radio_replay.specs.Script.{Script};
-ghost use Rattle.runs.specs.Journal.{journal_of};
-ghost use Rattle.runs.specs.Links.{is_advertising};
-ghost use Rattle.runs.specs.Pair.{given_of};
-ghost use Rattle.runs.specs.Run.{history_of, run_of};
+ghost use Rattle.run_model.specs.Journal.{journal_of};
+ghost use Rattle.run_model.specs.Links.{is_advertising};
+ghost use Rattle.run_model.specs.Pair.{given_of};
+ghost use Rattle.run_model.specs.Run.{history_of, run_of};
 ghost use Rattle.journal_acks.specs.Carried.{IsLinkPacket, IsNewPdu};
 
 /// In the journal of a run of a pair, each packet off the advertising channels is one of a link
@@ -28,11 +28,11 @@ pub fn each_link_packet_carries_what_the_journal_says()
         ≡ front ++ Air side channel octets fate verdict ∷ rest
         → is_advertising channel ≡ false → IsLinkPacket front side channel octets }
 {
-    one_side::a_pdu_is_understood();
+    controller_model::a_pdu_is_understood();
     advertise::laws::connections_are_taken();
     scan_init::laws::searches_give_each_valid_address();
     air_frame::laws::packet_tells_its_pdu();
-    runs::each_packet_on_the_air_is_due();
+    run_model::each_packet_on_the_air_is_due();
 }
 
 /// In the journal of a run of a pair, each `Sent` line comes where all PDUs that its side sent on
@@ -46,7 +46,7 @@ pub fn each_sent_line_is_of_a_new_pdu()
         ≡ front ++ Sent side number count llid body ∷ rest
         → IsNewPdu number front side (record { llid = llid; body = body }) }
 {
-    one_side::a_pdu_is_understood();
+    controller_model::a_pdu_is_understood();
     advertise::laws::connections_are_taken();
     scan_init::laws::searches_give_each_valid_address();
     air_frame::laws::packet_tells_its_pdu();

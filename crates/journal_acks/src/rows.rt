@@ -1,5 +1,5 @@
 //! Worked examples, which the definitions compute.
-ghost use Rattle.one_end.specs.Acknowledgement.{empty_pdu};
+ghost use Rattle.link_model.specs.Acknowledgement.{empty_pdu};
 ghost use Rattle.std.specs.Prelude.{◌≡◌, ◌++◌, [], ◌∷◌, Some, false};
 ghost use Rattle.air_frame.specs.Packet.{on_air};
 ghost use Rattle.ble_base.specs.declared.roles.Side.TheVariants.{A, B};
@@ -10,8 +10,8 @@ ghost use Rattle.journal_acks.specs.Carried.{bits_of, carried_of, channel_entere
 ghost use Rattle.journal_acks.specs.Exchange.{exchange_of};
 ghost use Rattle.journal_acks.specs.Rows.{data_heard, data_packet, data_pdu, data_sent};
 ghost use Rattle.journal_acks.specs.Rows.{data_taken};
-ghost use Rattle.runs.specs.Rows.{first_packet, one_connection_journal, one_event_journal};
-ghost use Rattle.runs.specs.Rows.{turn_entry};
+ghost use Rattle.run_model.specs.Rows.{first_packet, one_connection_journal, one_event_journal};
+ghost use Rattle.run_model.specs.Rows.{turn_entry};
 
 /// After the first exchange of a link, each end has accepted the PDU of the other, and the central
 /// knows that its own is acknowledged. Where the first packet is lost nothing is accepted.

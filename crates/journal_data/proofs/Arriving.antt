@@ -11,12 +11,12 @@ use Rattle.ack_bit.specs.Nonempty.{nonempty}
 use Rattle.ack_bit.proofs.Nonempties.{reliable_nonempty}
 use Rattle.acl_banks.specs.History.{HostData, octets_of, whole_packets}
 use Rattle.acl_banks.specs.Packets.{Marked, marked_octets}
-use Rattle.one_end.specs.Acknowledgement.{Acknowledgement, Pdu, end_of}
-use Rattle.one_end.specs.Data.{data_in, data_of, is_empty}
-use Rattle.one_end.specs.Delivery.{IsInOrder, acked_data}
-use Rattle.one_end.specs.Facts.{Facts as EndFacts}
-use Rattle.one_end.specs.Pair.{AreInAgreement}
-use Rattle.one_end.proofs.Taking.{delivered}
+use Rattle.link_model.specs.Acknowledgement.{Acknowledgement, Pdu, end_of}
+use Rattle.link_model.specs.Data.{data_in, data_of, is_empty}
+use Rattle.link_model.specs.Delivery.{IsInOrder, acked_data}
+use Rattle.link_model.specs.Facts.{Facts as EndFacts}
+use Rattle.link_model.specs.Pair.{AreInAgreement}
+use Rattle.link_model.proofs.Taking.{delivered}
 use Rattle.journal_data.specs.Lines.{Lines, PduLine, accepted_on, credited_on, data_on, empties_on, pdus_on, received_on}
 use Rattle.journal_data.specs.Delivered.{ArrivesInOrder}
 

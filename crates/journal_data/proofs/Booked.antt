@@ -12,9 +12,9 @@ use Rattle.ble_base.specs.declared.roles.Side.{Side}
 use Rattle.ble_base.specs.declared.notes.Note.{Note}
 use Rattle.ble_base.specs.declared.notes.Note.TheVariants.{Up, Opened, Shut, Sent, Took, Enter, Applied, Began, Refused, Done}
 use Rattle.host_view.specs.Noted.{acl_handle, is_acl_data, two_octets}
-use Rattle.one_side.specs.Notes.{is_event}
-use Rattle.one_side.specs.Since.{data_up, starts_message}
-use Rattle.runs.specs.Journal.{entry_of}
+use Rattle.controller_model.specs.Notes.{is_event}
+use Rattle.controller_model.specs.Since.{data_up, starts_message}
+use Rattle.run_model.specs.Journal.{entry_of}
 use Rattle.journal_data.specs.HostLines.{OpenUnder, link_under}
 use Rattle.journal_data.specs.Lines.{Credited, Lines, PduLine, Received, credit_up, credited_in, credited_on, data_received, line_after, pdus_on, received_in, received_on}
 

@@ -5,15 +5,15 @@ use Rattle.ble_base.specs.declared.roles.Side.{Side}
 use Rattle.ble_base.specs.declared.notes.Note.{Note}
 use Rattle.ble_base.specs.declared.notes.Note.TheVariants.{Up, Took}
 use Rattle.host_view.specs.Noted.{acl_handle, is_acl_data}
-use Rattle.one_side.specs.Notes.{is_event}
-use Rattle.one_side.specs.Side.{notes_after}
-use Rattle.one_side.specs.Step.{Step}
-use Rattle.one_side.proofs.Always.{IsInTurn}
-use Rattle.runs.specs.History.{Event, Called, Noted}
-use Rattle.runs.specs.Journal.{entry_of, side_of}
-use Rattle.runs.specs.Links.{links_of}
-use Rattle.runs.specs.Run.{Given, setup_at, facts_at, after_call}
-use Rattle.runs.proofs.Calls.{with_notes}
+use Rattle.controller_model.specs.Notes.{is_event}
+use Rattle.controller_model.specs.Side.{notes_after}
+use Rattle.controller_model.specs.Step.{Step}
+use Rattle.controller_model.proofs.Always.{IsInTurn}
+use Rattle.run_model.specs.History.{Event, Called, Noted}
+use Rattle.run_model.specs.Journal.{entry_of, side_of}
+use Rattle.run_model.specs.Links.{links_of}
+use Rattle.run_model.specs.Run.{Given, setup_at, facts_at, after_call}
+use Rattle.run_model.proofs.Calls.{with_notes}
 use Rattle.journal_acks.proofs.CallNotes.{is_taking}
 use Rattle.journal_data.specs.HostLines.{Submitted, link_under}
 use Rattle.journal_data.specs.Lines.{Lines, Received, data_received, line_after, pdus_on, received_on, submitted_on}

@@ -12,28 +12,28 @@ use Rattle.hci_evt.specs.Event.{written}
 use Rattle.hci_evt.specs.declared.event.Event.TheVariants.{CompletedPackets}
 use Rattle.host_view.specs.Noted.{two_octets}
 use Rattle.wire_fields.specs.Field.{little_endian}
-use Rattle.one_end.specs.Acknowledgement.{Pdu, is_acked}
-use Rattle.one_end.specs.Data.{Data, data_acked_if, data_given, data_sent_if, is_data}
-use Rattle.one_end.specs.End.{facts_after as end_after, facts_of as end_facts, facts_received, has_acknowledged, notes_after as end_notes, sent_notes_if, took_notes, took_notes_if}
-use Rattle.one_end.specs.Facts.{Facts as EndFacts}
-use Rattle.one_end.specs.Packets.{good_pdu, pdu_of}
-use Rattle.one_end.specs.Setup.{Setup as EndSetup}
-use Rattle.one_end.specs.Step.{Step as EndStep, DataGiven, EventEntered, PduFixed, PacketSent, PacketReceived, DataReported}
-use Rattle.one_end.proofs.Pasts.{grows}
+use Rattle.link_model.specs.Acknowledgement.{Pdu, is_acked}
+use Rattle.link_model.specs.Data.{Data, data_acked_if, data_given, data_sent_if, is_data}
+use Rattle.link_model.specs.End.{facts_after as end_after, facts_of as end_facts, facts_received, has_acknowledged, notes_after as end_notes, sent_notes_if, took_notes, took_notes_if}
+use Rattle.link_model.specs.Facts.{Facts as EndFacts}
+use Rattle.link_model.specs.Packets.{good_pdu, pdu_of}
+use Rattle.link_model.specs.Setup.{Setup as EndSetup}
+use Rattle.link_model.specs.Step.{Step as EndStep, DataGiven, EventEntered, PduFixed, PacketSent, PacketReceived, DataReported}
+use Rattle.link_model.proofs.Pasts.{grows}
 use Rattle.open_links.specs.OpenLinks.{OpenLink, facts_in, link_at}
-use Rattle.one_side.specs.Between.{is_between_turns}
-use Rattle.one_side.specs.Data.{note_received}
-use Rattle.one_side.specs.Facts.{Setup}
-use Rattle.one_side.specs.Side.{facts_of, notes_after, notes_of}
-use Rattle.one_side.specs.Since.{empties_of, is_completed_on, note_completed, since_opened}
-use Rattle.one_side.specs.Step.{Step, HostOctet, TurnBegins, PacketHeard, NothingHeard, TurnEnds}
-use Rattle.one_side.proofs.Books.{Fact, IsKeptInBook, IsSilent}
-use Rattle.one_side.proofs.BooksAlways.{book_of}
-use Rattle.one_side.proofs.OtherNotes.{event_handle_is, two_octets_hold}
-use Rattle.runs.specs.Feeding.{HasNoted}
-use Rattle.runs.specs.History.{Event, HostFed, noted_by, past_of, steps_in}
-use Rattle.runs.specs.Run.{Given, after_call, after_feed, after_octets, facts_at, setup_at, step_of}
-use Rattle.runs.proofs.Calls.{flat_nothing, past_own}
+use Rattle.controller_model.specs.Between.{is_between_turns}
+use Rattle.controller_model.specs.Data.{note_received}
+use Rattle.controller_model.specs.Facts.{Setup}
+use Rattle.controller_model.specs.Side.{facts_of, notes_after, notes_of}
+use Rattle.controller_model.specs.Since.{empties_of, is_completed_on, note_completed, since_opened}
+use Rattle.controller_model.specs.Step.{Step, HostOctet, TurnBegins, PacketHeard, NothingHeard, TurnEnds}
+use Rattle.controller_model.proofs.Books.{Fact, IsKeptInBook, IsSilent}
+use Rattle.controller_model.proofs.BooksAlways.{book_of}
+use Rattle.controller_model.proofs.OtherNotes.{event_handle_is, two_octets_hold}
+use Rattle.run_model.specs.Feeding.{HasNoted}
+use Rattle.run_model.specs.History.{Event, HostFed, noted_by, past_of, steps_in}
+use Rattle.run_model.specs.Run.{Given, after_call, after_feed, after_octets, facts_at, setup_at, step_of}
+use Rattle.run_model.proofs.Calls.{flat_nothing, past_own}
 use Rattle.run_laws.proofs.OpenSteps.{open_has}
 use Rattle.journal_data.proofs.Booked.{count_if, count_up}
 use Rattle.journal_data.proofs.FewComplete.{HadFew, IsFedBetween, IsFew, MayFeed, between_more, fed_more, few_always, had_front, had_last}

@@ -2,16 +2,16 @@
 use Rattle.std.proofs.Common.{◌≡◌, ℕ, ◌-◌, ◌≤◌, ◌==◌, Bool, true, false, List, [], ◌∷◌, ◌++◌, refl, sym, ap, subst, ◌∙◌, append-nil, append_assoc}
 use Rattle.std.specs.Prelude.{map, take}
 use Rattle.std.proofs.lemmas.Bool.{eqb-true}
-use Rattle.one_end.proofs.Received.{IsHeardWhole}
-use Rattle.one_side.proofs.Always.{IsInTurn}
-use Rattle.one_side.specs.Side.{notes_after}
-use Rattle.one_side.specs.Step.{Step, TurnBegins, TurnEnds}
-use Rattle.runs.specs.Feeding.{AreDistinct}
-use Rattle.runs.specs.History.{Event, TurnBegan, Called, HostFed, Noted, Transmitted, packet_received, past_of, turns_begun}
-use Rattle.runs.specs.LinkEnds.{HaveAddresses}
-use Rattle.runs.specs.Run.{Given, after_call, after_feed, facts_at, hearings_of, octets_left, setup_at, step_of}
-use Rattle.runs.proofs.Stations.{is_in, among}
-use Rattle.runs.proofs.Walk.{Place, IsKept}
+use Rattle.link_model.proofs.Received.{IsHeardWhole}
+use Rattle.controller_model.proofs.Always.{IsInTurn}
+use Rattle.controller_model.specs.Side.{notes_after}
+use Rattle.controller_model.specs.Step.{Step, TurnBegins, TurnEnds}
+use Rattle.run_model.specs.Feeding.{AreDistinct}
+use Rattle.run_model.specs.History.{Event, TurnBegan, Called, HostFed, Noted, Transmitted, packet_received, past_of, turns_begun}
+use Rattle.run_model.specs.LinkEnds.{HaveAddresses}
+use Rattle.run_model.specs.Run.{Given, after_call, after_feed, facts_at, hearings_of, octets_left, setup_at, step_of}
+use Rattle.run_model.proofs.Stations.{is_in, among}
+use Rattle.run_model.proofs.Walk.{Place, IsKept}
 use Rattle.run_laws.proofs.InAgreement.{IsPair}
 use Rattle.run_laws.proofs.TurnPlaces.{Between, at_stage}
 use Rattle.journal_acks.proofs.Counting.{AreKnown}

@@ -6,11 +6,11 @@ use Rattle.ble_base.specs.declared.roles.Side.{Side}
 use Rattle.ble_base.specs.declared.notes.Note.{Note}
 use Rattle.ble_base.specs.declared.notes.Note.TheVariants.{Up, Opened, Shut, Sent, Took, Enter, Applied, Began, Refused, Done}
 use Rattle.journal.specs.declared.entries.Entry.TheVariants.{Fed}
-use Rattle.one_side.specs.Step.{Step}
-use Rattle.runs.specs.History.{Event, TurnBegan, HostFed, Called, Noted, Transmitted, Hearing}
-use Rattle.runs.specs.Journal.{air_entries, entries_of, entry_of, journal_of, side_of}
-use Rattle.runs.specs.Links.{links_of}
-use Rattle.runs.proofs.Parts.{journal_event}
+use Rattle.controller_model.specs.Step.{Step}
+use Rattle.run_model.specs.History.{Event, TurnBegan, HostFed, Called, Noted, Transmitted, Hearing}
+use Rattle.run_model.specs.Journal.{air_entries, entries_of, entry_of, journal_of, side_of}
+use Rattle.run_model.specs.Links.{links_of}
+use Rattle.run_model.proofs.Parts.{journal_event}
 use Rattle.journal_packets.specs.Belonging.{is_side}
 use Rattle.journal_data.specs.Lines.{Lines, line_after, lines_after, lines_of, no_lines}
 

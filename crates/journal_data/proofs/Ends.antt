@@ -5,12 +5,12 @@ use Rattle.std.specs.Prelude.{not}
 use Rattle.std.specs.List.{filter}
 use Rattle.acl_banks.specs.History.{HostData}
 use Rattle.journal_data.specs.HostLines.{has_octets}
-use Rattle.one_end.proofs.Sending.{past_counted, past_in_order}
+use Rattle.link_model.proofs.Sending.{past_counted, past_in_order}
 use Rattle.open_links.specs.OpenLinks.{OpenLink, facts_in, link_at}
-use Rattle.one_side.specs.Since.{data_waiting}
-use Rattle.runs.specs.Feeding.{HasNoted}
-use Rattle.runs.specs.History.{Event}
-use Rattle.runs.specs.Run.{Given, facts_at, setup_at}
+use Rattle.controller_model.specs.Since.{data_waiting}
+use Rattle.run_model.specs.Feeding.{HasNoted}
+use Rattle.run_model.specs.History.{Event}
+use Rattle.run_model.specs.Run.{Given, facts_at, setup_at}
 use Rattle.journal_data.specs.Lines.{Lines, empties_on, submitted_on}
 use Rattle.journal_data.proofs.Credits.{AreFew, credited}
 use Rattle.journal_data.proofs.EachLine.{lines_at}

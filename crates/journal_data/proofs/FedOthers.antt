@@ -7,10 +7,10 @@ use Rattle.acl_banks.specs.History.{HostData}
 use Rattle.h4_frames.specs.declared.packet.HostPacket.{HostPacket}
 use Rattle.h4_frames.specs.declared.packet.HostPacket.TheVariants.{Command, Acl}
 use Rattle.open_links.specs.OpenLinks.{OpenLink, link_at}
-use Rattle.one_side.specs.Side.{notes_after}
-use Rattle.one_side.specs.Step.{HostOctet}
-use Rattle.runs.specs.History.{Event, HostFed}
-use Rattle.runs.specs.Run.{Given, after_call, after_feed, after_octets, facts_at, setup_at}
+use Rattle.controller_model.specs.Side.{notes_after}
+use Rattle.controller_model.specs.Step.{HostOctet}
+use Rattle.run_model.specs.History.{Event, HostFed}
+use Rattle.run_model.specs.Run.{Given, after_call, after_feed, after_octets, facts_at, setup_at}
 use Rattle.journal_data.specs.HostLines.{OpenUnder, Submitted, buffers_of, is_dropped, is_reset, kept_of, kept_one, link_under, packets_framed}
 use Rattle.journal_data.specs.Lines.{Lines, buffers_taken, submitted_on}
 use Rattle.journal_data.proofs.EachLine.{fed_lines, lines_at}

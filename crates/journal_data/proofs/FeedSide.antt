@@ -3,18 +3,18 @@ use Rattle.std.proofs.Common.{◌≡◌, ℕ, ◌≤◌, ◌==◌, ◌⊎◌, in
 use Rattle.std.specs.Prelude.{◌≢◌}
 use Rattle.std.specs.Option.{option_map}
 use Rattle.std.proofs.lemmas.Bool.{eqb-true, eqb-false}
-use Rattle.one_end.specs.Acknowledgement.{Acknowledgement}
+use Rattle.link_model.specs.Acknowledgement.{Acknowledgement}
 use Rattle.open_links.specs.OpenLinks.{OpenLink, link_at}
 use Rattle.open_links.specs.Data.{complete_in}
-use Rattle.one_side.proofs.BetweenTurns.{none_complete}
-use Rattle.one_side.specs.Between.{is_between_turns}
-use Rattle.one_side.specs.Facts.{Facts}
-use Rattle.one_side.specs.Side.{facts_of}
-use Rattle.one_side.specs.Step.{HostOctet}
-use Rattle.runs.specs.History.{Event, HostFed, past_of}
-use Rattle.runs.specs.Run.{Given, after_call, after_feed, after_octets, facts_at, setup_at}
-use Rattle.runs.proofs.Calls.{flat_nothing}
-use Rattle.runs.specs.History.{steps_in}
+use Rattle.controller_model.proofs.BetweenTurns.{none_complete}
+use Rattle.controller_model.specs.Between.{is_between_turns}
+use Rattle.controller_model.specs.Facts.{Facts}
+use Rattle.controller_model.specs.Side.{facts_of}
+use Rattle.controller_model.specs.Step.{HostOctet}
+use Rattle.run_model.specs.History.{Event, HostFed, past_of}
+use Rattle.run_model.specs.Run.{Given, after_call, after_feed, after_octets, facts_at, setup_at}
+use Rattle.run_model.proofs.Calls.{flat_nothing}
+use Rattle.run_model.specs.History.{steps_in}
 use Rattle.run_laws.proofs.Agreed.{ack_of}
 use Rattle.run_laws.proofs.Hearings.{own_facts}
 use Rattle.journal_acks.proofs.UnderHandles.{octet_under}

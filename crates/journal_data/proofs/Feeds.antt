@@ -23,20 +23,20 @@ use Rattle.open_links.specs.declared.offers.Offer.{Offer}
 use Rattle.open_links.specs.declared.offers.Offer.TheVariants.{NoLink, Empty, Overflow, Kept}
 use Rattle.open_links.specs.Data.{offer_by}
 use Rattle.open_links.specs.OpenLinks.{Links as OpenLinks, OpenLink, link_at}
-use Rattle.one_side.specs.Data.{facts_offered, notes_offered, offer_of}
-use Rattle.one_side.specs.Facts.{Setup, Facts}
-use Rattle.one_side.specs.Notes.{is_event}
-use Rattle.one_side.specs.Side.{facts_after, facts_fed, facts_of, notes_after, notes_fed, result_of}
-use Rattle.one_side.specs.Since.{count_fed, empties_of, note_completed}
-use Rattle.one_side.specs.Step.{Step, HostOctet}
-use Rattle.one_side.proofs.Handles.{own_handles}
-use Rattle.one_side.proofs.OtherNotes.{AreOther, IsOther, command_other, events_other}
-use Rattle.runs.specs.History.{Event, TurnBegan, HostFed, Called, Noted, Transmitted, past_of}
-use Rattle.runs.specs.Journal.{entry_of, side_of}
-use Rattle.runs.specs.Links.{Links, links_of}
-use Rattle.runs.proofs.Calls.{with_notes}
-use Rattle.runs.specs.Run.{Given, after_call, after_feed, after_octets, facts_at, setup_at}
-use Rattle.runs.proofs.LinksKnown.{links_event}
+use Rattle.controller_model.specs.Data.{facts_offered, notes_offered, offer_of}
+use Rattle.controller_model.specs.Facts.{Setup, Facts}
+use Rattle.controller_model.specs.Notes.{is_event}
+use Rattle.controller_model.specs.Side.{facts_after, facts_fed, facts_of, notes_after, notes_fed, result_of}
+use Rattle.controller_model.specs.Since.{count_fed, empties_of, note_completed}
+use Rattle.controller_model.specs.Step.{Step, HostOctet}
+use Rattle.controller_model.proofs.Handles.{own_handles}
+use Rattle.controller_model.proofs.OtherNotes.{AreOther, IsOther, command_other, events_other}
+use Rattle.run_model.specs.History.{Event, TurnBegan, HostFed, Called, Noted, Transmitted, past_of}
+use Rattle.run_model.specs.Journal.{entry_of, side_of}
+use Rattle.run_model.specs.Links.{Links, links_of}
+use Rattle.run_model.proofs.Calls.{with_notes}
+use Rattle.run_model.specs.Run.{Given, after_call, after_feed, after_octets, facts_at, setup_at}
+use Rattle.run_model.proofs.LinksKnown.{links_event}
 use Rattle.run_laws.proofs.Hearings.{own_facts}
 use Rattle.run_laws.proofs.TurnPlaces.{event_past}
 use Rattle.journal_data.specs.HostLines.{OpenUnder, Submitted, kept_of, link_under, packets_framed}

@@ -6,15 +6,15 @@ use Rattle.std.specs.List.{find}
 use Rattle.std.proofs.lemmas.List.Sums.{fold-append, sum_by-cons}
 use Rattle.acl_banks.specs.Packets.{DataPacket, packet_after_acked, packet_after_went, with_first, without_first}
 use Rattle.data_pdu.specs.Header.{header_in}
-use Rattle.one_end.specs.Acknowledgement.{is_acked}
-use Rattle.one_end.specs.Data.{Data, data_acked_if, data_completed, data_given, data_sent_if, is_completed, is_data, is_out, is_unsent}
-use Rattle.one_end.specs.End.{facts_after as end_after, facts_of as end_facts, facts_received, has_acknowledged}
-use Rattle.one_end.specs.Facts.{Facts as EndFacts, first_facts as first_end}
-use Rattle.one_end.specs.Packets.{good_pdu}
-use Rattle.one_end.specs.Setup.{Setup as EndSetup}
-use Rattle.one_end.specs.Step.{Step as EndStep, DataGiven, EventEntered, PduFixed, PacketSent, PacketReceived, DataReported}
-use Rattle.one_end.specs.declared.setup.LinkSetup.{LinkSetup}
-use Rattle.one_end.proofs.Pasts.{grows}
+use Rattle.link_model.specs.Acknowledgement.{is_acked}
+use Rattle.link_model.specs.Data.{Data, data_acked_if, data_completed, data_given, data_sent_if, is_completed, is_data, is_out, is_unsent}
+use Rattle.link_model.specs.End.{facts_after as end_after, facts_of as end_facts, facts_received, has_acknowledged}
+use Rattle.link_model.specs.Facts.{Facts as EndFacts, first_facts as first_end}
+use Rattle.link_model.specs.Packets.{good_pdu}
+use Rattle.link_model.specs.Setup.{Setup as EndSetup}
+use Rattle.link_model.specs.Step.{Step as EndStep, DataGiven, EventEntered, PduFixed, PacketSent, PacketReceived, DataReported}
+use Rattle.link_model.specs.declared.setup.LinkSetup.{LinkSetup}
+use Rattle.link_model.proofs.Pasts.{grows}
 use Rattle.scan_init.specs.Reports.{does_ask, scan_answer}
 use Rattle.slot_plan.specs.declared.Activity.{Activity}
 use Rattle.slot_plan.specs.declared.Activity.TheVariants.{Link, Advertise, Scan, Initiate}
@@ -22,20 +22,20 @@ use Rattle.open_links.specs.Data.{buffers_in, buffers_taken, complete_in, links_
 use Rattle.open_links.specs.OpenLinks.{Links, OpenLink, facts_in, link_after, link_at, link_from, link_served, new_link, with_change}
 use Rattle.open_links.specs.Turns.{entered_if, is_anchor, links_entered, links_staying, reason_in, staying_by}
 use Rattle.open_links.proofs.Handles.{here, later}
-use Rattle.one_side.specs.declared.doing.Doing.{Doing}
-use Rattle.one_side.specs.declared.doing.Doing.TheVariants.{Advertises, CentralSends, PeripheralListens, PeripheralSends}
-use Rattle.one_side.specs.Between.{between_after, is_between_turns}
-use Rattle.one_side.specs.Facts.{Setup, Facts}
-use Rattle.one_side.specs.Heard.{asks_if, has_room, link_taken, opens, replies_in, reply_if}
-use Rattle.one_side.specs.Outcome.{facts_passed}
-use Rattle.one_side.specs.Packets.{links_sending}
-use Rattle.one_side.specs.Radio.{links_fixing}
-use Rattle.one_side.specs.Side.{facts_after, facts_of}
-use Rattle.one_side.specs.Step.{Step, HostOctet, TurnBegins, PacketHeard, NothingHeard, TurnEnds}
-use Rattle.one_side.proofs.Always.{IsInTurn, IsKeptInTurns, links_won, opening_passes, turn_keeps}
-use Rattle.one_side.proofs.BetweenTurns.{none_complete}
-use Rattle.one_side.proofs.Buffers.{fits_buffers}
-use Rattle.one_side.proofs.Pasts.{facts_more}
+use Rattle.controller_model.specs.declared.doing.Doing.{Doing}
+use Rattle.controller_model.specs.declared.doing.Doing.TheVariants.{Advertises, CentralSends, PeripheralListens, PeripheralSends}
+use Rattle.controller_model.specs.Between.{between_after, is_between_turns}
+use Rattle.controller_model.specs.Facts.{Setup, Facts}
+use Rattle.controller_model.specs.Heard.{asks_if, has_room, link_taken, opens, replies_in, reply_if}
+use Rattle.controller_model.specs.Outcome.{facts_passed}
+use Rattle.controller_model.specs.Packets.{links_sending}
+use Rattle.controller_model.specs.Radio.{links_fixing}
+use Rattle.controller_model.specs.Side.{facts_after, facts_of}
+use Rattle.controller_model.specs.Step.{Step, HostOctet, TurnBegins, PacketHeard, NothingHeard, TurnEnds}
+use Rattle.controller_model.proofs.Always.{IsInTurn, IsKeptInTurns, links_won, opening_passes, turn_keeps}
+use Rattle.controller_model.proofs.BetweenTurns.{none_complete}
+use Rattle.controller_model.proofs.Buffers.{fits_buffers}
+use Rattle.controller_model.proofs.Pasts.{facts_more}
 use Rattle.run_laws.proofs.OpenSteps.{AtOpen, EachOpen, IsKeptByHosts, changed, enter_open, none_open, octet_open, open_more, opened}
 
 -- ---- one end

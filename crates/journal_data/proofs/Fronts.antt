@@ -3,10 +3,10 @@ use Rattle.std.proofs.Common.{◌≡◌, ℕ, List, [], ◌∷◌, ◌++◌, ref
 use Rattle.std.specs.Prelude.{map}
 use Rattle.std.specs.List.{AllByRecursion}
 use Rattle.ble_base.specs.declared.notes.Note.{Note}
-use Rattle.one_side.specs.Side.{notes_after}
-use Rattle.one_side.specs.Step.{Step, HostOctet}
-use Rattle.runs.specs.History.{Event, Called, HostFed, Noted}
-use Rattle.runs.specs.Run.{Given, after_feed, after_octets, facts_at, setup_at}
+use Rattle.controller_model.specs.Side.{notes_after}
+use Rattle.controller_model.specs.Step.{Step, HostOctet}
+use Rattle.run_model.specs.History.{Event, Called, HostFed, Noted}
+use Rattle.run_model.specs.Run.{Given, after_feed, after_octets, facts_at, setup_at}
 use Rattle.journal_data.proofs.EachLine.{lines_at}
 use Rattle.journal_data.proofs.KeptSubmitted.{IsElsewhere, IsOutside, events_unchanged}
 

@@ -22,9 +22,9 @@ use Rattle.h4_frames.specs.declared.packet.HostPacket.TheVariants.{Command, Acl}
 use Rattle.h4_frames.proofs.Feeding.{frames_step}
 use Rattle.h4_frames.proofs.Growing.{frames_more as frames_grown}
 use Rattle.h4_frames.proofs.Steps.{fed_of, found_fed}
-use Rattle.one_end.specs.Facts.{Facts as EndFacts}
-use Rattle.one_end.specs.Step.{DataGiven}
-use Rattle.one_end.proofs.Pasts.{grows}
+use Rattle.link_model.specs.Facts.{Facts as EndFacts}
+use Rattle.link_model.specs.Step.{DataGiven}
+use Rattle.link_model.proofs.Pasts.{grows}
 use Rattle.open_links.specs.declared.offers.Offer.{Offer}
 use Rattle.open_links.specs.declared.offers.Offer.TheVariants.{NoLink, Empty, Overflow, Kept}
 use Rattle.open_links.specs.Data.{buffers_in, buffers_taken, links_offered, offer_by}
@@ -35,16 +35,16 @@ use Rattle.hci_cmd.specs.declared.command.CmdRead.{CmdRead}
 use Rattle.hci_cmd.specs.declared.command.CmdRead.TheVariants.{Known, UnknownOpcode, BadLength}
 use Rattle.hci_cmd.specs.Command.{command_of, layout_of, layouts}
 use Rattle.host_view.specs.Unbuilt.{status_of}
-use Rattle.one_side.specs.Commands.{facts_commanded, facts_known, links_after}
-use Rattle.one_side.specs.Data.{facts_offered, offer_of}
-use Rattle.one_side.specs.Facts.{Setup, Facts}
-use Rattle.one_side.specs.Host.{commands_accepted_by, commands_accepted_in}
-use Rattle.one_side.specs.Side.{facts_after, facts_fed, facts_of, first_result, result_of}
-use Rattle.one_side.specs.Step.{Step, HostOctet}
-use Rattle.one_side.proofs.Feds.{frames_more}
-use Rattle.one_side.proofs.Handles.{own_handles}
-use Rattle.one_side.proofs.Resets.{resets}
-use Rattle.one_side.specs.Since.{count_fed}
+use Rattle.controller_model.specs.Commands.{facts_commanded, facts_known, links_after}
+use Rattle.controller_model.specs.Data.{facts_offered, offer_of}
+use Rattle.controller_model.specs.Facts.{Setup, Facts}
+use Rattle.controller_model.specs.Host.{commands_accepted_by, commands_accepted_in}
+use Rattle.controller_model.specs.Side.{facts_after, facts_fed, facts_of, first_result, result_of}
+use Rattle.controller_model.specs.Step.{Step, HostOctet}
+use Rattle.controller_model.proofs.Feds.{frames_more}
+use Rattle.controller_model.proofs.Handles.{own_handles}
+use Rattle.controller_model.proofs.Resets.{resets}
+use Rattle.controller_model.specs.Since.{count_fed}
 use Rattle.journal_data.specs.HostLines.{OpenUnder, Submitted, buffers_of, has_octets, is_dropped, is_reset, kept_of, kept_one, packet_in, packets_framed}
 
 -- ---- octet by octet

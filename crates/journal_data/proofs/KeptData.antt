@@ -2,22 +2,22 @@
 use Rattle.std.proofs.Common.{◌≡◌, ℕ, zero, suc, ◌-◌, ◌<◌, ◌==◌, ◌⊎◌, inl, inr, Bool, true, false, Option, Some, None, List, [], ◌∷◌, ◌++◌, refl, sym, ap, subst, ◌∙◌, arith}
 use Rattle.std.specs.Prelude.{map, take, if◌then◌else◌}
 use Rattle.std.proofs.lemmas.Bool.{eqb-true}
-use Rattle.one_end.proofs.Received.{IsHeardWhole}
+use Rattle.link_model.proofs.Received.{IsHeardWhole}
 use Rattle.open_links.specs.OpenLinks.{OpenLink, link_at}
-use Rattle.one_side.specs.Between.{is_between_turns}
-use Rattle.one_side.specs.Facts.{Facts}
-use Rattle.one_side.specs.Side.{notes_after}
-use Rattle.one_side.specs.Step.{Step, TurnBegins, TurnEnds}
-use Rattle.one_side.proofs.Always.{IsInTurn}
-use Rattle.runs.specs.Feeding.{AreDistinct}
-use Rattle.runs.specs.History.{Event, TurnBegan, Transmitted, packet_received, past_of, turns_begun}
-use Rattle.runs.specs.Journal.{side_of}
-use Rattle.runs.specs.LinkEnds.{HaveAddresses}
-use Rattle.runs.specs.Run.{Given, after_call, after_feed, facts_at, hearings_of, octets_left, setup_at, step_of}
-use Rattle.runs.proofs.Calls.{same_station, turns_called}
-use Rattle.runs.proofs.Journals.{two}
-use Rattle.runs.proofs.Stations.{is_in, among, in_more_same, not_before}
-use Rattle.runs.proofs.Walk.{Place, AtFeeds, AtBegins, AtListening, AtEnds, IsKept}
+use Rattle.controller_model.specs.Between.{is_between_turns}
+use Rattle.controller_model.specs.Facts.{Facts}
+use Rattle.controller_model.specs.Side.{notes_after}
+use Rattle.controller_model.specs.Step.{Step, TurnBegins, TurnEnds}
+use Rattle.controller_model.proofs.Always.{IsInTurn}
+use Rattle.run_model.specs.Feeding.{AreDistinct}
+use Rattle.run_model.specs.History.{Event, TurnBegan, Transmitted, packet_received, past_of, turns_begun}
+use Rattle.run_model.specs.Journal.{side_of}
+use Rattle.run_model.specs.LinkEnds.{HaveAddresses}
+use Rattle.run_model.specs.Run.{Given, after_call, after_feed, facts_at, hearings_of, octets_left, setup_at, step_of}
+use Rattle.run_model.proofs.Calls.{same_station, turns_called}
+use Rattle.run_model.proofs.Journals.{two}
+use Rattle.run_model.proofs.Stations.{is_in, among, in_more_same, not_before}
+use Rattle.run_model.proofs.Walk.{Place, AtFeeds, AtBegins, AtListening, AtEnds, IsKept}
 use Rattle.run_laws.proofs.Hearings.{own_facts}
 use Rattle.run_laws.proofs.InAgreement.{IsPair, IsStation, OpenedBefore, differs_back}
 use Rattle.run_laws.proofs.OpenSteps.{open_has}

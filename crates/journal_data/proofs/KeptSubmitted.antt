@@ -7,18 +7,18 @@ use Rattle.std.proofs.lemmas.Bool.{eq-eqb, eqb-true}
 use Rattle.ble_base.specs.declared.notes.Note.{Note}
 use Rattle.ble_base.specs.declared.notes.Note.TheVariants.{Up, Opened, Shut, Sent, Took, Enter, Applied, Began, Refused, Done}
 use Rattle.open_links.specs.OpenLinks.{OpenLink, facts_in, link_at}
-use Rattle.one_side.specs.Facts.{Setup, Facts}
-use Rattle.one_side.specs.Side.{notes_after}
-use Rattle.one_side.specs.Since.{count_given, count_since, empties_of}
-use Rattle.one_side.specs.Step.{Step, HostOctet, TurnBegins, PacketHeard, NothingHeard, TurnEnds}
-use Rattle.one_side.proofs.Always.{IsInTurn}
-use Rattle.runs.specs.History.{Event, TurnBegan, HostFed, Called, Noted, Transmitted, Hearing, one_if, past_of}
-use Rattle.runs.specs.Journal.{side_of}
-use Rattle.runs.specs.Links.{Links, begins_link, links_after, links_noted, links_of, with_link}
-use Rattle.runs.specs.Run.{Given, after_call, facts_at, setup_at}
-use Rattle.runs.proofs.Calls.{past_own}
-use Rattle.runs.proofs.LinksKnown.{link_by_own, links_event}
-use Rattle.runs.proofs.OpenedNotes.{is_opened}
+use Rattle.controller_model.specs.Facts.{Setup, Facts}
+use Rattle.controller_model.specs.Side.{notes_after}
+use Rattle.controller_model.specs.Since.{count_given, count_since, empties_of}
+use Rattle.controller_model.specs.Step.{Step, HostOctet, TurnBegins, PacketHeard, NothingHeard, TurnEnds}
+use Rattle.controller_model.proofs.Always.{IsInTurn}
+use Rattle.run_model.specs.History.{Event, TurnBegan, HostFed, Called, Noted, Transmitted, Hearing, one_if, past_of}
+use Rattle.run_model.specs.Journal.{side_of}
+use Rattle.run_model.specs.Links.{Links, begins_link, links_after, links_noted, links_of, with_link}
+use Rattle.run_model.specs.Run.{Given, after_call, facts_at, setup_at}
+use Rattle.run_model.proofs.Calls.{past_own}
+use Rattle.run_model.proofs.LinksKnown.{link_by_own, links_event}
+use Rattle.run_model.proofs.OpenedNotes.{is_opened}
 use Rattle.run_laws.proofs.Hearings.{own_facts}
 use Rattle.run_laws.proofs.TurnPlaces.{event_past}
 use Rattle.journal_packets.specs.Belonging.{is_side}

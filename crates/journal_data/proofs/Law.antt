@@ -5,21 +5,21 @@ use Rattle.ble_base.specs.Side.{other_side}
 use Rattle.ble_base.specs.declared.roles.Side.{Side}
 use Rattle.ble_base.specs.declared.roles.Side.TheVariants.{A, B}
 use Rattle.journal.specs.declared.entries.Entry.{Entry}
-use Rattle.one_end.proofs.Received.{IsHeardWhole}
+use Rattle.link_model.proofs.Received.{IsHeardWhole}
 use Rattle.open_links.specs.OpenLinks.{OpenLink, link_at}
-use Rattle.one_side.specs.Side.{facts_of, notes_of}
-use Rattle.one_side.proofs.OpenNotes.{open_after, open_before}
+use Rattle.controller_model.specs.Side.{facts_of, notes_of}
+use Rattle.controller_model.proofs.OpenNotes.{open_after, open_before}
 use Rattle.radio_replay.specs.Script.{Script}
-use Rattle.runs.specs.Feeding.{AreDistinct, HasNoted}
-use Rattle.runs.specs.Journal.{journal_of, side_of}
-use Rattle.runs.specs.LinkEnds.{HaveAddresses}
-use Rattle.runs.specs.Pair.{given_of}
-use Rattle.runs.specs.Run.{Given, facts_at, history_of, run_of, setup_at}
-use Rattle.runs.proofs.EntryEvents.{is_of_event}
-use Rattle.runs.proofs.LinkEnds.{AreTaken, IsUnderstood, pair_addresses}
-use Rattle.runs.proofs.Ordered.{pair_distinct}
-use Rattle.runs.proofs.Stations.{is_in}
-use Rattle.runs.proofs.Walk.{NoTurn, IsStopped, IsWhole, ends_with, run_kept}
+use Rattle.run_model.specs.Feeding.{AreDistinct, HasNoted}
+use Rattle.run_model.specs.Journal.{journal_of, side_of}
+use Rattle.run_model.specs.LinkEnds.{HaveAddresses}
+use Rattle.run_model.specs.Pair.{given_of}
+use Rattle.run_model.specs.Run.{Given, facts_at, history_of, run_of, setup_at}
+use Rattle.run_model.proofs.EntryEvents.{is_of_event}
+use Rattle.run_model.proofs.LinkEnds.{AreTaken, IsUnderstood, pair_addresses}
+use Rattle.run_model.proofs.Ordered.{pair_distinct}
+use Rattle.run_model.proofs.Stations.{is_in}
+use Rattle.run_model.proofs.Walk.{NoTurn, IsStopped, IsWhole, ends_with, run_kept}
 use Rattle.run_laws.proofs.DistinctAccess.{AreApart}
 use Rattle.run_laws.proofs.InAgreement.{IsPair, is_pair}
 use Rattle.journal_packets.proofs.AccessOrder.{AreNth}

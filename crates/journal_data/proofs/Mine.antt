@@ -1,21 +1,21 @@
 -- A station takes a packet on its link only where the other station has the other end of that link open.
 use Rattle.std.proofs.Common.{◌≡◌, ℕ, ◌==◌, ◌⊎◌, inl, inr, Bool, true, false, not, Some, None, List, [], ◌∷◌, ◌++◌, refl, sym, ap, subst, ◌∙◌, if◌then◌else◌}
 use Rattle.std.proofs.lemmas.Bool.{eqb-true}
-use Rattle.one_end.proofs.Received.{IsHeardWhole}
+use Rattle.link_model.proofs.Received.{IsHeardWhole}
 use Rattle.open_links.specs.OpenLinks.{OpenLink, link_at}
-use Rattle.one_side.specs.Facts.{Facts, Sends}
+use Rattle.controller_model.specs.Facts.{Facts, Sends}
 use Rattle.radio_replay.specs.declared.fates.Fate.{Fate}
-use Rattle.runs.specs.Feeding.{AreDistinct}
-use Rattle.runs.specs.History.{Event, Hearing, Transmitted, has_received, packet_received}
-use Rattle.runs.specs.LinkEnds.{HaveAddresses}
-use Rattle.runs.specs.Links.{links_of}
-use Rattle.runs.specs.Run.{Given, facts_at, hearings_of, unseen_in, use_at}
-use Rattle.runs.proofs.LinkEnds.{received_event}
-use Rattle.runs.proofs.Stations.{is_in, among}
-use Rattle.runs.proofs.Walk.{Place, AtPackets}
+use Rattle.run_model.specs.Feeding.{AreDistinct}
+use Rattle.run_model.specs.History.{Event, Hearing, Transmitted, has_received, packet_received}
+use Rattle.run_model.specs.LinkEnds.{HaveAddresses}
+use Rattle.run_model.specs.Links.{links_of}
+use Rattle.run_model.specs.Run.{Given, facts_at, hearings_of, unseen_in, use_at}
+use Rattle.run_model.proofs.LinkEnds.{received_event}
+use Rattle.run_model.proofs.Stations.{is_in, among}
+use Rattle.run_model.proofs.Walk.{Place, AtPackets}
 use Rattle.run_laws.proofs.ByCalls.{Holds}
 use Rattle.run_laws.proofs.InAgreement.{AreStations, IsPair, few_links}
-use Rattle.runs.proofs.Journals.{two}
+use Rattle.run_model.proofs.Journals.{two}
 use Rattle.journal_acks.proofs.AirCounts.{packet_far}
 use Rattle.journal_acks.proofs.Counting.{AreCountedSo, AreKnown, facts_event}
 use Rattle.journal_acks.proofs.Exchanging.{number_sent}

@@ -3,25 +3,25 @@ use Rattle.std.proofs.Common.{◌≡◌, ℕ, ◌==◌, Bool, true, false, Optio
 use Rattle.std.specs.Prelude.{is_some, if◌then◌else◌}
 use Rattle.ble_base.specs.declared.notes.Note.{Note}
 use Rattle.ble_base.specs.declared.notes.Note.TheVariants.{Opened}
-use Rattle.one_end.specs.Setup.{Setup as EndSetup}
-use Rattle.one_end.specs.Step.{PacketReceived}
-use Rattle.one_end.specs.declared.setup.LinkSetup.{LinkSetup}
+use Rattle.link_model.specs.Setup.{Setup as EndSetup}
+use Rattle.link_model.specs.Step.{PacketReceived}
+use Rattle.link_model.specs.declared.setup.LinkSetup.{LinkSetup}
 use Rattle.open_links.specs.OpenLinks.{Links, OpenLink, link_after, link_at, new_link, with_change_from, with_link}
-use Rattle.one_side.specs.Facts.{Facts, Setup}
-use Rattle.one_side.specs.Heard.{has_room, link_heard, link_taken, opens as opening, scanner_heard}
-use Rattle.one_side.specs.Notes.{is_opening}
-use Rattle.one_side.specs.Outcome.{Outcome, facts_passed}
-use Rattle.one_side.specs.Side.{facts_after, notes_after}
-use Rattle.one_side.proofs.Always.{opening_is}
-use Rattle.one_side.proofs.Handles.{own_handles}
-use Rattle.one_side.proofs.OpenPlaces.{changed_opens, opens, sent_opens}
-use Rattle.one_side.proofs.Phases.{EachOutcome, heard_is, unheard_is}
-use Rattle.runs.specs.History.{Event, packet_received, past_of}
-use Rattle.runs.specs.Links.{links_of}
-use Rattle.runs.specs.Run.{Given, after_call, facts_at, setup_at, step_of}
-use Rattle.runs.proofs.LinkEnds.{received_by}
-use Rattle.runs.proofs.OpenedNotes.{is_opened}
-use Rattle.runs.proofs.Stations.{is_in}
+use Rattle.controller_model.specs.Facts.{Facts, Setup}
+use Rattle.controller_model.specs.Heard.{has_room, link_heard, link_taken, opens as opening, scanner_heard}
+use Rattle.controller_model.specs.Notes.{is_opening}
+use Rattle.controller_model.specs.Outcome.{Outcome, facts_passed}
+use Rattle.controller_model.specs.Side.{facts_after, notes_after}
+use Rattle.controller_model.proofs.Always.{opening_is}
+use Rattle.controller_model.proofs.Handles.{own_handles}
+use Rattle.controller_model.proofs.OpenPlaces.{changed_opens, opens, sent_opens}
+use Rattle.controller_model.proofs.Phases.{EachOutcome, heard_is, unheard_is}
+use Rattle.run_model.specs.History.{Event, packet_received, past_of}
+use Rattle.run_model.specs.Links.{links_of}
+use Rattle.run_model.specs.Run.{Given, after_call, facts_at, setup_at, step_of}
+use Rattle.run_model.proofs.LinkEnds.{received_by}
+use Rattle.run_model.proofs.OpenedNotes.{is_opened}
+use Rattle.run_model.proofs.Stations.{is_in}
 use Rattle.run_laws.proofs.Hearings.{other_facts, own_facts}
 use Rattle.run_laws.proofs.InAgreement.{IsPair}
 use Rattle.journal_acks.proofs.Exchanging.{number_other}

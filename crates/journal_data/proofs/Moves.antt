@@ -3,16 +3,16 @@ use Rattle.std.proofs.Common.{◌≡◌, ℕ, ◌+◌, ◌<◌, ◌≤◌, ◌==
 use Rattle.std.proofs.lemmas.Bool.{eqb-true, eqb-false}
 use Rattle.std.proofs.lemmas.Bool.Decides.{nat_tests}
 use Rattle.std.proofs.lemmas.List.{take-append-le}
-use Rattle.one_end.specs.Acknowledgement.{Acknowledgement, Pdu, first_acknowledgement}
-use Rattle.one_end.specs.Setup.{Setup as EndSetup}
-use Rattle.one_end.proofs.Sending.{past_counted}
+use Rattle.link_model.specs.Acknowledgement.{Acknowledgement, Pdu, first_acknowledgement}
+use Rattle.link_model.specs.Setup.{Setup as EndSetup}
+use Rattle.link_model.proofs.Sending.{past_counted}
 use Rattle.open_links.specs.OpenLinks.{OpenLink, facts_in, link_at}
-use Rattle.one_side.specs.Facts.{Facts, Setup}
-use Rattle.one_side.specs.Heard.{has_room}
-use Rattle.one_side.specs.Side.{facts_after}
-use Rattle.one_side.specs.Step.{Step, TurnBegins, TurnEnds}
-use Rattle.runs.specs.History.{Event, packet_received, turns_begun}
-use Rattle.runs.specs.Run.{Given, after_call, facts_at, setup_at, step_of}
+use Rattle.controller_model.specs.Facts.{Facts, Setup}
+use Rattle.controller_model.specs.Heard.{has_room}
+use Rattle.controller_model.specs.Side.{facts_after}
+use Rattle.controller_model.specs.Step.{Step, TurnBegins, TurnEnds}
+use Rattle.run_model.specs.History.{Event, packet_received, turns_begun}
+use Rattle.run_model.specs.Run.{Given, after_call, facts_at, setup_at, step_of}
 use Rattle.run_laws.proofs.Agreed.{ack_of, ack_sent, first_ack}
 use Rattle.run_laws.proofs.Hearings.{own_facts}
 use Rattle.run_laws.proofs.InAgreement.{IsFresh, IsStation, OpenedBefore}

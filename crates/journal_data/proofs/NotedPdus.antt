@@ -3,9 +3,9 @@ use Rattle.std.proofs.Common.{◌≡◌, ℕ, ◌+◌, Bool, true, false, List, 
 use Rattle.std.specs.List.{filter, flat_map}
 use Rattle.ble_base.specs.declared.notes.Note.{Note}
 use Rattle.ble_base.specs.declared.notes.Note.TheVariants.{Up, Sent, Took}
-use Rattle.one_end.specs.Acknowledgement.{Pdu}
-use Rattle.one_end.specs.Delivery.{numbered_notes, sent_note, took_note}
-use Rattle.one_side.specs.Since.{is_sent_on, is_took_on}
+use Rattle.link_model.specs.Acknowledgement.{Pdu}
+use Rattle.link_model.specs.Delivery.{numbered_notes, sent_note, took_note}
+use Rattle.controller_model.specs.Since.{is_sent_on, is_took_on}
 use Rattle.journal_data.proofs.Arriving.{pdu_lines}
 use Rattle.journal_data.proofs.Booked.{line_if, sent_line, took_line}
 

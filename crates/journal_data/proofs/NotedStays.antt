@@ -1,12 +1,12 @@
 -- What a station noted is what its calls give, after each event of a run.
 use Rattle.std.proofs.Common.{◌≡◌, ℕ, true, List, [], ◌∷◌, ◌++◌, refl, sym, ap, ◌∙◌}
-use Rattle.one_side.specs.Side.{notes_after, notes_of}
-use Rattle.one_side.specs.Step.{Step, HostOctet}
-use Rattle.one_side.proofs.Pasts.{notes_more}
-use Rattle.runs.specs.Feeding.{HasNoted}
-use Rattle.runs.specs.History.{Event, HostFed, notes_in, past_of, steps_in}
-use Rattle.runs.specs.Run.{Given, after_call, after_feed, after_octets, facts_at, setup_at}
-use Rattle.runs.proofs.Calls.{same_station, flat_nothing, past_own, noted_called}
+use Rattle.controller_model.specs.Side.{notes_after, notes_of}
+use Rattle.controller_model.specs.Step.{Step, HostOctet}
+use Rattle.controller_model.proofs.Pasts.{notes_more}
+use Rattle.run_model.specs.Feeding.{HasNoted}
+use Rattle.run_model.specs.History.{Event, HostFed, notes_in, past_of, steps_in}
+use Rattle.run_model.specs.Run.{Given, after_call, after_feed, after_octets, facts_at, setup_at}
+use Rattle.run_model.proofs.Calls.{same_station, flat_nothing, past_own, noted_called}
 
 pub noted_event : (given : Given) (station : ℕ) (history : List Event) (event : Event) → notes_in station event ≡ [] → steps_in station event ≡ []
     → HasNoted given station history → HasNoted given station (history ++ event ∷ [])

@@ -6,24 +6,24 @@ use Rattle.std.proofs.lemmas.Bool.{eqb-true, eqb-false, false_from_ne_true}
 use Rattle.ble_base.specs.declared.notes.Note.{Note}
 use Rattle.acl_banks.specs.History.{HostData, whole_packets}
 use Rattle.ack_bit.specs.Nonempty.{nonempty}
-use Rattle.one_end.specs.Acknowledgement.{Acknowledgement, Pdu, first_acknowledgement}
-use Rattle.one_end.specs.Data.{data_of, is_empty}
-use Rattle.one_end.specs.Delivery.{IsInOrder, acked_data}
-use Rattle.one_end.specs.Pair.{AreInAgreement}
+use Rattle.link_model.specs.Acknowledgement.{Acknowledgement, Pdu, first_acknowledgement}
+use Rattle.link_model.specs.Data.{data_of, is_empty}
+use Rattle.link_model.specs.Delivery.{IsInOrder, acked_data}
+use Rattle.link_model.specs.Pair.{AreInAgreement}
 use Rattle.open_links.specs.OpenLinks.{OpenLink, facts_in, link_at}
-use Rattle.one_side.specs.Facts.{Facts, Setup}
-use Rattle.one_side.specs.Side.{facts_after, notes_after}
-use Rattle.one_side.specs.Since.{data_waiting}
-use Rattle.one_side.specs.Step.{Step}
-use Rattle.one_side.proofs.Always.{IsInTurn}
-use Rattle.one_side.proofs.Handles.{own_handles}
-use Rattle.runs.proofs.Calls.{turns_called}
-use Rattle.runs.proofs.LinksKnown.{link_by_other}
-use Rattle.runs.proofs.OpenedNotes.{is_opened}
-use Rattle.runs.specs.History.{Event, past_of, turns_begun}
-use Rattle.runs.specs.Journal.{journal_of, side_of}
-use Rattle.runs.specs.Links.{links_of}
-use Rattle.runs.specs.Run.{Given, after_call, facts_at, setup_at}
+use Rattle.controller_model.specs.Facts.{Facts, Setup}
+use Rattle.controller_model.specs.Side.{facts_after, notes_after}
+use Rattle.controller_model.specs.Since.{data_waiting}
+use Rattle.controller_model.specs.Step.{Step}
+use Rattle.controller_model.proofs.Always.{IsInTurn}
+use Rattle.controller_model.proofs.Handles.{own_handles}
+use Rattle.run_model.proofs.Calls.{turns_called}
+use Rattle.run_model.proofs.LinksKnown.{link_by_other}
+use Rattle.run_model.proofs.OpenedNotes.{is_opened}
+use Rattle.run_model.specs.History.{Event, past_of, turns_begun}
+use Rattle.run_model.specs.Journal.{journal_of, side_of}
+use Rattle.run_model.specs.Links.{links_of}
+use Rattle.run_model.specs.Run.{Given, after_call, facts_at, setup_at}
 use Rattle.run_laws.specs.Ends.{HaveOneConnectInd}
 use Rattle.run_laws.proofs.Agreed.{Agree, ack_of, exchange}
 use Rattle.run_laws.proofs.Hearings.{other_facts, own_facts}

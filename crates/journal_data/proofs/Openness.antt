@@ -25,13 +25,13 @@ use Rattle.host_view.specs.View.{View}
 use Rattle.host_view.specs.Unbuilt.{status_of}
 use Rattle.adv_pdu.specs.declared.pdu.AdvPdu.{AdvPdu}
 use Rattle.instants.specs.Track.{next_number}
-use Rattle.one_end.specs.declared.setup.LinkSetup.{LinkSetup}
-use Rattle.one_end.specs.Acknowledgement.{Pdu}
-use Rattle.one_end.specs.Facts.{Facts as EndFacts}
-use Rattle.one_end.specs.Packets.{good_pdu, pdu_of}
-use Rattle.one_end.specs.Setup.{Setup as EndSetup}
-use Rattle.one_end.specs.Step.{DataGiven, PacketReceived}
-use Rattle.one_end.specs.End.{applied_notes, sent_notes_if, took_notes, took_notes_if}
+use Rattle.link_model.specs.declared.setup.LinkSetup.{LinkSetup}
+use Rattle.link_model.specs.Acknowledgement.{Pdu}
+use Rattle.link_model.specs.Facts.{Facts as EndFacts}
+use Rattle.link_model.specs.Packets.{good_pdu, pdu_of}
+use Rattle.link_model.specs.Setup.{Setup as EndSetup}
+use Rattle.link_model.specs.Step.{DataGiven, PacketReceived}
+use Rattle.link_model.specs.End.{applied_notes, sent_notes_if, took_notes, took_notes_if}
 use Rattle.scan_init.specs.declared.reports.ReportKind.{ReportKind}
 use Rattle.scan_init.specs.declared.scanner.ScanAnswer.{ScanAnswer}
 use Rattle.scan_init.specs.Reports.{kind_of, scan_answer}
@@ -41,26 +41,26 @@ use Rattle.open_links.specs.declared.offers.Offer.TheVariants.{NoLink, Empty, Ov
 use Rattle.open_links.specs.Data.{completed_from, link_reported}
 use Rattle.open_links.specs.OpenLinks.{Links, OpenLink, facts_in, handles_from, link_after, link_at, new_link, with_change_from, with_link, without_links}
 use Rattle.open_links.specs.Turns.{end_by, ends_from, is_anchor, link_entered, links_staying, notes_entering, notes_if, reason_in, staying_by}
-use Rattle.one_side.specs.declared.doing.Doing.{Doing}
-use Rattle.one_side.specs.declared.doing.Doing.TheVariants.{Advertises, CentralSends, PeripheralSends}
-use Rattle.one_side.specs.Step.{Step, HostOctet, TurnBegins, PacketHeard, NothingHeard, TurnEnds}
-use Rattle.one_side.specs.Facts.{Setup, Facts}
-use Rattle.one_side.specs.Answers.{AreOneAnswer, HasNoAnswer, IsAnswerTo, answer_to}
-use Rattle.one_side.specs.Commands.{events_caused, facts_commanded, facts_known, links_after, notes_before, notes_commanded, notes_known}
-use Rattle.one_side.specs.Data.{event_completed, facts_offered, note_received, notes_offered, offer_of}
-use Rattle.one_side.specs.Events.{notes_of_events, passes}
-use Rattle.one_side.specs.Heard.{events_reported, has_room, link_heard, link_taken, notes_taken, opens as opening, report_event, report_events, scanner_heard}
-use Rattle.one_side.specs.Links.{connection_complete, connection_failed, ends_in, events_opened, facts_ending, note_shut, notes_ended, notes_ending, wants_enhanced}
-use Rattle.one_side.specs.Notes.{is_event, is_opening}
-use Rattle.one_side.specs.Outcome.{Outcome, facts_passed, notes_passed}
-use Rattle.one_side.specs.Packets.{notes_doing, notes_sent}
-use Rattle.one_side.specs.Radio.{fixing, outcome_begun}
-use Rattle.one_side.specs.Side.{facts_after, facts_fed, facts_of, notes_after, notes_fed, result_of}
-use Rattle.one_side.proofs.Always.{IsInTurn, ending_is, facts_before_doing, opening_is, served_is, winner_before_doing}
-use Rattle.one_side.proofs.AnsweredOnce.{answered_once}
-use Rattle.one_side.proofs.Handles.{HaveOwnHandles, IsNew, free_is_new, own_handles}
-use Rattle.one_side.proofs.OpenPlaces.{changed_opens, fixed_opens, mapped_opens, opens, sent_opens, won_opens}
-use Rattle.one_side.proofs.Phases.{EachOutcome, heard_is, unheard_is}
+use Rattle.controller_model.specs.declared.doing.Doing.{Doing}
+use Rattle.controller_model.specs.declared.doing.Doing.TheVariants.{Advertises, CentralSends, PeripheralSends}
+use Rattle.controller_model.specs.Step.{Step, HostOctet, TurnBegins, PacketHeard, NothingHeard, TurnEnds}
+use Rattle.controller_model.specs.Facts.{Setup, Facts}
+use Rattle.controller_model.specs.Answers.{AreOneAnswer, HasNoAnswer, IsAnswerTo, answer_to}
+use Rattle.controller_model.specs.Commands.{events_caused, facts_commanded, facts_known, links_after, notes_before, notes_commanded, notes_known}
+use Rattle.controller_model.specs.Data.{event_completed, facts_offered, note_received, notes_offered, offer_of}
+use Rattle.controller_model.specs.Events.{notes_of_events, passes}
+use Rattle.controller_model.specs.Heard.{events_reported, has_room, link_heard, link_taken, notes_taken, opens as opening, report_event, report_events, scanner_heard}
+use Rattle.controller_model.specs.Links.{connection_complete, connection_failed, ends_in, events_opened, facts_ending, note_shut, notes_ended, notes_ending, wants_enhanced}
+use Rattle.controller_model.specs.Notes.{is_event, is_opening}
+use Rattle.controller_model.specs.Outcome.{Outcome, facts_passed, notes_passed}
+use Rattle.controller_model.specs.Packets.{notes_doing, notes_sent}
+use Rattle.controller_model.specs.Radio.{fixing, outcome_begun}
+use Rattle.controller_model.specs.Side.{facts_after, facts_fed, facts_of, notes_after, notes_fed, result_of}
+use Rattle.controller_model.proofs.Always.{IsInTurn, ending_is, facts_before_doing, opening_is, served_is, winner_before_doing}
+use Rattle.controller_model.proofs.AnsweredOnce.{answered_once}
+use Rattle.controller_model.proofs.Handles.{HaveOwnHandles, IsNew, free_is_new, own_handles}
+use Rattle.controller_model.proofs.OpenPlaces.{changed_opens, fixed_opens, mapped_opens, opens, sent_opens, won_opens}
+use Rattle.controller_model.proofs.Phases.{EachOutcome, heard_is, unheard_is}
 use Rattle.journal_acks.proofs.CallNotes.{is_taking}
 
 -- ---- what a note says

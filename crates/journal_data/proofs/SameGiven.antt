@@ -4,35 +4,35 @@ use Rattle.std.specs.Prelude.{◌&&◌, nat_lt, ⊤}
 use Rattle.ble_base.specs.declared.notes.Note.{Note}
 use Rattle.std.specs.Option.{option_map}
 use Rattle.acl_banks.specs.History.{HostData}
-use Rattle.one_end.specs.Data.{Data, data_acked_if, data_sent_if}
-use Rattle.one_end.specs.Facts.{Facts as EndFacts}
-use Rattle.one_end.specs.End.{facts_received}
-use Rattle.one_end.specs.Packets.{good_pdu}
-use Rattle.one_end.specs.Setup.{Setup as EndSetup}
-use Rattle.one_end.specs.Step.{Step as EndStep, EventEntered, PduFixed, PacketSent, PacketReceived, DataReported}
-use Rattle.one_end.specs.declared.setup.LinkSetup.{LinkSetup}
-use Rattle.one_end.proofs.Pasts.{grows}
+use Rattle.link_model.specs.Data.{Data, data_acked_if, data_sent_if}
+use Rattle.link_model.specs.Facts.{Facts as EndFacts}
+use Rattle.link_model.specs.End.{facts_received}
+use Rattle.link_model.specs.Packets.{good_pdu}
+use Rattle.link_model.specs.Setup.{Setup as EndSetup}
+use Rattle.link_model.specs.Step.{Step as EndStep, EventEntered, PduFixed, PacketSent, PacketReceived, DataReported}
+use Rattle.link_model.specs.declared.setup.LinkSetup.{LinkSetup}
+use Rattle.link_model.proofs.Pasts.{grows}
 use Rattle.scan_init.specs.Reports.{does_ask, scan_answer}
 use Rattle.slot_plan.specs.declared.Activity.{Activity}
 use Rattle.slot_plan.specs.declared.Activity.TheVariants.{Link, Advertise, Scan, Initiate}
 use Rattle.open_links.specs.Data.{complete_in, link_reported}
 use Rattle.open_links.specs.OpenLinks.{Links, OpenLink, facts_in, link_after, link_at, link_served, new_link, with_change, with_change_from, with_link}
 use Rattle.open_links.specs.Turns.{entered_if, is_anchor, link_entered, place_staying, reason_in, staying_by}
-use Rattle.one_side.specs.declared.doing.Doing.{Doing}
-use Rattle.one_side.specs.declared.doing.Doing.TheVariants.{Advertises, CentralSends, PeripheralListens, PeripheralSends}
-use Rattle.one_side.specs.Facts.{Setup, Facts}
-use Rattle.one_side.specs.Events.{notes_of_events}
-use Rattle.one_side.specs.Heard.{asks_if, has_room, link_received, link_taken, opens, replies_in, reply_if, scanner_after, with_scanner}
-use Rattle.one_side.specs.Links.{events_opened}
-use Rattle.one_side.specs.Outcome.{Outcome, facts_passed, notes_passed}
-use Rattle.one_side.specs.Packets.{facts_doing, links_sending}
-use Rattle.one_side.specs.Radio.{links_fixing}
-use Rattle.one_side.specs.Side.{facts_after, facts_of, notes_after}
-use Rattle.one_side.specs.Step.{Step, HostOctet, TurnBegins, PacketHeard, NothingHeard, TurnEnds}
-use Rattle.one_side.proofs.Always.{IsInTurn, IsKeptAtStarts, links_won, opening_passes, start_keeps}
-use Rattle.one_side.proofs.Handles.{own_handles}
-use Rattle.one_side.proofs.Phases.{EachOutcome, heard_is, unheard_is}
-use Rattle.runs.proofs.OpenedNotes.{is_opened, opened_was_free}
+use Rattle.controller_model.specs.declared.doing.Doing.{Doing}
+use Rattle.controller_model.specs.declared.doing.Doing.TheVariants.{Advertises, CentralSends, PeripheralListens, PeripheralSends}
+use Rattle.controller_model.specs.Facts.{Setup, Facts}
+use Rattle.controller_model.specs.Events.{notes_of_events}
+use Rattle.controller_model.specs.Heard.{asks_if, has_room, link_received, link_taken, opens, replies_in, reply_if, scanner_after, with_scanner}
+use Rattle.controller_model.specs.Links.{events_opened}
+use Rattle.controller_model.specs.Outcome.{Outcome, facts_passed, notes_passed}
+use Rattle.controller_model.specs.Packets.{facts_doing, links_sending}
+use Rattle.controller_model.specs.Radio.{links_fixing}
+use Rattle.controller_model.specs.Side.{facts_after, facts_of, notes_after}
+use Rattle.controller_model.specs.Step.{Step, HostOctet, TurnBegins, PacketHeard, NothingHeard, TurnEnds}
+use Rattle.controller_model.proofs.Always.{IsInTurn, IsKeptAtStarts, links_won, opening_passes, start_keeps}
+use Rattle.controller_model.proofs.Handles.{own_handles}
+use Rattle.controller_model.proofs.Phases.{EachOutcome, heard_is, unheard_is}
+use Rattle.run_model.proofs.OpenedNotes.{is_opened, opened_was_free}
 
 -- ---- one link
 
@@ -74,7 +74,7 @@ after_reported : (link : OpenLink) → given_in (link_after DataReported link) �
 after_reported link = after_step link DataReported _ (grows link.setup link.past DataReported) refl
 
 new_none : (end : EndSetup) → given_in (new_link end) ≡ []
-unfolding Rattle.one_end.specs.End.facts_of
+unfolding Rattle.link_model.specs.End.facts_of
 new_none end = refl
 
 -- ---- one place

@@ -3,15 +3,15 @@ use Rattle.std.proofs.Common.{◌≡◌, ℕ, Bool, false, List, [], ◌∷◌, 
 use Rattle.std.specs.Option.{option_map}
 use Rattle.ble_base.specs.declared.notes.Note.{Note}
 use Rattle.open_links.specs.OpenLinks.{OpenLink, facts_in, link_at}
-use Rattle.one_side.specs.Facts.{Facts}
-use Rattle.one_side.specs.Side.{facts_of, notes_after, notes_of}
-use Rattle.one_side.specs.Since.{data_waiting, empties_of, since_opened}
-use Rattle.one_side.specs.Step.{Step, HostOctet}
-use Rattle.runs.specs.History.{Event, TurnBegan, HostFed, Transmitted, Hearing, noted_by, notes_in, past_of, steps_in}
-use Rattle.runs.specs.Journal.{side_of}
-use Rattle.runs.specs.Run.{Given, after_call, after_feed, after_octets, facts_at, setup_at}
-use Rattle.runs.proofs.Calls.{flat_nothing, noted_called, past_other}
-use Rattle.runs.proofs.LinksKnown.{link_by_other}
+use Rattle.controller_model.specs.Facts.{Facts}
+use Rattle.controller_model.specs.Side.{facts_of, notes_after, notes_of}
+use Rattle.controller_model.specs.Since.{data_waiting, empties_of, since_opened}
+use Rattle.controller_model.specs.Step.{Step, HostOctet}
+use Rattle.run_model.specs.History.{Event, TurnBegan, HostFed, Transmitted, Hearing, noted_by, notes_in, past_of, steps_in}
+use Rattle.run_model.specs.Journal.{side_of}
+use Rattle.run_model.specs.Run.{Given, after_call, after_feed, after_octets, facts_at, setup_at}
+use Rattle.run_model.proofs.Calls.{flat_nothing, noted_called, past_other}
+use Rattle.run_model.proofs.LinksKnown.{link_by_other}
 use Rattle.journal_packets.specs.Belonging.{is_side}
 use Rattle.journal_data.proofs.HostPackets.{links_for}
 use Rattle.journal_data.specs.Lines.{Lines, data_on, empties_on}

@@ -5,11 +5,11 @@ use Rattle.std.specs.List.{filter, flat_map}
 use Rattle.std.proofs.lemmas.Bool.{eqb-true, eqb-false}
 use Rattle.acl_banks.specs.Packets.{Marked}
 use Rattle.ack_bit.specs.Nonempty.{nonempty}
-use Rattle.one_end.specs.Acknowledgement.{Acknowledgement}
-use Rattle.one_end.specs.Data.{data_in, data_of, is_empty}
-use Rattle.one_end.specs.Delivery.{IsInOrder}
-use Rattle.one_end.specs.Facts.{Facts as EndFacts}
-use Rattle.one_end.specs.Pair.{AreInAgreement}
+use Rattle.link_model.specs.Acknowledgement.{Acknowledgement}
+use Rattle.link_model.specs.Data.{data_in, data_of, is_empty}
+use Rattle.link_model.specs.Delivery.{IsInOrder}
+use Rattle.link_model.specs.Facts.{Facts as EndFacts}
+use Rattle.link_model.specs.Pair.{AreInAgreement}
 use Rattle.journal_data.specs.Lines.{Lines, PduLine, accepted_on, data_on, pdus_on, submitted_on}
 use Rattle.journal_data.specs.HostLines.{has_octets}
 use Rattle.journal_data.specs.Delivered.{ArrivesInOrder}

@@ -15,20 +15,20 @@ use Rattle.host_view.specs.Noted.{acl_handle, is_acl_data, two_octets}
 use Rattle.journal.specs.declared.entries.Entry.{Entry}
 use Rattle.journal.specs.declared.entries.Entry.TheVariants.{Fed as FedEntry, Up as UpEntry, Opened as OpenedEntry, Shut as ShutEntry, Sent as SentEntry, Took as TookEntry}
 use Rattle.open_links.specs.OpenLinks.{OpenLink, link_at}
-use Rattle.one_side.specs.Step.{Step, HostOctet}
-use Rattle.one_side.specs.Facts.{Facts}
-use Rattle.one_side.specs.Notes.{HasHandleBelow, is_event, is_opening}
-use Rattle.one_side.specs.Side.{facts_after, facts_of, notes_after}
-use Rattle.runs.specs.History.{Event, HostFed, Called, Noted, past_of, steps_in}
-use Rattle.runs.specs.Journal.{entries_of, entry_of, journal_of, side_of}
-use Rattle.runs.specs.Links.{Links, links_of}
-use Rattle.runs.specs.Run.{Given, setup_at, facts_at, after_call, after_octets, after_feed}
-use Rattle.runs.proofs.Calls.{flat_nothing, with_notes}
-use Rattle.runs.proofs.LinksKnown.{link_by_own, links_event}
-use Rattle.runs.proofs.OpenedNotes.{is_opened}
-use Rattle.runs.proofs.Parts.{journal_event}
-use Rattle.runs.proofs.Walk.{is_outside}
-use Rattle.one_side.specs.Since.{is_data_note}
+use Rattle.controller_model.specs.Step.{Step, HostOctet}
+use Rattle.controller_model.specs.Facts.{Facts}
+use Rattle.controller_model.specs.Notes.{HasHandleBelow, is_event, is_opening}
+use Rattle.controller_model.specs.Side.{facts_after, facts_of, notes_after}
+use Rattle.run_model.specs.History.{Event, HostFed, Called, Noted, past_of, steps_in}
+use Rattle.run_model.specs.Journal.{entries_of, entry_of, journal_of, side_of}
+use Rattle.run_model.specs.Links.{Links, links_of}
+use Rattle.run_model.specs.Run.{Given, setup_at, facts_at, after_call, after_octets, after_feed}
+use Rattle.run_model.proofs.Calls.{flat_nothing, with_notes}
+use Rattle.run_model.proofs.LinksKnown.{link_by_own, links_event}
+use Rattle.run_model.proofs.OpenedNotes.{is_opened}
+use Rattle.run_model.proofs.Parts.{journal_event}
+use Rattle.run_model.proofs.Walk.{is_outside}
+use Rattle.controller_model.specs.Since.{is_data_note}
 use Rattle.journal_data.proofs.EachLine.{number_of}
 use Rattle.journal_data.specs.HostLines.{OpenUnder, link_under}
 use Rattle.journal_data.specs.Lines.{Credited, Lines, PduLine, Received, credit_up, credited_in, credited_on, data_received, is_of_side, line_after, lines_after, lines_of, no_lines, pdus_on, received_in, received_on}

@@ -17,22 +17,22 @@ use Rattle.ble_base.specs.declared.notes.Note.TheVariants.{Up, Opened, Shut, Sen
 use Rattle.host_view.specs.Noted.{acl_handle, is_acl_data, two_octets}
 use Rattle.journal.specs.declared.entries.Entry.TheVariants.{Fed as FedEntry}
 use Rattle.open_links.specs.OpenLinks.{OpenLink, link_at}
-use Rattle.one_side.specs.Step.{Step, HostOctet}
-use Rattle.one_side.specs.Facts.{Setup, Facts}
-use Rattle.one_side.specs.Notes.{HasHandleBelow, is_event, is_opening}
-use Rattle.one_side.specs.Side.{facts_after, facts_of, notes_after}
-use Rattle.one_side.proofs.NotedLinks.{step_names_links}
-use Rattle.one_side.proofs.Pasts.{facts_more}
-use Rattle.runs.specs.History.{Event, TurnBegan, HostFed, Called, Noted, Transmitted, Hearing, noted_by, one_if, notes_in, past_of, steps_in}
-use Rattle.runs.specs.Journal.{entry_of, journal_of, side_of}
-use Rattle.runs.specs.Links.{Links, begins_link, links_after, links_of, with_link}
-use Rattle.runs.specs.Run.{Given, setup_at, facts_at, after_call, after_octets, after_feed}
-use Rattle.runs.proofs.Calls.{flat_event, flat_nothing, past_own, same_station, with_notes}
-use Rattle.runs.proofs.LinksKnown.{links_event}
-use Rattle.runs.proofs.OpenedNotes.{is_opened, outside_open}
-use Rattle.runs.proofs.Walk.{is_outside}
+use Rattle.controller_model.specs.Step.{Step, HostOctet}
+use Rattle.controller_model.specs.Facts.{Setup, Facts}
+use Rattle.controller_model.specs.Notes.{HasHandleBelow, is_event, is_opening}
+use Rattle.controller_model.specs.Side.{facts_after, facts_of, notes_after}
+use Rattle.controller_model.proofs.NotedLinks.{step_names_links}
+use Rattle.controller_model.proofs.Pasts.{facts_more}
+use Rattle.run_model.specs.History.{Event, TurnBegan, HostFed, Called, Noted, Transmitted, Hearing, noted_by, one_if, notes_in, past_of, steps_in}
+use Rattle.run_model.specs.Journal.{entry_of, journal_of, side_of}
+use Rattle.run_model.specs.Links.{Links, begins_link, links_after, links_of, with_link}
+use Rattle.run_model.specs.Run.{Given, setup_at, facts_at, after_call, after_octets, after_feed}
+use Rattle.run_model.proofs.Calls.{flat_event, flat_nothing, past_own, same_station, with_notes}
+use Rattle.run_model.proofs.LinksKnown.{links_event}
+use Rattle.run_model.proofs.OpenedNotes.{is_opened, outside_open}
+use Rattle.run_model.proofs.Walk.{is_outside}
 use Rattle.journal_packets.specs.Belonging.{is_side}
-use Rattle.one_side.specs.Since.{is_data_note, note_since, since_opened}
+use Rattle.controller_model.specs.Since.{is_data_note, note_since, since_opened}
 use Rattle.journal_data.proofs.HostPackets.{links_for}
 use Rattle.journal_data.proofs.EachLine.{number_of}
 use Rattle.journal_data.specs.HostLines.{OpenUnder}

@@ -16,25 +16,25 @@ use Rattle.h4_frames.specs.declared.packet.Fed.TheVariants.{More, Packet, LostSy
 use Rattle.h4_frames.specs.declared.packet.HostPacket.TheVariants.{Command, Acl}
 use Rattle.acl_banks.specs.History.{HostData}
 use Rattle.acl_banks.specs.Packets.{DataPacket}
-use Rattle.one_end.proofs.Sending.{past_holds}
+use Rattle.link_model.proofs.Sending.{past_holds}
 use Rattle.open_links.specs.Data.{buffers_in, buffers_taken, complete_in}
 use Rattle.open_links.specs.OpenLinks.{Links as OpenLinks, OpenLink, facts_in, link_at}
-use Rattle.one_side.specs.Facts.{Setup, Facts, first_facts}
-use Rattle.one_side.specs.Side.{facts_after, facts_of, notes_after, result_of}
-use Rattle.one_side.specs.Step.{Step, HostOctet}
-use Rattle.one_side.proofs.Always.{IsInTurn}
-use Rattle.one_side.proofs.Feds.{more_octets, turn_octets}
-use Rattle.one_side.proofs.Handles.{own_handles}
-use Rattle.runs.specs.History.{Event, HostFed, Called, Noted, past_of}
-use Rattle.runs.specs.Journal.{entry_of, side_of}
-use Rattle.runs.specs.Links.{Links, links_of}
-use Rattle.runs.specs.Run.{Given, after_call, after_feed, after_octets, facts_at, setup_at}
-use Rattle.runs.proofs.Calls.{past_own, with_notes}
-use Rattle.runs.proofs.LinksKnown.{link_by_own, links_event}
-use Rattle.runs.proofs.OpenedNotes.{is_opened, outside_open}
+use Rattle.controller_model.specs.Facts.{Setup, Facts, first_facts}
+use Rattle.controller_model.specs.Side.{facts_after, facts_of, notes_after, result_of}
+use Rattle.controller_model.specs.Step.{Step, HostOctet}
+use Rattle.controller_model.proofs.Always.{IsInTurn}
+use Rattle.controller_model.proofs.Feds.{more_octets, turn_octets}
+use Rattle.controller_model.proofs.Handles.{own_handles}
+use Rattle.run_model.specs.History.{Event, HostFed, Called, Noted, past_of}
+use Rattle.run_model.specs.Journal.{entry_of, side_of}
+use Rattle.run_model.specs.Links.{Links, links_of}
+use Rattle.run_model.specs.Run.{Given, after_call, after_feed, after_octets, facts_at, setup_at}
+use Rattle.run_model.proofs.Calls.{past_own, with_notes}
+use Rattle.run_model.proofs.LinksKnown.{link_by_own, links_event}
+use Rattle.run_model.proofs.OpenedNotes.{is_opened, outside_open}
 use Rattle.run_laws.proofs.Hearings.{own_facts}
 use Rattle.run_laws.proofs.TurnPlaces.{event_past}
-use Rattle.one_side.specs.Since.{count_fed, count_given, count_since, empties_from, empties_of}
+use Rattle.controller_model.specs.Since.{count_fed, count_given, count_since, empties_from, empties_of}
 use Rattle.journal_data.specs.HostLines.{OpenUnder, Submitted, has_octets, kept_of, packets_framed}
 use Rattle.journal_data.specs.Lines.{Lines, buffers_taken as lines_taken, credited_on, data_on, empties_on, line_after, submitted_on}
 use Rattle.journal_data.proofs.EachLine.{number_of}

@@ -3,16 +3,16 @@ use Rattle.std.proofs.Common.{◌≡◌, ℕ, ◌+◌, ◌<◌, Bool, true, fals
 use Rattle.std.specs.Prelude.{map}
 use Rattle.ble_base.specs.declared.notes.Note.{Note}
 use Rattle.ble_base.specs.declared.notes.Note.TheVariants.{Opened}
-use Rattle.one_side.specs.Notes.{is_opening}
-use Rattle.one_side.specs.Side.{notes_after}
-use Rattle.one_side.specs.Step.{Step, HostOctet}
-use Rattle.runs.specs.History.{Event, Called, HostFed, Noted, turns_begun}
-use Rattle.runs.specs.Journal.{entries_of, journal_from, journal_of}
-use Rattle.runs.specs.Links.{links_of}
-use Rattle.runs.specs.Run.{Given, after_call, after_feed, after_octets, facts_at, setup_at}
-use Rattle.runs.proofs.Calls.{turns_called}
-use Rattle.runs.proofs.OpenedNotes.{is_opened}
-use Rattle.runs.proofs.Parts.{journal_event, journal_more}
+use Rattle.controller_model.specs.Notes.{is_opening}
+use Rattle.controller_model.specs.Side.{notes_after}
+use Rattle.controller_model.specs.Step.{Step, HostOctet}
+use Rattle.run_model.specs.History.{Event, Called, HostFed, Noted, turns_begun}
+use Rattle.run_model.specs.Journal.{entries_of, journal_from, journal_of}
+use Rattle.run_model.specs.Links.{links_of}
+use Rattle.run_model.specs.Run.{Given, after_call, after_feed, after_octets, facts_at, setup_at}
+use Rattle.run_model.proofs.Calls.{turns_called}
+use Rattle.run_model.proofs.OpenedNotes.{is_opened}
+use Rattle.run_model.proofs.Parts.{journal_event, journal_more}
 use Rattle.journal_links.proofs.LinksBegun.{number_stays}
 use Rattle.journal_links.specs.Begun.{LinkBegun, link_numbered}
 use Rattle.journal_acks.proofs.FirstCounts.{turns_grow}

@@ -2,9 +2,9 @@
 //! calls the laws that it rests on: the contract is the law.
 ghost use Rattle.std.specs.Prelude.{◌≡◌, ℕ, List, length};
 ghost use Rattle.radio_replay.specs.Script.{Script};
-ghost use Rattle.runs.specs.Journal.{journal_of};
-ghost use Rattle.runs.specs.Pair.{given_of};
-ghost use Rattle.runs.specs.Run.{history_of, run_of};
+ghost use Rattle.run_model.specs.Journal.{journal_of};
+ghost use Rattle.run_model.specs.Pair.{given_of};
+ghost use Rattle.run_model.specs.Run.{history_of, run_of};
 ghost use Rattle.journal_data.specs.Delivered.{AllDataArrives};
 
 /// In the journal of a run of a pair, whole or ended by damage, after each of its lines, on each
@@ -26,7 +26,7 @@ pub fn data_arrives_in_order_in_every_journal()
         → length script.b.public ≡ 6
         → AllDataArrives (journal_of (history_of (run_of (given_of a b script)))) }
 {
-    one_side::a_pdu_is_understood();
+    controller_model::a_pdu_is_understood();
     advertise::laws::connections_are_taken();
     scan_init::laws::searches_give_each_valid_address();
     air_frame::laws::packet_tells_its_pdu();

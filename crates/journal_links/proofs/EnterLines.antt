@@ -11,34 +11,34 @@ use Rattle.chan_select.specs.Channel.{channel_of}
 use Rattle.chan_select.specs.declared.selection.Algorithm.TheVariants.{One, Two}
 use Rattle.journal.specs.declared.entries.Entry.{Entry}
 use Rattle.journal.specs.declared.entries.Entry.TheVariants.{Enter}
-use Rattle.one_end.specs.Events.{anchor_of, channel_after}
-use Rattle.one_end.specs.Setup.{Setup}
-use Rattle.one_side.specs.Entering.{begins_turn}
-use Rattle.one_side.specs.Side.{notes_after}
-use Rattle.one_side.specs.Step.{Step, HostOctet, TurnBegins, PacketHeard, NothingHeard, TurnEnds}
-use Rattle.one_side.proofs.Entries.{enters_as_turns_begin, enters_at_anchors}
+use Rattle.link_model.specs.Events.{anchor_of, channel_after}
+use Rattle.link_model.specs.Setup.{Setup}
+use Rattle.controller_model.specs.Entering.{begins_turn}
+use Rattle.controller_model.specs.Side.{notes_after}
+use Rattle.controller_model.specs.Step.{Step, HostOctet, TurnBegins, PacketHeard, NothingHeard, TurnEnds}
+use Rattle.controller_model.proofs.Entries.{enters_as_turns_begin, enters_at_anchors}
 use Rattle.radio_replay.specs.Script.{Script}
-use Rattle.runs.specs.Due.{IsCallDue, IsDue}
-use Rattle.runs.specs.History.{Event, TurnBegan, HostFed, Called, Noted, Transmitted, past_of, turns_begun}
-use Rattle.runs.specs.Journal.{entries_of, entry_of, journal_from, journal_of, side_of}
-use Rattle.runs.specs.Links.{Links, links_of}
-use Rattle.runs.specs.NotedCalls.{IsNotedInCall}
-use Rattle.runs.specs.Pair.{given_of}
-use Rattle.runs.specs.Readers.{turns_of}
-use Rattle.runs.specs.Run.{Given, facts_at, history_of, run_of, setup_at}
-use Rattle.runs.proofs.CallNotes.{noted_in_call}
-use Rattle.runs.proofs.Calls.{turns_called}
-use Rattle.runs.proofs.Dues.{run_due}
-use Rattle.runs.proofs.EntryEvents.{is_of_event}
-use Rattle.runs.proofs.Fates.{turns_are}
-use Rattle.runs.proofs.LinkEnds.{AreTaken, IsUnderstood, pair_addresses}
-use Rattle.runs.proofs.LinksKnown.{link_by_own}
-use Rattle.runs.proofs.Numbers.{numbered_at}
-use Rattle.runs.proofs.OfStations.{OfStations, run_of_stations}
-use Rattle.runs.proofs.OpenedNotes.{is_opened, opens_under, outside_open}
-use Rattle.runs.proofs.Ordered.{pair_distinct}
-use Rattle.runs.proofs.Parts.{journal_more}
-use Rattle.runs.proofs.Places.{each_at}
+use Rattle.run_model.specs.Due.{IsCallDue, IsDue}
+use Rattle.run_model.specs.History.{Event, TurnBegan, HostFed, Called, Noted, Transmitted, past_of, turns_begun}
+use Rattle.run_model.specs.Journal.{entries_of, entry_of, journal_from, journal_of, side_of}
+use Rattle.run_model.specs.Links.{Links, links_of}
+use Rattle.run_model.specs.NotedCalls.{IsNotedInCall}
+use Rattle.run_model.specs.Pair.{given_of}
+use Rattle.run_model.specs.Readers.{turns_of}
+use Rattle.run_model.specs.Run.{Given, facts_at, history_of, run_of, setup_at}
+use Rattle.run_model.proofs.CallNotes.{noted_in_call}
+use Rattle.run_model.proofs.Calls.{turns_called}
+use Rattle.run_model.proofs.Dues.{run_due}
+use Rattle.run_model.proofs.EntryEvents.{is_of_event}
+use Rattle.run_model.proofs.Fates.{turns_are}
+use Rattle.run_model.proofs.LinkEnds.{AreTaken, IsUnderstood, pair_addresses}
+use Rattle.run_model.proofs.LinksKnown.{link_by_own}
+use Rattle.run_model.proofs.Numbers.{numbered_at}
+use Rattle.run_model.proofs.OfStations.{OfStations, run_of_stations}
+use Rattle.run_model.proofs.OpenedNotes.{is_opened, opens_under, outside_open}
+use Rattle.run_model.proofs.Ordered.{pair_distinct}
+use Rattle.run_model.proofs.Parts.{journal_more}
+use Rattle.run_model.proofs.Places.{each_at}
 use Rattle.run_laws.proofs.ChSel.{link_two}
 use Rattle.journal_links.specs.Begun.{LinkBegun, link_numbered}
 use Rattle.journal_links.specs.Entered.{IsEnteredInTime, anchor_in, channel_in}

@@ -7,17 +7,17 @@ use Rattle.ble_base.specs.declared.roles.Side.{Side}
 use Rattle.adv_pdu.specs.declared.pdu.AdvPdu.{AdvPdu}
 use Rattle.adv_pdu.specs.declared.pdu.AdvPdu.TheVariants.{Connect}
 use Rattle.journal.specs.declared.entries.Entry.{Entry}
-use Rattle.one_side.specs.Packets.{pdu_heard}
+use Rattle.controller_model.specs.Packets.{pdu_heard}
 use Rattle.radio_replay.specs.Script.{Script}
-use Rattle.runs.specs.Due.{Each}
-use Rattle.runs.specs.History.{Event, TurnBegan, HostFed, Called, Noted, Transmitted}
-use Rattle.runs.specs.Journal.{entry_of, journal_from, journal_of, side_of}
-use Rattle.runs.specs.Links.{Links, begins_link, first_links, is_advertising, is_connect_ind, links_after, links_noted, links_of, with_link}
-use Rattle.runs.specs.Pair.{given_of}
-use Rattle.runs.specs.Readers.{pair_openings_in, turns_of}
-use Rattle.runs.specs.Run.{Given, history_of, run_of}
-use Rattle.runs.proofs.Fates.{FatesBefore, HasOneOther, pair_other, run_fated}
-use Rattle.runs.proofs.Journals.{each_front}
+use Rattle.run_model.specs.Due.{Each}
+use Rattle.run_model.specs.History.{Event, TurnBegan, HostFed, Called, Noted, Transmitted}
+use Rattle.run_model.specs.Journal.{entry_of, journal_from, journal_of, side_of}
+use Rattle.run_model.specs.Links.{Links, begins_link, first_links, is_advertising, is_connect_ind, links_after, links_noted, links_of, with_link}
+use Rattle.run_model.specs.Pair.{given_of}
+use Rattle.run_model.specs.Readers.{pair_openings_in, turns_of}
+use Rattle.run_model.specs.Run.{Given, history_of, run_of}
+use Rattle.run_model.proofs.Fates.{FatesBefore, HasOneOther, pair_other, run_fated}
+use Rattle.run_model.proofs.Journals.{each_front}
 use Rattle.journal_links.specs.Begun.{LinkBegun, begun_by, begun_in, link_numbered, links_begun, links_from, with_number}
 
 -- ---- more entries

@@ -7,23 +7,23 @@ use Rattle.ble_base.specs.declared.roles.Role.TheVariants.{Central, Peripheral}
 use Rattle.ble_base.specs.declared.roles.Side.{Side}
 use Rattle.adv_pdu.specs.declared.pdu.AdvPdu.TheVariants.{Connect}
 use Rattle.journal.specs.declared.entries.Entry.{Entry}
-use Rattle.one_end.specs.Setup.{Setup}
-use Rattle.one_side.specs.Packets.{pdu_heard}
+use Rattle.link_model.specs.Setup.{Setup}
+use Rattle.controller_model.specs.Packets.{pdu_heard}
 use Rattle.radio_replay.specs.Script.{Script}
-use Rattle.runs.specs.History.{Event, Transmitted, Hearing}
-use Rattle.runs.specs.Journal.{air_entries, journal_from, journal_of, side_of}
-use Rattle.runs.specs.LinkEnds.{ConnectInd, IsAtEnd}
-use Rattle.runs.specs.Links.{is_advertising, links_after, links_of}
-use Rattle.runs.specs.Numbers.{HasNumber}
-use Rattle.runs.specs.Pair.{given_of}
-use Rattle.runs.specs.Readers.{turns_of}
-use Rattle.runs.specs.Run.{history_of, run_of}
-use Rattle.runs.proofs.Fates.{FatesBefore, pair_other, turns_are}
-use Rattle.runs.proofs.Journals.{two}
-use Rattle.runs.proofs.OfStations.{OfStations, run_of_stations}
-use Rattle.runs.proofs.Parts.{journal_more}
-use Rattle.runs.proofs.Places.{each_at}
-use Rattle.runs.proofs.Stations.{is_in}
+use Rattle.run_model.specs.History.{Event, Transmitted, Hearing}
+use Rattle.run_model.specs.Journal.{air_entries, journal_from, journal_of, side_of}
+use Rattle.run_model.specs.LinkEnds.{ConnectInd, IsAtEnd}
+use Rattle.run_model.specs.Links.{is_advertising, links_after, links_of}
+use Rattle.run_model.specs.Numbers.{HasNumber}
+use Rattle.run_model.specs.Pair.{given_of}
+use Rattle.run_model.specs.Readers.{turns_of}
+use Rattle.run_model.specs.Run.{history_of, run_of}
+use Rattle.run_model.proofs.Fates.{FatesBefore, pair_other, turns_are}
+use Rattle.run_model.proofs.Journals.{two}
+use Rattle.run_model.proofs.OfStations.{OfStations, run_of_stations}
+use Rattle.run_model.proofs.Parts.{journal_more}
+use Rattle.run_model.proofs.Places.{each_at}
+use Rattle.run_model.proofs.Stations.{is_in}
 use Rattle.journal_links.specs.Begun.{LinkBegun, begun_by, link_numbered, links_begun, links_from, with_number}
 use Rattle.journal_links.specs.Opened.{central_side}
 use Rattle.journal_links.proofs.LinksBegun.{fated_before, links_counted, links_more, number_next}

@@ -8,19 +8,19 @@ use Rattle.ble_base.specs.declared.roles.Side.{Side}
 use Rattle.journal.specs.declared.entries.Entry.{Entry}
 use Rattle.journal.specs.declared.entries.Entry.TheVariants.{Opened}
 use Rattle.radio_replay.specs.Script.{Script}
-use Rattle.runs.specs.History.{Event, TurnBegan, HostFed, Called, Noted, Transmitted}
-use Rattle.runs.specs.Journal.{entries_of, entry_of, journal_of, side_of}
-use Rattle.runs.specs.Links.{Links, links_of}
-use Rattle.runs.specs.Pair.{given_of}
-use Rattle.runs.specs.Readers.{turns_of}
-use Rattle.runs.specs.Run.{Given, history_of, run_of}
-use Rattle.runs.proofs.EntryEvents.{is_of_event}
-use Rattle.runs.proofs.Fates.{turns_are}
-use Rattle.runs.proofs.LinkEnds.{AreTaken, IsUnderstood, pair_addresses}
-use Rattle.runs.proofs.Numbers.{opening_at}
-use Rattle.runs.proofs.OfStations.{OfStations, run_of_stations}
-use Rattle.runs.proofs.Ordered.{pair_distinct}
-use Rattle.runs.proofs.Places.{each_at}
+use Rattle.run_model.specs.History.{Event, TurnBegan, HostFed, Called, Noted, Transmitted}
+use Rattle.run_model.specs.Journal.{entries_of, entry_of, journal_of, side_of}
+use Rattle.run_model.specs.Links.{Links, links_of}
+use Rattle.run_model.specs.Pair.{given_of}
+use Rattle.run_model.specs.Readers.{turns_of}
+use Rattle.run_model.specs.Run.{Given, history_of, run_of}
+use Rattle.run_model.proofs.EntryEvents.{is_of_event}
+use Rattle.run_model.proofs.Fates.{turns_are}
+use Rattle.run_model.proofs.LinkEnds.{AreTaken, IsUnderstood, pair_addresses}
+use Rattle.run_model.proofs.Numbers.{opening_at}
+use Rattle.run_model.proofs.OfStations.{OfStations, run_of_stations}
+use Rattle.run_model.proofs.Ordered.{pair_distinct}
+use Rattle.run_model.proofs.Places.{each_at}
 use Rattle.journal_links.specs.Begun.{link_numbered}
 use Rattle.journal_links.specs.Opened.{IsOpenedInTime, central_side}
 use Rattle.journal_links.proofs.Numbered.{link_of_number}

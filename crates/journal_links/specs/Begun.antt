@@ -7,9 +7,9 @@ use Rattle.adv_pdu.specs.declared.pdu.AdvPdu.TheVariants.{Connect}
 use Rattle.adv_pdu.specs.declared.pdu.ConnectFields.{ConnectFields}
 use Rattle.journal.specs.declared.entries.Entry.{Entry}
 use Rattle.journal.specs.declared.entries.Entry.TheVariants.{Air}
-use Rattle.one_side.specs.Packets.{pdu_heard}
-use Rattle.runs.specs.Links.{is_advertising}
-use Rattle.runs.specs.Readers.{pair_openings_in}
+use Rattle.controller_model.specs.Packets.{pdu_heard}
+use Rattle.run_model.specs.Links.{is_advertising}
+use Rattle.run_model.specs.Readers.{pair_openings_in}
 
 pub record LinkBegun : Type 0 where
   -- the side that sent the CONNECT_IND

@@ -4,7 +4,7 @@ use Rattle.std.specs.Prelude.{◌≡◌, ℕ, ◌+◌, ◌*◌, List, length, So
 use Rattle.chan_select.specs.Channel.{channel_of}
 use Rattle.chan_select.specs.declared.selection.Algorithm.TheVariants.{Two}
 use Rattle.journal.specs.declared.entries.Entry.{Entry}
-use Rattle.runs.specs.Readers.{turns_of}
+use Rattle.run_model.specs.Readers.{turns_of}
 use Rattle.journal_links.specs.Begun.{LinkBegun, link_numbered}
 
 -- the slot of the anchor of an event: event 0 comes two slots and WinOffset after the CONNECT_IND, and each next event

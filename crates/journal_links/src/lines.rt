@@ -8,10 +8,10 @@ ghost use Rattle.journal.specs.declared.entries.Entry.TheVariants.{Enter, Opened
 ghost use Rattle.journal_links.specs.Entered.{IsEnteredInTime};
 ghost use Rattle.journal_links.specs.Opened.{IsOpenedInTime};
 ghost use Rattle.radio_replay.specs.Script.{Script};
-ghost use Rattle.runs.specs.Journal.{journal_of};
-ghost use Rattle.runs.specs.Pair.{given_of};
-ghost use Rattle.runs.specs.Readers.{turns_of};
-ghost use Rattle.runs.specs.Run.{history_of, run_of};
+ghost use Rattle.run_model.specs.Journal.{journal_of};
+ghost use Rattle.run_model.specs.Pair.{given_of};
+ghost use Rattle.run_model.specs.Readers.{turns_of};
+ghost use Rattle.run_model.specs.Run.{history_of, run_of};
 
 /// Each line of an end that enters an event of a link is in the turn of the anchor of that
 /// event, and its channel is that of the event, by channel selection algorithm #2: both follow from
@@ -24,7 +24,7 @@ pub fn each_enter_line_is_at_its_anchor()
         ≡ front ++ Enter side number event channel ∷ rest
         → IsEnteredInTime front number event channel }
 {
-    one_side::a_pdu_is_understood();
+    controller_model::a_pdu_is_understood();
     advertise::laws::connections_are_taken();
 }
 
@@ -49,7 +49,7 @@ pub fn both_ends_enter_an_event_in_one_turn()
         ≡ later ++ Enter other number event too ∷ last
         → channel ≡ too }
 {
-    one_side::a_pdu_is_understood();
+    controller_model::a_pdu_is_understood();
     advertise::laws::connections_are_taken();
 }
 
@@ -64,6 +64,6 @@ pub fn each_opened_line_names_its_link()
         ≡ front ++ Opened side number handle role ∷ rest
         → IsOpenedInTime front side number role }
 {
-    one_side::a_pdu_is_understood();
+    controller_model::a_pdu_is_understood();
     advertise::laws::connections_are_taken();
 }

@@ -3,7 +3,7 @@ ghost use Rattle.std.specs.Prelude.{◌≡◌, [], ◌∷◌, Some, None};
 ghost use Rattle.journal_links.specs.Begun.{link_numbered, links_begun};
 ghost use Rattle.journal_links.specs.Entered.{anchor_in, channel_in};
 ghost use Rattle.journal_links.specs.Rows.{one_link};
-ghost use Rattle.runs.specs.Rows.{one_event_journal};
+ghost use Rattle.run_model.specs.Rows.{one_event_journal};
 
 /// A journal with one CONNECT_IND has one link. Its first event is two slots after that, and its
 /// next event an interval of 24 slots later, on the channels 25 and 20.

@@ -15,13 +15,13 @@ use Rattle.adv_pdu.specs.declared.pdu.AdvPdu.TheVariants.{Connect}
 use Rattle.adv_pdu.specs.declared.pdu.ConnectFields.{ConnectFields}
 use Rattle.air_frame.specs.Packet.{access_octets}
 use Rattle.scan_init.specs.Access.{IsNthAccess, access_at, nth_access}
-use Rattle.one_side.specs.Heard.{access_found}
-use Rattle.one_side.specs.Packets.{pdu_heard}
-use Rattle.runs.specs.Due.{Each}
-use Rattle.runs.specs.History.{Event, TurnBegan, HostFed, Called, Noted, Transmitted, turns_in}
-use Rattle.runs.specs.Journal.{side_of}
-use Rattle.runs.specs.Links.{begins_link, is_advertising, is_connect_ind}
-use Rattle.runs.specs.Run.{Given, setup_at}
+use Rattle.controller_model.specs.Heard.{access_found}
+use Rattle.controller_model.specs.Packets.{pdu_heard}
+use Rattle.run_model.specs.Due.{Each}
+use Rattle.run_model.specs.History.{Event, TurnBegan, HostFed, Called, Noted, Transmitted, turns_in}
+use Rattle.run_model.specs.Journal.{side_of}
+use Rattle.run_model.specs.Links.{begins_link, is_advertising, is_connect_ind}
+use Rattle.run_model.specs.Run.{Given, setup_at}
 use Rattle.run_laws.specs.Access.{connects_in, connects_sent}
 use Rattle.run_laws.proofs.ConnectInds.{TakenInOrder, count_event}
 use Rattle.run_laws.proofs.DistinctAccess.{AreApart, found_at}

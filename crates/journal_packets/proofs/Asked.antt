@@ -7,12 +7,12 @@ use Rattle.ble_base.specs.declared.notes.Note.{Note}
 use Rattle.ble_base.specs.declared.notes.Note.TheVariants.{Up}
 use Rattle.ble_base.specs.declared.roles.Side.{Side}
 use Rattle.radio_replay.specs.declared.fates.Fate.{Fate}
-use Rattle.one_side.specs.Step.{Step, HostOctet}
-use Rattle.one_side.specs.Side.{notes_after}
-use Rattle.runs.specs.History.{Event, TurnBegan, HostFed, Called, Noted, Transmitted, Hearing, fates_used, has_received, is_good}
-use Rattle.runs.specs.Journal.{air_entries, entries_of, entry_of, journal_from, journal_of, side_of}
-use Rattle.runs.specs.Links.{Links, first_links, is_advertising, links_after, links_of}
-use Rattle.runs.specs.Run.{Given, setup_at, facts_at, after_call, after_octets, after_feed, fate_at, hearing_at, hearings_from, hearings_of, others_than}
+use Rattle.controller_model.specs.Step.{Step, HostOctet}
+use Rattle.controller_model.specs.Side.{notes_after}
+use Rattle.run_model.specs.History.{Event, TurnBegan, HostFed, Called, Noted, Transmitted, Hearing, fates_used, has_received, is_good}
+use Rattle.run_model.specs.Journal.{air_entries, entries_of, entry_of, journal_from, journal_of, side_of}
+use Rattle.run_model.specs.Links.{Links, first_links, is_advertising, links_after, links_of}
+use Rattle.run_model.specs.Run.{Given, setup_at, facts_at, after_call, after_octets, after_feed, fate_at, hearing_at, hearings_from, hearings_of, others_than}
 use Rattle.journal_packets.specs.Belonging.{asked_after, have_one_access, is_answer, is_side}
 
 -- ---- an event more

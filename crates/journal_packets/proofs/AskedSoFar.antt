@@ -6,26 +6,26 @@ use Rattle.std.specs.List.{IsDistinct}
 use Rattle.std.proofs.lemmas.Bool.{eqb-true}
 use Rattle.std.proofs.lemmas.Slice.Eq.{bytes_eq-Decides}
 use Rattle.open_links.specs.OpenLinks.{facts_in}
-use Rattle.one_side.specs.declared.doing.Doing.{Doing}
-use Rattle.one_side.specs.declared.doing.Doing.TheVariants.{PeripheralSends}
-use Rattle.one_side.specs.Step.{Step, TurnBegins, TurnEnds}
-use Rattle.one_side.specs.Facts.{Facts, Sends, Listens}
-use Rattle.one_side.specs.Side.{facts_after, facts_of, notes_after}
-use Rattle.one_side.proofs.Always.{MayBegin}
-use Rattle.one_side.proofs.DataChannels.{link_channel}
+use Rattle.controller_model.specs.declared.doing.Doing.{Doing}
+use Rattle.controller_model.specs.declared.doing.Doing.TheVariants.{PeripheralSends}
+use Rattle.controller_model.specs.Step.{Step, TurnBegins, TurnEnds}
+use Rattle.controller_model.specs.Facts.{Facts, Sends, Listens}
+use Rattle.controller_model.specs.Side.{facts_after, facts_of, notes_after}
+use Rattle.controller_model.proofs.Always.{MayBegin}
+use Rattle.controller_model.proofs.DataChannels.{link_channel}
 use Rattle.radio_replay.specs.declared.fates.Fate.{Fate}
-use Rattle.runs.specs.Due.{Each}
-use Rattle.runs.specs.Feeding.{AreDistinct}
-use Rattle.runs.specs.History.{Event, TurnBegan, Transmitted, Hearing, has_received, past_of, packet_received}
-use Rattle.runs.specs.LinkEnds.{HaveAddresses}
-use Rattle.runs.specs.Links.{is_advertising}
-use Rattle.runs.specs.Run.{Given, setup_at, facts_at, use_at, octets_left, after_call, after_feed, hearings_of, step_of}
-use Rattle.runs.proofs.Calls.{past_other}
-use Rattle.runs.proofs.Journals.{two}
-use Rattle.runs.proofs.LinkEnds.{IsUnderstood, is_listener, received_by, received_event}
-use Rattle.runs.proofs.Places.{each_event}
-use Rattle.runs.proofs.Stations.{is_in, among, in_more_other, in_more_same, not_before}
-use Rattle.runs.proofs.Walk.{Place, NoTurn, AtFeeds, AtBegins, AfterPhases, AtPackets, AtListening, AtEnds, IsKept}
+use Rattle.run_model.specs.Due.{Each}
+use Rattle.run_model.specs.Feeding.{AreDistinct}
+use Rattle.run_model.specs.History.{Event, TurnBegan, Transmitted, Hearing, has_received, past_of, packet_received}
+use Rattle.run_model.specs.LinkEnds.{HaveAddresses}
+use Rattle.run_model.specs.Links.{is_advertising}
+use Rattle.run_model.specs.Run.{Given, setup_at, facts_at, use_at, octets_left, after_call, after_feed, hearings_of, step_of}
+use Rattle.run_model.proofs.Calls.{past_other}
+use Rattle.run_model.proofs.Journals.{two}
+use Rattle.run_model.proofs.LinkEnds.{IsUnderstood, is_listener, received_by, received_event}
+use Rattle.run_model.proofs.Places.{each_event}
+use Rattle.run_model.proofs.Stations.{is_in, among, in_more_other, in_more_same, not_before}
+use Rattle.run_model.proofs.Walk.{Place, NoTurn, AtFeeds, AtBegins, AfterPhases, AtPackets, AtListening, AtEnds, IsKept}
 use Rattle.run_laws.proofs.ByCalls.{at_turn, first_hears}
 use Rattle.run_laws.proofs.ConnectInds.{AreCounted, counted_kept, first_counts, no_advertising}
 use Rattle.run_laws.proofs.Hearings.{AreHearing, hearing_kept, own_facts, use_same, wanted_is}

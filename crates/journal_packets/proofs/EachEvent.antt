@@ -1,12 +1,12 @@
 -- A fact of each event of a history, which calls, notes and octets of a host have of themselves.
 use Rattle.std.proofs.Common.{ℕ, List, [], ◌∷◌, ◌++◌}
 use Rattle.ble_base.specs.declared.notes.Note.{Note}
-use Rattle.one_side.specs.Step.{Step, HostOctet}
-use Rattle.one_side.specs.Side.{notes_after}
-use Rattle.runs.specs.Due.{Each}
-use Rattle.runs.specs.History.{Event, HostFed, Called, Noted}
-use Rattle.runs.specs.Run.{Given, setup_at, facts_at, after_call, after_octets, after_feed}
-use Rattle.runs.proofs.Places.{each_called, each_event}
+use Rattle.controller_model.specs.Step.{Step, HostOctet}
+use Rattle.controller_model.specs.Side.{notes_after}
+use Rattle.run_model.specs.Due.{Each}
+use Rattle.run_model.specs.History.{Event, HostFed, Called, Noted}
+use Rattle.run_model.specs.Run.{Given, setup_at, facts_at, after_call, after_octets, after_feed}
+use Rattle.run_model.proofs.Places.{each_called, each_event}
 
 module _ (given : Given) (fact : List Event → Event → Type 0) (called : (before : List Event) (station : ℕ) (step : Step) → fact before (Called station step))
     (noted : (station : ℕ) (before : List Event) (note : Note) → fact before (Noted station note)) (fed : (before : List Event) (station : ℕ) (octets : List ℕ) → fact before (HostFed station octets)) where

@@ -3,14 +3,14 @@ use Rattle.std.proofs.Common.{◌≡◌, ℕ, ◌⊎◌, inl, inr, List, [], ◌
 use Rattle.ble_base.specs.declared.roles.Side.{Side}
 use Rattle.ble_base.specs.declared.roles.Side.TheVariants.{A, B}
 use Rattle.radio_replay.specs.Script.{Script}
-use Rattle.runs.specs.Due.{Each}
-use Rattle.runs.specs.History.{Event}
-use Rattle.runs.specs.Journal.{journal_of, side_of}
-use Rattle.runs.specs.LinkEnds.{HaveAddresses}
-use Rattle.runs.specs.Pair.{given_of}
-use Rattle.runs.specs.Run.{Given, history_of, run_of, setup_at}
-use Rattle.runs.proofs.LinkEnds.{AreTaken, IsUnderstood, pair_addresses}
-use Rattle.runs.proofs.Walk.{IsStopped, IsWhole, ends_with, run_kept}
+use Rattle.run_model.specs.Due.{Each}
+use Rattle.run_model.specs.History.{Event}
+use Rattle.run_model.specs.Journal.{journal_of, side_of}
+use Rattle.run_model.specs.LinkEnds.{HaveAddresses}
+use Rattle.run_model.specs.Pair.{given_of}
+use Rattle.run_model.specs.Run.{Given, history_of, run_of, setup_at}
+use Rattle.run_model.proofs.LinkEnds.{AreTaken, IsUnderstood, pair_addresses}
+use Rattle.run_model.proofs.Walk.{IsStopped, IsWhole, ends_with, run_kept}
 use Rattle.run_laws.specs.Access.{connects_sent}
 use Rattle.run_laws.proofs.ConnectInds.{TakenInOrder}
 use Rattle.journal_links.specs.Begun.{links_begun}

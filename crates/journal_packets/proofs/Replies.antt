@@ -16,13 +16,13 @@ use Rattle.advertise.specs.Answers.{advertiser_answer}
 use Rattle.air_frame.specs.declared.Heard.TheVariants.{NotOurs, Broken, Whole}
 use Rattle.air_frame.specs.Hearing.{heard_in}
 use Rattle.air_frame.specs.Packet.{access_octets, is_packet, pdu_in}
-use Rattle.one_end.specs.End.{replies_by, replies_of}
-use Rattle.one_end.specs.Facts.{Facts as EndFacts}
-use Rattle.one_end.specs.Packets.{good_in, good_pdu, packet_sent}
-use Rattle.one_end.specs.Setup.{Setup as EndSetup}
-use Rattle.one_end.specs.Step.{PduFixed, PacketSent, PacketReceived}
-use Rattle.one_end.specs.Times.{has_second_exchange}
-use Rattle.one_end.specs.declared.setup.LinkSetup.{LinkSetup}
+use Rattle.link_model.specs.End.{replies_by, replies_of}
+use Rattle.link_model.specs.Facts.{Facts as EndFacts}
+use Rattle.link_model.specs.Packets.{good_in, good_pdu, packet_sent}
+use Rattle.link_model.specs.Setup.{Setup as EndSetup}
+use Rattle.link_model.specs.Step.{PduFixed, PacketSent, PacketReceived}
+use Rattle.link_model.specs.Times.{has_second_exchange}
+use Rattle.link_model.specs.declared.setup.LinkSetup.{LinkSetup}
 use Rattle.scan_init.specs.Initiating.{InitiatorFacts}
 use Rattle.scan_init.specs.Reports.{ScannerFacts, does_ask, scan_answer}
 use Rattle.slot_plan.specs.declared.Activity.{Activity}
@@ -30,21 +30,21 @@ use Rattle.slot_plan.specs.declared.Activity.TheVariants.{Link, Advertise, Scan,
 use Rattle.slot_plan.specs.Holding.{is_held_in, winner_of}
 use Rattle.open_links.specs.OpenLinks.{Links, OpenLink, facts_in, free_from, link_after, link_at, link_served, with_change}
 use Rattle.open_links.proofs.Handles.{changed_is}
-use Rattle.one_side.specs.declared.doing.Doing.{Doing}
-use Rattle.one_side.specs.declared.doing.Doing.TheVariants.{Advertises, AwaitsRequest, Scans, Requests, AwaitsResponse, Initiates, Connects, CentralSends, CentralListens, PeripheralListens, PeripheralSends, Rests}
-use Rattle.one_side.specs.Step.{HostOctet, TurnBegins}
-use Rattle.one_side.specs.Facts.{Setup, Facts, Sends, Listens, first_facts}
-use Rattle.one_side.specs.Heard.{advertiser_answers, advertiser_heard, asks_if, connects, has_room, heard, if_pdu, initiator_heard, link_heard, link_received, link_to, replies_in, reply_if, scanner_heard, taken_if, taken_under, unheard}
-use Rattle.one_side.specs.Links.{facts_ending}
-use Rattle.one_side.specs.Outcome.{Outcome, facts_passed, goes_on}
-use Rattle.one_side.specs.Packets.{facts_doing, links_sending, listens_on, pdu_heard, sends_on}
-use Rattle.one_side.specs.Radio.{advertises_at, advertises_on, doing_held, doing_won, exchange_begins, exchange_if, facts_entering, facts_won, first_exchange, fixing, initiates_on, initiator_channel, links_fixing, plan_in, radio_served, scanner_channel, scans_on, second_exchange, served, slots_since, turn_begins, winner_served}
-use Rattle.one_side.specs.Sent.{SendsOn}
-use Rattle.one_side.specs.Side.{facts_after}
-use Rattle.runs.specs.History.{Event, past_of, turns_begun}
-use Rattle.runs.specs.Run.{Given, facts_at, setup_at, step_of}
-use Rattle.runs.proofs.Stations.{is_in}
-use Rattle.runs.proofs.Walk.{Place}
+use Rattle.controller_model.specs.declared.doing.Doing.{Doing}
+use Rattle.controller_model.specs.declared.doing.Doing.TheVariants.{Advertises, AwaitsRequest, Scans, Requests, AwaitsResponse, Initiates, Connects, CentralSends, CentralListens, PeripheralListens, PeripheralSends, Rests}
+use Rattle.controller_model.specs.Step.{HostOctet, TurnBegins}
+use Rattle.controller_model.specs.Facts.{Setup, Facts, Sends, Listens, first_facts}
+use Rattle.controller_model.specs.Heard.{advertiser_answers, advertiser_heard, asks_if, connects, has_room, heard, if_pdu, initiator_heard, link_heard, link_received, link_to, replies_in, reply_if, scanner_heard, taken_if, taken_under, unheard}
+use Rattle.controller_model.specs.Links.{facts_ending}
+use Rattle.controller_model.specs.Outcome.{Outcome, facts_passed, goes_on}
+use Rattle.controller_model.specs.Packets.{facts_doing, links_sending, listens_on, pdu_heard, sends_on}
+use Rattle.controller_model.specs.Radio.{advertises_at, advertises_on, doing_held, doing_won, exchange_begins, exchange_if, facts_entering, facts_won, first_exchange, fixing, initiates_on, initiator_channel, links_fixing, plan_in, radio_served, scanner_channel, scans_on, second_exchange, served, slots_since, turn_begins, winner_served}
+use Rattle.controller_model.specs.Sent.{SendsOn}
+use Rattle.controller_model.specs.Side.{facts_after}
+use Rattle.run_model.specs.History.{Event, past_of, turns_begun}
+use Rattle.run_model.specs.Run.{Given, facts_at, setup_at, step_of}
+use Rattle.run_model.proofs.Stations.{is_in}
+use Rattle.run_model.proofs.Walk.{Place}
 use Rattle.run_laws.proofs.Entering.{IsInTurn, turn_first, turn_kept}
 use Rattle.run_laws.proofs.TurnPlaces.{AllStand, Between, IsTurned, Stage, Within, stands_at, turned}
 use Rattle.run_laws.proofs.TurnSteps.{IsListening}

@@ -7,21 +7,21 @@ use Rattle.ble_base.specs.declared.roles.Role.TheVariants.{Central, Peripheral}
 use Rattle.ble_base.specs.declared.roles.Side.{Side}
 use Rattle.ble_base.specs.declared.roles.Side.TheVariants.{A, B}
 use Rattle.air_frame.specs.Packet.{access_octets}
-use Rattle.one_end.specs.Setup.{Setup as EndSetup}
-use Rattle.one_end.specs.Step.{PacketSent}
+use Rattle.link_model.specs.Setup.{Setup as EndSetup}
+use Rattle.link_model.specs.Step.{PacketSent}
 use Rattle.open_links.specs.OpenLinks.{OpenLink, facts_in, link_after}
-use Rattle.one_side.specs.declared.doing.Doing.TheVariants.{CentralSends}
-use Rattle.one_side.specs.Facts.{Sends}
-use Rattle.runs.specs.Due.{Each}
-use Rattle.runs.specs.History.{Event, Transmitted, packet_received, turns_begun}
-use Rattle.runs.specs.Journal.{journal_of, side_of}
-use Rattle.runs.specs.LinkEnds.{ConnectInd, HaveAddresses, IsAtEnd}
-use Rattle.runs.specs.Links.{is_advertising, links_of}
-use Rattle.runs.specs.Numbers.{AreNumbered, HasNumber}
-use Rattle.runs.specs.Run.{Given, facts_at, setup_at, use_at}
-use Rattle.runs.proofs.Places.{each_at}
-use Rattle.runs.proofs.Stations.{among}
-use Rattle.runs.proofs.Walk.{AtPackets}
+use Rattle.controller_model.specs.declared.doing.Doing.TheVariants.{CentralSends}
+use Rattle.controller_model.specs.Facts.{Sends}
+use Rattle.run_model.specs.Due.{Each}
+use Rattle.run_model.specs.History.{Event, Transmitted, packet_received, turns_begun}
+use Rattle.run_model.specs.Journal.{journal_of, side_of}
+use Rattle.run_model.specs.LinkEnds.{ConnectInd, HaveAddresses, IsAtEnd}
+use Rattle.run_model.specs.Links.{is_advertising, links_of}
+use Rattle.run_model.specs.Numbers.{AreNumbered, HasNumber}
+use Rattle.run_model.specs.Run.{Given, facts_at, setup_at, use_at}
+use Rattle.run_model.proofs.Places.{each_at}
+use Rattle.run_model.proofs.Stations.{among}
+use Rattle.run_model.proofs.Walk.{AtPackets}
 use Rattle.run_laws.specs.Access.{connects_sent}
 use Rattle.run_laws.proofs.ConnectInds.{TakenInOrder, on_channel}
 use Rattle.run_laws.proofs.DistinctAccess.{AreApart}

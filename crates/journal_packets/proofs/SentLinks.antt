@@ -10,11 +10,11 @@ use Rattle.adv_pdu.specs.declared.pdu.AdvPdu.{AdvPdu}
 use Rattle.adv_pdu.specs.declared.pdu.AdvPdu.TheVariants.{Connect}
 use Rattle.adv_pdu.specs.declared.pdu.ConnectFields.{ConnectFields}
 use Rattle.journal.specs.declared.entries.Entry.{Entry}
-use Rattle.one_side.specs.Packets.{pdu_heard}
-use Rattle.runs.specs.Due.{Each}
-use Rattle.runs.specs.History.{Event, TurnBegan, HostFed, Called, Noted, Transmitted, Hearing, turns_begun, turns_in}
-use Rattle.runs.specs.Journal.{entries_of, entry_of, journal_from, journal_of, side_of}
-use Rattle.runs.specs.Links.{Links, begins_link, first_links, is_advertising, is_connect_ind, links_after, links_of, with_link}
+use Rattle.controller_model.specs.Packets.{pdu_heard}
+use Rattle.run_model.specs.Due.{Each}
+use Rattle.run_model.specs.History.{Event, TurnBegan, HostFed, Called, Noted, Transmitted, Hearing, turns_begun, turns_in}
+use Rattle.run_model.specs.Journal.{entries_of, entry_of, journal_from, journal_of, side_of}
+use Rattle.run_model.specs.Links.{Links, begins_link, first_links, is_advertising, is_connect_ind, links_after, links_of, with_link}
 use Rattle.journal_links.specs.Begun.{LinkBegun, begun_by, links_begun, links_from}
 use Rattle.journal_links.proofs.LinksBegun.{get_next}
 

@@ -1,17 +1,17 @@
 -- Each packet of a run of two stations on a data channel is of the link on which it was sent.
 use Rattle.std.proofs.Common.{◌≡◌, ℕ, false, List, [], ◌∷◌, ◌++◌}
 use Rattle.std.specs.Prelude.{map, take}
-use Rattle.one_side.specs.Step.{Step, TurnBegins, TurnEnds}
-use Rattle.one_side.specs.Facts.{Sends}
-use Rattle.runs.specs.Due.{Each}
-use Rattle.runs.specs.History.{Event, TurnBegan, HostFed, Called, Noted, Transmitted, Hearing, packet_received}
-use Rattle.runs.specs.LinkEnds.{HaveAddresses}
-use Rattle.runs.specs.Links.{is_advertising}
-use Rattle.runs.specs.Run.{Given, use_at, octets_left, after_call, after_feed, hearings_of, step_of, run_of, history_of}
-use Rattle.runs.proofs.LinkEnds.{AreTaken, IsUnderstood}
-use Rattle.runs.proofs.Numbers.{IsNumberedSoFar, numbered_first, numbered_kept}
-use Rattle.runs.proofs.Places.{each_at, each_event}
-use Rattle.runs.proofs.Walk.{Place, NoTurn, AtPackets, IsKept, IsWhole, IsStopped, ends_with, run_kept}
+use Rattle.controller_model.specs.Step.{Step, TurnBegins, TurnEnds}
+use Rattle.controller_model.specs.Facts.{Sends}
+use Rattle.run_model.specs.Due.{Each}
+use Rattle.run_model.specs.History.{Event, TurnBegan, HostFed, Called, Noted, Transmitted, Hearing, packet_received}
+use Rattle.run_model.specs.LinkEnds.{HaveAddresses}
+use Rattle.run_model.specs.Links.{is_advertising}
+use Rattle.run_model.specs.Run.{Given, use_at, octets_left, after_call, after_feed, hearings_of, step_of, run_of, history_of}
+use Rattle.run_model.proofs.LinkEnds.{AreTaken, IsUnderstood}
+use Rattle.run_model.proofs.Numbers.{IsNumberedSoFar, numbered_first, numbered_kept}
+use Rattle.run_model.proofs.Places.{each_at, each_event}
+use Rattle.run_model.proofs.Walk.{Place, NoTurn, AtPackets, IsKept, IsWhole, IsStopped, ends_with, run_kept}
 use Rattle.run_laws.proofs.DistinctAccess.{AreApart}
 use Rattle.journal_packets.specs.Senders.{IsOfSendersLink}
 use Rattle.journal_packets.proofs.AccessOrder.{AreNth}

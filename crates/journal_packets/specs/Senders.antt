@@ -1,12 +1,12 @@
 -- The link that a packet of a run was sent on (Core 5.2, volume 6 part B, section 4.5).
 use Rattle.std.specs.Prelude.{◌≡◌, ℕ, List, Some}
-use Rattle.one_end.specs.Packets.{packet_sent}
-use Rattle.one_end.specs.Step.{PacketSent}
+use Rattle.link_model.specs.Packets.{packet_sent}
+use Rattle.link_model.specs.Step.{PacketSent}
 use Rattle.open_links.specs.OpenLinks.{OpenLink, facts_in, link_after, link_at}
-use Rattle.runs.specs.History.{Event}
-use Rattle.runs.specs.Journal.{journal_of, side_of}
-use Rattle.runs.specs.Links.{links_of}
-use Rattle.runs.specs.Run.{Given, facts_at}
+use Rattle.run_model.specs.History.{Event}
+use Rattle.run_model.specs.Journal.{journal_of, side_of}
+use Rattle.run_model.specs.Links.{links_of}
+use Rattle.run_model.specs.Run.{Given, facts_at}
 use Rattle.journal_packets.specs.Belonging.{link_of_packet}
 
 -- a packet that a station sends after this history is that of one of its open links, on the channel of its event, and the

@@ -3,9 +3,9 @@
 ghost use Rattle.std.specs.Prelude.{◌≡◌, ℕ, List, length};
 ghost use Rattle.journal_packets.specs.Addresses.{AllAddressesAreNext};
 ghost use Rattle.radio_replay.specs.Script.{Script};
-ghost use Rattle.runs.specs.Journal.{journal_of};
-ghost use Rattle.runs.specs.Pair.{given_of};
-ghost use Rattle.runs.specs.Run.{history_of, run_of};
+ghost use Rattle.run_model.specs.Journal.{journal_of};
+ghost use Rattle.run_model.specs.Pair.{given_of};
+ghost use Rattle.run_model.specs.Run.{history_of, run_of};
 
 /// In the journal of a run of a pair, the CONNECT_INDs that a side sent have the valid access
 /// addresses from its cursor on, each the next one, whatever comes between, an HCI_Reset too (Core
@@ -15,6 +15,6 @@ pub fn each_link_has_the_next_address()
         → length script.b.public ≡ 6
         → AllAddressesAreNext script (journal_of (history_of (run_of (given_of a b script)))) }
 {
-    one_side::a_pdu_is_understood();
+    controller_model::a_pdu_is_understood();
     advertise::laws::connections_are_taken();
 }

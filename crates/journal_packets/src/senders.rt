@@ -2,10 +2,10 @@
 //! contract is the law.
 ghost use Rattle.std.specs.Prelude.{◌≡◌, ◌++◌, ◌∷◌, ℕ, List, false, length};
 ghost use Rattle.radio_replay.specs.Script.{Script};
-ghost use Rattle.runs.specs.History.{Event, Hearing, Transmitted};
-ghost use Rattle.runs.specs.Links.{is_advertising};
-ghost use Rattle.runs.specs.Pair.{given_of};
-ghost use Rattle.runs.specs.Run.{history_of, run_of};
+ghost use Rattle.run_model.specs.History.{Event, Hearing, Transmitted};
+ghost use Rattle.run_model.specs.Links.{is_advertising};
+ghost use Rattle.run_model.specs.Pair.{given_of};
+ghost use Rattle.run_model.specs.Run.{history_of, run_of};
 ghost use Rattle.journal_packets.specs.Senders.{IsOfSendersLink};
 
 /// In a run of a pair, each packet on a data channel is that of a link that is open at its sender,
@@ -21,7 +21,7 @@ pub fn each_packet_is_of_its_senders_link()
         → is_advertising channel ≡ false
         → IsOfSendersLink (given_of a b script) before station channel octets }
 {
-    one_side::a_pdu_is_understood();
+    controller_model::a_pdu_is_understood();
     advertise::laws::connections_are_taken();
     scan_init::laws::searches_give_each_valid_address();
 }

@@ -4,24 +4,24 @@ use Rattle.std.specs.Prelude.{⊤}
 use Rattle.std.specs.Option.{option_map}
 use Rattle.std.proofs.Math.Seq.{take-append_seam}
 use Rattle.std.proofs.lemmas.Bool.{eqb-true, false_from_ne_true}
-use Rattle.one_end.specs.Facts.{Facts as EndFacts}
-use Rattle.one_end.specs.Packets.{good_pdu, packet_sent}
-use Rattle.one_end.specs.Step.{Step as EndStep, PacketReceived, PacketSent, PduFixed}
+use Rattle.link_model.specs.Facts.{Facts as EndFacts}
+use Rattle.link_model.specs.Packets.{good_pdu, packet_sent}
+use Rattle.link_model.specs.Step.{Step as EndStep, PacketReceived, PacketSent, PduFixed}
 use Rattle.open_links.specs.OpenLinks.{Links, OpenLink, facts_in, link_after, link_at, with_change}
 use Rattle.open_links.proofs.Handles.{changed_is}
-use Rattle.one_side.specs.declared.doing.Doing.{Doing}
-use Rattle.one_side.specs.declared.doing.Doing.TheVariants.{Advertises, CentralSends, CentralListens, PeripheralListens, PeripheralSends, Rests}
-use Rattle.one_side.specs.Step.{HostOctet, TurnBegins, TurnEnds}
-use Rattle.one_side.specs.Facts.{Setup, Facts, Sends, first_facts}
-use Rattle.one_side.specs.Heard.{has_room, heard, link_received, replies_in, reply_if, unheard}
-use Rattle.one_side.specs.Links.{facts_ending}
-use Rattle.one_side.specs.Outcome.{facts_passed}
-use Rattle.one_side.specs.Packets.{facts_doing, sends_on}
-use Rattle.one_side.specs.Radio.{facts_entering, links_fixing, outcome_begun, plan_in, served, turn_begins}
-use Rattle.one_side.specs.Side.{facts_after}
+use Rattle.controller_model.specs.declared.doing.Doing.{Doing}
+use Rattle.controller_model.specs.declared.doing.Doing.TheVariants.{Advertises, CentralSends, CentralListens, PeripheralListens, PeripheralSends, Rests}
+use Rattle.controller_model.specs.Step.{HostOctet, TurnBegins, TurnEnds}
+use Rattle.controller_model.specs.Facts.{Setup, Facts, Sends, first_facts}
+use Rattle.controller_model.specs.Heard.{has_room, heard, link_received, replies_in, reply_if, unheard}
+use Rattle.controller_model.specs.Links.{facts_ending}
+use Rattle.controller_model.specs.Outcome.{facts_passed}
+use Rattle.controller_model.specs.Packets.{facts_doing, sends_on}
+use Rattle.controller_model.specs.Radio.{facts_entering, links_fixing, outcome_begun, plan_in, served, turn_begins}
+use Rattle.controller_model.specs.Side.{facts_after}
 use Rattle.slot_plan.specs.Holding.{winner_of}
-use Rattle.runs.specs.History.{Event}
-use Rattle.runs.specs.Run.{Given, facts_at, step_of}
+use Rattle.run_model.specs.History.{Event}
+use Rattle.run_model.specs.Run.{Given, facts_at, step_of}
 use Rattle.run_laws.proofs.Agreed.{step_facts}
 use Rattle.run_laws.proofs.LinkPasses.{IsPassing, Leaves, Opens, Receives, is_on_link, phase_passes}
 use Rattle.run_laws.proofs.TurnPlaces.{Between, IsTurned, Stage, Within}

@@ -1,13 +1,13 @@
 -- In every journal of a run of a pair each line is the one that is due, and nothing waits between turns.
 use Rattle.std.proofs.Common.{◌≡◌, ℕ, List, length, refl}
-use Rattle.one_end.proofs.Received.{IsHeardWhole}
+use Rattle.link_model.proofs.Received.{IsHeardWhole}
 use Rattle.radio_replay.specs.Script.{Script}
-use Rattle.runs.specs.History.{Event}
-use Rattle.runs.specs.Journal.{journal_of}
-use Rattle.runs.specs.Pair.{given_of}
-use Rattle.runs.specs.Run.{GoesOn, history_of, run_of}
-use Rattle.runs.proofs.LinkEnds.{AreTaken, IsUnderstood, pair_addresses}
-use Rattle.runs.proofs.Ordered.{pair_distinct}
+use Rattle.run_model.specs.History.{Event}
+use Rattle.run_model.specs.Journal.{journal_of}
+use Rattle.run_model.specs.Pair.{given_of}
+use Rattle.run_model.specs.Run.{GoesOn, history_of, run_of}
+use Rattle.run_model.proofs.LinkEnds.{AreTaken, IsUnderstood, pair_addresses}
+use Rattle.run_model.proofs.Ordered.{pair_distinct}
 use Rattle.run_laws.proofs.DistinctAccess.{AreApart}
 use Rattle.run_laws.proofs.InAgreement.{is_pair}
 use Rattle.journal_packets.proofs.AccessOrder.{AreNth}

@@ -6,35 +6,35 @@ use Rattle.ble_base.specs.declared.notes.Note.{Note}
 use Rattle.ble_base.specs.declared.notes.Note.TheVariants.{Up as UpNote, Sent as SentNote}
 use Rattle.ble_base.specs.declared.roles.Side.{Side}
 use Rattle.ack_bit.specs.Nonempty.{nonempty}
-use Rattle.one_end.specs.Acknowledgement.{Pdu, is_acked}
-use Rattle.one_end.specs.Data.{is_empty, numbered}
-use Rattle.one_end.specs.Delivery.{sent_data, sent_note}
-use Rattle.one_end.specs.End.{sent_notes, sent_notes_if}
-use Rattle.one_end.specs.Step.{PacketReceived, PacketSent}
-use Rattle.one_end.proofs.Received.{IsHeardWhole}
+use Rattle.link_model.specs.Acknowledgement.{Pdu, is_acked}
+use Rattle.link_model.specs.Data.{is_empty, numbered}
+use Rattle.link_model.specs.Delivery.{sent_data, sent_note}
+use Rattle.link_model.specs.End.{sent_notes, sent_notes_if}
+use Rattle.link_model.specs.Step.{PacketReceived, PacketSent}
+use Rattle.link_model.proofs.Received.{IsHeardWhole}
 use Rattle.open_links.specs.OpenLinks.{OpenLink, facts_in, link_after, link_at, with_change}
 use Rattle.open_links.specs.Turns.{notes_entering}
 use Rattle.open_links.proofs.Handles.{handle_is}
-use Rattle.one_side.specs.declared.doing.Doing.TheVariants.{PeripheralSends}
-use Rattle.one_side.specs.Step.{Step, HostOctet, TurnBegins, TurnEnds}
-use Rattle.one_side.specs.Facts.{Facts}
-use Rattle.one_side.specs.Heard.{has_room, link_heard, link_received, notes_taken, replies_in, reply_if}
-use Rattle.one_side.specs.Links.{facts_ending, notes_ending}
-use Rattle.one_side.specs.Outcome.{facts_passed, notes_passed}
-use Rattle.one_side.specs.Packets.{facts_doing, notes_doing, notes_sent}
-use Rattle.one_side.specs.Radio.{outcome_begun}
-use Rattle.one_side.specs.Side.{facts_after, notes_after}
-use Rattle.one_side.proofs.Always.{IsInTurn}
-use Rattle.one_side.proofs.Handles.{own_handles}
-use Rattle.runs.specs.Feeding.{AreDistinct}
-use Rattle.runs.specs.History.{Event, Called, Noted, packet_received, past_of, turns_begun}
-use Rattle.runs.specs.Journal.{entry_of, journal_of, side_of}
-use Rattle.runs.specs.LinkEnds.{HaveAddresses}
-use Rattle.runs.specs.Run.{Given, after_call, facts_at, history_of, run_of, setup_at, step_of}
-use Rattle.runs.proofs.LinkEnds.{AreTaken, IsUnderstood}
-use Rattle.runs.proofs.Places.{each_at}
-use Rattle.runs.proofs.Stations.{among, is_in}
-use Rattle.runs.proofs.Walk.{Place, AtBegins, AtListening}
+use Rattle.controller_model.specs.declared.doing.Doing.TheVariants.{PeripheralSends}
+use Rattle.controller_model.specs.Step.{Step, HostOctet, TurnBegins, TurnEnds}
+use Rattle.controller_model.specs.Facts.{Facts}
+use Rattle.controller_model.specs.Heard.{has_room, link_heard, link_received, notes_taken, replies_in, reply_if}
+use Rattle.controller_model.specs.Links.{facts_ending, notes_ending}
+use Rattle.controller_model.specs.Outcome.{facts_passed, notes_passed}
+use Rattle.controller_model.specs.Packets.{facts_doing, notes_doing, notes_sent}
+use Rattle.controller_model.specs.Radio.{outcome_begun}
+use Rattle.controller_model.specs.Side.{facts_after, notes_after}
+use Rattle.controller_model.proofs.Always.{IsInTurn}
+use Rattle.controller_model.proofs.Handles.{own_handles}
+use Rattle.run_model.specs.Feeding.{AreDistinct}
+use Rattle.run_model.specs.History.{Event, Called, Noted, packet_received, past_of, turns_begun}
+use Rattle.run_model.specs.Journal.{entry_of, journal_of, side_of}
+use Rattle.run_model.specs.LinkEnds.{HaveAddresses}
+use Rattle.run_model.specs.Run.{Given, after_call, facts_at, history_of, run_of, setup_at, step_of}
+use Rattle.run_model.proofs.LinkEnds.{AreTaken, IsUnderstood}
+use Rattle.run_model.proofs.Places.{each_at}
+use Rattle.run_model.proofs.Stations.{among, is_in}
+use Rattle.run_model.proofs.Walk.{Place, AtBegins, AtListening}
 use Rattle.run_laws.proofs.Agreed.{ack_of}
 use Rattle.run_laws.proofs.DistinctAccess.{AreApart}
 use Rattle.run_laws.proofs.Hearings.{own_facts}

@@ -10,15 +10,15 @@ use Rattle.acl_banks.specs.History.{HostData, Past, octets_of}
 use Rattle.acl_banks.specs.Packets.{AreFresh, AreInOrder, DataPacket, Marked, is_all_sent, marked_octets, octets_out, packet_after_acked, piece_of, sent_length, unsent_octets, with_first, without_first}
 use Rattle.acl_banks.proofs.Octets.{length-marked_octets, length-piece_of, length-unsent_octets}
 use Rattle.acl_banks.proofs.OneLink.{IsKept, outs}
-use Rattle.one_end.specs.Acknowledgement.{Pdu, is_acked, next_sent}
-use Rattle.one_end.specs.Data.{Data, data_acked_if, data_completed, data_fixed, data_in, data_of, is_completed, is_empty, is_out, is_unsent, llid_of, next_piece, pdu_with, unsent_of}
-use Rattle.one_end.specs.Delivery.{sent_data}
-use Rattle.one_end.specs.End.{facts_of, facts_received}
-use Rattle.one_end.specs.Facts.{Facts}
-use Rattle.one_end.specs.Packets.{more_sent}
-use Rattle.one_end.specs.Setup.{Setup}
-use Rattle.one_end.specs.Step.{Step}
-use Rattle.one_end.proofs.Sending.{Holds, data-push, in_order, past_holds, past_of}
+use Rattle.link_model.specs.Acknowledgement.{Pdu, is_acked, next_sent}
+use Rattle.link_model.specs.Data.{Data, data_acked_if, data_completed, data_fixed, data_in, data_of, is_completed, is_empty, is_out, is_unsent, llid_of, next_piece, pdu_with, unsent_of}
+use Rattle.link_model.specs.Delivery.{sent_data}
+use Rattle.link_model.specs.End.{facts_of, facts_received}
+use Rattle.link_model.specs.Facts.{Facts}
+use Rattle.link_model.specs.Packets.{more_sent}
+use Rattle.link_model.specs.Setup.{Setup}
+use Rattle.link_model.specs.Step.{Step}
+use Rattle.link_model.proofs.Sending.{Holds, data-push, in_order, past_holds, past_of}
 use Rattle.run_laws.proofs.Agreed.{sent_ack}
 use Rattle.journal_pdus.specs.Waiting.{next_pdu, piece_octets}
 

@@ -7,16 +7,16 @@ use Rattle.ble_base.specs.declared.notes.Note.{Note}
 use Rattle.ble_base.specs.declared.notes.Note.TheVariants.{Up, Took}
 use Rattle.journal.specs.declared.entries.Entry.{Entry}
 use Rattle.journal.specs.declared.entries.Entry.TheVariants.{Air}
-use Rattle.one_side.specs.Step.{Step}
-use Rattle.one_side.specs.Side.{notes_after}
-use Rattle.runs.specs.Due.{Each}
-use Rattle.runs.specs.History.{Event, TurnBegan, HostFed, Called, Noted, Transmitted, Hearing}
-use Rattle.runs.specs.Journal.{air_entries, entry_of, journal_of, mark_of, side_of}
-use Rattle.runs.specs.Links.{Links, links_of}
-use Rattle.runs.specs.Run.{Given, after_call, facts_at, setup_at}
-use Rattle.runs.proofs.LinksKnown.{links_event}
-use Rattle.runs.proofs.Parts.{journal_event}
-use Rattle.runs.proofs.Places.{each_append}
+use Rattle.controller_model.specs.Step.{Step}
+use Rattle.controller_model.specs.Side.{notes_after}
+use Rattle.run_model.specs.Due.{Each}
+use Rattle.run_model.specs.History.{Event, TurnBegan, HostFed, Called, Noted, Transmitted, Hearing}
+use Rattle.run_model.specs.Journal.{air_entries, entry_of, journal_of, mark_of, side_of}
+use Rattle.run_model.specs.Links.{Links, links_of}
+use Rattle.run_model.specs.Run.{Given, after_call, facts_at, setup_at}
+use Rattle.run_model.proofs.LinksKnown.{links_event}
+use Rattle.run_model.proofs.Parts.{journal_event}
+use Rattle.run_model.proofs.Places.{each_append}
 use Rattle.journal_packets.specs.Belonging.{is_side}
 use Rattle.journal_acks.proofs.CallNotes.{TakesNone}
 use Rattle.journal_acks.proofs.Exchanging.{any_note, call_keeps}

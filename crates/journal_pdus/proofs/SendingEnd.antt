@@ -1,19 +1,19 @@
 -- The end that is to transmit a packet on its link, by what the lines before it say.
 use Rattle.std.proofs.Common.{◌≡◌, ℕ, ◌+◌, true, false, Some, List, [], ◌∷◌, ◌++◌, length, sym, ap, subst, ◌∙◌}
-use Rattle.one_end.proofs.Received.{IsHeardWhole}
-use Rattle.one_end.specs.Acknowledgement.{Acknowledgement}
-use Rattle.one_end.specs.Step.{PacketSent}
+use Rattle.link_model.proofs.Received.{IsHeardWhole}
+use Rattle.link_model.specs.Acknowledgement.{Acknowledgement}
+use Rattle.link_model.specs.Step.{PacketSent}
 use Rattle.open_links.specs.OpenLinks.{OpenLink, facts_in, link_after, link_at}
-use Rattle.one_side.specs.Facts.{Facts, Sends}
-use Rattle.one_side.specs.Since.{data_waiting}
-use Rattle.runs.specs.Feeding.{AreDistinct}
-use Rattle.runs.specs.History.{Event}
-use Rattle.runs.specs.Journal.{journal_of, side_of}
-use Rattle.runs.specs.LinkEnds.{HaveAddresses}
-use Rattle.runs.specs.Links.{is_advertising}
-use Rattle.runs.specs.Run.{Given, facts_at, setup_at, use_at}
-use Rattle.runs.proofs.Stations.{is_in, among}
-use Rattle.runs.proofs.Walk.{Place, AtPackets}
+use Rattle.controller_model.specs.Facts.{Facts, Sends}
+use Rattle.controller_model.specs.Since.{data_waiting}
+use Rattle.run_model.specs.Feeding.{AreDistinct}
+use Rattle.run_model.specs.History.{Event}
+use Rattle.run_model.specs.Journal.{journal_of, side_of}
+use Rattle.run_model.specs.LinkEnds.{HaveAddresses}
+use Rattle.run_model.specs.Links.{is_advertising}
+use Rattle.run_model.specs.Run.{Given, facts_at, setup_at, use_at}
+use Rattle.run_model.proofs.Stations.{is_in, among}
+use Rattle.run_model.proofs.Walk.{Place, AtPackets}
 use Rattle.run_laws.proofs.Agreed.{ack_of, ack_sent, sent_ack}
 use Rattle.run_laws.proofs.InAgreement.{IsPair, few_links}
 use Rattle.journal_packets.specs.Senders.{IsOfSendersLink}

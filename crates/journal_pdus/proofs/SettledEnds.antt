@@ -13,11 +13,11 @@ use Rattle.acl_banks.specs.History.{whole_packets}
 use Rattle.acl_banks.specs.Packets.{Marked}
 use Rattle.journal.specs.declared.entries.Entry.{Entry}
 use Rattle.journal.specs.declared.entries.Entry.TheVariants.{Fed, Up, Opened, Shut, Sent, Took}
-use Rattle.one_end.specs.Acknowledgement.{Acknowledgement, Pdu, empty_pdu}
-use Rattle.one_end.specs.Data.{data_in, data_of, is_empty}
-use Rattle.one_end.specs.Delivery.{acked_data}
-use Rattle.one_end.specs.Facts.{Facts as EndFacts}
-use Rattle.one_end.proofs.Sending.{EndsIn, Holds, in_order}
+use Rattle.link_model.specs.Acknowledgement.{Acknowledgement, Pdu, empty_pdu}
+use Rattle.link_model.specs.Data.{data_in, data_of, is_empty}
+use Rattle.link_model.specs.Delivery.{acked_data}
+use Rattle.link_model.specs.Facts.{Facts as EndFacts}
+use Rattle.link_model.proofs.Sending.{EndsIn, Holds, in_order}
 use Rattle.journal_packets.specs.Belonging.{is_side}
 use Rattle.journal_acks.specs.Carried.{SentLine, sent_line_after, sent_line_from, sent_line_of}
 use Rattle.journal_acks.specs.Exchange.{exchange_of}

@@ -7,22 +7,22 @@ use Rattle.ble_base.specs.declared.notes.Note.TheVariants.{Up as UpNote}
 use Rattle.ble_base.specs.declared.roles.Side.{Side}
 use Rattle.ble_base.specs.declared.roles.Side.TheVariants.{A, B}
 use Rattle.journal.specs.declared.entries.Entry.TheVariants.{Turn}
-use Rattle.one_end.proofs.Received.{IsHeardWhole}
-use Rattle.one_end.proofs.Sending.{past_holds}
+use Rattle.link_model.proofs.Received.{IsHeardWhole}
+use Rattle.link_model.proofs.Sending.{past_holds}
 use Rattle.open_links.specs.OpenLinks.{OpenLink, facts_in, link_at}
-use Rattle.one_side.specs.Between.{is_between_turns}
-use Rattle.one_side.specs.Since.{data_waiting}
-use Rattle.one_side.proofs.BetweenTurns.{none_complete, nothing_waits}
-use Rattle.runs.specs.Feeding.{AreDistinct}
-use Rattle.runs.specs.History.{Event, TurnBegan, HostFed, Called, Noted, Transmitted, past_of, turns_begun}
-use Rattle.runs.specs.Journal.{entries_of, entry_of, journal_of, side_of}
-use Rattle.runs.specs.LinkEnds.{HaveAddresses}
-use Rattle.runs.specs.Links.{Links, links_of}
-use Rattle.runs.specs.Run.{Given, GoesOn, facts_at, history_of, run_of, setup_at}
-use Rattle.runs.proofs.EntryEvents.{is_of_event}
-use Rattle.runs.proofs.LinkEnds.{AreTaken, IsUnderstood}
-use Rattle.runs.proofs.Stations.{is_in}
-use Rattle.runs.proofs.Walk.{Place, NoTurn, IsKept}
+use Rattle.controller_model.specs.Between.{is_between_turns}
+use Rattle.controller_model.specs.Since.{data_waiting}
+use Rattle.controller_model.proofs.BetweenTurns.{none_complete, nothing_waits}
+use Rattle.run_model.specs.Feeding.{AreDistinct}
+use Rattle.run_model.specs.History.{Event, TurnBegan, HostFed, Called, Noted, Transmitted, past_of, turns_begun}
+use Rattle.run_model.specs.Journal.{entries_of, entry_of, journal_of, side_of}
+use Rattle.run_model.specs.LinkEnds.{HaveAddresses}
+use Rattle.run_model.specs.Links.{Links, links_of}
+use Rattle.run_model.specs.Run.{Given, GoesOn, facts_at, history_of, run_of, setup_at}
+use Rattle.run_model.proofs.EntryEvents.{is_of_event}
+use Rattle.run_model.proofs.LinkEnds.{AreTaken, IsUnderstood}
+use Rattle.run_model.proofs.Stations.{is_in}
+use Rattle.run_model.proofs.Walk.{Place, NoTurn, IsKept}
 use Rattle.run_laws.proofs.DistinctAccess.{AreApart}
 use Rattle.run_laws.proofs.InAgreement.{IsPair}
 use Rattle.run_laws.proofs.TurnPlaces.{stands_at}

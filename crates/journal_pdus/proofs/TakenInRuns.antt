@@ -8,37 +8,37 @@ use Rattle.ble_base.specs.declared.notes.Note.{Note}
 use Rattle.ble_base.specs.declared.notes.Note.TheVariants.{Up}
 use Rattle.ble_base.specs.declared.roles.Side.{Side}
 use Rattle.journal.specs.declared.entries.Entry.{Entry}
-use Rattle.one_end.specs.Acknowledgement.{Acknowledgement}
-use Rattle.one_end.specs.Data.{is_empty, numbered}
-use Rattle.one_end.specs.Packets.{pdu_sent}
-use Rattle.one_end.specs.Pair.{AreInAgreement}
-use Rattle.one_end.specs.Step.{PacketSent}
-use Rattle.one_end.proofs.Received.{IsHeardWhole}
+use Rattle.link_model.specs.Acknowledgement.{Acknowledgement}
+use Rattle.link_model.specs.Data.{is_empty, numbered}
+use Rattle.link_model.specs.Packets.{pdu_sent}
+use Rattle.link_model.specs.Pair.{AreInAgreement}
+use Rattle.link_model.specs.Step.{PacketSent}
+use Rattle.link_model.proofs.Received.{IsHeardWhole}
 use Rattle.open_links.specs.OpenLinks.{OpenLink, facts_in, link_after, link_at}
 use Rattle.open_links.proofs.Handles.{handle_is}
-use Rattle.one_side.specs.Facts.{Facts, Sends, Listens}
-use Rattle.one_side.specs.Heard.{has_room}
-use Rattle.one_side.specs.Packets.{verdict_of}
-use Rattle.one_side.specs.Side.{notes_after}
-use Rattle.one_side.specs.Step.{Step, HostOctet, TurnBegins, TurnEnds}
-use Rattle.one_side.proofs.DataChannels.{link_channel}
-use Rattle.one_side.proofs.Sent.{sends_well}
+use Rattle.controller_model.specs.Facts.{Facts, Sends, Listens}
+use Rattle.controller_model.specs.Heard.{has_room}
+use Rattle.controller_model.specs.Packets.{verdict_of}
+use Rattle.controller_model.specs.Side.{notes_after}
+use Rattle.controller_model.specs.Step.{Step, HostOctet, TurnBegins, TurnEnds}
+use Rattle.controller_model.proofs.DataChannels.{link_channel}
+use Rattle.controller_model.proofs.Sent.{sends_well}
 use Rattle.radio_replay.specs.Damage.{damaged_packet}
 use Rattle.radio_replay.specs.Script.{Script}
 use Rattle.radio_replay.specs.declared.fates.Fate.{Fate}
-use Rattle.runs.specs.Due.{Each}
-use Rattle.runs.specs.Feeding.{AreDistinct}
-use Rattle.runs.specs.History.{Event, TurnBegan, HostFed, Called, Noted, Transmitted, Hearing, fates_used, has_received, is_good, packet_received, past_of, turns_begun}
-use Rattle.runs.specs.Journal.{entries_of, entry_of, journal_of, side_of}
-use Rattle.runs.specs.LinkEnds.{HaveAddresses}
-use Rattle.runs.specs.Links.{is_advertising, links_of}
-use Rattle.runs.specs.Pair.{given_of}
-use Rattle.runs.specs.Run.{Given, after_call, after_feed, after_octets, facts_at, fate_at, hearings_of, history_of, octets_left, run_of, setup_at, step_of, unseen_in, use_at}
-use Rattle.runs.proofs.EntryEvents.{is_of_event}
-use Rattle.runs.proofs.LinkEnds.{AreTaken, IsUnderstood, is_listener, received_by, received_event}
-use Rattle.runs.proofs.Places.{each_at, each_event}
-use Rattle.runs.proofs.Stations.{is_in, among, in_more_other, in_more_same, not_before}
-use Rattle.runs.proofs.Walk.{Place, NoTurn, AtFeeds, AtBegins, AfterPhases, AtPackets, AtListening, AtEnds, IsKept, IsStopped, IsWhole, ends_with, run_kept}
+use Rattle.run_model.specs.Due.{Each}
+use Rattle.run_model.specs.Feeding.{AreDistinct}
+use Rattle.run_model.specs.History.{Event, TurnBegan, HostFed, Called, Noted, Transmitted, Hearing, fates_used, has_received, is_good, packet_received, past_of, turns_begun}
+use Rattle.run_model.specs.Journal.{entries_of, entry_of, journal_of, side_of}
+use Rattle.run_model.specs.LinkEnds.{HaveAddresses}
+use Rattle.run_model.specs.Links.{is_advertising, links_of}
+use Rattle.run_model.specs.Pair.{given_of}
+use Rattle.run_model.specs.Run.{Given, after_call, after_feed, after_octets, facts_at, fate_at, hearings_of, history_of, octets_left, run_of, setup_at, step_of, unseen_in, use_at}
+use Rattle.run_model.proofs.EntryEvents.{is_of_event}
+use Rattle.run_model.proofs.LinkEnds.{AreTaken, IsUnderstood, is_listener, received_by, received_event}
+use Rattle.run_model.proofs.Places.{each_at, each_event}
+use Rattle.run_model.proofs.Stations.{is_in, among, in_more_other, in_more_same, not_before}
+use Rattle.run_model.proofs.Walk.{Place, NoTurn, AtFeeds, AtBegins, AfterPhases, AtPackets, AtListening, AtEnds, IsKept, IsStopped, IsWhole, ends_with, run_kept}
 use Rattle.run_laws.specs.Ends.{HaveOneConnectInd}
 use Rattle.run_laws.proofs.Agreed.{Agree, ack_of, ack_sent, sent_ack}
 use Rattle.run_laws.proofs.DistinctAccess.{AreApart}

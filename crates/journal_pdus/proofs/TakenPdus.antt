@@ -19,33 +19,33 @@ use Rattle.hci_cmd.specs.declared.command.CmdRead.{CmdRead}
 use Rattle.hci_cmd.specs.declared.command.CmdRead.TheVariants.{Known, UnknownOpcode, BadLength}
 use Rattle.hci_cmd.specs.Command.{command_of}
 use Rattle.host_view.specs.Unbuilt.{status_of}
-use Rattle.one_end.specs.Acknowledgement.{Acknowledgement, Pdu, bits_of, end_of, is_acked, next_sent}
-use Rattle.one_end.specs.Data.{is_empty, numbered}
-use Rattle.one_end.specs.End.{has_new_pdu, is_accepted, took_notes, took_notes_if, took_notes_of}
-use Rattle.one_end.specs.Facts.{Facts as EndFacts}
-use Rattle.one_end.specs.Packets.{good_pdu, header_sent, packet_sent, pdu_sent}
-use Rattle.one_end.specs.Pair.{AreInAgreement, AreOneLink}
-use Rattle.one_end.specs.Setup.{Setup as EndSetup}
-use Rattle.one_end.proofs.Payloads.{past_pdu_short}
-use Rattle.one_end.proofs.Received.{IsHeardWhole, header_read, heard_good, pdu_read}
+use Rattle.link_model.specs.Acknowledgement.{Acknowledgement, Pdu, bits_of, end_of, is_acked, next_sent}
+use Rattle.link_model.specs.Data.{is_empty, numbered}
+use Rattle.link_model.specs.End.{has_new_pdu, is_accepted, took_notes, took_notes_if, took_notes_of}
+use Rattle.link_model.specs.Facts.{Facts as EndFacts}
+use Rattle.link_model.specs.Packets.{good_pdu, header_sent, packet_sent, pdu_sent}
+use Rattle.link_model.specs.Pair.{AreInAgreement, AreOneLink}
+use Rattle.link_model.specs.Setup.{Setup as EndSetup}
+use Rattle.link_model.proofs.Payloads.{past_pdu_short}
+use Rattle.link_model.proofs.Received.{IsHeardWhole, header_read, heard_good, pdu_read}
 use Rattle.open_links.specs.declared.ended.LinkEnded.{LinkEnded}
 use Rattle.open_links.specs.declared.offers.Offer.{Offer}
 use Rattle.open_links.specs.declared.offers.Offer.TheVariants.{NoLink, Empty, Overflow, Kept}
 use Rattle.open_links.specs.OpenLinks.{OpenLink, facts_in, link_at}
 use Rattle.scan_init.specs.Reports.{does_ask, scan_answer}
-use Rattle.one_side.specs.declared.doing.Doing.{Doing}
-use Rattle.one_side.specs.declared.doing.Doing.TheVariants.{Advertises, CentralSends, CentralListens, PeripheralListens}
-use Rattle.one_side.specs.Commands.{facts_commanded, facts_known, received_after}
-use Rattle.one_side.specs.Data.{facts_offered, offer_of}
-use Rattle.one_side.specs.Facts.{Facts, Setup, first_facts}
-use Rattle.one_side.specs.Heard.{asks_if, has_room, link_heard, link_received, link_taken, notes_taken, replies_in, reply_if}
-use Rattle.one_side.specs.Links.{ends_in}
-use Rattle.one_side.specs.Outcome.{facts_passed, notes_passed}
-use Rattle.one_side.specs.Packets.{notes_doing}
-use Rattle.one_side.specs.Side.{facts_after, facts_fed, notes_after, result_of}
-use Rattle.one_side.proofs.Always.{IsKeptAtStarts, opening_passes, received_shut, start_keeps}
-use Rattle.one_side.proofs.Phases.{EachOutcome, heard_is, unheard_is}
-use Rattle.runs.specs.Run.{step_of}
+use Rattle.controller_model.specs.declared.doing.Doing.{Doing}
+use Rattle.controller_model.specs.declared.doing.Doing.TheVariants.{Advertises, CentralSends, CentralListens, PeripheralListens}
+use Rattle.controller_model.specs.Commands.{facts_commanded, facts_known, received_after}
+use Rattle.controller_model.specs.Data.{facts_offered, offer_of}
+use Rattle.controller_model.specs.Facts.{Facts, Setup, first_facts}
+use Rattle.controller_model.specs.Heard.{asks_if, has_room, link_heard, link_received, link_taken, notes_taken, replies_in, reply_if}
+use Rattle.controller_model.specs.Links.{ends_in}
+use Rattle.controller_model.specs.Outcome.{facts_passed, notes_passed}
+use Rattle.controller_model.specs.Packets.{notes_doing}
+use Rattle.controller_model.specs.Side.{facts_after, facts_fed, notes_after, result_of}
+use Rattle.controller_model.proofs.Always.{IsKeptAtStarts, opening_passes, received_shut, start_keeps}
+use Rattle.controller_model.proofs.Phases.{EachOutcome, heard_is, unheard_is}
+use Rattle.run_model.specs.Run.{step_of}
 use Rattle.run_laws.proofs.Agreed.{ack_of, out_after, packet_of, sent_ack}
 use Rattle.run_laws.proofs.TurnPlaces.{Between, IsTurned, Stage, Within}
 use Rattle.journal_acks.proofs.CallNotes.{HasNoData, TakesNone, all_more, doing_noted}

@@ -1,11 +1,11 @@
 -- What is known of all stations at each place of a run of a pair: what the lines of their data say, and those of new PDUs.
 use Rattle.std.proofs.Common.{◌≡◌, ℕ, List, []}
-use Rattle.one_end.proofs.Received.{IsHeardWhole}
-use Rattle.runs.specs.Feeding.{AreDistinct}
-use Rattle.runs.specs.History.{Event}
-use Rattle.runs.specs.LinkEnds.{HaveAddresses}
-use Rattle.runs.specs.Run.{Given, setup_at}
-use Rattle.runs.proofs.Walk.{Place, NoTurn, IsKept}
+use Rattle.link_model.proofs.Received.{IsHeardWhole}
+use Rattle.run_model.specs.Feeding.{AreDistinct}
+use Rattle.run_model.specs.History.{Event}
+use Rattle.run_model.specs.LinkEnds.{HaveAddresses}
+use Rattle.run_model.specs.Run.{Given, setup_at}
+use Rattle.run_model.proofs.Walk.{Place, NoTurn, IsKept}
 use Rattle.run_laws.proofs.InAgreement.{IsPair}
 use Rattle.journal_packets.proofs.SoFar.{IsBelongingSoFar}
 use Rattle.journal_acks.proofs.Counting.{AreKnown}

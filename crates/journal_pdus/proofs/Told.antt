@@ -9,33 +9,33 @@ use Rattle.ble_base.specs.declared.notes.Note.{Note}
 use Rattle.ble_base.specs.declared.roles.Side.{Side}
 use Rattle.journal.specs.declared.entries.Entry.{Entry}
 use Rattle.journal.specs.declared.entries.Entry.TheVariants.{Air}
-use Rattle.one_end.specs.Acknowledgement.{Acknowledgement, Pdu, is_acked, next_sent}
-use Rattle.one_end.specs.Data.{is_empty, numbered}
-use Rattle.one_end.specs.End.{sent_notes_if}
-use Rattle.one_end.specs.Facts.{Facts as EndFacts}
-use Rattle.one_end.specs.Step.{PacketReceived, PacketSent}
+use Rattle.link_model.specs.Acknowledgement.{Acknowledgement, Pdu, is_acked, next_sent}
+use Rattle.link_model.specs.Data.{is_empty, numbered}
+use Rattle.link_model.specs.End.{sent_notes_if}
+use Rattle.link_model.specs.Facts.{Facts as EndFacts}
+use Rattle.link_model.specs.Step.{PacketReceived, PacketSent}
 use Rattle.open_links.specs.OpenLinks.{OpenLink, facts_in, link_after, link_at}
 use Rattle.open_links.specs.Turns.{notes_entering}
 use Rattle.open_links.proofs.Counts.{count_changing}
 use Rattle.open_links.proofs.Handles.{handle_is}
-use Rattle.one_side.specs.declared.doing.Doing.{Doing}
-use Rattle.one_side.specs.declared.doing.Doing.TheVariants.{Rests}
-use Rattle.one_side.specs.Step.{Step, HostOctet, TurnBegins}
-use Rattle.one_side.specs.Facts.{Setup, Facts}
-use Rattle.one_side.specs.Heard.{has_room, heard, link_heard, link_received, notes_taken, replies_in, reply_if}
-use Rattle.one_side.specs.Links.{facts_ending, notes_ending}
-use Rattle.one_side.specs.Outcome.{Outcome, facts_passed, notes_passed}
-use Rattle.one_side.specs.Packets.{notes_doing}
-use Rattle.one_side.specs.Radio.{outcome_begun}
-use Rattle.one_side.specs.Side.{facts_after, notes_after}
-use Rattle.runs.specs.Feeding.{AreDistinct}
-use Rattle.runs.specs.History.{Event, TurnBegan, HostFed, Transmitted, Hearing, is_good, packet_received}
-use Rattle.runs.specs.Journal.{air_entries, journal_of, mark_of, side_of}
-use Rattle.runs.specs.Links.{is_advertising}
-use Rattle.runs.specs.Run.{Given, after_call, after_feed, after_octets, facts_at, setup_at, step_of}
-use Rattle.runs.proofs.Parts.{journal_event}
-use Rattle.runs.proofs.Stations.{is_in}
-use Rattle.runs.proofs.Walk.{Place, AtListening}
+use Rattle.controller_model.specs.declared.doing.Doing.{Doing}
+use Rattle.controller_model.specs.declared.doing.Doing.TheVariants.{Rests}
+use Rattle.controller_model.specs.Step.{Step, HostOctet, TurnBegins}
+use Rattle.controller_model.specs.Facts.{Setup, Facts}
+use Rattle.controller_model.specs.Heard.{has_room, heard, link_heard, link_received, notes_taken, replies_in, reply_if}
+use Rattle.controller_model.specs.Links.{facts_ending, notes_ending}
+use Rattle.controller_model.specs.Outcome.{Outcome, facts_passed, notes_passed}
+use Rattle.controller_model.specs.Packets.{notes_doing}
+use Rattle.controller_model.specs.Radio.{outcome_begun}
+use Rattle.controller_model.specs.Side.{facts_after, notes_after}
+use Rattle.run_model.specs.Feeding.{AreDistinct}
+use Rattle.run_model.specs.History.{Event, TurnBegan, HostFed, Transmitted, Hearing, is_good, packet_received}
+use Rattle.run_model.specs.Journal.{air_entries, journal_of, mark_of, side_of}
+use Rattle.run_model.specs.Links.{is_advertising}
+use Rattle.run_model.specs.Run.{Given, after_call, after_feed, after_octets, facts_at, setup_at, step_of}
+use Rattle.run_model.proofs.Parts.{journal_event}
+use Rattle.run_model.proofs.Stations.{is_in}
+use Rattle.run_model.proofs.Walk.{Place, AtListening}
 use Rattle.run_laws.proofs.Agreed.{ack_of}
 use Rattle.run_laws.proofs.ByCalls.{Holds}
 use Rattle.run_laws.proofs.Hearings.{other_facts, own_facts}

@@ -8,36 +8,36 @@ use Rattle.ble_base.specs.declared.notes.Note.TheVariants.{Up as UpNote}
 use Rattle.ble_base.specs.declared.roles.Side.{Side}
 use Rattle.journal.specs.declared.entries.Entry.{Entry}
 use Rattle.journal.specs.declared.entries.Entry.TheVariants.{Turn, Fed, Air}
-use Rattle.one_end.specs.Acknowledgement.{is_acked}
-use Rattle.one_end.specs.Data.{is_empty}
-use Rattle.one_end.specs.End.{sent_notes_if}
-use Rattle.one_end.specs.Facts.{Facts as EndFacts}
-use Rattle.one_end.proofs.Received.{IsHeardWhole}
+use Rattle.link_model.specs.Acknowledgement.{is_acked}
+use Rattle.link_model.specs.Data.{is_empty}
+use Rattle.link_model.specs.End.{sent_notes_if}
+use Rattle.link_model.specs.Facts.{Facts as EndFacts}
+use Rattle.link_model.proofs.Received.{IsHeardWhole}
 use Rattle.open_links.specs.OpenLinks.{OpenLink, facts_in, link_at}
 use Rattle.open_links.specs.Turns.{notes_entering}
-use Rattle.one_side.specs.declared.doing.Doing.{Doing}
-use Rattle.one_side.specs.declared.doing.Doing.TheVariants.{Advertises, CentralSends, PeripheralSends}
-use Rattle.one_side.specs.Step.{Step, HostOctet, TurnBegins, TurnEnds}
-use Rattle.one_side.specs.Facts.{Facts}
-use Rattle.one_side.specs.Heard.{has_room, link_heard}
-use Rattle.one_side.specs.Links.{facts_ending, notes_ending}
-use Rattle.one_side.specs.Outcome.{notes_passed}
-use Rattle.one_side.specs.Packets.{notes_doing, notes_sent}
-use Rattle.one_side.specs.Radio.{outcome_begun}
-use Rattle.one_side.specs.Side.{notes_after}
-use Rattle.runs.specs.Due.{Each, packet_in}
-use Rattle.runs.specs.Feeding.{AreDistinct}
-use Rattle.runs.specs.History.{Event, TurnBegan, HostFed, Called, Noted, Transmitted, packet_received, turns_begun}
-use Rattle.runs.specs.Journal.{entries_of, entry_of, journal_of, mark_of, radio_in, side_of}
-use Rattle.runs.specs.LinkEnds.{HaveAddresses}
-use Rattle.runs.specs.Links.{Links, links_of}
-use Rattle.runs.specs.Run.{Given, after_call, after_feed, after_octets, facts_at, hearings_of, history_of, octets_left, run_of, setup_at, step_of}
-use Rattle.runs.proofs.CallNotes.{noted_in_call}
-use Rattle.runs.proofs.EntryEvents.{is_of_event}
-use Rattle.runs.proofs.LinkEnds.{AreTaken, IsUnderstood}
-use Rattle.runs.proofs.Places.{each_at, each_called, each_event}
-use Rattle.runs.proofs.Stations.{is_in, among, in_more_other, in_more_same, not_before}
-use Rattle.runs.proofs.Walk.{Place, AtPackets, AtBegins, AtFeeds, AtEnds, NoTurn, IsKept, IsStopped, IsWhole, ends_with, run_kept}
+use Rattle.controller_model.specs.declared.doing.Doing.{Doing}
+use Rattle.controller_model.specs.declared.doing.Doing.TheVariants.{Advertises, CentralSends, PeripheralSends}
+use Rattle.controller_model.specs.Step.{Step, HostOctet, TurnBegins, TurnEnds}
+use Rattle.controller_model.specs.Facts.{Facts}
+use Rattle.controller_model.specs.Heard.{has_room, link_heard}
+use Rattle.controller_model.specs.Links.{facts_ending, notes_ending}
+use Rattle.controller_model.specs.Outcome.{notes_passed}
+use Rattle.controller_model.specs.Packets.{notes_doing, notes_sent}
+use Rattle.controller_model.specs.Radio.{outcome_begun}
+use Rattle.controller_model.specs.Side.{notes_after}
+use Rattle.run_model.specs.Due.{Each, packet_in}
+use Rattle.run_model.specs.Feeding.{AreDistinct}
+use Rattle.run_model.specs.History.{Event, TurnBegan, HostFed, Called, Noted, Transmitted, packet_received, turns_begun}
+use Rattle.run_model.specs.Journal.{entries_of, entry_of, journal_of, mark_of, radio_in, side_of}
+use Rattle.run_model.specs.LinkEnds.{HaveAddresses}
+use Rattle.run_model.specs.Links.{Links, links_of}
+use Rattle.run_model.specs.Run.{Given, after_call, after_feed, after_octets, facts_at, hearings_of, history_of, octets_left, run_of, setup_at, step_of}
+use Rattle.run_model.proofs.CallNotes.{noted_in_call}
+use Rattle.run_model.proofs.EntryEvents.{is_of_event}
+use Rattle.run_model.proofs.LinkEnds.{AreTaken, IsUnderstood}
+use Rattle.run_model.proofs.Places.{each_at, each_called, each_event}
+use Rattle.run_model.proofs.Stations.{is_in, among, in_more_other, in_more_same, not_before}
+use Rattle.run_model.proofs.Walk.{Place, AtPackets, AtBegins, AtFeeds, AtEnds, NoTurn, IsKept, IsStopped, IsWhole, ends_with, run_kept}
 use Rattle.run_laws.proofs.Agreed.{ack_of}
 use Rattle.run_laws.proofs.DistinctAccess.{AreApart}
 use Rattle.run_laws.proofs.Hearings.{own_facts, wanted_is}

@@ -6,13 +6,13 @@ use Rattle.std.proofs.lemmas.List.Sums.{fold-append}
 use Rattle.ble_base.specs.declared.roles.Side.{Side}
 use Rattle.ble_base.specs.declared.notes.Note.{Note}
 use Rattle.ble_base.specs.declared.notes.Note.TheVariants.{Up, Sent}
-use Rattle.one_side.specs.Step.{Step}
-use Rattle.one_side.specs.Side.{notes_after}
-use Rattle.runs.specs.History.{Event, TurnBegan, HostFed, Called, Noted, Transmitted, Hearing}
-use Rattle.runs.specs.Journal.{air_entries, entries_of, entry_of, journal_of, side_of}
-use Rattle.runs.specs.Links.{links_of}
-use Rattle.runs.specs.Run.{Given, after_call, facts_at, setup_at}
-use Rattle.runs.proofs.Parts.{journal_event}
+use Rattle.controller_model.specs.Step.{Step}
+use Rattle.controller_model.specs.Side.{notes_after}
+use Rattle.run_model.specs.History.{Event, TurnBegan, HostFed, Called, Noted, Transmitted, Hearing}
+use Rattle.run_model.specs.Journal.{air_entries, entries_of, entry_of, journal_of, side_of}
+use Rattle.run_model.specs.Links.{links_of}
+use Rattle.run_model.specs.Run.{Given, after_call, facts_at, setup_at}
+use Rattle.run_model.proofs.Parts.{journal_event}
 use Rattle.journal_packets.specs.Belonging.{is_side}
 use Rattle.journal_acks.proofs.CallNotes.{SendsNone}
 use Rattle.journal_acks.proofs.Exchanging.{OpensNone, any_note, call_keeps, map_both, number_at, number_notes}

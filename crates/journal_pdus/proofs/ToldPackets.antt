@@ -4,20 +4,20 @@ use Rattle.std.specs.Prelude.{if◌then◌else◌}
 use Rattle.ack_bit.specs.Nonempty.{nonempty}
 use Rattle.ble_base.specs.declared.roles.Side.{Side}
 use Rattle.journal.specs.declared.entries.Entry.{Entry}
-use Rattle.one_end.specs.Acknowledgement.{Acknowledgement, is_acked}
-use Rattle.one_end.specs.Data.{is_empty, numbered}
-use Rattle.one_end.specs.Step.{PacketSent}
-use Rattle.one_end.proofs.Received.{IsHeardWhole}
+use Rattle.link_model.specs.Acknowledgement.{Acknowledgement, is_acked}
+use Rattle.link_model.specs.Data.{is_empty, numbered}
+use Rattle.link_model.specs.Step.{PacketSent}
+use Rattle.link_model.proofs.Received.{IsHeardWhole}
 use Rattle.open_links.specs.OpenLinks.{OpenLink, facts_in, link_after, link_at}
-use Rattle.one_side.specs.Facts.{Sends}
-use Rattle.runs.specs.Feeding.{AreDistinct}
-use Rattle.runs.specs.History.{Event}
-use Rattle.runs.specs.Journal.{journal_of, side_of}
-use Rattle.runs.specs.LinkEnds.{HaveAddresses}
-use Rattle.runs.specs.Links.{is_advertising}
-use Rattle.runs.specs.Run.{Given, facts_at, setup_at, use_at}
-use Rattle.runs.proofs.Stations.{among}
-use Rattle.runs.proofs.Walk.{Place, AtPackets}
+use Rattle.controller_model.specs.Facts.{Sends}
+use Rattle.run_model.specs.Feeding.{AreDistinct}
+use Rattle.run_model.specs.History.{Event}
+use Rattle.run_model.specs.Journal.{journal_of, side_of}
+use Rattle.run_model.specs.LinkEnds.{HaveAddresses}
+use Rattle.run_model.specs.Links.{is_advertising}
+use Rattle.run_model.specs.Run.{Given, facts_at, setup_at, use_at}
+use Rattle.run_model.proofs.Stations.{among}
+use Rattle.run_model.proofs.Walk.{Place, AtPackets}
 use Rattle.run_laws.proofs.Agreed.{ack_of, ack_sent, sent_ack}
 use Rattle.run_laws.proofs.Hearings.{wanted_is}
 use Rattle.run_laws.proofs.InAgreement.{IsPair}

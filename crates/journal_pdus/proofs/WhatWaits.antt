@@ -3,10 +3,10 @@ use Rattle.std.proofs.Common.{◌≡◌, ℕ, nat_lt, Bool, true, false, List, l
 use Rattle.ack_bit.specs.Nonempty.{nonempty}
 use Rattle.acl_banks.specs.History.{octets_of}
 use Rattle.acl_banks.specs.Packets.{Marked}
-use Rattle.one_end.specs.Acknowledgement.{is_acked}
-use Rattle.one_end.specs.Data.{Data, data_of, data_sent_if, is_empty}
-use Rattle.one_end.specs.Facts.{Facts as EndFacts}
-use Rattle.one_end.specs.Step.{PacketSent}
+use Rattle.link_model.specs.Acknowledgement.{is_acked}
+use Rattle.link_model.specs.Data.{Data, data_of, data_sent_if, is_empty}
+use Rattle.link_model.specs.Facts.{Facts as EndFacts}
+use Rattle.link_model.specs.Step.{PacketSent}
 use Rattle.open_links.specs.OpenLinks.{OpenLink, facts_in, link_after}
 use Rattle.run_laws.proofs.Agreed.{ack_of, ack_sent, sent_ack, step_facts}
 use Rattle.journal_data.specs.Lines.{Lines, pdus_on}

@@ -3,28 +3,28 @@ use Rattle.std.proofs.Common.{◌≡◌, ℕ, Bool, true, false, List, ◌∷◌
 use Rattle.std.specs.Prelude.{nat_lt, if◌then◌else◌}
 use Rattle.std.proofs.lemmas.Bool.{eq-eqb}
 use Rattle.acl_banks.specs.History.{octets_of}
-use Rattle.one_end.proofs.Received.{IsHeardWhole}
-use Rattle.one_end.specs.Acknowledgement.{Acknowledgement, Pdu, is_acked}
-use Rattle.one_end.specs.Data.{data_of, is_empty}
-use Rattle.one_end.specs.Facts.{Facts as EndFacts}
+use Rattle.link_model.proofs.Received.{IsHeardWhole}
+use Rattle.link_model.specs.Acknowledgement.{Acknowledgement, Pdu, is_acked}
+use Rattle.link_model.specs.Data.{data_of, is_empty}
+use Rattle.link_model.specs.Facts.{Facts as EndFacts}
 use Rattle.open_links.specs.OpenLinks.{facts_in}
-use Rattle.one_side.specs.Facts.{Sends}
-use Rattle.one_side.specs.Since.{data_waiting}
+use Rattle.controller_model.specs.Facts.{Sends}
+use Rattle.controller_model.specs.Since.{data_waiting}
 use Rattle.ble_base.specs.declared.roles.Side.{Side}
 use Rattle.ble_base.specs.declared.verdicts.Verdict.{Verdict}
 use Rattle.journal.specs.declared.entries.Entry.{Entry}
 use Rattle.journal.specs.declared.entries.Entry.TheVariants.{Air}
 use Rattle.journal.specs.declared.entries.Mark.{Mark}
-use Rattle.runs.specs.Entries.{IsAired}
-use Rattle.runs.specs.Feeding.{AreDistinct}
-use Rattle.runs.specs.History.{Event, past_of, turns_begun}
-use Rattle.runs.specs.Journal.{journal_of, side_of}
-use Rattle.runs.specs.LinkEnds.{HaveAddresses}
-use Rattle.runs.specs.Links.{is_advertising}
-use Rattle.runs.specs.Run.{Given, facts_at, history_of, run_of, setup_at, use_at}
-use Rattle.runs.proofs.LinkEnds.{AreTaken, IsUnderstood}
-use Rattle.runs.proofs.Stations.{among}
-use Rattle.runs.proofs.Walk.{Place, AtPackets}
+use Rattle.run_model.specs.Entries.{IsAired}
+use Rattle.run_model.specs.Feeding.{AreDistinct}
+use Rattle.run_model.specs.History.{Event, past_of, turns_begun}
+use Rattle.run_model.specs.Journal.{journal_of, side_of}
+use Rattle.run_model.specs.LinkEnds.{HaveAddresses}
+use Rattle.run_model.specs.Links.{is_advertising}
+use Rattle.run_model.specs.Run.{Given, facts_at, history_of, run_of, setup_at, use_at}
+use Rattle.run_model.proofs.LinkEnds.{AreTaken, IsUnderstood}
+use Rattle.run_model.proofs.Stations.{among}
+use Rattle.run_model.proofs.Walk.{Place, AtPackets}
 use Rattle.run_laws.proofs.Agreed.{sent_ack}
 use Rattle.run_laws.proofs.DistinctAccess.{AreApart}
 use Rattle.run_laws.proofs.InAgreement.{IsPair}

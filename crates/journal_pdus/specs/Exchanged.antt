@@ -6,7 +6,7 @@ use Rattle.ble_base.specs.declared.verdicts.Verdict.{Verdict}
 use Rattle.journal.specs.declared.entries.Entry.{Entry}
 use Rattle.journal.specs.declared.entries.Entry.TheVariants.{Turn, Air, Sent}
 use Rattle.journal.specs.declared.entries.Mark.{Mark}
-use Rattle.runs.specs.Links.{is_advertising}
+use Rattle.run_model.specs.Links.{is_advertising}
 use Rattle.journal_acks.specs.Carried.{IsNewPdu}
 use Rattle.journal_pdus.specs.Announced.{announced_pdu, new_pdu_in, side_of_line}
 use Rattle.journal_pdus.specs.Pending.{pending_pdu, taken_pdu}

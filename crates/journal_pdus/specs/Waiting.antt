@@ -5,8 +5,8 @@ use Rattle.std.specs.List.{flat_map}
 use Rattle.ble_base.specs.declared.roles.Side.{Side}
 use Rattle.acl_banks.specs.History.{HostData, octets_of}
 use Rattle.acl_banks.specs.Packets.{Marked}
-use Rattle.one_end.specs.Acknowledgement.{Pdu, empty_pdu}
-use Rattle.one_end.specs.Data.{data_in, is_empty, llid_of}
+use Rattle.link_model.specs.Acknowledgement.{Pdu, empty_pdu}
+use Rattle.link_model.specs.Data.{data_in, is_empty, llid_of}
 use Rattle.journal.specs.declared.entries.Entry.{Entry}
 use Rattle.journal_acks.specs.Carried.{IsLinkPacket, carried_of}
 use Rattle.journal_acks.specs.Exchange.{exchange_of}

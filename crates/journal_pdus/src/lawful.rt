@@ -2,10 +2,10 @@
 //! body only calls the laws that it rests on: the contract is the law.
 ghost use Rattle.std.specs.Prelude.{◌≡◌, ℕ, List, length};
 ghost use Rattle.radio_replay.specs.Script.{Script};
-ghost use Rattle.runs.specs.History.{Event};
-ghost use Rattle.runs.specs.Journal.{journal_of};
-ghost use Rattle.runs.specs.Pair.{given_of};
-ghost use Rattle.runs.specs.Run.{GoesOn, history_of, run_of};
+ghost use Rattle.run_model.specs.History.{Event};
+ghost use Rattle.run_model.specs.Journal.{journal_of};
+ghost use Rattle.run_model.specs.Pair.{given_of};
+ghost use Rattle.run_model.specs.Run.{GoesOn, history_of, run_of};
 ghost use Rattle.journal_pdus.specs.Lawful.{IsLawful};
 ghost use Rattle.journal_pdus.specs.Settled.{AreSettled};
 
@@ -35,11 +35,11 @@ pub fn each_journal_is_lawful()
         → length script.a.public ≡ 6 → length script.b.public ≡ 6
         → run_of (given_of a b script) ≡ GoesOn history → AreSettled (journal_of history) }
 {
-    one_side::a_pdu_is_understood();
+    controller_model::a_pdu_is_understood();
     advertise::laws::connections_are_taken();
     scan_init::laws::searches_give_each_valid_address();
     air_frame::laws::packet_tells_its_pdu();
-    runs::each_packet_on_the_air_is_due();
+    run_model::each_packet_on_the_air_is_due();
     journal_links::each_opened_line_names_its_link();
     journal_links::each_enter_line_is_at_its_anchor();
     journal_packets::each_link_has_the_next_address();

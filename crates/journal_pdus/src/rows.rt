@@ -8,8 +8,8 @@ ghost use Rattle.journal.specs.declared.entries.Mark.TheVariants.{Lost as WasLos
 ghost use Rattle.journal_acks.specs.Rows.{data_heard, data_packet, data_pdu, data_sent};
 ghost use Rattle.journal_acks.specs.Rows.{data_taken};
 ghost use Rattle.journal_data.specs.Lines.{lines_of};
-ghost use Rattle.one_end.specs.Acknowledgement.{empty_pdu};
-ghost use Rattle.runs.specs.Rows.{first_packet, first_reply, one_event_journal};
+ghost use Rattle.link_model.specs.Acknowledgement.{empty_pdu};
+ghost use Rattle.run_model.specs.Rows.{first_packet, first_reply, one_event_journal};
 ghost use Rattle.journal_pdus.specs.Announced.{announced_pdu, new_pdu_in};
 ghost use Rattle.journal_pdus.specs.Pending.{pending_pdu, taken_pdu};
 ghost use Rattle.journal_pdus.specs.Settled.{acked_on};

@@ -10,8 +10,8 @@ use Rattle.acl_banks.specs.Packets.{DataPacket, has_piece_out, has_unsent, is_al
 use Rattle.acl_banks.specs.Banks.{Bank, bank_after_acked, bank_after_credited, bank_after_drop, bank_after_offer, bank_after_went, credits_of, is_completed, packet_out, piece_length, next_piece as bank_next, unsent_of as bank_unsent}
 use Rattle.acl_banks.proofs.Order.{is_left, is_out}
 use Rattle.acl_banks.proofs.AllLinks.{other-acked, other-completed, other-drop, other-went, own-acked, own-completed, own-left, own-offer, own-offer-other, own-out, own-went}
-use Rattle.one_end.specs.Acknowledgement.{Pdu}
-use Rattle.one_end.specs.Data.{Data, data_acked_if, data_given, data_reported, data_sent_if, is_data, next_piece, pdu_with, unsent_of, is_completed as is_done}
+use Rattle.link_model.specs.Acknowledgement.{Pdu}
+use Rattle.link_model.specs.Data.{Data, data_acked_if, data_given, data_reported, data_sent_if, is_data, next_piece, pdu_with, unsent_of, is_completed as is_done}
 use Rattle.link_end.specs.Tied.{HoldsData, IsAfterAck, LeavesOthers, bank_went_if}
 
 -- ---- what a bank has under the handle is what waits

@@ -19,21 +19,21 @@ use Rattle.acl_banks.specs.Packets.{is_of, new_packet}
 use Rattle.acl_banks.specs.Banks.{Bank, bank_after_credited, bank_after_offer, credits_of, next_length, next_piece as bank_next, unsent_of as bank_unsent}
 use Rattle.data_pdu.specs.Header.{header_in, octets_of}
 use Rattle.instants.specs.Track.{is_free, next_number}
-use Rattle.one_end.specs.Setup.{Setup}
-use Rattle.one_end.specs.Step.{Step, DataGiven, DataReported, EventEntered, PacketReceived, PacketSent, PduFixed}
-use Rattle.one_end.specs.Acknowledgement.{Acknowledgement, Pdu, bits_of, empty_pdu, is_acked, next_sent}
-use Rattle.one_end.specs.Data.{Data, data_acked_if, data_fixed, data_given, data_sent_if, is_data, is_empty, numbered, pdu_with}
-use Rattle.one_end.specs.Facts.{Facts}
-use Rattle.one_end.specs.Packets.{good_in, good_pdu, packet_sent, pdu_of, verdict_by, verdict_of}
-use Rattle.one_end.specs.Times.{skips_by, wants_of}
-use Rattle.one_end.specs.End.{applied_notes, facts_after, facts_entered, facts_of, facts_received, facts_sent, has_acknowledged, has_new_pdu, is_accepted, notes_after, replies_by, replies_of, took_notes}
-use Rattle.one_end.proofs.Pasts.{grows}
-use Rattle.one_end.proofs.Pieces.{fixed_is_next, limit_is, piece_out_where_waits}
-use Rattle.one_end.proofs.Received.{received_ends}
-use Rattle.one_end.proofs.Sending.{past_counted}
+use Rattle.link_model.specs.Setup.{Setup}
+use Rattle.link_model.specs.Step.{Step, DataGiven, DataReported, EventEntered, PacketReceived, PacketSent, PduFixed}
+use Rattle.link_model.specs.Acknowledgement.{Acknowledgement, Pdu, bits_of, empty_pdu, is_acked, next_sent}
+use Rattle.link_model.specs.Data.{Data, data_acked_if, data_fixed, data_given, data_sent_if, is_data, is_empty, numbered, pdu_with}
+use Rattle.link_model.specs.Facts.{Facts}
+use Rattle.link_model.specs.Packets.{good_in, good_pdu, packet_sent, pdu_of, verdict_by, verdict_of}
+use Rattle.link_model.specs.Times.{skips_by, wants_of}
+use Rattle.link_model.specs.End.{applied_notes, facts_after, facts_entered, facts_of, facts_received, facts_sent, has_acknowledged, has_new_pdu, is_accepted, notes_after, replies_by, replies_of, took_notes}
+use Rattle.link_model.proofs.Pasts.{grows}
+use Rattle.link_model.proofs.Pieces.{fixed_is_next, limit_is, piece_out_where_waits}
+use Rattle.link_model.proofs.Received.{received_ends}
+use Rattle.link_model.proofs.Sending.{past_counted}
 use Rattle.link_end.specs.declared.pdus.Got.{Got}
 use Rattle.link_end.specs.Held.{Held, acks_piece, carries_next, count_if, got_of, held_entered, held_fixed, held_hearing, held_of, held_sent, kept_in, more_out, numbers_next, pdu_out, replies_to, sent_note_if, took_notes_in}
-use Rattle.one_end.specs.Kept.{kept_from, kept_of}
+use Rattle.link_model.specs.Kept.{kept_from, kept_of}
 use Rattle.link_end.specs.Knowing.{Goes, Knows}
 use Rattle.link_end.specs.Tied.{HoldsData, IsAfterAck, IsTied, bank_went_if}
 use Rattle.link_end.proofs.Banked.{holds_acked, holds_given, holds_reported, holds_sent, next_same, out_same, piece_body, unsent_same}

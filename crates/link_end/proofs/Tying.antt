@@ -8,10 +8,10 @@ use Rattle.acl_banks.specs.Banks.{Bank, bank_after_credited, bank_after_offer, n
 use Rattle.acl_banks.specs.Packets.{DataPacket, has_unsent, new_packet, piece_of}
 use Rattle.acl_banks.proofs.AllLinks.{out-offer, own-left, own-out}
 use Rattle.acl_banks.proofs.Order.{is_left, is_out}
-use Rattle.one_end.specs.declared.events.Reception.{Reception}
-use Rattle.one_end.specs.declared.setup.LinkSetup.{LinkSetup}
-use Rattle.one_end.specs.Acknowledgement.{Pdu, empty_pdu}
-use Rattle.one_end.specs.Data.{is_data, pdu_with}
+use Rattle.link_model.specs.declared.events.Reception.{Reception}
+use Rattle.link_model.specs.declared.setup.LinkSetup.{LinkSetup}
+use Rattle.link_model.specs.Acknowledgement.{Pdu, empty_pdu}
+use Rattle.link_model.specs.Data.{is_data, pdu_with}
 use Rattle.link_end.specs.declared.pdus.Got.{Got}
 use Rattle.link_end.specs.Held.{Held, acks_piece, carries_next, held_hearing, held_sent}
 use Rattle.link_end.specs.Tied.{IsAfterAck, IsBefore, IsTied, LeavesOthers, bank_went_if}

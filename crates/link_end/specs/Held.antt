@@ -9,14 +9,14 @@ use Rattle.acl_banks.specs.declared.pieces.Piece.{Piece}
 use Rattle.data_pdu.specs.declared.header.DataHeader.{DataHeader}
 use Rattle.data_pdu.specs.Header.{header_in}
 use Rattle.instants.specs.Track.{TrackFacts, track_after_enter}
-use Rattle.one_end.specs.Setup.{Setup}
-use Rattle.one_end.specs.declared.events.ConnectionEvent.{ConnectionEvent}
-use Rattle.one_end.specs.declared.events.Reception.{Reception}
-use Rattle.one_end.specs.Facts.{Facts}
-use Rattle.one_end.specs.Acknowledgement.{Pdu, bits_of, empty_pdu, is_acked}
-use Rattle.one_end.specs.Data.{is_data, is_empty, numbered, pdu_with}
-use Rattle.one_end.specs.End.{event_entered, event_heard, event_sent, is_accepted}
-use Rattle.one_end.specs.Kept.{kept_if}
+use Rattle.link_model.specs.Setup.{Setup}
+use Rattle.link_model.specs.declared.events.ConnectionEvent.{ConnectionEvent}
+use Rattle.link_model.specs.declared.events.Reception.{Reception}
+use Rattle.link_model.specs.Facts.{Facts}
+use Rattle.link_model.specs.Acknowledgement.{Pdu, bits_of, empty_pdu, is_acked}
+use Rattle.link_model.specs.Data.{is_data, is_empty, numbered, pdu_with}
+use Rattle.link_model.specs.End.{event_entered, event_heard, event_sent, is_accepted}
+use Rattle.link_model.specs.Kept.{kept_if}
 use Rattle.link_end.specs.declared.pdus.Got.{Got}
 
 pub record Held : Type 0 where

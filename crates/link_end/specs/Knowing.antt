@@ -1,9 +1,9 @@
 -- An end of a link that knows its past.
 use Rattle.std.specs.Prelude.{◌≡◌, List, [], ◌∷◌, ◌++◌}
 use Rattle.ble_base.specs.declared.notes.Note.{Note}
-use Rattle.one_end.specs.Setup.{Setup}
-use Rattle.one_end.specs.Step.{Step}
-use Rattle.one_end.specs.End.{facts_of, notes_after}
+use Rattle.link_model.specs.Setup.{Setup}
+use Rattle.link_model.specs.Step.{Step}
+use Rattle.link_model.specs.End.{facts_of, notes_after}
 use Rattle.link_end.specs.Held.{Held, held_of}
 
 -- this is what an end with this setup holds after this past

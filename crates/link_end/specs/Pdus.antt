@@ -1,5 +1,5 @@
 -- A PDU that the code keeps, as a PDU.
-use Rattle.one_end.specs.Acknowledgement.{Pdu}
+use Rattle.link_model.specs.Acknowledgement.{Pdu}
 use Rattle.link_end.specs.declared.pdus.Pdu.{Pdu as KeptPdu}
 
 abbrev pub pdu_value : KeptPdu → Pdu

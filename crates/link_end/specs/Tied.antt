@@ -3,7 +3,7 @@ use Rattle.std.specs.Prelude.{◌≡◌, ◌≢◌, ℕ, ◌+◌, ◌<◌, ◌&&
 use Rattle.std.specs.List.{filter}
 use Rattle.acl_banks.specs.Packets.{is_of}
 use Rattle.acl_banks.specs.Banks.{Bank, bank_after_acked, bank_after_went, credits_of, is_completed, next_piece, packet_out}
-use Rattle.one_end.specs.Data.{Data, is_data, pdu_with}
+use Rattle.link_model.specs.Data.{Data, is_data, pdu_with}
 use Rattle.link_end.specs.Held.{Held}
 
 -- a bank has this data under a handle: the packets that are not complete, and how many are and were not reported

@@ -5,12 +5,12 @@ ghost use Rattle.arrayvec.specs.ArrayVec.{array_vec_len};
 ghost use Rattle.acl_banks.specs.Banks.{Bank, credits_of, packet_out};
 ghost use Rattle.adv_pdu.specs.Ranges.{IsInRange};
 ghost use Rattle.instants.specs.Track.{next_anchor_of};
-ghost use Rattle.one_end.specs.Setup.{Setup};
-ghost use Rattle.one_end.specs.Step.{Step, EventEntered, PacketReceived, PacketSent, PduFixed};
-ghost use Rattle.one_end.specs.Packets.{packet_sent, verdict_of};
-ghost use Rattle.one_end.specs.Times.{due_of, has_second_exchange, span_of, wants_of};
-ghost use Rattle.one_end.specs.End.{facts_of, replies_of};
-ghost use Rattle.one_end.specs.Kept.{kept_of};
+ghost use Rattle.link_model.specs.Setup.{Setup};
+ghost use Rattle.link_model.specs.Step.{Step, EventEntered, PacketReceived, PacketSent, PduFixed};
+ghost use Rattle.link_model.specs.Packets.{packet_sent, verdict_of};
+ghost use Rattle.link_model.specs.Times.{due_of, has_second_exchange, span_of, wants_of};
+ghost use Rattle.link_model.specs.End.{facts_of, replies_of};
+ghost use Rattle.link_model.specs.Kept.{kept_of};
 ghost use Rattle.link_end.specs.Knowing.{Goes, Knows};
 ghost use Rattle.link_end.specs.Tied.{HoldsData, IsBefore, IsTied, LeavesOthers};
 
@@ -23,7 +23,7 @@ use arrayvec::ArrayVec;
 use ble_base::{AIR_PACKET_OCTETS, ErrCode, Outbox, SlotNo, Verdict};
 use chan_select::Selector;
 use instants::{ParamTrack, Params};
-use one_end::{ConnectionEvent, LinkSetup, Reception};
+use link_model::{ConnectionEvent, LinkSetup, Reception};
 use std::marker::Model;
 
 /// The slots for which an event holds the radio, with one exchange in each (our choice).
@@ -61,7 +61,7 @@ pub struct LinkEnd {
 
 impl Model for LinkEnd {
     ghost use Rattle.std.specs.Prelude.{◌≡◌, ◌+◌, ◌<◌, ◌≤◌, ◌^◌, IfSome, if◌then◌else◌};
-    ghost use Rattle.one_end.specs.Setup.{algorithm_of};
+    ghost use Rattle.link_model.specs.Setup.{algorithm_of};
     ghost use Rattle.link_end.specs.Held.{Held, heard_slots};
 
     ghost Value = { Held };

@@ -7,13 +7,13 @@ ghost use Rattle.arrayvec.specs.ArrayVec.{array_vec_len};
 ghost use Rattle.ack_bit.specs.AckBits.{acknowledges, is_new};
 ghost use Rattle.acl_banks.specs.Banks.{credits_of, packet_out};
 ghost use Rattle.air_frame.specs.Hearing.{heard_in};
-ghost use Rattle.one_end.specs.Data.{is_data, is_empty};
-ghost use Rattle.one_end.specs.End.{event_heard};
-ghost use Rattle.one_end.specs.Packets.{good_in};
+ghost use Rattle.link_model.specs.Data.{is_data, is_empty};
+ghost use Rattle.link_model.specs.End.{event_heard};
+ghost use Rattle.link_model.specs.Packets.{good_in};
 ghost use Rattle.link_end.specs.Held.{accepts, acks, acks_piece, bits_received, count_if, got_of};
 ghost use Rattle.link_end.specs.Held.{held_hearing, held_received, kept_in, pdu_in, replies_to};
 ghost use Rattle.link_end.specs.Held.{took_note_if, took_notes_in};
-ghost use Rattle.one_end.specs.Kept.{kept_if};
+ghost use Rattle.link_model.specs.Kept.{kept_if};
 ghost use Rattle.link_end.specs.Tied.{IsAfterAck, IsBefore, IsTied};
 
 use crate::ends::LinkEnd;
@@ -23,7 +23,7 @@ use ack_bit::{AckEnd, AckSeen};
 use acl_banks::{Piece, RxBank, TxBank};
 use ble_base::{Note, Outbox, Role};
 use data_pdu::DataHeader;
-use one_end::{ConnectionEvent, Reception};
+use link_model::{ConnectionEvent, Reception};
 
 impl LinkEnd {
     /// The PDU of a good packet.

@@ -1,8 +1,8 @@
 //! The PDUs that an end keeps, and those that it receives.
 ghost use Rattle.std.specs.Prelude.{◌≡◌, ◌+◌, ◌<◌, ◌≤◌, ◌==◌, ◌&&◌, ◌||◌, not, length};
 ghost use Rattle.std.specs.Prelude.{Some, None, Option};
-ghost use Rattle.one_end.specs.Acknowledgement.{empty_pdu};
-ghost use Rattle.one_end.specs.Data.{is_data, is_empty, llid_of, pdu_with};
+ghost use Rattle.link_model.specs.Acknowledgement.{empty_pdu};
+ghost use Rattle.link_model.specs.Data.{is_data, is_empty, llid_of, pdu_with};
 ghost use Rattle.link_end.specs.Held.{got_of, pdu_in};
 ghost use Rattle.link_end.specs.Pdus.{pdu_value};
 

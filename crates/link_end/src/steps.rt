@@ -7,11 +7,11 @@ ghost use Rattle.acl_banks.specs.Banks.{unsent_of};
 ghost use Rattle.chan_select.specs.Channel.{channel_of};
 ghost use Rattle.instants.specs.Track.{event_of, is_free, next_anchor_of, next_number};
 ghost use Rattle.instants.specs.Track.{track_after_enter};
-ghost use Rattle.one_end.specs.Data.{is_empty};
-ghost use Rattle.one_end.specs.Setup.{algorithm_of, first_anchor, first_params};
-ghost use Rattle.one_end.specs.Times.{has_failed, has_timed_out, is_recent, reason_due, skips_by};
-ghost use Rattle.one_end.specs.End.{applied_notes};
-ghost use Rattle.one_end.specs.declared.setup.LinkSetup.{LinkSetup};
+ghost use Rattle.link_model.specs.Data.{is_empty};
+ghost use Rattle.link_model.specs.Setup.{algorithm_of, first_anchor, first_params};
+ghost use Rattle.link_model.specs.Times.{has_failed, has_timed_out, is_recent, reason_due, skips_by};
+ghost use Rattle.link_model.specs.End.{applied_notes};
+ghost use Rattle.link_model.specs.declared.setup.LinkSetup.{LinkSetup};
 ghost use Rattle.adv_pdu.specs.Ranges.{IsInRange};
 ghost use Rattle.ble_base.specs.declared.notes.Note.TheVariants.{Enter};
 ghost use Rattle.link_end.specs.Held.{held_entered};
@@ -22,7 +22,7 @@ use acl_banks::TxBank;
 use ble_base::{ChannelMap, ErrCode, EventNo, Note, Outbox, Role, SlotNo};
 use chan_select::Selector;
 use instants::Params;
-use one_end::{ConnectionEvent, LinkSetup, Reception};
+use link_model::{ConnectionEvent, LinkSetup, Reception};
 
 /// The slots from a CONNECT_IND to the earliest anchor of event 0 (our choice).
 const FIRST_ANCHOR: u64 = 2;

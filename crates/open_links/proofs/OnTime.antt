@@ -3,10 +3,10 @@ use Rattle.std.proofs.Common.{◌≡◌, ℕ, ◌+◌, ◌*◌, ◌<◌, ◌≤�
 use Rattle.std.proofs.lemmas.Bool.{eqb-true}
 use Rattle.std.proofs.lemmas.List.Sums.{fold-append}
 use Rattle.std.proofs.Math.Nat.{lt_of_not-le, mul-le-mul_right}
-use Rattle.one_end.specs.Setup.{Setup}
-use Rattle.one_end.specs.Step.{Step, EventEntered}
-use Rattle.one_end.specs.End.{facts_of}
-use Rattle.one_end.specs.Events.{IsInEvent, anchor_of, count_entry, entries_in}
+use Rattle.link_model.specs.Setup.{Setup}
+use Rattle.link_model.specs.Step.{Step, EventEntered}
+use Rattle.link_model.specs.End.{facts_of}
+use Rattle.link_model.specs.Events.{IsInEvent, anchor_of, count_entry, entries_in}
 use Rattle.open_links.specs.OpenLinks.{OpenLink, link_after, new_link}
 use Rattle.open_links.specs.Turns.{entered_if, is_anchor, link_entered}
 use Rattle.open_links.specs.Slots.{Exchange, Given, Fixes, Sends, Hears, Reports, IsOnTime, link_exchanging, link_through, step_of}

@@ -4,8 +4,8 @@ use Rattle.std.specs.Option.{option_map}
 use Rattle.acl_banks.specs.declared.pieces.Piece.{Piece}
 use Rattle.acl_banks.specs.Packets.{new_packet}
 use Rattle.acl_banks.specs.Banks.{Bank, bank_after_credited, bank_after_drop, bank_after_offer, taken_buffers}
-use Rattle.one_end.specs.Setup.{Setup}
-use Rattle.one_end.specs.Step.{DataGiven, DataReported}
+use Rattle.link_model.specs.Setup.{Setup}
+use Rattle.link_model.specs.Step.{DataGiven, DataReported}
 use Rattle.link_end.specs.Tied.{HoldsData}
 use Rattle.link_end.proofs.Banked.{drop_leaves, offer_leaves}
 use Rattle.link_end.proofs.Keeping.{begun, given_holds}

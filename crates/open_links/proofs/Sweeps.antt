@@ -3,8 +3,8 @@ use Rattle.std.proofs.Common.{◌≡◌, ◌≢◌, ℕ, zero, suc, ◌+◌, ◌
 use Rattle.std.specs.Option.{option_map}
 use Rattle.std.proofs.lemmas.Bool.{eqb-true}
 use Rattle.acl_banks.specs.Banks.{Bank, bank_after_credited, bank_after_drop}
-use Rattle.one_end.specs.Step.{DataReported}
-use Rattle.one_end.proofs.Pasts.{grows}
+use Rattle.link_model.specs.Step.{DataReported}
+use Rattle.link_model.proofs.Pasts.{grows}
 use Rattle.link_end.specs.Tied.{HoldsData, LeavesOthers}
 use Rattle.link_end.proofs.Banked.{credited_leaves, drop_leaves, holds_reported}
 use Rattle.open_links.specs.declared.ended.LinkEnded.{LinkEnded}

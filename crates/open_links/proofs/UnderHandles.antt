@@ -1,11 +1,11 @@
 -- What is held under each handle, and the links that it knows.
 use Rattle.std.proofs.Common.{◌≡◌, ℕ, ◌+◌, ◌<◌, ◌≤◌, ◌==◌, Bool, true, false, nat_lt, List, [], ◌∷◌, ◌++◌, map, Option, Some, None, IfSome, is_some, if◌then◌else◌, refl, ap, sym, ◌∙◌, subst, arith}
 use Rattle.std.specs.Option.{option_map}
-use Rattle.one_end.specs.Setup.{Setup}
-use Rattle.one_end.specs.Step.{Step, DataGiven, DataReported, EventEntered}
-use Rattle.one_end.specs.End.{facts_of}
-use Rattle.one_end.specs.declared.events.Reception.{Reception}
-use Rattle.one_end.proofs.Pasts.{grows}
+use Rattle.link_model.specs.Setup.{Setup}
+use Rattle.link_model.specs.Step.{Step, DataGiven, DataReported, EventEntered}
+use Rattle.link_model.specs.End.{facts_of}
+use Rattle.link_model.specs.declared.events.Reception.{Reception}
+use Rattle.link_model.proofs.Pasts.{grows}
 use Rattle.acl_banks.specs.Banks.{Bank, credits_of}
 use Rattle.link_end.specs.Held.{Held}
 use Rattle.link_end.specs.Tied.{HoldsData, LeavesOthers}

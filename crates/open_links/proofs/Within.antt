@@ -2,15 +2,15 @@
 use Rattle.std.proofs.Common.{◌≡◌, ℕ, ◌+◌, ◌<◌, ◌≤◌, ◌==◌, Bool, true, false, nat_lt, List, [], ◌∷◌, map, Option, Some, None, IfSome, if◌then◌else◌, refl, sym, subst, arith}
 use Rattle.std.specs.Option.{option_map}
 use Rattle.std.proofs.lemmas.Bool.{eqb-true, eqb-false}
-use Rattle.one_end.specs.Setup.{Setup}
-use Rattle.one_end.specs.Step.{Step, DataGiven, DataReported, EventEntered, PacketReceived, PacketSent, PduFixed}
-use Rattle.one_end.specs.Data.{Data, data_acked_if, data_completed, data_given, data_sent_if}
-use Rattle.one_end.specs.Facts.{Facts}
-use Rattle.one_end.specs.Acknowledgement.{is_acked}
-use Rattle.one_end.specs.Packets.{good_pdu}
-use Rattle.one_end.specs.End.{facts_after, facts_of, facts_received}
-use Rattle.one_end.specs.declared.events.Reception.{Reception}
-use Rattle.one_end.proofs.Pasts.{grows}
+use Rattle.link_model.specs.Setup.{Setup}
+use Rattle.link_model.specs.Step.{Step, DataGiven, DataReported, EventEntered, PacketReceived, PacketSent, PduFixed}
+use Rattle.link_model.specs.Data.{Data, data_acked_if, data_completed, data_given, data_sent_if}
+use Rattle.link_model.specs.Facts.{Facts}
+use Rattle.link_model.specs.Acknowledgement.{is_acked}
+use Rattle.link_model.specs.Packets.{good_pdu}
+use Rattle.link_model.specs.End.{facts_after, facts_of, facts_received}
+use Rattle.link_model.specs.declared.events.Reception.{Reception}
+use Rattle.link_model.proofs.Pasts.{grows}
 use Rattle.open_links.specs.declared.offers.Offer.{Offer}
 use Rattle.open_links.specs.declared.offers.Offer.TheVariants.{NoLink, Empty, Overflow, Kept}
 use Rattle.open_links.specs.OpenLinks.{Links, OpenLink, facts_in, link_after, link_at, link_from, new_link, with_change, with_change_from}

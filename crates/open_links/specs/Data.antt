@@ -5,9 +5,9 @@ use Rattle.std.specs.List.{filter, sum_by}
 use Rattle.std.specs.Option.{option_map}
 use Rattle.ble_base.specs.declared.notes.Note.{Note}
 use Rattle.acl_banks.specs.declared.pieces.Piece.{Piece}
-use Rattle.one_end.specs.Step.{Step, DataGiven, DataReported, PduFixed}
-use Rattle.one_end.specs.End.{notes_after}
-use Rattle.one_end.specs.Kept.{kept_of}
+use Rattle.link_model.specs.Step.{Step, DataGiven, DataReported, PduFixed}
+use Rattle.link_model.specs.End.{notes_after}
+use Rattle.link_model.specs.Kept.{kept_of}
 use Rattle.open_links.specs.declared.ended.LinkEnded.{LinkEnded}
 use Rattle.open_links.specs.declared.offers.Completed.{Completed}
 use Rattle.open_links.specs.declared.offers.Offer.{Offer}

@@ -4,10 +4,10 @@ use Rattle.std.specs.List.{list_any}
 use Rattle.std.specs.Option.{option_map}
 use Rattle.ble_base.specs.declared.addresses.Address.{Address}
 use Rattle.scan_init.specs.Addresses.{is_same_address}
-use Rattle.one_end.specs.Setup.{Setup}
-use Rattle.one_end.specs.Step.{Step}
-use Rattle.one_end.specs.Facts.{Facts}
-use Rattle.one_end.specs.End.{facts_of}
+use Rattle.link_model.specs.Setup.{Setup}
+use Rattle.link_model.specs.Step.{Step}
+use Rattle.link_model.specs.Facts.{Facts}
+use Rattle.link_model.specs.End.{facts_of}
 
 pub record OpenLink : Type 0 where
   -- what its end is set up with

@@ -1,7 +1,7 @@
 -- A link slot after slot (Core 5.2, volume 6 part B, section 4.5.1).
 use Rattle.std.specs.Prelude.{ℕ, ◌+◌, ◌<◌, Bool, List, [], ◌∷◌}
-use Rattle.one_end.specs.Step.{Step, DataGiven, PduFixed, PacketSent, PacketReceived, DataReported}
-use Rattle.one_end.specs.Events.{anchor_of, entries_in}
+use Rattle.link_model.specs.Step.{Step, DataGiven, PduFixed, PacketSent, PacketReceived, DataReported}
+use Rattle.link_model.specs.Events.{anchor_of, entries_in}
 use Rattle.open_links.specs.OpenLinks.{OpenLink, link_after}
 use Rattle.open_links.specs.Turns.{link_entered}
 

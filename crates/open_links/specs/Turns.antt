@@ -7,9 +7,9 @@ use Rattle.ble_base.specs.declared.notes.Note.{Note}
 use Rattle.slot_plan.specs.declared.Activity.TheVariants.{Link}
 use Rattle.slot_plan.specs.declared.Want.{Want}
 use Rattle.instants.specs.Track.{next_anchor_of}
-use Rattle.one_end.specs.Step.{EventEntered}
-use Rattle.one_end.specs.Times.{due_of, wants_of}
-use Rattle.one_end.specs.End.{notes_after}
+use Rattle.link_model.specs.Step.{EventEntered}
+use Rattle.link_model.specs.Times.{due_of, wants_of}
+use Rattle.link_model.specs.End.{notes_after}
 use Rattle.open_links.specs.declared.ended.LinkEnded.{LinkEnded}
 use Rattle.open_links.specs.OpenLinks.{Links, OpenLink, facts_in, link_after}
 

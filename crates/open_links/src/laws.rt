@@ -3,11 +3,11 @@
 ghost use Rattle.std.specs.Prelude.{◌≡◌, ◌≢◌, ◌<◌, ◌≤◌, ◌+◌, ◌==◌, ℕ, Bool, List, Option};
 ghost use Rattle.std.specs.Prelude.{Some, None, length, replicate};
 ghost use Rattle.std.specs.Option.{option_map};
-ghost use Rattle.one_end.specs.Setup.{Setup};
+ghost use Rattle.link_model.specs.Setup.{Setup};
 ghost use Rattle.acl_banks.specs.declared.pieces.Piece.{Piece};
 ghost use Rattle.acl_banks.specs.Banks.{taken_buffers};
-ghost use Rattle.one_end.specs.Step.{DataGiven, PduFixed, Step};
-ghost use Rattle.one_end.specs.Events.{anchor_of, entries_in};
+ghost use Rattle.link_model.specs.Step.{DataGiven, PduFixed, Step};
+ghost use Rattle.link_model.specs.Events.{anchor_of, entries_in};
 ghost use Rattle.open_links.specs.Data.{buffers_taken, link_reported, links_fixed, links_given};
 ghost use Rattle.open_links.specs.Data.{links_reported};
 ghost use Rattle.open_links.specs.Knowing.{HeldLinks, Knows};
@@ -129,5 +129,5 @@ pub fn a_link_enters_each_event()
         → 1 ≤ link.setup.link.fields.interval → IsOnTime slot link
         → IsOnTime (slot + length slots) (link_through slot slots link) }
 {
-    one_end::events_follow_the_connect_ind();
+    link_model::events_follow_the_connect_ind();
 }

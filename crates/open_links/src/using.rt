@@ -2,9 +2,9 @@
 ghost use Rattle.std.specs.Prelude.{◌≡◌, ◌<◌, ◌≤◌, ◌+◌, ◌^◌, ◌++◌, Option, Some, length, nat_lt};
 ghost use Rattle.std.specs.Option.{option_map};
 ghost use Rattle.arrayvec.specs.ArrayVec.{array_vec_len};
-ghost use Rattle.one_end.specs.End.{replies_of};
-ghost use Rattle.one_end.specs.Packets.{packet_sent};
-ghost use Rattle.one_end.specs.Step.{PacketReceived, PacketSent, PduFixed};
+ghost use Rattle.link_model.specs.End.{replies_of};
+ghost use Rattle.link_model.specs.Packets.{packet_sent};
+ghost use Rattle.link_model.specs.Step.{PacketReceived, PacketSent, PduFixed};
 ghost use Rattle.open_links.specs.Data.{kept_at, notes_at};
 ghost use Rattle.open_links.specs.OpenLinks.{Links, OpenLink, facts_in, link_after, link_from};
 ghost use Rattle.open_links.specs.OpenLinks.{link_served, with_change_from};

@@ -2,13 +2,13 @@
 use Rattle.std.proofs.Common.{◌≡◌, ℕ, ◌+◌, List, [], ◌∷◌, ◌++◌, Option, None, refl, sym, ap, subst, ◌∙◌}
 use Rattle.ble_base.specs.declared.roles.Side.TheVariants.{A, B}
 use Rattle.ble_base.specs.declared.notes.Note.{Note}
-use Rattle.one_side.specs.Facts.{Setup, Use}
-use Rattle.one_side.specs.Packets.{use_of}
-use Rattle.one_side.specs.Side.{facts_of}
-use Rattle.one_side.specs.Step.{Step}
+use Rattle.controller_model.specs.Facts.{Setup, Use}
+use Rattle.controller_model.specs.Packets.{use_of}
+use Rattle.controller_model.specs.Side.{facts_of}
+use Rattle.controller_model.specs.Step.{Step}
 use Rattle.controller.specs.Knowing.{Knows}
-use Rattle.runs.specs.History.{Event, fates_used, packet_received, packets_on_air, past_of, turns_begun}
-use Rattle.runs.specs.Run.{Given, after_call, after_listening, after_listenings, setup_at, step_of}
+use Rattle.run_model.specs.History.{Event, fates_used, packet_received, packets_on_air, past_of, turns_begun}
+use Rattle.run_model.specs.Run.{Given, after_call, after_listening, after_listenings, setup_at, step_of}
 use Rattle.pair_world.specs.Air.{InPhase}
 use Rattle.pair_world.specs.Logs.{LogState, entries_noted, known_after, with_entries}
 use Rattle.pair_world.specs.Stations.{StationState, Keeps, HasStepped, Writes}

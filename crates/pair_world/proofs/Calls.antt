@@ -4,12 +4,12 @@ use Rattle.std.specs.Prelude.{fold}
 use Rattle.std.specs.List.{flat_map}
 use Rattle.std.proofs.lemmas.Bool.{eq-eqb}
 use Rattle.ble_base.specs.declared.notes.Note.{Note}
-use Rattle.one_side.specs.Step.{Step}
-use Rattle.one_side.specs.Side.{notes_after}
-use Rattle.runs.specs.History.{Event, Called, Noted, one_if, steps_in, past_of, octets_in, fed_to, turns_in, turns_begun, packets_after, packets_on_air, fates_after, fates_used, received_after, packet_received}
-use Rattle.runs.specs.Links.{links_after, links_of}
-use Rattle.runs.specs.Journal.{journal_from, journal_of}
-use Rattle.runs.specs.Run.{Given, after_call, facts_at, octets_left, setup_at}
+use Rattle.controller_model.specs.Step.{Step}
+use Rattle.controller_model.specs.Side.{notes_after}
+use Rattle.run_model.specs.History.{Event, Called, Noted, one_if, steps_in, past_of, octets_in, fed_to, turns_in, turns_begun, packets_after, packets_on_air, fates_after, fates_used, received_after, packet_received}
+use Rattle.run_model.specs.Links.{links_after, links_of}
+use Rattle.run_model.specs.Journal.{journal_from, journal_of}
+use Rattle.run_model.specs.Run.{Given, after_call, facts_at, octets_left, setup_at}
 use Rattle.pair_world.proofs.Histories.{past_more, fed_more, turns_more, fates_more, packets_more, received_more, links_more, journal_more}
 
 -- what a station notes in a call

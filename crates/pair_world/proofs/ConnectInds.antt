@@ -9,9 +9,9 @@ use Rattle.adv_pdu.specs.Reading.{is_adv_pdu, is_payload_length, pdu_of_type, re
 use Rattle.air_frame.specs.declared.Heard.TheVariants.{NotOurs, Broken, Whole}
 use Rattle.air_frame.specs.Hearing.{heard_in}
 use Rattle.air_frame.specs.Packet.{is_packet, on_air, pdu_in}
-use Rattle.one_side.specs.Packets.{pdu_by, pdu_heard}
+use Rattle.controller_model.specs.Packets.{pdu_by, pdu_heard}
 use Rattle.air_frame.specs.declared.advertising.TheConstants.{ADVERTISING_ACCESS, ADVERTISING_CRC_INIT}
-use Rattle.runs.specs.Links.{begins_link, is_advertising, is_connect_ind}
+use Rattle.run_model.specs.Links.{begins_link, is_advertising, is_connect_ind}
 
 -- a packet has seven octets more than its PDU
 abbrev pub HasSevenMore : Type 0

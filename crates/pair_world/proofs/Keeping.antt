@@ -5,15 +5,15 @@ use Rattle.std.specs.List.{All}
 use Rattle.ble_base.specs.declared.roles.Side.{Side}
 use Rattle.ble_base.specs.declared.roles.Side.TheVariants.{A, B}
 use Rattle.ble_base.specs.declared.notes.Note.{Note}
-use Rattle.one_side.specs.Step.{Step}
-use Rattle.one_side.specs.Facts.{Setup}
-use Rattle.one_side.specs.Notes.{HasHandleBelow}
-use Rattle.one_side.specs.Side.{facts_of, notes_after}
+use Rattle.controller_model.specs.Step.{Step}
+use Rattle.controller_model.specs.Facts.{Setup}
+use Rattle.controller_model.specs.Notes.{HasHandleBelow}
+use Rattle.controller_model.specs.Side.{facts_of, notes_after}
 use Rattle.controller.specs.Knowing.{Knows}
-use Rattle.runs.specs.History.{Event, past_of}
-use Rattle.runs.specs.Journal.{journal_from, journal_of, side_of}
-use Rattle.runs.specs.Links.{Links, links_after, links_of}
-use Rattle.runs.specs.Run.{Given, after_call, setup_at}
+use Rattle.run_model.specs.History.{Event, past_of}
+use Rattle.run_model.specs.Journal.{journal_from, journal_of, side_of}
+use Rattle.run_model.specs.Links.{Links, links_after, links_of}
+use Rattle.run_model.specs.Run.{Given, after_call, setup_at}
 use Rattle.pair_world.specs.declared.links.TheConstants.{LINKS}
 use Rattle.pair_world.specs.KnownLinks.{KnownLinks}
 use Rattle.pair_world.specs.Logs.{LogState, entries_noted, known_after, with_entries}

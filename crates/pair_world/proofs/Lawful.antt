@@ -4,10 +4,10 @@ use Rattle.journal.specs.declared.entries.Entry.{Entry}
 use Rattle.journal_pdus.specs.Lawful.{IsLawful}
 use Rattle.journal_pdus.specs.Settled.{AreSettled}
 use Rattle.radio_replay.specs.Script.{Script}
-use Rattle.runs.specs.History.{Event}
-use Rattle.runs.specs.Journal.{journal_of}
-use Rattle.runs.specs.Pair.{IsRun}
-use Rattle.runs.specs.Run.{Given, GoesOn, history_of, run_of}
+use Rattle.run_model.specs.History.{Event}
+use Rattle.run_model.specs.Journal.{journal_of}
+use Rattle.run_model.specs.Pair.{IsRun}
+use Rattle.run_model.specs.Run.{Given, GoesOn, history_of, run_of}
 use Rattle.pair_world.specs.Faults.{IsLawfulSoFar, IsRunFault}
 use Rattle.pair_world.specs.declared.run.RunFault.{RunFault}
 use Rattle.pair_world.specs.declared.run.RunFault.TheVariants.{Unseen, Memory}

@@ -6,15 +6,15 @@ use Rattle.ble_base.specs.declared.notes.Note.{Note}
 use Rattle.journal.specs.declared.entries.Entry.{Entry}
 use Rattle.journal.specs.declared.entries.Entry.TheVariants.{Turn}
 use Rattle.radio_replay.specs.Script.{Turn as ScriptTurn}
-use Rattle.one_side.specs.Facts.{Setup, Use}
-use Rattle.one_side.specs.Packets.{use_of}
-use Rattle.one_side.specs.Side.{facts_of}
-use Rattle.one_side.specs.Step.{Step, TurnBegins, TurnEnds}
+use Rattle.controller_model.specs.Facts.{Setup, Use}
+use Rattle.controller_model.specs.Packets.{use_of}
+use Rattle.controller_model.specs.Side.{facts_of}
+use Rattle.controller_model.specs.Step.{Step, TurnBegins, TurnEnds}
 use Rattle.controller.specs.Knowing.{Knows}
-use Rattle.runs.specs.History.{Event, TurnBegan, fates_used, fed_to, packets_on_air, past_of, turns_begun}
-use Rattle.runs.specs.Links.{Links}
-use Rattle.runs.specs.Pair.{plan_of}
-use Rattle.runs.specs.Run.{Given, GoesOn, Run, after_begins, after_ends, after_feed, after_feeds, after_opening, after_phases, after_turn, and_then, octets_left, setup_at}
+use Rattle.run_model.specs.History.{Event, TurnBegan, fates_used, fed_to, packets_on_air, past_of, turns_begun}
+use Rattle.run_model.specs.Links.{Links}
+use Rattle.run_model.specs.Pair.{plan_of}
+use Rattle.run_model.specs.Run.{Given, GoesOn, Run, after_begins, after_ends, after_feed, after_feeds, after_opening, after_phases, after_turn, and_then, octets_left, setup_at}
 use Rattle.pair_world.specs.declared.stops.Stop.{Stop}
 use Rattle.pair_world.specs.Air.{InPhase}
 use Rattle.pair_world.specs.Logs.{LogState, entries_noted, with_entries}

@@ -8,14 +8,14 @@ use Rattle.ble_base.specs.Side.{other_side}
 use Rattle.journal.specs.declared.entries.Entry.TheVariants.{Air}
 use Rattle.radio_replay.specs.declared.fates.Fate.{Fate}
 use Rattle.radio_replay.specs.Damage.{damaged_packet}
-use Rattle.one_side.specs.Facts.{Setup, Use}
-use Rattle.one_side.specs.Packets.{channel_listened, use_of}
-use Rattle.one_side.specs.Step.{Step}
-use Rattle.one_side.specs.Side.{facts_of}
-use Rattle.runs.specs.History.{Event, is_good, turns_begun, packets_on_air, fates_used, packet_received}
-use Rattle.runs.specs.Journal.{mark_of}
-use Rattle.runs.specs.Links.{begins_link}
-use Rattle.runs.specs.Run.{Given, reaches, use_at, verdict_where}
+use Rattle.controller_model.specs.Facts.{Setup, Use}
+use Rattle.controller_model.specs.Packets.{channel_listened, use_of}
+use Rattle.controller_model.specs.Step.{Step}
+use Rattle.controller_model.specs.Side.{facts_of}
+use Rattle.run_model.specs.History.{Event, is_good, turns_begun, packets_on_air, fates_used, packet_received}
+use Rattle.run_model.specs.Journal.{mark_of}
+use Rattle.run_model.specs.Links.{begins_link}
+use Rattle.run_model.specs.Run.{Given, reaches, use_at, verdict_where}
 use Rattle.pair_world.specs.declared.stops.Stop.{Stop}
 use Rattle.pair_world.specs.declared.stops.Stop.TheVariants.{Unseen, Memory}
 use Rattle.pair_world.specs.Logs.{LogState, with_entries}

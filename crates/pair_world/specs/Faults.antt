@@ -3,8 +3,8 @@ use Rattle.std.specs.Prelude.{ℕ, List, ⊤}
 use Rattle.journal.specs.declared.entries.Entry.{Entry}
 use Rattle.journal_pdus.specs.Lawful.{IsLawful}
 use Rattle.radio_replay.specs.Script.{Script}
-use Rattle.runs.specs.Pair.{EndsUnseen}
-use Rattle.runs.specs.Run.{Given}
+use Rattle.run_model.specs.Pair.{EndsUnseen}
+use Rattle.run_model.specs.Run.{Given}
 use Rattle.pair_world.specs.declared.run.RunFault.{RunFault}
 use Rattle.pair_world.specs.declared.run.RunFault.TheVariants.{Unseen as UnseenFault, Memory as OutOfMemory}
 use Rattle.pair_world.specs.declared.stops.Stop.{Stop}

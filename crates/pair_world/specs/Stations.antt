@@ -3,14 +3,14 @@ use Rattle.std.specs.Prelude.{◌≡◌, ℕ, ◌<◌, List, [], length}
 use Rattle.ble_base.specs.declared.roles.Side.{Side}
 use Rattle.ble_base.specs.declared.roles.Side.TheVariants.{A, B}
 use Rattle.ble_base.specs.declared.notes.Note.{Note}
-use Rattle.one_side.specs.Facts.{Setup}
-use Rattle.one_side.specs.Step.{Step}
+use Rattle.controller_model.specs.Facts.{Setup}
+use Rattle.controller_model.specs.Step.{Step}
 use Rattle.controller.specs.Held.{Held}
 use Rattle.controller.specs.Knowing.{Knows, Goes}
-use Rattle.runs.specs.History.{Event, past_of}
-use Rattle.runs.specs.Run.{Given, setup_at, octets_left}
-use Rattle.runs.specs.Links.{Links, links_of}
-use Rattle.runs.specs.Journal.{journal_of}
+use Rattle.run_model.specs.History.{Event, past_of}
+use Rattle.run_model.specs.Run.{Given, setup_at, octets_left}
+use Rattle.run_model.specs.Links.{Links, links_of}
+use Rattle.run_model.specs.Journal.{journal_of}
 use Rattle.pair_world.specs.declared.links.TheConstants.{LINKS}
 use Rattle.pair_world.specs.KnownLinks.{KnownLinks, first_known, number_in}
 use Rattle.pair_world.specs.Logs.{LogState}

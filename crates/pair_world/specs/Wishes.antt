@@ -1,6 +1,6 @@
 -- The packet that a station wants to transmit (our choice).
 use Rattle.std.specs.Prelude.{ℕ, Bool, true, false, List, Option, Some, None}
-use Rattle.one_side.specs.Facts.{Use, Sends, Listens, Idle}
+use Rattle.controller_model.specs.Facts.{Use, Sends, Listens, Idle}
 
 abbrev pub packet_wanted : Use → Option (List ℕ)
 packet_wanted (Sends channel octets) = Some octets

@@ -2,8 +2,8 @@
 ghost use Rattle.std.specs.Prelude.{◌≡◌, ℕ, ◌+◌, ◌^◌, ◌<◌, ◌≤◌, List, [], length, slice_get, Some};
 ghost use Rattle.std.specs.Prelude.{OnOk, IfOk, IfErr};
 ghost use Rattle.radio_replay.specs.Script.{Turn as Plan};
-ghost use Rattle.runs.specs.History.{Event};
-ghost use Rattle.runs.specs.Run.{Given, after_packets, after_phase, after_phases};
+ghost use Rattle.run_model.specs.History.{Event};
+ghost use Rattle.run_model.specs.Run.{Given, after_packets, after_phase, after_phases};
 ghost use Rattle.pair_world.specs.Air.{InPhase};
 ghost use Rattle.pair_world.specs.Order.{HaveBothBegun};
 ghost use Rattle.pair_world.specs.Wishes.{heard_of};
@@ -132,7 +132,7 @@ fn run_phase(
         ≡ turn.old.number) }
     ensures empty { OnOk result (out.new.items ≡ []) }
 {
-    one_side::notes_name_links_of_the_controller();
+    controller_model::notes_name_links_of_the_controller();
     let received = transmit(turn, wanted, pair, log)?;
     pair.a.listen(wanted.b.heard(received.a), &mut next.a, out);
     pair.a.write_notes(Side::A, out, log)?;

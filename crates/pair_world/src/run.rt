@@ -1,8 +1,8 @@
 //! A run.
 ghost use Rattle.std.specs.Prelude.{◌≡◌, ◌≤◌, [], length, IfOk, IfErr};
-ghost use Rattle.one_side.specs.Facts.{setup_of};
-ghost use Rattle.runs.specs.Pair.{IsRun, given_of};
-ghost use Rattle.runs.specs.Run.{Given};
+ghost use Rattle.controller_model.specs.Facts.{setup_of};
+ghost use Rattle.run_model.specs.Pair.{IsRun, given_of};
+ghost use Rattle.run_model.specs.Run.{Given};
 ghost use Rattle.journal_pdus.specs.Lawful.{IsLawful};
 ghost use Rattle.journal_pdus.specs.Settled.{AreSettled};
 ghost use Rattle.pair_world.specs.Faults.{IsLawfulSoFar, IsRunFault, fault_of};

@@ -2,15 +2,15 @@
 ghost use Rattle.std.specs.Prelude.{◌≡◌, ℕ, ◌+◌, ◌<◌, ◌≤◌, ◌^◌, List, [], ◌∷◌, ◌++◌, length, take};
 ghost use Rattle.std.specs.Prelude.{drop, IfOk, OnOk};
 ghost use Rattle.std.specs.Option.{option_copied};
-ghost use Rattle.one_side.specs.Step.{Step, HostOctet, TurnBegins, PacketHeard, NothingHeard};
-ghost use Rattle.one_side.specs.Step.{TurnEnds};
-ghost use Rattle.one_side.specs.Facts.{Setup, setup_of};
-ghost use Rattle.one_side.specs.Packets.{verdict_of, use_of};
-ghost use Rattle.one_side.specs.Side.{facts_of};
+ghost use Rattle.controller_model.specs.Step.{Step, HostOctet, TurnBegins, PacketHeard, NothingHeard};
+ghost use Rattle.controller_model.specs.Step.{TurnEnds};
+ghost use Rattle.controller_model.specs.Facts.{Setup, setup_of};
+ghost use Rattle.controller_model.specs.Packets.{verdict_of, use_of};
+ghost use Rattle.controller_model.specs.Side.{facts_of};
 ghost use Rattle.controller.specs.Knowing.{Knows};
 ghost use Rattle.controller.specs.Order.{MayBegin};
-ghost use Rattle.runs.specs.History.{Event};
-ghost use Rattle.runs.specs.Run.{Given, after_call, after_octets, after_feed, step_of};
+ghost use Rattle.run_model.specs.History.{Event};
+ghost use Rattle.run_model.specs.Run.{Given, after_call, after_octets, after_feed, step_of};
 ghost use Rattle.pair_world.specs.Logs.{entries_noted, known_after, with_entries};
 ghost use Rattle.pair_world.specs.Stations.{number_of, Keeps, Writes, StationIsUpTo, HasStepped};
 ghost use Rattle.pair_world.specs.Stations.{IsFirst};
@@ -124,7 +124,7 @@ impl<'s> Station<'s> {
         ensures links { OnOk result (log.new.links ≡ log.old.links) }
         ensures empty { OnOk result (out.new.items ≡ []) }
     {
-        one_side::notes_name_links_of_the_controller();
+        controller_model::notes_name_links_of_the_controller();
         self.host_octet(octet, out);
         self.write_notes(side, out, log)
     }

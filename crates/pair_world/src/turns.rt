@@ -2,9 +2,9 @@
 ghost use Rattle.std.specs.Prelude.{◌≡◌, ℕ, ◌+◌, ◌^◌, ◌<◌, ◌≤◌, List, [], length, slice_get, Some};
 ghost use Rattle.std.specs.Prelude.{OnOk, IfErr};
 ghost use Rattle.radio_replay.specs.Script.{Turn as Plan};
-ghost use Rattle.runs.specs.History.{Event};
-ghost use Rattle.runs.specs.Pair.{plan_of};
-ghost use Rattle.runs.specs.Run.{Given, after_begins, after_ends, after_opening, after_turn};
+ghost use Rattle.run_model.specs.History.{Event};
+ghost use Rattle.run_model.specs.Pair.{plan_of};
+ghost use Rattle.run_model.specs.Run.{Given, after_begins, after_ends, after_opening, after_turn};
 ghost use Rattle.pair_world.specs.Air.{InPhase};
 ghost use Rattle.pair_world.specs.Order.{HaveBothBegun, MayBothBegin};
 ghost use Rattle.pair_world.specs.Outcomes.{Reaches, IsStopped};
@@ -70,7 +70,7 @@ fn begin_both(
     ensures empty { OnOk result (out.new.items ≡ []) }
 {
     let slot = SlotNo(u64::from(number));
-    one_side::notes_name_links_of_the_controller();
+    controller_model::notes_name_links_of_the_controller();
     pair.a
         .begin(slot, schedule.a_on(number), &mut wanted.a, out);
     pair.a.write_notes(Side::A, out, log)?;
@@ -116,7 +116,7 @@ fn end_both(pair: &mut Pair<'_>, out: &mut Outbox, log: &mut Log) -> Result<(), 
     ensures links { OnOk result (log.new.links ≡ log.old.links) }
     ensures empty { OnOk result (out.new.items ≡ []) }
 {
-    one_side::notes_name_links_of_the_controller();
+    controller_model::notes_name_links_of_the_controller();
     pair.a.end(out);
     pair.a.write_notes(Side::A, out, log)?;
     pair.b.end(out);

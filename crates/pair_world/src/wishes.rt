@@ -1,8 +1,8 @@
 //! What a station wants of its radio in a phase.
 ghost use Rattle.std.specs.Prelude.{◌≡◌, ◌≤◌, length, None, IfSome, IfNone};
 ghost use Rattle.std.specs.Option.{option_copied};
-ghost use Rattle.one_side.specs.Facts.{Sends, Idle};
-ghost use Rattle.one_side.specs.Packets.{channel_listened};
+ghost use Rattle.controller_model.specs.Facts.{Sends, Idle};
+ghost use Rattle.controller_model.specs.Packets.{channel_listened};
 ghost use Rattle.controller.specs.Knowing.{use_wanted};
 ghost use Rattle.pair_world.specs.Wishes.{heard_of, packet_wanted};
 
@@ -21,7 +21,7 @@ pub(crate) struct Wish {
 }
 
 impl Model for Wish {
-    ghost use Rattle.one_side.specs.Facts.{Use};
+    ghost use Rattle.controller_model.specs.Facts.{Use};
     ghost use Rattle.controller.specs.Actions.{use_with};
 
     ghost Value = { Use };

@@ -7,16 +7,16 @@ use Rattle.ack_bit.specs.AckBits.{acknowledges, is_new}
 use Rattle.ack_bit.specs.AckLink.{Packet}
 use Rattle.ack_bit.specs.InStep.{AreInStep, IsOut}
 use Rattle.ack_bit.proofs.Links.{begins, exchanged, received, says, sent}
-use Rattle.one_end.specs.Acknowledgement.{Acknowledgement, Pdu, after_sending, bits_of, empty_pdu, end_of, first_acknowledgement, is_acked, next_sent, received_by}
-use Rattle.one_end.specs.Data.{is_data}
-use Rattle.one_end.specs.End.{facts_after, facts_of, facts_received, has_acknowledged, is_accepted}
-use Rattle.one_end.specs.Facts.{Facts, first_facts}
-use Rattle.one_end.specs.Packets.{header_sent, more_sent, packet_sent, pdu_sent}
-use Rattle.one_end.specs.Pair.{AreInAgreement, AreOneLink, receiver_after}
-use Rattle.one_end.specs.Setup.{Setup}
-use Rattle.one_end.specs.Step.{Step, DataGiven, EventEntered, PduFixed, PacketSent, PacketReceived, DataReported}
-use Rattle.one_end.proofs.Payloads.{IsShort, past_pdu_short}
-use Rattle.one_end.proofs.Received.{IsHeardWhole, header_read, heard_good, pdu_read, received_end}
+use Rattle.link_model.specs.Acknowledgement.{Acknowledgement, Pdu, after_sending, bits_of, empty_pdu, end_of, first_acknowledgement, is_acked, next_sent, received_by}
+use Rattle.link_model.specs.Data.{is_data}
+use Rattle.link_model.specs.End.{facts_after, facts_of, facts_received, has_acknowledged, is_accepted}
+use Rattle.link_model.specs.Facts.{Facts, first_facts}
+use Rattle.link_model.specs.Packets.{header_sent, more_sent, packet_sent, pdu_sent}
+use Rattle.link_model.specs.Pair.{AreInAgreement, AreOneLink, receiver_after}
+use Rattle.link_model.specs.Setup.{Setup}
+use Rattle.link_model.specs.Step.{Step, DataGiven, EventEntered, PduFixed, PacketSent, PacketReceived, DataReported}
+use Rattle.link_model.proofs.Payloads.{IsShort, past_pdu_short}
+use Rattle.link_model.proofs.Received.{IsHeardWhole, header_read, heard_good, pdu_read, received_end}
 use Rattle.open_links.specs.OpenLinks.{OpenLink, facts_in, link_after, link_served, new_link}
 use Rattle.open_links.specs.Turns.{entered_if, is_anchor, link_entered}
 use Rattle.run_laws.specs.Ends.{HaveOneConnectInd}

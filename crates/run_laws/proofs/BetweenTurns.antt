@@ -1,15 +1,15 @@
 -- Between two turns each controller has begun all turns so far.
 use Rattle.std.proofs.Common.{◌≡◌, ℕ, Bool, true, List, [], ◌∷◌, ◌++◌, ap, ◌∙◌}
 use Rattle.std.specs.Prelude.{map, take, Some}
-use Rattle.one_side.specs.Step.{Step, HostOctet, TurnBegins, TurnEnds}
-use Rattle.one_side.specs.Side.{notes_after}
-use Rattle.runs.specs.Due.{Each}
-use Rattle.runs.specs.Feeding.{AreDistinct}
-use Rattle.runs.specs.History.{Event, TurnBegan, HostFed, Called, Noted, Transmitted, past_of, turns_begun, packet_received}
-use Rattle.runs.specs.Run.{Given, GoesOn, setup_at, facts_at, octets_left, after_call, after_octets, after_feed, hearings_of, step_of, run_of, history_of}
-use Rattle.runs.proofs.Places.{each_at, each_called, each_event}
-use Rattle.runs.proofs.Stations.{is_in}
-use Rattle.runs.proofs.Walk.{Place, IsKept, IsWhole, IsStopped, ends_with, ends_whole, run_kept}
+use Rattle.controller_model.specs.Step.{Step, HostOctet, TurnBegins, TurnEnds}
+use Rattle.controller_model.specs.Side.{notes_after}
+use Rattle.run_model.specs.Due.{Each}
+use Rattle.run_model.specs.Feeding.{AreDistinct}
+use Rattle.run_model.specs.History.{Event, TurnBegan, HostFed, Called, Noted, Transmitted, past_of, turns_begun, packet_received}
+use Rattle.run_model.specs.Run.{Given, GoesOn, setup_at, facts_at, octets_left, after_call, after_octets, after_feed, hearings_of, step_of, run_of, history_of}
+use Rattle.run_model.proofs.Places.{each_at, each_called, each_event}
+use Rattle.run_model.proofs.Stations.{is_in}
+use Rattle.run_model.proofs.Walk.{Place, IsKept, IsWhole, IsStopped, ends_with, ends_whole, run_kept}
 use Rattle.run_laws.proofs.TurnPlaces.{AllStand, Between, stands_first, stands_kept, standing, turned}
 use Rattle.run_laws.proofs.Entering.{IsInTurn, turn_first, turn_kept}
 

@@ -3,17 +3,17 @@ use Rattle.std.proofs.Common.{◌≡◌, ℕ, suc, ◌+◌, ◌-◌, ◌==◌, B
 use Rattle.std.specs.Prelude.{map, take, if◌then◌else◌}
 use mathlib.Core.Path.{fun_ext}
 use Rattle.ble_base.specs.declared.notes.Note.{Note}
-use Rattle.one_side.specs.Step.{Step, HostOctet, TurnBegins, TurnEnds}
-use Rattle.one_side.specs.Facts.{Facts, Listens, first_facts}
-use Rattle.one_side.specs.Side.{facts_after, facts_of, notes_after}
-use Rattle.runs.specs.Due.{Each}
-use Rattle.runs.specs.Feeding.{AreDistinct}
-use Rattle.runs.specs.History.{Event, TurnBegan, HostFed, Called, Noted, Transmitted, past_of, packet_received, steps_in, turns_begun}
-use Rattle.runs.specs.LinkEnds.{HaveAddresses}
-use Rattle.runs.specs.Run.{Given, setup_at, facts_at, octets_left, after_call, after_octets, after_feed, hearings_of, step_of, run_of, history_of}
-use Rattle.runs.proofs.Places.{each_at, each_event}
-use Rattle.runs.proofs.Stations.{is_in, among, not_before}
-use Rattle.runs.proofs.Walk.{Place, AtBegins, AtListening, IsKept, IsWhole, IsStopped, ends_with, run_kept}
+use Rattle.controller_model.specs.Step.{Step, HostOctet, TurnBegins, TurnEnds}
+use Rattle.controller_model.specs.Facts.{Facts, Listens, first_facts}
+use Rattle.controller_model.specs.Side.{facts_after, facts_of, notes_after}
+use Rattle.run_model.specs.Due.{Each}
+use Rattle.run_model.specs.Feeding.{AreDistinct}
+use Rattle.run_model.specs.History.{Event, TurnBegan, HostFed, Called, Noted, Transmitted, past_of, packet_received, steps_in, turns_begun}
+use Rattle.run_model.specs.LinkEnds.{HaveAddresses}
+use Rattle.run_model.specs.Run.{Given, setup_at, facts_at, octets_left, after_call, after_octets, after_feed, hearings_of, step_of, run_of, history_of}
+use Rattle.run_model.proofs.Places.{each_at, each_event}
+use Rattle.run_model.proofs.Stations.{is_in, among, not_before}
+use Rattle.run_model.proofs.Walk.{Place, AtBegins, AtListening, IsKept, IsWhole, IsStopped, ends_with, run_kept}
 use Rattle.run_laws.proofs.Entering.{IsInTurn, turn_first, turn_kept}
 use Rattle.run_laws.proofs.Hearings.{AreHearing, IsOnAir, OnAirIf, hearing_kept, on_air, other_facts, own_facts, own_hears, use_sent_at, wanted_is}
 use Rattle.run_laws.proofs.TurnPlaces.{AllStand, Between, Standing, Within, at_stage, event_past, stands_at, stands_first, turned}

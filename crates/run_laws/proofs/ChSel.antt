@@ -11,35 +11,35 @@ use Rattle.adv_pdu.specs.Ranges.{is_in_range}
 use Rattle.advertise.specs.declared.answers.AdvAnswer.TheVariants.{Connect as Takes}
 use Rattle.advertise.specs.declared.params.AdvParams.{AdvParams}
 use Rattle.advertise.specs.Answers.{advertiser_answer, is_scan_answered}
-use Rattle.one_end.specs.Setup.{Setup as EndSetup}
-use Rattle.one_end.specs.declared.setup.LinkSetup.{LinkSetup}
+use Rattle.link_model.specs.Setup.{Setup as EndSetup}
+use Rattle.link_model.specs.declared.setup.LinkSetup.{LinkSetup}
 use Rattle.scan_init.specs.Initiating.{InitiatorFacts, is_accepted, is_connectable_to, is_sought}
 use Rattle.open_links.specs.OpenLinks.{OpenLink, free_from, link_at}
-use Rattle.one_side.specs.declared.doing.Doing.{Doing}
-use Rattle.one_side.specs.declared.doing.Doing.TheVariants.{Advertises, Requests, Initiates, Connects, CentralSends}
-use Rattle.one_side.specs.declared.doing.Turn.{Turn}
-use Rattle.one_side.specs.Step.{Step, HostOctet, TurnBegins, PacketHeard, TurnEnds}
-use Rattle.one_side.specs.Facts.{Setup, Facts, Listens}
-use Rattle.one_side.specs.Heard.{answers_by_connecting, connects, fields_sent, heard, if_pdu, initiator_heard, is_new_between, link_if, link_made, link_to, link_under, link_wanted, link_with, next_access_of, unheard}
-use Rattle.one_side.specs.Packets.{pdu_heard}
-use Rattle.one_side.specs.Side.{facts_after}
-use Rattle.one_side.proofs.Always.{IsAdvertisingChannel, MayBegin}
-use Rattle.one_side.proofs.DataChannels.{link_channel}
-use Rattle.runs.specs.Feeding.{AreDistinct}
-use Rattle.runs.specs.History.{Event}
-use Rattle.runs.specs.LinkEnds.{HaveAddresses}
-use Rattle.runs.specs.OnAir.{ends_phase}
-use Rattle.runs.specs.Run.{Given, setup_at, facts_at, step_of, run_of, history_of}
-use Rattle.runs.proofs.LinkEnds.{IsUnderstood}
-use Rattle.runs.proofs.LinkSteps.{EachLink, MayOpen, link_has, none_linked, step_linked}
-use Rattle.runs.proofs.Stations.{is_in}
+use Rattle.controller_model.specs.declared.doing.Doing.{Doing}
+use Rattle.controller_model.specs.declared.doing.Doing.TheVariants.{Advertises, Requests, Initiates, Connects, CentralSends}
+use Rattle.controller_model.specs.declared.doing.Turn.{Turn}
+use Rattle.controller_model.specs.Step.{Step, HostOctet, TurnBegins, PacketHeard, TurnEnds}
+use Rattle.controller_model.specs.Facts.{Setup, Facts, Listens}
+use Rattle.controller_model.specs.Heard.{answers_by_connecting, connects, fields_sent, heard, if_pdu, initiator_heard, is_new_between, link_if, link_made, link_to, link_under, link_wanted, link_with, next_access_of, unheard}
+use Rattle.controller_model.specs.Packets.{pdu_heard}
+use Rattle.controller_model.specs.Side.{facts_after}
+use Rattle.controller_model.proofs.Always.{IsAdvertisingChannel, MayBegin}
+use Rattle.controller_model.proofs.DataChannels.{link_channel}
+use Rattle.run_model.specs.Feeding.{AreDistinct}
+use Rattle.run_model.specs.History.{Event}
+use Rattle.run_model.specs.LinkEnds.{HaveAddresses}
+use Rattle.run_model.specs.OnAir.{ends_phase}
+use Rattle.run_model.specs.Run.{Given, setup_at, facts_at, step_of, run_of, history_of}
+use Rattle.run_model.proofs.LinkEnds.{IsUnderstood}
+use Rattle.run_model.proofs.LinkSteps.{EachLink, MayOpen, link_has, none_linked, step_linked}
+use Rattle.run_model.proofs.Stations.{is_in}
 use Rattle.run_laws.proofs.ByCalls.{IsCalled, IsKeptByCalls, WasSent, always_by_calls}
 use Rattle.run_laws.proofs.Entering.{IsInTurn, scan_takes_none}
 use Rattle.run_laws.proofs.Hearings.{IsOnAir}
 use Rattle.run_laws.proofs.SentPackets.{HasChSel}
 use Rattle.run_laws.proofs.TurnPlaces.{Within}
 use Rattle.run_laws.proofs.TurnSteps.{FitsChannel, IsListening, begins_may, initiates, octet_turn, pending, phase_turn}
-use Rattle.one_end.specs.Pair.{AreOneLink}
+use Rattle.link_model.specs.Pair.{AreOneLink}
 use Rattle.run_laws.specs.Ends.{AreEnds, IsOpen, OpenEnd}
 use Rattle.run_laws.proofs.SameEvent.{one_connect_ind}
 

@@ -7,30 +7,30 @@ use Rattle.ble_base.specs.declared.notes.Note.{Note}
 use Rattle.adv_pdu.specs.declared.pdu.AdvPdu.{AdvPdu}
 use Rattle.adv_pdu.specs.declared.pdu.AdvPdu.TheVariants.{Connect}
 use Rattle.adv_pdu.specs.declared.pdu.ConnectFields.{ConnectFields}
-use Rattle.one_end.specs.declared.setup.LinkSetup.{LinkSetup}
+use Rattle.link_model.specs.declared.setup.LinkSetup.{LinkSetup}
 use Rattle.scan_init.specs.Access.{nth_access}
-use Rattle.one_side.specs.declared.doing.Doing.{Doing}
-use Rattle.one_side.specs.declared.doing.Doing.TheVariants.{Advertises, Connects, Rests}
-use Rattle.one_side.specs.declared.doing.Turn.{Turn}
-use Rattle.one_side.specs.Step.{Step, HostOctet, TurnBegins, TurnEnds}
-use Rattle.one_side.specs.Facts.{Setup, Facts, Sends}
-use Rattle.one_side.specs.Heard.{access_found}
-use Rattle.one_side.specs.Packets.{advertising_packet, pdu_heard}
-use Rattle.one_side.specs.Sent.{SendsOn}
-use Rattle.one_side.specs.Side.{facts_after, facts_of, notes_after}
-use Rattle.one_side.proofs.DataChannels.{link_channel}
-use Rattle.runs.specs.Due.{Each, packet_in}
-use Rattle.runs.specs.Feeding.{AreDistinct}
-use Rattle.runs.specs.History.{Event, TurnBegan, HostFed, Called, Noted, Transmitted, Hearing, past_of, turns_begun, packet_received}
-use Rattle.runs.specs.LinkEnds.{HaveAddresses}
-use Rattle.runs.specs.Links.{begins_link, is_advertising, is_connect_ind}
-use Rattle.runs.specs.Run.{Given, setup_at, facts_at, use_at, octets_left, after_call, after_octets, after_feed, hearings_of, step_of, run_of, history_of}
-use Rattle.runs.proofs.Calls.{with_notes, fold_called, fold_event, past_other, same_station}
-use Rattle.runs.proofs.Doings.{IsWanted, always_wanted}
-use Rattle.runs.proofs.LinkEnds.{IsUnderstood}
-use Rattle.runs.proofs.Places.{each_at, each_called, each_event}
-use Rattle.runs.proofs.Stations.{is_in, among, in_more_other, in_more_same, not_before}
-use Rattle.runs.proofs.Walk.{Place, AtBegins, AtPackets, AtListening, AtEnds, IsKept, IsWhole, IsStopped, ends_with, run_kept}
+use Rattle.controller_model.specs.declared.doing.Doing.{Doing}
+use Rattle.controller_model.specs.declared.doing.Doing.TheVariants.{Advertises, Connects, Rests}
+use Rattle.controller_model.specs.declared.doing.Turn.{Turn}
+use Rattle.controller_model.specs.Step.{Step, HostOctet, TurnBegins, TurnEnds}
+use Rattle.controller_model.specs.Facts.{Setup, Facts, Sends}
+use Rattle.controller_model.specs.Heard.{access_found}
+use Rattle.controller_model.specs.Packets.{advertising_packet, pdu_heard}
+use Rattle.controller_model.specs.Sent.{SendsOn}
+use Rattle.controller_model.specs.Side.{facts_after, facts_of, notes_after}
+use Rattle.controller_model.proofs.DataChannels.{link_channel}
+use Rattle.run_model.specs.Due.{Each, packet_in}
+use Rattle.run_model.specs.Feeding.{AreDistinct}
+use Rattle.run_model.specs.History.{Event, TurnBegan, HostFed, Called, Noted, Transmitted, Hearing, past_of, turns_begun, packet_received}
+use Rattle.run_model.specs.LinkEnds.{HaveAddresses}
+use Rattle.run_model.specs.Links.{begins_link, is_advertising, is_connect_ind}
+use Rattle.run_model.specs.Run.{Given, setup_at, facts_at, use_at, octets_left, after_call, after_octets, after_feed, hearings_of, step_of, run_of, history_of}
+use Rattle.run_model.proofs.Calls.{with_notes, fold_called, fold_event, past_other, same_station}
+use Rattle.run_model.proofs.Doings.{IsWanted, always_wanted}
+use Rattle.run_model.proofs.LinkEnds.{IsUnderstood}
+use Rattle.run_model.proofs.Places.{each_at, each_called, each_event}
+use Rattle.run_model.proofs.Stations.{is_in, among, in_more_other, in_more_same, not_before}
+use Rattle.run_model.proofs.Walk.{Place, AtBegins, AtPackets, AtListening, AtEnds, IsKept, IsWhole, IsStopped, ends_with, run_kept}
 use Rattle.run_laws.specs.Access.{connects_in, connects_sent}
 use Rattle.run_laws.proofs.SentPackets.{IsUseSent, Says}
 use Rattle.run_laws.proofs.TurnPlaces.{AllStand, Between, Within, at_stage, event_past, stands_first, stands_kept}

@@ -9,31 +9,31 @@ use Rattle.adv_pdu.specs.Ranges.{IsInRange}
 use Rattle.advertise.specs.declared.answers.AdvAnswer.TheVariants.{Ignore, Respond, Connect as Takes}
 use Rattle.advertise.specs.declared.params.AdvParams.{AdvParams}
 use Rattle.advertise.specs.Answers.{advertiser_answer, is_scan_answered}
-use Rattle.one_end.specs.Setup.{Setup as EndSetup}
-use Rattle.one_end.specs.Step.{Step as EndStep, DataGiven, PduFixed, PacketSent, PacketReceived, DataReported}
-use Rattle.one_end.specs.Events.{anchor_of, count_entry, entries_in}
-use Rattle.one_end.proofs.InEvents.{past_in}
+use Rattle.link_model.specs.Setup.{Setup as EndSetup}
+use Rattle.link_model.specs.Step.{Step as EndStep, DataGiven, PduFixed, PacketSent, PacketReceived, DataReported}
+use Rattle.link_model.specs.Events.{anchor_of, count_entry, entries_in}
+use Rattle.link_model.proofs.InEvents.{past_in}
 use Rattle.open_links.proofs.Ends.{entered_setup}
 use Rattle.std.proofs.lemmas.List.Sums.{fold-append}
-use Rattle.one_end.specs.declared.setup.LinkSetup.{LinkSetup}
+use Rattle.link_model.specs.declared.setup.LinkSetup.{LinkSetup}
 use Rattle.open_links.specs.OpenLinks.{OpenLink, link_after, link_at, link_served, new_link}
 use Rattle.open_links.specs.Slots.{IsOnTime}
 use Rattle.open_links.specs.Turns.{is_anchor, link_entered}
 use Rattle.open_links.proofs.OnTime.{new_on_time, through_on_time}
-use Rattle.one_side.specs.declared.doing.Doing.{Doing}
-use Rattle.one_side.specs.declared.doing.Doing.TheVariants.{Rests}
-use Rattle.one_side.specs.declared.doing.Turn.{Turn}
-use Rattle.one_side.proofs.Always.{MayBegin}
-use Rattle.one_side.specs.Step.{HostOctet}
-use Rattle.one_side.specs.Facts.{Setup, Facts, first_facts}
-use Rattle.one_side.specs.Heard.{link_taken}
-use Rattle.one_side.specs.Side.{facts_after, facts_of}
-use Rattle.one_side.proofs.LinkFields.{range_of_test}
-use Rattle.runs.specs.Feeding.{AreDistinct}
-use Rattle.runs.specs.History.{Event, past_of}
-use Rattle.runs.specs.Run.{Given, facts_at, run_of, setup_at, history_of}
-use Rattle.runs.proofs.LinkEnds.{AreTaken}
-use Rattle.runs.proofs.Stations.{is_in}
+use Rattle.controller_model.specs.declared.doing.Doing.{Doing}
+use Rattle.controller_model.specs.declared.doing.Doing.TheVariants.{Rests}
+use Rattle.controller_model.specs.declared.doing.Turn.{Turn}
+use Rattle.controller_model.proofs.Always.{MayBegin}
+use Rattle.controller_model.specs.Step.{HostOctet}
+use Rattle.controller_model.specs.Facts.{Setup, Facts, first_facts}
+use Rattle.controller_model.specs.Heard.{link_taken}
+use Rattle.controller_model.specs.Side.{facts_after, facts_of}
+use Rattle.controller_model.proofs.LinkFields.{range_of_test}
+use Rattle.run_model.specs.Feeding.{AreDistinct}
+use Rattle.run_model.specs.History.{Event, past_of}
+use Rattle.run_model.specs.Run.{Given, facts_at, run_of, setup_at, history_of}
+use Rattle.run_model.proofs.LinkEnds.{AreTaken}
+use Rattle.run_model.proofs.Stations.{is_in}
 use Rattle.run_laws.specs.Ends.{HaveOneConnectInd}
 use Rattle.run_laws.proofs.OpenSteps.{EachOpen, IsKeptOpen, MayOpen, begin_open, end_open, none_open, octet_open, open_has, phase_open, IsKeptByHosts, IsKeptServed}
 use Rattle.run_laws.proofs.TurnPlaces.{Between, IsTurned, Stage, Within, stands_in_run, turned}

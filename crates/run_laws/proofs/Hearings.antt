@@ -4,29 +4,29 @@ use Rattle.std.specs.Prelude.{map, take, if◌then◌else◌}
 use Rattle.std.proofs.lemmas.Bool.{eqb-true}
 use Rattle.adv_pdu.specs.declared.pdu.AdvPdu.{AdvPdu}
 use Rattle.adv_pdu.specs.Pdu.{IsPdu}
-use Rattle.one_end.specs.Packets.{packet_sent}
-use Rattle.one_end.specs.Step.{PacketSent}
+use Rattle.link_model.specs.Packets.{packet_sent}
+use Rattle.link_model.specs.Step.{PacketSent}
 use Rattle.open_links.specs.OpenLinks.{OpenLink, facts_in, link_after, link_at}
-use Rattle.one_side.specs.declared.doing.Doing.{Doing}
-use Rattle.one_side.specs.declared.doing.Doing.TheVariants.{Advertises, CentralSends, PeripheralSends}
-use Rattle.one_side.specs.Step.{Step, HostOctet, TurnBegins, NothingHeard, TurnEnds}
-use Rattle.one_side.specs.Facts.{Setup, Facts, Sends, Listens}
-use Rattle.one_side.specs.Heard.{unheard}
-use Rattle.one_side.specs.Outcome.{facts_passed}
-use Rattle.one_side.specs.Packets.{advertising_packet, use_of}
-use Rattle.one_side.specs.Sent.{SendsOn}
-use Rattle.one_side.specs.Side.{facts_after, facts_of, notes_after}
-use Rattle.one_side.proofs.Always.{IsAdvertisingChannel}
-use Rattle.one_side.proofs.Pasts.{facts_more}
+use Rattle.controller_model.specs.declared.doing.Doing.{Doing}
+use Rattle.controller_model.specs.declared.doing.Doing.TheVariants.{Advertises, CentralSends, PeripheralSends}
+use Rattle.controller_model.specs.Step.{Step, HostOctet, TurnBegins, NothingHeard, TurnEnds}
+use Rattle.controller_model.specs.Facts.{Setup, Facts, Sends, Listens}
+use Rattle.controller_model.specs.Heard.{unheard}
+use Rattle.controller_model.specs.Outcome.{facts_passed}
+use Rattle.controller_model.specs.Packets.{advertising_packet, use_of}
+use Rattle.controller_model.specs.Sent.{SendsOn}
+use Rattle.controller_model.specs.Side.{facts_after, facts_of, notes_after}
+use Rattle.controller_model.proofs.Always.{IsAdvertisingChannel}
+use Rattle.controller_model.proofs.Pasts.{facts_more}
 use Rattle.radio_replay.specs.declared.fates.Fate.{Fate}
-use Rattle.runs.specs.Feeding.{AreDistinct}
-use Rattle.runs.specs.History.{Event, TurnBegan, HostFed, Transmitted, has_received, past_of, packet_received, turns_begun}
-use Rattle.runs.specs.LinkEnds.{HaveAddresses}
-use Rattle.runs.specs.Run.{Given, setup_at, facts_at, use_at, octets_left, after_call, after_octets, after_feed, hearings_of, step_of}
-use Rattle.runs.proofs.Calls.{past_other, past_own}
-use Rattle.runs.proofs.LinkEnds.{is_listener, received_by, received_event}
-use Rattle.runs.proofs.Stations.{is_in, among, in_more_other, in_more_same, not_before}
-use Rattle.runs.proofs.Walk.{Place, AtPackets, AtListening, IsKept}
+use Rattle.run_model.specs.Feeding.{AreDistinct}
+use Rattle.run_model.specs.History.{Event, TurnBegan, HostFed, Transmitted, has_received, past_of, packet_received, turns_begun}
+use Rattle.run_model.specs.LinkEnds.{HaveAddresses}
+use Rattle.run_model.specs.Run.{Given, setup_at, facts_at, use_at, octets_left, after_call, after_octets, after_feed, hearings_of, step_of}
+use Rattle.run_model.proofs.Calls.{past_other, past_own}
+use Rattle.run_model.proofs.LinkEnds.{is_listener, received_by, received_event}
+use Rattle.run_model.proofs.Stations.{is_in, among, in_more_other, in_more_same, not_before}
+use Rattle.run_model.proofs.Walk.{Place, AtPackets, AtListening, IsKept}
 use Rattle.run_laws.proofs.SentPackets.{HasChSel, IsUseSent, use_is_sent}
 use Rattle.run_laws.proofs.TurnPlaces.{AllStand, event_past, stands_at, stands_kept}
 

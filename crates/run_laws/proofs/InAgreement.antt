@@ -3,28 +3,28 @@ use Rattle.std.proofs.Common.{◌≡◌, ℕ, zero, suc, ◌+◌, ◌<◌, ◌�
 use Rattle.std.specs.Prelude.{if◌then◌else◌}
 use Rattle.std.specs.Option.{option_map}
 use Rattle.std.proofs.lemmas.Bool.{eqb-true, eqb-false, false_from_ne_true}
-use Rattle.one_end.specs.Setup.{Setup as EndSetup}
-use Rattle.one_end.specs.Acknowledgement.{first_acknowledgement}
-use Rattle.one_end.specs.Step.{DataGiven, PduFixed, PacketSent, PacketReceived, DataReported}
-use Rattle.one_end.specs.Pair.{AreInAgreement}
-use Rattle.one_end.proofs.Received.{IsHeardWhole}
+use Rattle.link_model.specs.Setup.{Setup as EndSetup}
+use Rattle.link_model.specs.Acknowledgement.{first_acknowledgement}
+use Rattle.link_model.specs.Step.{DataGiven, PduFixed, PacketSent, PacketReceived, DataReported}
+use Rattle.link_model.specs.Pair.{AreInAgreement}
+use Rattle.link_model.proofs.Received.{IsHeardWhole}
 use Rattle.open_links.specs.OpenLinks.{Links, OpenLink, facts_in, link_after, link_at, link_from, link_served, new_link, with_change, with_change_from}
 use Rattle.open_links.specs.Turns.{is_anchor, link_entered}
 use Rattle.open_links.proofs.Ends.{entered_setup}
-use Rattle.one_side.specs.declared.doing.Turn.{Turn}
-use Rattle.one_side.specs.Step.{Step, HostOctet, TurnBegins, TurnEnds}
-use Rattle.one_side.specs.Facts.{Setup, Facts, Use, Listens, first_facts}
-use Rattle.one_side.specs.Heard.{reply_if}
-use Rattle.one_side.specs.Packets.{links_sending, listens_on}
-use Rattle.one_side.specs.Side.{facts_after, facts_of}
-use Rattle.one_side.proofs.Always.{holds_step}
-use Rattle.one_side.proofs.DataChannels.{link_channel}
-use Rattle.one_side.proofs.Handles.{HaveOwnHandles, handles_kept, own_handles}
-use Rattle.runs.specs.Feeding.{AreDistinct}
-use Rattle.runs.specs.History.{Event}
-use Rattle.runs.specs.LinkEnds.{HaveAddresses}
-use Rattle.runs.specs.Run.{Given, facts_at, history_of, run_of, setup_at, step_of}
-use Rattle.runs.proofs.Stations.{is_in}
+use Rattle.controller_model.specs.declared.doing.Turn.{Turn}
+use Rattle.controller_model.specs.Step.{Step, HostOctet, TurnBegins, TurnEnds}
+use Rattle.controller_model.specs.Facts.{Setup, Facts, Use, Listens, first_facts}
+use Rattle.controller_model.specs.Heard.{reply_if}
+use Rattle.controller_model.specs.Packets.{links_sending, listens_on}
+use Rattle.controller_model.specs.Side.{facts_after, facts_of}
+use Rattle.controller_model.proofs.Always.{holds_step}
+use Rattle.controller_model.proofs.DataChannels.{link_channel}
+use Rattle.controller_model.proofs.Handles.{HaveOwnHandles, handles_kept, own_handles}
+use Rattle.run_model.specs.Feeding.{AreDistinct}
+use Rattle.run_model.specs.History.{Event}
+use Rattle.run_model.specs.LinkEnds.{HaveAddresses}
+use Rattle.run_model.specs.Run.{Given, facts_at, history_of, run_of, setup_at, step_of}
+use Rattle.run_model.proofs.Stations.{is_in}
 use Rattle.run_laws.specs.Ends.{AreEnds, IsOpen, OpenEnd}
 use Rattle.run_laws.proofs.Agreed.{Agree, ack_given, ack_of, ack_reported, agree_entered, agree_fixed, agree_given, agree_new, agree_received, agree_reported, agree_sent, agree_served, first_ack, other_way}
 use Rattle.run_laws.proofs.ByCalls.{IsCalled, IsKeptByCalls, always_by_calls}
@@ -36,7 +36,7 @@ use Rattle.run_laws.proofs.TurnPlaces.{Within}
 use Rattle.run_laws.proofs.TurnSteps.{MakesWell, begins_begun, begins_slot, octet_turn, phase_turn}
 use Rattle.run_laws.proofs.SameEvent.{one_connect_ind, two_stations}
 use Rattle.radio_replay.specs.Script.{Script}
-use Rattle.runs.specs.Pair.{given_of}
+use Rattle.run_model.specs.Pair.{given_of}
 use Rattle.run_laws.proofs.ChSel.{one_channel}
 
 -- there are two stations, each with one link at most

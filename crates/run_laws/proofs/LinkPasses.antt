@@ -8,20 +8,20 @@ use Rattle.advertise.specs.declared.answers.AdvAnswer.{AdvAnswer}
 use Rattle.advertise.specs.declared.answers.AdvAnswer.TheVariants.{Ignore, Respond, Connect as Takes}
 use Rattle.advertise.specs.Advertising.{AdvertiserFacts}
 use Rattle.advertise.specs.Answers.{advertiser_answer}
-use Rattle.one_end.specs.Step.{PacketReceived}
-use Rattle.one_end.specs.declared.setup.LinkSetup.{LinkSetup}
+use Rattle.link_model.specs.Step.{PacketReceived}
+use Rattle.link_model.specs.declared.setup.LinkSetup.{LinkSetup}
 use Rattle.scan_init.specs.Initiating.{InitiatorFacts}
 use Rattle.scan_init.specs.Reports.{ScannerFacts, does_ask, scan_answer}
 use Rattle.open_links.specs.OpenLinks.{free_from, link_after, link_at, with_change, with_link}
-use Rattle.one_side.specs.declared.doing.Doing.{Doing}
-use Rattle.one_side.specs.declared.doing.Doing.TheVariants.{Advertises, AwaitsRequest, Scans, Requests, AwaitsResponse, Initiates, Connects, CentralSends, CentralListens, PeripheralListens, PeripheralSends}
-use Rattle.one_side.specs.Facts.{Setup, Facts}
-use Rattle.one_side.specs.Heard.{advertiser_answers, advertiser_heard, asks_if, connects, has_room, heard, if_pdu, initiator_heard, link_taken, link_to, opens, replies_in, reply_if, scanner_after, scanner_heard, taken_if, taken_under, unheard, with_scanner}
-use Rattle.one_side.specs.Outcome.{Outcome, facts_passed}
-use Rattle.one_side.specs.Packets.{facts_doing, links_sending, listens_on, pdu_heard}
-use Rattle.one_side.specs.Side.{facts_after}
-use Rattle.one_side.proofs.Always.{opening_is}
-use Rattle.runs.specs.Run.{step_of}
+use Rattle.controller_model.specs.declared.doing.Doing.{Doing}
+use Rattle.controller_model.specs.declared.doing.Doing.TheVariants.{Advertises, AwaitsRequest, Scans, Requests, AwaitsResponse, Initiates, Connects, CentralSends, CentralListens, PeripheralListens, PeripheralSends}
+use Rattle.controller_model.specs.Facts.{Setup, Facts}
+use Rattle.controller_model.specs.Heard.{advertiser_answers, advertiser_heard, asks_if, connects, has_room, heard, if_pdu, initiator_heard, link_taken, link_to, opens, replies_in, reply_if, scanner_after, scanner_heard, taken_if, taken_under, unheard, with_scanner}
+use Rattle.controller_model.specs.Outcome.{Outcome, facts_passed}
+use Rattle.controller_model.specs.Packets.{facts_doing, links_sending, listens_on, pdu_heard}
+use Rattle.controller_model.specs.Side.{facts_after}
+use Rattle.controller_model.proofs.Always.{opening_is}
+use Rattle.run_model.specs.Run.{step_of}
 use Rattle.run_laws.proofs.TurnSteps.{IsListening}
 
 -- it sends or listens on a link

@@ -2,11 +2,11 @@
 use Rattle.std.proofs.Common.{◌≡◌, ℕ, zero, suc, ◌+◌, ◌*◌, Some, refl, sym, ap, ◌∙◌, if◌then◌else◌}
 use Rattle.chan_select.specs.Channel.{channel_of}
 use Rattle.chan_select.specs.declared.selection.Algorithm.TheVariants.{One, Two}
-use Rattle.one_end.specs.Events.{anchor_of, channel_after}
-use Rattle.one_end.specs.Pair.{AreOneLink}
-use Rattle.one_end.specs.Setup.{Setup}
+use Rattle.link_model.specs.Events.{anchor_of, channel_after}
+use Rattle.link_model.specs.Pair.{AreOneLink}
+use Rattle.link_model.specs.Setup.{Setup}
 use Rattle.open_links.specs.OpenLinks.{Links, OpenLink, link_at}
-use Rattle.one_side.specs.Entering.{IsEntered}
+use Rattle.controller_model.specs.Entering.{IsEntered}
 
 one_anchor : (one other : Setup) (event : ℕ) → AreOneLink one other → anchor_of one event ≡ anchor_of other event
 one_anchor one other event are = λ i. are.opened i + 2 + (are.fields i).win_offset + event * (are.fields i).interval

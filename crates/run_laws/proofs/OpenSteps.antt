@@ -16,9 +16,9 @@ use Rattle.hci_cmd.specs.declared.command.CmdRead.{CmdRead}
 use Rattle.hci_cmd.specs.declared.command.CmdRead.TheVariants.{Known, UnknownOpcode, BadLength}
 use Rattle.hci_cmd.specs.Command.{command_of}
 use Rattle.host_view.specs.Unbuilt.{status_of}
-use Rattle.one_end.specs.Setup.{Setup as EndSetup}
-use Rattle.one_end.specs.Step.{DataGiven, PduFixed, PacketSent, PacketReceived, DataReported}
-use Rattle.one_end.specs.declared.setup.LinkSetup.{LinkSetup}
+use Rattle.link_model.specs.Setup.{Setup as EndSetup}
+use Rattle.link_model.specs.Step.{DataGiven, PduFixed, PacketSent, PacketReceived, DataReported}
+use Rattle.link_model.specs.declared.setup.LinkSetup.{LinkSetup}
 use Rattle.slot_plan.specs.declared.Activity.{Activity}
 use Rattle.slot_plan.specs.declared.Activity.TheVariants.{Link, Advertise, Scan, Initiate}
 use Rattle.slot_plan.specs.Holding.{is_held_in, winner_of}
@@ -26,23 +26,23 @@ use Rattle.open_links.specs.Data.{complete_in, links_reported}
 use Rattle.open_links.specs.OpenLinks.{Links, OpenLink, link_after, link_at, link_from, link_served, new_link, with_change, with_change_from, with_link, without_links}
 use Rattle.open_links.specs.Turns.{link_entered, links_entered, links_staying, reason_in, staying_by}
 use Rattle.scan_init.specs.Reports.{does_ask, scan_answer}
-use Rattle.one_side.specs.declared.doing.Doing.{Doing}
-use Rattle.one_side.specs.declared.doing.Doing.TheVariants.{Advertises, Connects, CentralSends, PeripheralListens, PeripheralSends, Rests}
-use Rattle.one_side.specs.Step.{HostOctet, TurnBegins, TurnEnds}
-use Rattle.one_side.specs.Facts.{Setup, Facts}
-use Rattle.one_side.specs.Commands.{facts_commanded, facts_known, links_after}
+use Rattle.controller_model.specs.declared.doing.Doing.{Doing}
+use Rattle.controller_model.specs.declared.doing.Doing.TheVariants.{Advertises, Connects, CentralSends, PeripheralListens, PeripheralSends, Rests}
+use Rattle.controller_model.specs.Step.{HostOctet, TurnBegins, TurnEnds}
+use Rattle.controller_model.specs.Facts.{Setup, Facts}
+use Rattle.controller_model.specs.Commands.{facts_commanded, facts_known, links_after}
 use Rattle.open_links.specs.declared.offers.Offer.{Offer}
 use Rattle.open_links.specs.declared.offers.Offer.TheVariants.{NoLink, Empty, Overflow, Kept}
-use Rattle.one_side.specs.Data.{facts_offered, offer_of}
-use Rattle.one_side.specs.Heard.{asks_if, has_room, link_taken, opens, replies_in, reply_if}
-use Rattle.one_side.specs.Links.{facts_ending}
-use Rattle.one_side.specs.Outcome.{Outcome, facts_passed}
-use Rattle.one_side.specs.Packets.{links_sending}
-use Rattle.one_side.specs.Radio.{facts_entering, links_fixing, outcome_begun, plan_in, served, radio_served, turn_begins, winner_served}
-use Rattle.one_side.specs.Side.{facts_after, facts_fed, result_of}
-use Rattle.one_side.proofs.Always.{ending_is, links_won, opening_passes, winning_is}
-use Rattle.one_side.proofs.Phases.{EachOutcome, heard_is, unheard_is}
-use Rattle.runs.specs.Run.{step_of}
+use Rattle.controller_model.specs.Data.{facts_offered, offer_of}
+use Rattle.controller_model.specs.Heard.{asks_if, has_room, link_taken, opens, replies_in, reply_if}
+use Rattle.controller_model.specs.Links.{facts_ending}
+use Rattle.controller_model.specs.Outcome.{Outcome, facts_passed}
+use Rattle.controller_model.specs.Packets.{links_sending}
+use Rattle.controller_model.specs.Radio.{facts_entering, links_fixing, outcome_begun, plan_in, served, radio_served, turn_begins, winner_served}
+use Rattle.controller_model.specs.Side.{facts_after, facts_fed, result_of}
+use Rattle.controller_model.proofs.Always.{ending_is, links_won, opening_passes, winning_is}
+use Rattle.controller_model.proofs.Phases.{EachOutcome, heard_is, unheard_is}
+use Rattle.run_model.specs.Run.{step_of}
 
 -- ---- a fact of each open link
 

@@ -4,10 +4,10 @@ use Rattle.std.specs.Prelude.{Some}
 use Rattle.ble_base.specs.declared.addresses.Address.{Address}
 use Rattle.adv_pdu.specs.declared.pdu.AdvPdu.TheVariants.{Connect}
 use Rattle.adv_pdu.specs.declared.pdu.ConnectFields.{ConnectFields}
-use Rattle.one_end.specs.Setup.{Setup}
-use Rattle.one_side.specs.Packets.{pdu_heard}
-use Rattle.runs.specs.History.{Event, turns_begun}
-use Rattle.runs.specs.LinkEnds.{ConnectInd, HasConnectInd, IsAtEnd}
+use Rattle.link_model.specs.Setup.{Setup}
+use Rattle.controller_model.specs.Packets.{pdu_heard}
+use Rattle.run_model.specs.History.{Event, turns_begun}
+use Rattle.run_model.specs.LinkEnds.{ConnectInd, HasConnectInd, IsAtEnd}
 use Rattle.run_laws.specs.Ends.{AreEnds, HaveOneConnectInd, OpenEnd}
 
 same_at : (history before other after later : List Event) (one two : Event) → history ≡ before ++ one ∷ after → history ≡ other ++ two ∷ later → before ≡ other → one ≡ two

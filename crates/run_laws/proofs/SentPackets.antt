@@ -8,24 +8,24 @@ use Rattle.adv_pdu.specs.declared.pdu.AdvPdu.TheVariants.{Ind, Direct, Nonconn, 
 use Rattle.adv_pdu.specs.Pdu.{IsPdu}
 use Rattle.advertise.specs.declared.params.AdvParams.{AdvParams}
 use Rattle.advertise.specs.Advertising.{AdvertiserFacts, advertisement}
-use Rattle.one_end.specs.Packets.{packet_sent}
-use Rattle.one_end.specs.Step.{PacketSent}
+use Rattle.link_model.specs.Packets.{packet_sent}
+use Rattle.link_model.specs.Step.{PacketSent}
 use Rattle.open_links.specs.OpenLinks.{Links, OpenLink, facts_in, link_after, link_at, with_change}
 use Rattle.open_links.proofs.Handles.{changed_is}
 use Rattle.scan_init.specs.Reports.{ScannerFacts}
-use Rattle.one_side.specs.declared.doing.Doing.{Doing}
-use Rattle.one_side.specs.declared.doing.Doing.TheVariants.{Advertises, AwaitsRequest, Responds, Scans, Requests, AwaitsResponse, Initiates, Connects, CentralSends, CentralListens, PeripheralListens, PeripheralSends, Rests}
-use Rattle.one_side.specs.Step.{Step, HostOctet}
-use Rattle.one_side.specs.Facts.{Setup, Facts, Use, Sends, Listens, Idle}
-use Rattle.one_side.specs.Heard.{heard, unheard}
-use Rattle.one_side.specs.Packets.{advertising_packet, facts_doing, listens_on, sends_on, sends_pdu, use_for}
-use Rattle.one_side.specs.Radio.{outcome_begun}
-use Rattle.one_side.specs.Sent.{SendsOn}
-use Rattle.one_side.specs.Side.{facts_after, facts_of}
-use Rattle.one_side.proofs.Always.{IsAdvertisingChannel}
-use Rattle.one_side.proofs.Sent.{AdvertisingFits, DoingFits, ScannerFits, SendsWell, SomePdu, advertisement_is, request_is, response_is, sends_well}
-use Rattle.runs.specs.Links.{is_connect_ind}
-use Rattle.runs.specs.Run.{step_of}
+use Rattle.controller_model.specs.declared.doing.Doing.{Doing}
+use Rattle.controller_model.specs.declared.doing.Doing.TheVariants.{Advertises, AwaitsRequest, Responds, Scans, Requests, AwaitsResponse, Initiates, Connects, CentralSends, CentralListens, PeripheralListens, PeripheralSends, Rests}
+use Rattle.controller_model.specs.Step.{Step, HostOctet}
+use Rattle.controller_model.specs.Facts.{Setup, Facts, Use, Sends, Listens, Idle}
+use Rattle.controller_model.specs.Heard.{heard, unheard}
+use Rattle.controller_model.specs.Packets.{advertising_packet, facts_doing, listens_on, sends_on, sends_pdu, use_for}
+use Rattle.controller_model.specs.Radio.{outcome_begun}
+use Rattle.controller_model.specs.Sent.{SendsOn}
+use Rattle.controller_model.specs.Side.{facts_after, facts_of}
+use Rattle.controller_model.proofs.Always.{IsAdvertisingChannel}
+use Rattle.controller_model.proofs.Sent.{AdvertisingFits, DoingFits, ScannerFits, SendsWell, SomePdu, advertisement_is, request_is, response_is, sends_well}
+use Rattle.run_model.specs.Links.{is_connect_ind}
+use Rattle.run_model.specs.Run.{step_of}
 use Rattle.run_laws.proofs.TurnPlaces.{Between, IsTurned, Stage, Standing, Within, standing, turned}
 use Rattle.run_laws.proofs.TurnSteps.{octet_turn}
 

@@ -4,15 +4,15 @@ use Rattle.std.specs.Prelude.{fold, map, take, Option, Some, None, if◌then◌e
 use Rattle.std.proofs.lemmas.Bool.{eqb-true}
 use Rattle.std.proofs.lemmas.Grind.{flat_map-append}
 use Rattle.std.proofs.lemmas.List.Sums.{fold-append}
-use Rattle.one_side.specs.Step.{Step, HostOctet, TurnBegins, PacketHeard, NothingHeard, TurnEnds}
-use Rattle.one_side.specs.Facts.{Setup, Facts, first_facts}
-use Rattle.one_side.specs.Side.{facts_after, facts_of, notes_after}
-use Rattle.runs.specs.Feeding.{AreDistinct}
-use Rattle.runs.specs.History.{Event, TurnBegan, HostFed, Transmitted, past_of, steps_in, turns_begun, packet_received}
-use Rattle.runs.specs.Run.{Given, setup_at, facts_at, octets_left, after_call, after_octets, after_feed, hearings_of, step_of, run_of, history_of}
-use Rattle.runs.proofs.Calls.{flat_nothing, past_by, past_other, same_station, turns_called, turns_more, turns_same}
-use Rattle.runs.proofs.Stations.{is_in, in_more_other, in_more_same, not_before}
-use Rattle.runs.proofs.Walk.{Place, NoTurn, AtFeeds, AtBegins, AfterPhases, AtPackets, AtListening, AtEnds, IsKept, IsWhole, IsStopped, ends_with, run_kept, feed_turns}
+use Rattle.controller_model.specs.Step.{Step, HostOctet, TurnBegins, PacketHeard, NothingHeard, TurnEnds}
+use Rattle.controller_model.specs.Facts.{Setup, Facts, first_facts}
+use Rattle.controller_model.specs.Side.{facts_after, facts_of, notes_after}
+use Rattle.run_model.specs.Feeding.{AreDistinct}
+use Rattle.run_model.specs.History.{Event, TurnBegan, HostFed, Transmitted, past_of, steps_in, turns_begun, packet_received}
+use Rattle.run_model.specs.Run.{Given, setup_at, facts_at, octets_left, after_call, after_octets, after_feed, hearings_of, step_of, run_of, history_of}
+use Rattle.run_model.proofs.Calls.{flat_nothing, past_by, past_other, same_station, turns_called, turns_more, turns_same}
+use Rattle.run_model.proofs.Stations.{is_in, in_more_other, in_more_same, not_before}
+use Rattle.run_model.proofs.Walk.{Place, NoTurn, AtFeeds, AtBegins, AfterPhases, AtPackets, AtListening, AtEnds, IsKept, IsWhole, IsStopped, ends_with, run_kept, feed_turns}
 
 -- between two turns, or in one after this number of its phases
 pub data Stage : Type 0 where

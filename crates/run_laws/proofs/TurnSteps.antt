@@ -11,30 +11,30 @@ use Rattle.hci_cmd.specs.declared.command.CmdRead.{CmdRead}
 use Rattle.hci_cmd.specs.declared.command.CmdRead.TheVariants.{Known, UnknownOpcode, BadLength}
 use Rattle.hci_cmd.specs.Command.{command_of}
 use Rattle.host_view.specs.Unbuilt.{status_of}
-use Rattle.one_end.specs.declared.setup.LinkSetup.{LinkSetup}
+use Rattle.link_model.specs.declared.setup.LinkSetup.{LinkSetup}
 use Rattle.scan_init.specs.Access.{nth_access}
 use Rattle.scan_init.specs.Reports.{does_ask, scan_answer}
 use Rattle.slot_plan.specs.declared.Activity.{Activity}
 use Rattle.slot_plan.specs.Holding.{is_held_in, winner_of}
 use Rattle.open_links.specs.OpenLinks.{link_at}
-use Rattle.one_side.specs.declared.doing.Doing.{Doing}
-use Rattle.one_side.specs.declared.doing.Doing.TheVariants.{Advertises, AwaitsRequest, Responds, AwaitsResponse, Initiates, Connects, CentralListens, Rests, PeripheralListens, Scans}
-use Rattle.one_side.specs.declared.doing.Turn.{Turn}
-use Rattle.one_side.specs.Step.{HostOctet, TurnBegins}
-use Rattle.one_side.specs.Facts.{Setup, Facts, Listens}
-use Rattle.one_side.specs.Commands.{facts_commanded, facts_known}
+use Rattle.controller_model.specs.declared.doing.Doing.{Doing}
+use Rattle.controller_model.specs.declared.doing.Doing.TheVariants.{Advertises, AwaitsRequest, Responds, AwaitsResponse, Initiates, Connects, CentralListens, Rests, PeripheralListens, Scans}
+use Rattle.controller_model.specs.declared.doing.Turn.{Turn}
+use Rattle.controller_model.specs.Step.{HostOctet, TurnBegins}
+use Rattle.controller_model.specs.Facts.{Setup, Facts, Listens}
+use Rattle.controller_model.specs.Commands.{facts_commanded, facts_known}
 use Rattle.open_links.specs.declared.offers.Offer.{Offer}
 use Rattle.open_links.specs.declared.offers.Offer.TheVariants.{NoLink, Empty, Overflow, Kept}
-use Rattle.one_side.specs.Data.{facts_offered, offer_of}
-use Rattle.one_side.specs.Heard.{access_found, asks_if, has_room, link_received, link_taken, opens, replies_in, reply_if, scanner_after, with_scanner, unheard, heard}
-use Rattle.one_side.specs.Links.{facts_ending}
-use Rattle.one_side.specs.Outcome.{facts_passed}
-use Rattle.one_side.specs.Packets.{facts_doing, listens_on}
-use Rattle.one_side.specs.Radio.{facts_entering, plan_in, radio_served, served, turn_begins, winner_served, outcome_begun}
-use Rattle.one_side.specs.Side.{facts_after, facts_fed, result_of}
-use Rattle.one_side.proofs.Always.{IsKeptAtStarts, MayBegin, facts_opening, opening_passes, start_keeps, winning_is, IsAdvertisingChannel}
-use Rattle.one_side.proofs.Phases.{EachOutcome, heard_is, unheard_is}
-use Rattle.runs.specs.Run.{step_of}
+use Rattle.controller_model.specs.Data.{facts_offered, offer_of}
+use Rattle.controller_model.specs.Heard.{access_found, asks_if, has_room, link_received, link_taken, opens, replies_in, reply_if, scanner_after, with_scanner, unheard, heard}
+use Rattle.controller_model.specs.Links.{facts_ending}
+use Rattle.controller_model.specs.Outcome.{facts_passed}
+use Rattle.controller_model.specs.Packets.{facts_doing, listens_on}
+use Rattle.controller_model.specs.Radio.{facts_entering, plan_in, radio_served, served, turn_begins, winner_served, outcome_begun}
+use Rattle.controller_model.specs.Side.{facts_after, facts_fed, result_of}
+use Rattle.controller_model.proofs.Always.{IsKeptAtStarts, MayBegin, facts_opening, opening_passes, start_keeps, winning_is, IsAdvertisingChannel}
+use Rattle.controller_model.proofs.Phases.{EachOutcome, heard_is, unheard_is}
+use Rattle.run_model.specs.Run.{step_of}
 
 -- ---- an octet of the host changes neither the turn nor the number of access addresses
 

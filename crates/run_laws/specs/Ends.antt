@@ -1,11 +1,11 @@
 -- Both ends of one link in a run of two controllers (Core 5.2, volume 6 part B, sections 4.4.2.3 and 4.5).
 use Rattle.std.specs.Prelude.{◌≡◌, ℕ, List, Some}
 use Rattle.ble_base.specs.declared.roles.Role.TheVariants.{Central, Peripheral}
-use Rattle.one_end.specs.Setup.{Setup}
+use Rattle.link_model.specs.Setup.{Setup}
 use Rattle.open_links.specs.OpenLinks.{OpenLink, link_at}
-use Rattle.runs.specs.History.{Event}
-use Rattle.runs.specs.LinkEnds.{HasConnectInd}
-use Rattle.runs.specs.Run.{Given, facts_at}
+use Rattle.run_model.specs.History.{Event}
+use Rattle.run_model.specs.LinkEnds.{HasConnectInd}
+use Rattle.run_model.specs.Run.{Given, facts_at}
 
 -- an open end of a link: its station, its handle there, and the link (volume 4 part E, section 5.3.1)
 pub record OpenEnd : Type 0 where

@@ -4,12 +4,12 @@ use Rattle.ble_base.specs.declared.addresses.Address.{Address}
 use Rattle.ble_base.specs.declared.roles.Role.{Role}
 use Rattle.ble_base.specs.declared.roles.Role.TheVariants.{Central, Peripheral}
 use Rattle.adv_pdu.specs.declared.pdu.ConnectFields.{ConnectFields}
-use Rattle.one_end.specs.Setup.{Setup}
-use Rattle.one_end.specs.Step.{EventEntered, PduFixed, PacketSent, PacketReceived}
-use Rattle.one_side.specs.Rows.{address_a, address_b}
-use Rattle.runs.specs.History.{Event}
-use Rattle.runs.specs.Rows.{first_packet, first_reply, one_event}
-use Rattle.runs.specs.Run.{history_of, run_of}
+use Rattle.link_model.specs.Setup.{Setup}
+use Rattle.link_model.specs.Step.{EventEntered, PduFixed, PacketSent, PacketReceived}
+use Rattle.controller_model.specs.Rows.{address_a, address_b}
+use Rattle.run_model.specs.History.{Event}
+use Rattle.run_model.specs.Rows.{first_packet, first_reply, one_event}
+use Rattle.run_model.specs.Run.{history_of, run_of}
 use Rattle.run_laws.specs.Ends.{OpenEnd}
 
 abbrev pub one_event_history : List Event

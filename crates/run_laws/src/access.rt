@@ -3,11 +3,11 @@
 ghost use Rattle.std.specs.Prelude.{◌≡◌, ◌≢◌, ◌<◌, ℕ, List, Some, length};
 ghost use Rattle.adv_pdu.specs.declared.pdu.ConnectFields.{ConnectFields};
 ghost use Rattle.scan_init.specs.Access.{nth_access};
-ghost use Rattle.one_side.specs.Heard.{access_found};
-ghost use Rattle.runs.specs.Feeding.{AreDistinct};
-ghost use Rattle.runs.specs.History.{Event};
-ghost use Rattle.runs.specs.LinkEnds.{HaveAddresses};
-ghost use Rattle.runs.specs.Run.{Given, history_of, run_of, setup_at};
+ghost use Rattle.controller_model.specs.Heard.{access_found};
+ghost use Rattle.run_model.specs.Feeding.{AreDistinct};
+ghost use Rattle.run_model.specs.History.{Event};
+ghost use Rattle.run_model.specs.LinkEnds.{HaveAddresses};
+ghost use Rattle.run_model.specs.Run.{Given, history_of, run_of, setup_at};
 ghost use Rattle.run_laws.specs.Access.{IsConnectSent, connects_sent};
 
 /// The CONNECT_INDs of a station have the valid access addresses from its cursor on, in order: the
@@ -26,6 +26,6 @@ pub fn access_addresses_are_taken_in_order()
         → IsConnectSent (history_of (run_of given)) later station other
         → length before < length later → fields.access ≢ other.access }
 {
-    one_side::a_pdu_is_understood();
+    controller_model::a_pdu_is_understood();
     scan_init::laws::searches_give_each_valid_address();
 }

@@ -2,13 +2,13 @@
 //! they rest on: the contracts are the laws.
 ghost use Rattle.std.specs.Prelude.{◌≡◌, ◌++◌, ℕ, List, length};
 ghost use Rattle.std.specs.List.{Contains};
-ghost use Rattle.one_end.specs.Delivery.{IsDelivered};
-ghost use Rattle.one_end.specs.Pair.{AreInAgreement};
+ghost use Rattle.link_model.specs.Delivery.{IsDelivered};
+ghost use Rattle.link_model.specs.Pair.{AreInAgreement};
 ghost use Rattle.open_links.specs.OpenLinks.{facts_in};
 ghost use Rattle.radio_replay.specs.Script.{Script};
-ghost use Rattle.runs.specs.History.{Event};
-ghost use Rattle.runs.specs.Pair.{given_of};
-ghost use Rattle.runs.specs.Run.{history_of, run_of};
+ghost use Rattle.run_model.specs.History.{Event};
+ghost use Rattle.run_model.specs.Pair.{given_of};
+ghost use Rattle.run_model.specs.Run.{history_of, run_of};
 ghost use Rattle.run_laws.specs.Ends.{AreEnds, IsOpen, OpenEnd};
 
 /// At any time of a run of a pair, both open ends of one link are in agreement, whatever the radio

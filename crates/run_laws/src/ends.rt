@@ -2,16 +2,16 @@
 //! the contracts are the laws.
 ghost use Rattle.std.specs.Prelude.{◌≡◌, ◌≢◌, ◌++◌, ◌∷◌, ℕ, Bool, List, Some, length};
 ghost use Rattle.std.specs.List.{Contains};
-ghost use Rattle.one_end.specs.Events.{IsInEvent, entries_in};
-ghost use Rattle.one_end.specs.Pair.{AreInOneEvent, AreOneLink};
+ghost use Rattle.link_model.specs.Events.{IsInEvent, entries_in};
+ghost use Rattle.link_model.specs.Pair.{AreInOneEvent, AreOneLink};
 ghost use Rattle.open_links.specs.OpenLinks.{OpenLink, facts_in, link_at};
 ghost use Rattle.open_links.specs.Slots.{IsOnTime};
 ghost use Rattle.radio_replay.specs.Script.{Script};
-ghost use Rattle.runs.specs.Feeding.{AreDistinct};
-ghost use Rattle.runs.specs.History.{Event, TurnBegan, turns_begun};
-ghost use Rattle.runs.specs.LinkEnds.{HaveAddresses};
-ghost use Rattle.runs.specs.Pair.{given_of};
-ghost use Rattle.runs.specs.Run.{Given, GoesOn, facts_at, history_of, run_of};
+ghost use Rattle.run_model.specs.Feeding.{AreDistinct};
+ghost use Rattle.run_model.specs.History.{Event, TurnBegan, turns_begun};
+ghost use Rattle.run_model.specs.LinkEnds.{HaveAddresses};
+ghost use Rattle.run_model.specs.Pair.{given_of};
+ghost use Rattle.run_model.specs.Run.{Given, GoesOn, facts_at, history_of, run_of};
 ghost use Rattle.run_laws.specs.Ends.{AreEnds, HaveOneConnectInd, IsOpen, OpenEnd};
 
 /// The two ends of a link are at two stations, and have the fields of one CONNECT_IND and its slot.
@@ -80,7 +80,7 @@ pub fn ends_of_one_link_agree()
         → IsOpen (given_of a b script) before peripheral
         → AreOneLink central.link.setup peripheral.link.setup }
 {
-    one_side::a_pdu_is_understood();
-    one_end::ends_agree_in_each_event();
-    one_end::events_follow_the_connect_ind();
+    controller_model::a_pdu_is_understood();
+    link_model::ends_agree_in_each_event();
+    link_model::events_follow_the_connect_ind();
 }

@@ -3,11 +3,11 @@
 ghost use Rattle.std.specs.Prelude.{◌≡◌, ℕ, Bool, List};
 ghost use Rattle.std.specs.List.{Contains};
 ghost use Rattle.ble_base.specs.declared.notes.Note.TheVariants.{Enter};
-ghost use Rattle.one_end.specs.Pair.{AreOneLink};
-ghost use Rattle.one_side.specs.Side.{notes_after};
-ghost use Rattle.one_side.specs.Step.{TurnBegins};
-ghost use Rattle.runs.specs.History.{Event};
-ghost use Rattle.runs.specs.Run.{Given, facts_at, setup_at};
+ghost use Rattle.link_model.specs.Pair.{AreOneLink};
+ghost use Rattle.controller_model.specs.Side.{notes_after};
+ghost use Rattle.controller_model.specs.Step.{TurnBegins};
+ghost use Rattle.run_model.specs.History.{Event};
+ghost use Rattle.run_model.specs.Run.{Given, facts_at, setup_at};
 ghost use Rattle.run_laws.specs.Ends.{IsOpen, OpenEnd};
 
 /// Both ends of one link enter the event with one number as a turn begins in one slot, and on one
@@ -37,5 +37,5 @@ pub fn both_ends_enter_an_event_in_one_slot()
         (Enter peripheral.handle (record { 0 = event }) other)
         → channel ≡ other }
 {
-    one_side::events_are_entered_at_their_anchors();
+    controller_model::events_are_entered_at_their_anchors();
 }

@@ -1,9 +1,9 @@
 -- Proof of `exchanges::each_end_counts_as_the_journal_says`.
 use Rattle.std.proofs.Common.{refl}
-use Rattle.runs.specs.Pair.{given_of}
-use Rattle.runs.proofs.LinkEnds.{pair_addresses}
-use Rattle.runs.proofs.Ordered.{pair_distinct}
-use Rattle.runs.proofs.Stations.{contains_in}
+use Rattle.run_model.specs.Pair.{given_of}
+use Rattle.run_model.proofs.LinkEnds.{pair_addresses}
+use Rattle.run_model.proofs.Ordered.{pair_distinct}
+use Rattle.run_model.proofs.Stations.{contains_in}
 use Rattle.run_laws.proofs.InAgreement.{is_pair}
 use Rattle.journal_acks.proofs.RunCounts.{counted_before, counted_last}
 use Rattle.journal_acks.proofs.exchanges.each_end_counts_as_the_journal_says.Goals as goal

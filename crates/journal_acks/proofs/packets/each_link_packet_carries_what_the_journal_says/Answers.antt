@@ -1,8 +1,8 @@
 -- Proof of `packets::each_link_packet_carries_what_the_journal_says`.
 use Rattle.std.proofs.Common.{refl}
-use Rattle.runs.specs.Pair.{given_of}
-use Rattle.runs.proofs.LinkEnds.{pair_addresses}
-use Rattle.runs.proofs.Ordered.{pair_distinct}
+use Rattle.run_model.specs.Pair.{given_of}
+use Rattle.run_model.proofs.LinkEnds.{pair_addresses}
+use Rattle.run_model.proofs.Ordered.{pair_distinct}
 use Rattle.run_laws.proofs.InAgreement.{is_pair}
 use Rattle.journal_acks.proofs.LinkPackets.{packet_of_line}
 use Rattle.journal_acks.proofs.packets.each_link_packet_carries_what_the_journal_says.Goals as goal

@@ -1,8 +1,8 @@
 -- Proof of `packets::each_sent_line_is_of_a_new_pdu`.
 use Rattle.std.proofs.Common.{refl}
-use Rattle.runs.specs.Pair.{given_of}
-use Rattle.runs.proofs.LinkEnds.{pair_addresses}
-use Rattle.runs.proofs.Ordered.{pair_distinct}
+use Rattle.run_model.specs.Pair.{given_of}
+use Rattle.run_model.proofs.LinkEnds.{pair_addresses}
+use Rattle.run_model.proofs.Ordered.{pair_distinct}
 use Rattle.run_laws.proofs.InAgreement.{is_pair}
 use Rattle.journal_acks.proofs.NewPdus.{sent_line_is_new}
 use Rattle.journal_acks.proofs.packets.each_sent_line_is_of_a_new_pdu.Goals as goal

@@ -1,5 +1,5 @@
 -- Proof of `lawful::each_journal_is_lawful`.
-use Rattle.runs.specs.Pair.{given_of}
+use Rattle.run_model.specs.Pair.{given_of}
 use Rattle.journal_pdus.proofs.Law.{journal_due, journal_settled}
 use Rattle.journal_pdus.proofs.lawful.each_journal_is_lawful.Goals as goal
 

@@ -1,7 +1,7 @@
 -- Proof of `laws::a_change_leaves_other_links`, for the data of links.
 use Rattle.std.proofs.Common.{refl}
 use Rattle.std.specs.Option.{option_map}
-use Rattle.one_end.specs.Step.{DataGiven, PduFixed}
+use Rattle.link_model.specs.Step.{DataGiven, PduFixed}
 use Rattle.open_links.specs.OpenLinks.{link_after}
 use Rattle.open_links.specs.Data.{link_reported}
 use Rattle.open_links.proofs.Handles.{changed_is, other_stays}

@@ -1,6 +1,6 @@
 -- Proof of `run::run_pair`.
 use Rattle.std.proofs.Common.{refl}
-use Rattle.runs.specs.Pair.{given_of}
+use Rattle.run_model.specs.Pair.{given_of}
 use Rattle.pair_world.proofs.Lawful.{all_lawful, all_settled, lawful_so_far}
 use Rattle.pair_world.proofs.Outcomes.{if_err_more, if_ok_more}
 use Rattle.pair_world.proofs.run.run_pair.Goals as goal

@@ -2,7 +2,7 @@
 use Rattle.std.proofs.Common.{subst, ap, ◌∙◌}
 use Rattle.ble_base.specs.declared.Config.{Config}
 use Rattle.radio_replay.specs.Script.{Script}
-use Rattle.one_side.specs.Facts.{Setup, setup_of}
+use Rattle.controller_model.specs.Facts.{Setup, setup_of}
 use Rattle.pair_world.specs.Stations.{IsFirst}
 use Rattle.pair_world.proofs.WholeRuns.{both_first}
 use Rattle.pair_world.proofs.run.start_both.Goals as goal

@@ -1,8 +1,8 @@
 -- Proof of `agreement::ends_stay_in_agreement_in_every_run`.
-use Rattle.runs.specs.Pair.{given_of}
-use Rattle.runs.proofs.LinkEnds.{pair_addresses}
-use Rattle.runs.proofs.Ordered.{pair_distinct}
-use Rattle.runs.proofs.Stations.{contains_in}
+use Rattle.run_model.specs.Pair.{given_of}
+use Rattle.run_model.proofs.LinkEnds.{pair_addresses}
+use Rattle.run_model.proofs.Ordered.{pair_distinct}
+use Rattle.run_model.proofs.Stations.{contains_in}
 use Rattle.run_laws.proofs.InAgreement.{is_pair, stays_in_agreement}
 use Rattle.run_laws.proofs.agreement.ends_stay_in_agreement_in_every_run.Goals as goal
 

@@ -1,10 +1,10 @@
 -- Proof of `agreement::what_is_taken_was_given_in_every_run`.
-use Rattle.one_end.proofs.Taking.{past_delivered}
+use Rattle.link_model.proofs.Taking.{past_delivered}
 use Rattle.open_links.specs.OpenLinks.{facts_in}
-use Rattle.runs.specs.Pair.{given_of}
-use Rattle.runs.proofs.LinkEnds.{pair_addresses}
-use Rattle.runs.proofs.Ordered.{pair_distinct}
-use Rattle.runs.proofs.Stations.{contains_in}
+use Rattle.run_model.specs.Pair.{given_of}
+use Rattle.run_model.proofs.LinkEnds.{pair_addresses}
+use Rattle.run_model.proofs.Ordered.{pair_distinct}
+use Rattle.run_model.proofs.Stations.{contains_in}
 use Rattle.run_laws.proofs.Agreed.{ack_of, exchange}
 use Rattle.run_laws.proofs.InAgreement.{is_pair, stays_in_agreement}
 use Rattle.run_laws.proofs.agreement.what_is_taken_was_given_in_every_run.Goals as goal

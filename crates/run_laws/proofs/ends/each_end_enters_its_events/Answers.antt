@@ -1,7 +1,7 @@
 -- Proof of `ends::each_end_enters_its_events`.
 use Rattle.std.proofs.Common.{sym, subst}
 use Rattle.open_links.specs.Slots.{IsOnTime}
-use Rattle.runs.proofs.Stations.{contains_in}
+use Rattle.run_model.proofs.Stations.{contains_in}
 use Rattle.run_laws.proofs.SameEvent.{one_connect_ind}
 use Rattle.run_laws.proofs.BetweenTurns.{begun_before, begun_last}
 use Rattle.run_laws.proofs.Entering.{entering_in_run, same_number}

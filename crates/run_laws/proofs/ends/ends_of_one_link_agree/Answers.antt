@@ -1,8 +1,8 @@
 -- Proof of `ends::ends_of_one_link_agree`.
-use Rattle.runs.specs.Pair.{given_of}
-use Rattle.runs.proofs.LinkEnds.{pair_addresses}
-use Rattle.runs.proofs.Ordered.{pair_distinct}
-use Rattle.runs.proofs.Stations.{contains_in}
+use Rattle.run_model.specs.Pair.{given_of}
+use Rattle.run_model.proofs.LinkEnds.{pair_addresses}
+use Rattle.run_model.proofs.Ordered.{pair_distinct}
+use Rattle.run_model.proofs.Stations.{contains_in}
 use Rattle.run_laws.proofs.ChSel.{one_link}
 use Rattle.run_laws.proofs.ends.ends_of_one_link_agree.Goals as goal
 

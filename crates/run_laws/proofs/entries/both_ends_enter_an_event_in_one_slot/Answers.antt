@@ -1,6 +1,6 @@
 -- Proof of `entries::both_ends_enter_an_event_in_one_slot`.
-use Rattle.runs.specs.History.{past_of}
-use Rattle.runs.specs.Run.{setup_at}
+use Rattle.run_model.specs.History.{past_of}
+use Rattle.run_model.specs.Run.{setup_at}
 use Rattle.run_laws.proofs.OneEntry.{one_channel, one_slot}
 use Rattle.run_laws.proofs.entries.both_ends_enter_an_event_in_one_slot.Goals as goal
 

@@ -9,26 +9,26 @@ use Rattle.host_view.specs.Noted.{view_noted}
 use Rattle.host_view.specs.Unbuilt.{status_of}
 use Rattle.chan_select.specs.Channel.{channel_of}
 use Rattle.chan_select.specs.PseudoRandom.{mam, perm, prn, reversed_octet, stage}
-use Rattle.one_end.specs.End.{facts_of as end_facts, replies_of}
-use Rattle.one_end.specs.Packets.{good_pdu, packet_sent, verdict_of as end_verdict}
+use Rattle.link_model.specs.End.{facts_of as end_facts, replies_of}
+use Rattle.link_model.specs.Packets.{good_pdu, packet_sent, verdict_of as end_verdict}
 use Rattle.scan_init.specs.Access.{bit_count, is_valid_access, next_access_of}
 use Rattle.frame_bits.specs.Crc.{crc, crc_octets, crc_of_bits, remainder}
 use Rattle.frame_bits.specs.Whitening.{mask_of, next_mask, whitening_bit, whitening_of}
 use Rattle.air_frame.specs.Hearing.{heard_in}
 use Rattle.adv_pdu.specs.Header.{kept_bits}
 use Rattle.adv_pdu.specs.Reading.{read_of}
-use Rattle.one_side.specs.Packets.{pdu_heard, use_of, verdict_of}
-use Rattle.one_side.specs.Side.{facts_of, result_of}
-use Rattle.runs.specs.History.{fates_used, packet_received, packets_on_air, turns_begun}
-use Rattle.runs.specs.Run.{after_opening, after_phase, after_phases, after_turn, run_of}
+use Rattle.controller_model.specs.Packets.{pdu_heard, use_of, verdict_of}
+use Rattle.controller_model.specs.Side.{facts_of, result_of}
+use Rattle.run_model.specs.History.{fates_used, packet_received, packets_on_air, turns_begun}
+use Rattle.run_model.specs.Run.{after_opening, after_phase, after_phases, after_turn, run_of}
 use Rattle.std.specs.Prelude.{true, drop, take, Some, slice_get}
 use Rattle.adv_pdu.specs.declared.pdu.AdvPdu.TheVariants.{Connect}
-use Rattle.runs.specs.History.{Event, Transmitted}
+use Rattle.run_model.specs.History.{Event, Transmitted}
 use Rattle.ble_base.specs.declared.verdicts.Verdict.TheVariants.{Good}
 use Rattle.radio_replay.specs.declared.fates.Fate.TheVariants.{Pass}
-use Rattle.runs.specs.LinkEnds.{ConnectInd, HasConnectInd}
-use Rattle.runs.specs.Rows.{connect_packet}
-use Rattle.one_side.specs.Rows.{address_a, address_b}
+use Rattle.run_model.specs.LinkEnds.{ConnectInd, HasConnectInd}
+use Rattle.run_model.specs.Rows.{connect_packet}
+use Rattle.controller_model.specs.Rows.{address_a, address_b}
 use Rattle.run_laws.specs.Rows.{central_end, one_event_fields, one_event_history, peripheral_end, public}
 use Rattle.run_laws.proofs.rows.worked_ends.Goals as goal
 

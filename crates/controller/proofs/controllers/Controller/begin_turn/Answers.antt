@@ -1,8 +1,8 @@
 -- Proof of `controllers::Controller::begin_turn`.
 use Rattle.std.proofs.Common.{refl, ◌∙◌}
-use Rattle.one_side.specs.Radio.{outcome_begun}
-use Rattle.one_side.specs.Side.{facts_of}
-use Rattle.one_side.specs.Step.{TurnBegins}
+use Rattle.controller_model.specs.Radio.{outcome_begun}
+use Rattle.controller_model.specs.Side.{facts_of}
+use Rattle.controller_model.specs.Step.{TurnBegins}
 use Rattle.controller.proofs.Going.{at_facts, turn_goes, wants_then}
 use Rattle.controller.proofs.controllers.Controller.begin_turn.Goals as goal
 

@@ -1,9 +1,9 @@
 -- Proof of `controllers::Controller::connect`.
 use Rattle.std.proofs.Common.{refl, sym, subst, append-nil}
 use Rattle.std.specs.Prelude.{Option}
-use Rattle.one_end.specs.declared.setup.LinkSetup.{LinkSetup}
-use Rattle.one_side.specs.declared.doing.Doing.TheVariants.{Connects}
-use Rattle.one_side.specs.Heard.{connects}
+use Rattle.link_model.specs.declared.setup.LinkSetup.{LinkSetup}
+use Rattle.controller_model.specs.declared.doing.Doing.TheVariants.{Connects}
+use Rattle.controller_model.specs.Heard.{connects}
 use Rattle.controller.specs.Knowing.{Passes}
 use Rattle.controller.proofs.Connecting.{connecting_is}
 use Rattle.controller.proofs.controllers.Controller.connect.Goals as goal

@@ -1,8 +1,8 @@
 -- Proof of `controllers::Controller::hear_elsewhere`.
 use Rattle.std.proofs.Common.{ap, sym, ◌∙◌, subst}
-use Rattle.one_side.specs.declared.doing.Doing.{Doing}
-use Rattle.one_side.specs.declared.doing.Turn.{Turn}
-use Rattle.one_side.specs.Heard.{heard}
+use Rattle.controller_model.specs.declared.doing.Doing.{Doing}
+use Rattle.controller_model.specs.declared.doing.Turn.{Turn}
+use Rattle.controller_model.specs.Heard.{heard}
 use Rattle.controller.specs.Held.{Held}
 use Rattle.controller.specs.Knowing.{Passes}
 use Rattle.controller.proofs.controllers.Controller.hear_elsewhere.Goals as goal

@@ -1,7 +1,7 @@
 -- Proof of `controllers::Controller::heard`.
 use Rattle.std.proofs.Common.{refl, ◌∙◌}
-use Rattle.one_side.specs.Side.{facts_of, outcome_heard}
-use Rattle.one_side.specs.Step.{PacketHeard}
+use Rattle.controller_model.specs.Side.{facts_of, outcome_heard}
+use Rattle.controller_model.specs.Step.{PacketHeard}
 use Rattle.controller.proofs.Going.{at_facts, prepares_again, turn_goes, wants_then}
 use Rattle.controller.proofs.controllers.Controller.heard.Goals as goal
 

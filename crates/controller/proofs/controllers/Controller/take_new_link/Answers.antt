@@ -1,6 +1,6 @@
 -- Proof of `controllers::Controller::take_new_link`.
 use Rattle.std.proofs.Common.{ap, ◌∙◌, subst}
-use Rattle.one_side.specs.Heard.{is_new_between, taken_if}
+use Rattle.controller_model.specs.Heard.{is_new_between, taken_if}
 use Rattle.controller.specs.Knowing.{Passes}
 use Rattle.controller.proofs.controllers.Controller.take_new_link.Goals as goal
 

@@ -1,7 +1,7 @@
 -- Proof of `controllers::Controller::unheard`.
 use Rattle.std.proofs.Common.{refl, ◌∙◌}
-use Rattle.one_side.specs.Side.{facts_of, outcome_unheard}
-use Rattle.one_side.specs.Step.{NothingHeard}
+use Rattle.controller_model.specs.Side.{facts_of, outcome_unheard}
+use Rattle.controller_model.specs.Step.{NothingHeard}
 use Rattle.controller.proofs.Going.{at_facts, turn_goes, wants_then}
 use Rattle.controller.proofs.controllers.Controller.unheard.Goals as goal
 

@@ -1,6 +1,6 @@
 -- Proof of `ends::LinkEnd::due`.
 use Rattle.std.proofs.Common.{ap, ◌∙◌}
-use Rattle.one_end.specs.Times.{reason_due}
+use Rattle.link_model.specs.Times.{reason_due}
 use Rattle.link_end.specs.Held.{Held}
 use Rattle.link_end.proofs.Keeping.{held_is}
 use Rattle.link_end.proofs.ends.LinkEnd.due.Goals as goal

@@ -1,7 +1,7 @@
 -- Proof of `ends::LinkEnd::new`.
 use Rattle.std.proofs.Common.{false, None, refl, ◌∙◌}
 use Rattle.instants.specs.Track.{first_facts as first_track}
-use Rattle.one_end.specs.End.{facts_of}
+use Rattle.link_model.specs.End.{facts_of}
 use Rattle.link_end.specs.Knowing.{Knows}
 use Rattle.link_end.proofs.Tying.{new_tied}
 use Rattle.link_end.proofs.ends.LinkEnd.new.Goals as goal

@@ -1,6 +1,6 @@
 -- The answers of `OpenLinks::heard`.
 use Rattle.std.proofs.Common.{rules, ◌≤◌, ◌<◌, ◌+◌, ◌++◌, length, nat_lt, subst, sym, refl, arith}
-use Rattle.one_end.specs.Step.{PacketReceived}
+use Rattle.link_model.specs.Step.{PacketReceived}
 use Rattle.open_links.specs.OpenLinks.{link_after, link_at, with_change}
 use Rattle.open_links.specs.Data.{kept_at}
 use Rattle.open_links.specs.Knowing.{HeldLinks, Knows}

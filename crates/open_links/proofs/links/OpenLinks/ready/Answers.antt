@@ -1,6 +1,6 @@
 -- The answers of `OpenLinks::ready`.
 use Rattle.std.proofs.Common.{rules, subst, sym, refl, arith}
-use Rattle.one_end.specs.Step.{PduFixed}
+use Rattle.link_model.specs.Step.{PduFixed}
 use Rattle.open_links.specs.OpenLinks.{link_after}
 use Rattle.open_links.specs.Knowing.{HeldLinks, Knows}
 use Rattle.open_links.proofs.Steps.{change_known, changed_sound, holds_place, is_tied, knows_pieces, knows_place}

@@ -1,6 +1,6 @@
 -- The answers of `OpenLinks::to_send`.
 use Rattle.std.proofs.Common.{rules, subst, sym, refl, arith}
-use Rattle.one_end.specs.Step.{PacketSent}
+use Rattle.link_model.specs.Step.{PacketSent}
 use Rattle.open_links.specs.OpenLinks.{link_after}
 use Rattle.open_links.specs.Knowing.{HeldLinks, Knows}
 use Rattle.open_links.proofs.Steps.{change_known, changed_sound, is_tied, knows_pieces, knows_place}

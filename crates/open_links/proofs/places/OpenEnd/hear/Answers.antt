@@ -1,6 +1,6 @@
 -- The answer of `OpenEnd::hear`.
 use Rattle.std.proofs.Common.{subst, sym, length, nat_lt}
-use Rattle.one_end.specs.Step.{PacketReceived}
+use Rattle.link_model.specs.Step.{PacketReceived}
 use Rattle.open_links.specs.Knowing.{HeldLink, KnowsLink}
 use Rattle.open_links.proofs.UnderHandles.{step_bank}
 use Rattle.open_links.proofs.places.OpenEnd.hear.Goals as goal

@@ -1,6 +1,6 @@
 -- The answer of `OpenEnd::send`.
 use Rattle.std.proofs.Common.{subst, sym}
-use Rattle.one_end.specs.Step.{PacketSent}
+use Rattle.link_model.specs.Step.{PacketSent}
 use Rattle.open_links.specs.Knowing.{HeldLink, KnowsLink}
 use Rattle.open_links.proofs.UnderHandles.{step_bank}
 use Rattle.open_links.proofs.places.OpenEnd.send.Goals as goal

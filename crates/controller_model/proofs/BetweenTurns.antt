@@ -1,0 +1,161 @@
+-- Between turns no piece of data waits for the host, and each complete packet is reported.
+use Rattle.std.proofs.Common.{◌≡◌, ℕ, zero, suc, ◌+◌, ◌==◌, Bool, true, false, Option, Some, None, List, [], ◌∷◌, replicate, cond, refl, ap, subst, ◌∙◌, arith}
+use Rattle.std.specs.Prelude.{fold, nat_lt, ⊤}
+use Rattle.std.specs.List.{AllByRecursion}
+use Rattle.std.specs.Option.{option_map}
+use Rattle.std.proofs.lemmas.Bool.Decides.{nat_tests}
+use Rattle.h4_frames.specs.declared.packet.HostPacket.TheVariants.{Command as HostCommand, Acl}
+use Rattle.h4_frames.specs.declared.packet.Fed.{Fed}
+use Rattle.h4_frames.specs.declared.packet.Fed.TheVariants.{More, Packet, LostSync}
+use Rattle.hci_cmd.specs.declared.command.Command.{Command}
+use Rattle.hci_cmd.specs.declared.command.Command.TheVariants.{Reset}
+use Rattle.hci_cmd.specs.declared.command.CmdRead.{CmdRead}
+use Rattle.hci_cmd.specs.declared.command.CmdRead.TheVariants.{Known, UnknownOpcode, BadLength}
+use Rattle.hci_cmd.specs.Command.{command_of}
+use Rattle.host_view.specs.Unbuilt.{status_of}
+use Rattle.link_model.specs.Data.{Data, data_given}
+use Rattle.link_model.specs.Facts.{Facts as EndFacts}
+use Rattle.link_model.specs.Step.{DataGiven, DataReported}
+use Rattle.link_model.proofs.Pasts.{grows}
+use Rattle.open_links.specs.Data.{complete_in, links_reported}
+use Rattle.open_links.specs.OpenLinks.{Links, OpenLink, facts_in, link_after, link_at, link_from, with_change_from, without_links}
+use Rattle.controller_model.specs.Step.{Step, HostOctet, TurnBegins, PacketHeard, NothingHeard, TurnEnds}
+use Rattle.controller_model.specs.Facts.{Setup, Facts, first_facts}
+use Rattle.controller_model.specs.Commands.{facts_commanded, facts_known, links_after, received_after}
+use Rattle.open_links.specs.declared.offers.Offer.{Offer}
+use Rattle.open_links.specs.declared.offers.Offer.TheVariants.{NoLink, Empty, Overflow, Kept}
+use Rattle.controller_model.specs.Data.{facts_offered, offer_of}
+use Rattle.controller_model.specs.Side.{facts_after, facts_fed, facts_of, result_of}
+use Rattle.controller_model.specs.Between.{between_after, is_between_turns}
+
+-- no complete packet of the link in a place waits to be reported
+abbrev IsReported : Option OpenLink → Type 0
+IsReported None = ⊤
+IsReported (Some link) = complete_in link ≡ 0
+
+record IsSettled (facts : Facts) : Type 0 where
+  pub received : facts.received ≡ []
+  pub reported : AllByRecursion IsReported facts.links
+
+-- ---- a turn ends
+
+none_left : (n : ℕ) → nat_lt 0 n ≡ false → n ≡ 0
+none_left n is = grind (arith, nat_tests)
+
+reported_by : (reports : Bool) (link : OpenLink) → nat_lt 0 (complete_in link) ≡ reports
+    → complete_in (cond reports (link_after DataReported link) link) ≡ 0
+reported_by true link is = ap (λ (facts : EndFacts). facts.outgoing.complete) (grows link.setup link.past DataReported)
+reported_by false link is = none_left (complete_in link) is
+
+all_reported : (links : Links) → AllByRecursion IsReported (links_reported links)
+all_reported [] = tt
+all_reported (None ∷ links) = (tt, all_reported links)
+all_reported (Some link ∷ links) = (reported_by (nat_lt 0 (complete_in link)) link refl, all_reported links)
+
+-- ---- an octet of the host
+
+given_same : (handle : ℕ) (start : Bool) (octets : List ℕ) (outgoing : Data)
+    → (data_given handle start octets outgoing).complete ≡ outgoing.complete
+given_same handle start [] outgoing = refl
+given_same handle start (octet ∷ octets) outgoing = refl
+
+given_place : (start : Bool) (octets : List ℕ) (place : Option OpenLink) → IsReported place
+    → IsReported (option_map (link_after (DataGiven start octets)) place)
+given_place start octets None is = tt
+given_place start octets (Some link) is =
+    ap (λ (facts : EndFacts). facts.outgoing.complete) (grows link.setup link.past (DataGiven start octets))
+    ∙ given_same link.setup.link.handle start octets (facts_in link).outgoing ∙ is
+
+given_from : (start : Bool) (octets : List ℕ) (first handle : ℕ) (links : Links) → AllByRecursion IsReported links
+    → AllByRecursion IsReported (with_change_from first handle (option_map (link_after (DataGiven start octets))) links)
+given_from start octets first handle [] are = tt
+given_from start octets first handle (place ∷ links) are =
+    at (first == handle) (given_from start octets (first + 1) handle links are.1)
+  where
+    at : (test : Bool) → AllByRecursion IsReported (with_change_from (first + 1) handle (option_map (link_after (DataGiven start octets))) links)
+        → AllByRecursion IsReported (cond test (option_map (link_after (DataGiven start octets)) place ∷ links)
+        (place ∷ with_change_from (first + 1) handle (option_map (link_after (DataGiven start octets))) links))
+    at true rest = (given_place start octets place are.0, are.1)
+    at false rest = (are.0, rest)
+
+none_open : (links : Links) → AllByRecursion IsReported (without_links links)
+none_open [] = tt
+none_open (place ∷ links) = (tt, none_open links)
+
+command_received : (command : Command) (facts : Facts) → IsSettled facts → received_after command facts.received ≡ []
+command_received Reset facts settled = refl
+command_received other facts settled = settled.received
+
+command_reported : (command : Command) (links : Links) → AllByRecursion IsReported links → AllByRecursion IsReported (links_after command links)
+command_reported Reset links are = none_open links
+command_reported other links are = are
+
+known_settled : (accepted : Bool) (setup : Setup) (facts : Facts) (command : Command) → IsSettled facts
+    → IsSettled (facts_known accepted setup facts command)
+known_settled true setup facts command settled =
+    record { received = command_received command facts settled; reported = command_reported command facts.links settled.reported }
+known_settled false setup facts command settled = settled
+
+read_settled : (setup : Setup) (facts : Facts) (read : CmdRead) → IsSettled facts → IsSettled (facts_commanded setup facts read)
+read_settled setup facts (Known command) settled = known_settled (status_of facts.view command == 0) setup facts command settled
+read_settled setup facts UnknownOpcode settled = settled
+read_settled setup facts BadLength settled = settled
+
+offered_settled : (offer : Offer) (handle : ℕ) (start : Bool) (octets : List ℕ) (facts : Facts) → IsSettled facts
+    → IsSettled (facts_offered offer handle start octets facts)
+offered_settled Kept handle start octets facts settled =
+    record { received = settled.received; reported = given_from start octets 0 handle facts.links settled.reported }
+offered_settled NoLink handle start octets facts settled = settled
+offered_settled Empty handle start octets facts settled = settled
+offered_settled Overflow handle start octets facts settled = settled
+
+fed_settled : (setup : Setup) (facts : Facts) (fed : Fed) → IsSettled facts → IsSettled (facts_fed setup facts fed)
+fed_settled setup facts (Packet (HostCommand opcode body)) settled = read_settled setup facts (command_of opcode body.items) settled
+fed_settled setup facts (Packet (Acl handle start count body)) settled =
+    offered_settled (offer_of setup facts handle count) handle start body.items facts settled
+fed_settled setup facts LostSync settled = settled
+fed_settled setup facts More settled = settled
+
+-- ---- all steps
+
+step_settled : (setup : Setup) (facts : Facts) (between : Bool) (step : Step) → (between ≡ true → IsSettled facts)
+    → between_after between step ≡ true → IsSettled (facts_after setup facts step)
+step_settled setup facts between (HostOctet octet) settled is =
+    let after = fed_settled setup facts (result_of facts.octets octet) (settled is) in
+    record { received = after.received; reported = after.reported }
+step_settled setup facts between TurnEnds settled is = record { received = refl; reported = all_reported facts.links }
+step_settled setup facts between (TurnBegins slot on) settled is = absurd (let h : false ≡ true = is in absurd cc)
+step_settled setup facts between (PacketHeard octets) settled is = absurd (let h : false ≡ true = is in absurd cc)
+step_settled setup facts between NothingHeard settled is = absurd (let h : false ≡ true = is in absurd cc)
+
+settled_from : (setup : Setup) (facts : Facts) (between : Bool) (past : List Step) → (between ≡ true → IsSettled facts)
+    → fold between_after between past ≡ true → IsSettled (fold (facts_after setup) facts past)
+settled_from setup facts between [] settled is = settled is
+settled_from setup facts between (step ∷ past) settled is =
+    settled_from setup (facts_after setup facts step) (between_after between step) past (step_settled setup facts between step settled) is
+
+first_reported : (n : ℕ) → AllByRecursion IsReported (replicate n None)
+first_reported zero = tt
+first_reported (suc n) = (tt, first_reported n)
+
+settled_between : (setup : Setup) (past : List Step) → is_between_turns past ≡ true → IsSettled (facts_of setup past)
+unfolding facts_of
+settled_between setup past is =
+    settled_from setup (first_facts setup) true past (λ first. record { received = refl; reported = first_reported setup.links }) is
+
+pub nothing_waits : (setup : Setup) (past : List Step) → is_between_turns past ≡ true → (facts_of setup past).received ≡ []
+nothing_waits setup past is = (settled_between setup past is).received
+
+found_reported : (first handle : ℕ) (links : Links) → AllByRecursion IsReported links → IsReported (link_from first handle links)
+found_reported first handle [] are = tt
+found_reported first handle (place ∷ links) are = at (first == handle) (found_reported (first + 1) handle links are.1)
+  where
+    at : (test : Bool) → IsReported (link_from (first + 1) handle links) → IsReported (cond test place (link_from (first + 1) handle links))
+    at true rest = are.0
+    at false rest = rest
+
+pub none_complete : (setup : Setup) (past : List Step) (handle : ℕ) (link : OpenLink) → is_between_turns past ≡ true
+    → link_at handle (facts_of setup past).links ≡ Some link → complete_in link ≡ 0
+none_complete setup past handle link is is_open =
+    let links = (facts_of setup past).links in
+    subst IsReported is_open (found_reported 0 handle links (settled_between setup past is).reported)

@@ -1,0 +1,235 @@
+-- Which handles have open links, to the controller and in the view of its host.
+use Rattle.std.proofs.Common.{◌≡◌, ℕ, zero, suc, ◌+◌, ◌≤◌, ◌==◌, Bool, true, false, Option, Some, None, List, [], ◌∷◌, ◌++◌, length, replicate, map, cond, refl, ap, sym, subst, ◌∙◌, append_assoc, length-append, arith}
+use Rattle.std.specs.Prelude.{count_by, is_some, slice_set, if◌then◌else◌}
+use Rattle.std.specs.Option.{option_map}
+use Rattle.std.proofs.Math.ListN.{set}
+use Rattle.std.proofs.Math.Seq.{map-set_same, set-append_seam}
+use Rattle.std.proofs.lemmas.Bool.{eq-eqb}
+use Rattle.std.proofs.lemmas.List.{map-set}
+use Rattle.std.proofs.lemmas.List.Sums.{sum_by-append}
+use Rattle.hci_cmd.specs.declared.command.HandleCount.{HandleCount}
+use Rattle.hci_cmd.specs.declared.command.Command.{Command}
+use Rattle.hci_cmd.specs.declared.command.Command.TheVariants.{Disconnect, ReadRemoteVersion, HostCompleted, Reset, LeConnectionUpdate, LeReadRemoteFeatures, LeEnableEncryption, LeKeyReply, LeKeyNegative, LeParamReply, LeParamNegative, LeSetDataLength, LeSetPhy}
+use Rattle.host_view.specs.declared.links.Link.{Link as ViewLink}
+use Rattle.host_view.specs.View.{View}
+use Rattle.host_view.specs.Changes.{after_count, after_counts, changed_at, view_after}
+use Rattle.host_view.specs.Links.{link_in}
+use Rattle.link_model.specs.Step.{PacketSent, PduFixed}
+use Rattle.slot_plan.specs.declared.Activity.{Activity}
+use Rattle.slot_plan.specs.declared.Activity.TheVariants.{Link, Advertise, Scan, Initiate}
+use Rattle.open_links.specs.OpenLinks.{Links, OpenLink, free_from, link_after, link_served, with_change, with_change_from, without_links}
+use Rattle.open_links.specs.Turns.{end_by, ends_from, links_staying, reason_in, staying_by}
+use Rattle.controller_model.specs.declared.doing.Doing.{Doing}
+use Rattle.controller_model.specs.declared.doing.Doing.TheVariants.{Advertises, CentralSends, PeripheralListens, PeripheralSends}
+use Rattle.controller_model.specs.Packets.{links_sending}
+use Rattle.controller_model.specs.Radio.{links_fixing}
+use Rattle.controller_model.proofs.Always.{links_shut, links_won}
+
+-- by handle, whether a link is open
+abbrev pub opens : {A : Type 0} → List (Option A) → List Bool
+opens places = map is_some places
+
+-- how many are
+abbrev pub many : List Bool → ℕ
+many [] = 0
+many (true ∷ places) = suc (many places)
+many (false ∷ places) = many places
+
+-- ---- how many
+
+count_one : (place : Bool) (places : List Bool) (counted : ℕ) → counted ≡ many places → (0 + cond place 1 0) + counted ≡ many (place ∷ places)
+count_one true places counted is = omega (arith, is)
+count_one false places counted is = omega (arith, is)
+
+pub count_many : (links : List (Option ViewLink)) → count_by is_some links ≡ many (opens links)
+count_many [] = refl
+count_many (link ∷ links) =
+    sum_by-append (λ (place : Option ViewLink). cond (is_some place) 1 0) (link ∷ []) links
+    ∙ count_one (is_some link) (opens links) (count_by is_some links) (count_many links)
+
+many_more : (place : Bool) (places : List Bool) → many (place ∷ places) ≤ many places + 1
+many_more true places = omega arith
+many_more false places = omega arith
+
+many_less : (place : Bool) (places : List Bool) → many places ≤ many (place ∷ places)
+many_less true places = omega arith
+many_less false places = omega arith
+
+pub many_opened : (places : List Bool) (place : ℕ) → many (set places place true) ≤ many places + 1
+many_opened [] place = omega arith
+many_opened (b ∷ places) zero = let least = many_less b places in omega (arith, least)
+many_opened (true ∷ places) (suc place) = let rest = many_opened places place in omega (arith, rest)
+many_opened (false ∷ places) (suc place) = many_opened places place
+
+pub many_shut : (places : List Bool) (place : ℕ) → many (set places place false) ≤ many places
+many_shut [] place = omega arith
+many_shut (b ∷ places) zero = many_less b places
+many_shut (true ∷ places) (suc place) = let rest = many_shut places place in omega (arith, rest)
+many_shut (false ∷ places) (suc place) = many_shut places place
+
+pub many-append : (xs ys : List Bool) → many (xs ++ ys) ≡ many xs + many ys
+many-append [] ys = omega arith
+many-append (true ∷ xs) ys = let rest = many-append xs ys in omega (arith, rest)
+many-append (false ∷ xs) ys = many-append xs ys
+
+pub many_none : (n : ℕ) → many (replicate n false) ≡ 0
+many_none zero = refl
+many_none (suc n) = many_none n
+
+-- where no handle is free each has a link
+pub many_full : (first : ℕ) (links : Links) → free_from first links ≡ None → many (opens links) ≡ length links
+many_full first [] none = refl
+many_full first (None ∷ links) none = absurd cc
+many_full first (Some link ∷ links) none = ap suc (many_full (first + 1) links none)
+
+-- ---- changes of links
+
+some_still : {A B : Type 0} (change : A → B) (place : Option A) → is_some (option_map change place) ≡ is_some place
+some_still change None = refl
+some_still change (Some one) = refl
+
+pub mapped_opens : (change : OpenLink → OpenLink) (links : Links) → opens (map (option_map change) links) ≡ opens links
+mapped_opens change [] = refl
+mapped_opens change (place ∷ links) = λ i. some_still change place i ∷ mapped_opens change links i
+
+changed_from : (change : OpenLink → OpenLink) (first handle : ℕ) (links : Links)
+    → opens (with_change_from first handle (option_map change) links) ≡ opens links
+changed_from change first handle [] = refl
+changed_from change first handle (place ∷ links) = at (first == handle) (changed_from change (first + 1) handle links)
+  where
+    at : (test : Bool) → opens (with_change_from (first + 1) handle (option_map change) links) ≡ opens links
+        → opens (if test then option_map change place ∷ links else place ∷ with_change_from (first + 1) handle (option_map change) links)
+        ≡ opens (place ∷ links)
+    at true rest = λ i. some_still change place i ∷ opens links
+    at false rest = λ i. is_some place ∷ rest i
+
+pub changed_opens : (change : OpenLink → OpenLink) (handle : ℕ) (links : Links) → opens (with_change handle change links) ≡ opens links
+changed_opens change handle links = changed_from change 0 handle links
+
+pub won_opens : (slot : ℕ) (activity : Activity) (links : Links) → opens (links_won slot activity links) ≡ opens links
+won_opens slot (Link handle) links = changed_opens (link_served slot) handle links
+won_opens slot Advertise links = refl
+won_opens slot Scan links = refl
+won_opens slot Initiate links = refl
+
+pub fixed_opens : (doing : Doing) (links : Links) → opens (links_fixing doing links) ≡ opens links
+fixed_opens (CentralSends handle) links = changed_opens (link_after PduFixed) handle links
+fixed_opens (PeripheralListens handle) links = changed_opens (link_after PduFixed) handle links
+fixed_opens (Advertises channel) links = refl
+fixed_opens other links = refl
+
+pub sent_opens : (slot : ℕ) (doing : Doing) (links : Links) → opens (links_sending slot doing links) ≡ opens links
+sent_opens slot (CentralSends handle) links = changed_opens (link_after (PacketSent slot)) handle links
+sent_opens slot (PeripheralSends handle) links = changed_opens (link_after (PacketSent slot)) handle links
+sent_opens slot (Advertises channel) links = refl
+sent_opens slot other links = refl
+
+-- a place this much later than the first one is another
+later_than : (first place : ℕ) → (first == first + suc place) ≡ false
+later_than first place = grind arith
+
+opened_from : (link : OpenLink) (first place handle : ℕ) (links : Links) → handle ≡ first + place
+    → opens (with_change_from first handle (λ before. Some link) links) ≡ set (opens links) place true
+opened_from link first zero handle [] is = refl
+opened_from link first (suc place) handle [] is = refl
+opened_from link first zero handle (before ∷ links) is =
+    let same : (first == handle) ≡ true = eq-eqb first handle (omega (arith, is)) in
+    rw same refl
+opened_from link first (suc place) handle (before ∷ links) is =
+    let rest = opened_from link (first + 1) place handle links (omega (arith, is)) in
+    let other : (first == handle) ≡ false = rw is (later_than first place) in
+    rw other (λ i. is_some before ∷ rest i)
+
+pub opened_opens : (link : OpenLink) (handle : ℕ) (links : Links)
+    → opens (with_change_from 0 handle (λ before. Some link) links) ≡ set (opens links) handle true
+opened_opens link handle links = opened_from link 0 handle handle links (omega arith)
+
+pub reset_opens : (links : Links) → opens (without_links links) ≡ replicate (length links) false
+reset_opens [] = refl
+reset_opens (place ∷ links) = λ i. false ∷ reset_opens links i
+
+pub first_opens : (n : ℕ) → opens {A = OpenLink} (replicate n None) ≡ replicate n false
+first_opens zero = refl
+first_opens (suc n) = λ i. false ∷ first_opens n i
+
+-- ---- changes of the view
+
+pub view_changed : (change : ViewLink → ViewLink) (handle : ℕ) (links : List (Option ViewLink))
+    → opens (changed_at handle change links) ≡ opens links
+view_changed change handle links =
+    map-set_same is_some links handle (option_map change (link_in links handle)) None (some_still change (link_in links handle))
+
+view_counts : (links : List (Option ViewLink)) (counts : List HandleCount) → opens (after_counts links counts) ≡ opens links
+view_counts links [] = refl
+view_counts links (pair ∷ counts) = view_counts (after_count links pair) counts ∙ view_changed _ pair.handle links
+
+completed_opens : (on : Bool) (view : View) (counts : List HandleCount)
+    → opens (cond on (record view { links = after_counts view.links counts }) view).links ≡ opens view.links
+completed_opens true view counts = view_counts view.links counts
+completed_opens false view counts = refl
+
+abbrev pub is_reset : Command → Bool
+is_reset Reset = true
+is_reset other = false
+
+-- every command but Reset leaves links as open as they are
+pub view_opens : (view : View) (command : Command) → is_reset command ≡ false → opens (view_after view command).links ≡ opens view.links
+unfolding view_after
+view_opens view Reset not_reset = absurd (let h : true ≡ false = not_reset in absurd cc)
+view_opens view (HostCompleted counts) not_reset = completed_opens view.flow.on view counts.items
+view_opens view (Disconnect handle reason) not_reset = view_changed _ handle view.links
+view_opens view (ReadRemoteVersion handle) not_reset = view_changed _ handle view.links
+view_opens view (LeConnectionUpdate handle min max latency timeout lengths) not_reset = view_changed _ handle view.links
+view_opens view (LeReadRemoteFeatures handle) not_reset = view_changed _ handle view.links
+view_opens view (LeEnableEncryption handle rand ediv key) not_reset = view_changed _ handle view.links
+view_opens view (LeKeyReply handle key) not_reset = view_changed _ handle view.links
+view_opens view (LeKeyNegative handle) not_reset = view_changed _ handle view.links
+view_opens view (LeParamReply handle min max latency timeout lengths) not_reset = view_changed _ handle view.links
+view_opens view (LeParamNegative handle reason) not_reset = view_changed _ handle view.links
+view_opens view (LeSetDataLength handle most time) not_reset = view_changed _ handle view.links
+view_opens view (LeSetPhy handle all tx rx options) not_reset = view_changed _ handle view.links
+view_opens view other not_reset = refl
+
+-- ---- links that end, to the controller and in the view
+
+one_shut : (before spare others : List Bool) (links : List (Option ViewLink)) (first : ℕ) → length before ≡ first
+    → opens links ≡ before ++ (true ∷ (others ++ spare)) → opens (slice_set links first None) ≡ before ++ (false ∷ (others ++ spare))
+one_shut before spare others links first long is =
+    map-set is_some links first None
+    ∙ ap (λ (places : List Bool). set places first false) is
+    ∙ subst (λ (place : ℕ). set (before ++ (true ∷ (others ++ spare))) place false ≡ before ++ (false ∷ (others ++ spare))) long
+    (set-append_seam before true (others ++ spare) false)
+
+moved : (before : List Bool) (place : Bool) (others : List Bool) → before ++ (place ∷ others) ≡ (before ++ place ∷ []) ++ others
+moved before place others = sym (append_assoc before (place ∷ []) others)
+
+longer : (before : List Bool) (place : Bool) (first : ℕ) → length before ≡ first → length (before ++ place ∷ []) ≡ first + 1
+longer before place first long = length-append before (place ∷ []) ∙ omega (arith, long)
+
+-- the view and the links agree from this handle on
+abbrev Agree : (before spare : List Bool) → List (Option ViewLink) → Links → Type 0
+Agree before spare views links = opens views ≡ before ++ (opens links ++ spare)
+
+ended_with : (slot : ℕ) (reason : Option ℕ) (before spare : List Bool) (views : List (Option ViewLink)) (first : ℕ) (link : OpenLink)
+    (links : Links) → length before ≡ first → Agree before spare views (Some link ∷ links)
+    → ((before : List Bool) (views : List (Option ViewLink)) → length before ≡ first + 1 → Agree before spare views links
+    → Agree before spare (links_shut views (ends_from slot (first + 1) links)) (links_staying slot links))
+    → Agree before spare (links_shut views (end_by first reason ++ ends_from slot (first + 1) links)) (staying_by reason link ∷ links_staying slot links)
+ended_with slot None before spare views first link links long agree rest =
+    rest (before ++ true ∷ []) views (longer before true first long) (agree ∙ moved before true (opens links ++ spare))
+    ∙ sym (moved before true (opens (links_staying slot links) ++ spare))
+ended_with slot (Some reason) before spare views first link links long agree rest =
+    rest (before ++ false ∷ []) (slice_set views first None) (longer before false first long)
+    (one_shut before spare (opens links) views first long agree ∙ moved before false (opens links ++ spare))
+    ∙ sym (moved before false (opens (links_staying slot links) ++ spare))
+
+pub ended_agree : (slot : ℕ) (before spare : List Bool) (views : List (Option ViewLink)) (first : ℕ) (links : Links) → length before ≡ first
+    → Agree before spare views links → Agree before spare (links_shut views (ends_from slot first links)) (links_staying slot links)
+ended_agree slot before spare views first [] long agree = agree
+ended_agree slot before spare views first (None ∷ links) long agree =
+    ended_agree slot (before ++ false ∷ []) spare views (first + 1) links (longer before false first long)
+    (agree ∙ moved before false (opens links ++ spare))
+    ∙ sym (moved before false (opens (links_staying slot links) ++ spare))
+ended_agree slot before spare views first (Some link ∷ links) long agree =
+    ended_with slot (reason_in slot link) before spare views first link links long agree
+    (λ before views long agree. ended_agree slot before spare views (first + 1) links long agree)

@@ -1,0 +1,155 @@
+-- The complete packets that were reported since a link was opened.
+use Rattle.std.proofs.Common.{◌≡◌, ℕ, suc, ◌+◌, ◌<◌, ◌≤◌, Bool, true, false, Option, Some, None, List, [], ◌∷◌, ◌++◌, cond, refl, ap, sym, subst, ◌∙◌, append-nil, arith}
+use Rattle.std.specs.Prelude.{◌&&◌, filter}
+use Rattle.std.proofs.lemmas.Bool.{eq-eqb}
+use Rattle.std.proofs.lemmas.List.{map-append}
+use Rattle.std.proofs.lemmas.List.Elements.{filter-append}
+use Rattle.std.proofs.lemmas.List.Sums.{fold-append}
+use Rattle.ble_base.specs.declared.notes.Note.{Note}
+use Rattle.data_pdu.specs.Header.{header_in}
+use Rattle.wire_fields.specs.Field.{little_endian}
+use Rattle.acl_banks.specs.declared.pieces.Piece.{Piece}
+use Rattle.link_model.specs.Acknowledgement.{Pdu, is_acked}
+use Rattle.link_model.specs.Data.{Data, data_acked_if, data_given, data_sent_if, is_data}
+use Rattle.link_model.specs.End.{facts_after as end_after, facts_of as end_facts, facts_received, has_acknowledged, notes_after as end_notes, sent_notes_if, took_notes, took_notes_if}
+use Rattle.link_model.specs.Facts.{Facts as EndFacts}
+use Rattle.link_model.specs.Packets.{good_pdu, pdu_of}
+use Rattle.link_model.specs.Setup.{Setup as EndSetup}
+use Rattle.link_model.specs.Step.{Step as EndStep, DataGiven, EventEntered, PduFixed, PacketSent, PacketReceived, DataReported}
+use Rattle.link_model.proofs.Pasts.{grows}
+use Rattle.open_links.specs.OpenLinks.{OpenLink, facts_in, link_at}
+use Rattle.controller_model.specs.Data.{note_received}
+use Rattle.controller_model.specs.Facts.{Setup}
+use Rattle.controller_model.specs.Side.{facts_of, notes_of}
+use Rattle.controller_model.specs.Since.{ReportsInAll, empties_of, is_completed_on, note_completed, since_opened}
+use Rattle.controller_model.specs.Step.{Step}
+use Rattle.controller_model.proofs.Books.{Fact, IsKeptInBook, IsSilent}
+use Rattle.controller_model.proofs.BooksAlways.{book_of}
+use Rattle.controller_model.proofs.OtherNotes.{event_handle_is}
+
+-- ---- notes that report nothing
+
+none_sent : (handle : ℕ) (noted : Bool) (other : ℕ) (facts : EndFacts) → filter (is_completed_on handle) (sent_notes_if noted other facts) ≡ []
+none_sent handle true other facts = refl
+none_sent handle false other facts = refl
+
+none_took_if : (handle : ℕ) (noted : Bool) (other : ℕ) (pdu : Pdu) (facts : EndFacts)
+    → filter (is_completed_on handle) (took_notes_if noted other pdu facts) ≡ []
+none_took_if handle true other pdu facts = refl
+none_took_if handle false other pdu facts = refl
+
+none_took : (handle other : ℕ) (room : Bool) (found : Option (List ℕ)) (facts : EndFacts)
+    → filter (is_completed_on handle) (took_notes other room found facts) ≡ []
+none_took handle other room None facts = refl
+none_took handle other room (Some pdu) facts = none_took_if handle _ other (pdu_of pdu) facts
+
+none_received : (handle : ℕ) (piece : ℕ × Piece) → is_completed_on handle (note_received piece) ≡ false
+none_received handle piece = refl
+
+is_report : (handle count : ℕ) → handle < 65536 → is_completed_on handle (note_completed handle count) ≡ true
+unfolding little_endian
+is_report handle count below = eq-eqb _ handle (event_handle_is handle count below)
+
+-- ---- what an end counts as reported
+
+given_same : (handle : ℕ) (start : Bool) (octets : List ℕ) (outgoing : Data) → (data_given handle start octets outgoing).reported ≡ outgoing.reported
+given_same handle start [] outgoing = refl
+given_same handle start (octet ∷ octets) outgoing = refl
+
+silent_same : (setup : EndSetup) (facts : EndFacts) (step : EndStep) → IsSilent step
+    → (end_after setup facts step).outgoing.reported ≡ facts.outgoing.reported
+silent_same setup facts (DataGiven start body) is = given_same setup.link.handle start body facts.outgoing
+silent_same setup facts (EventEntered slot) is = refl
+silent_same setup facts PduFixed is = refl
+silent_same setup facts step is = absurd is
+
+sent_same : (is_new : Bool) (outgoing : Data) → (data_sent_if is_new outgoing).reported ≡ outgoing.reported
+sent_same true outgoing = refl
+sent_same false outgoing = refl
+
+acked_same : (acked : Bool) (outgoing : Data) → (data_acked_if acked outgoing).reported ≡ outgoing.reported
+acked_same true outgoing = refl
+acked_same false outgoing = refl
+
+received_same : (slot : ℕ) (room : Bool) (found : Option (List ℕ)) (facts : EndFacts)
+    → (facts_received slot room found facts).outgoing.reported ≡ facts.outgoing.reported
+received_same slot room None facts = refl
+received_same slot room (Some pdu) facts =
+    acked_same (has_acknowledged facts (header_in pdu) && is_data facts.acknowledgement.last) facts.outgoing
+
+-- ---- the book
+
+module _ (most handle : ℕ) (few : most ≤ 4096) where
+  abbrev IsReported : Fact
+  IsReported setup past waiting since count = ReportsInAll handle since ((end_facts setup past).outgoing.reported + count)
+
+  plain : (since more : List Note) (total : ℕ) → filter (is_completed_on handle) more ≡ [] → ReportsInAll handle since total
+      → ReportsInAll handle (since ++ more) total
+  plain since more total none reports = record {
+    counts = reports.counts;
+    events = filter-append (is_completed_on handle) since more ∙ ap (λ rest. filter (is_completed_on handle) since ++ rest) none
+        ∙ append-nil (filter (is_completed_on handle) since) ∙ reports.events;
+    total_is = reports.total_is;
+  }
+
+  one_plain : (since : List Note) (note : Note) (total : ℕ) → is_completed_on handle note ≡ false → ReportsInAll handle since total
+      → ReportsInAll handle (since ++ note ∷ []) total
+  one_plain since note total none reports = plain since (note ∷ []) total (ap (λ (test : Bool). cond test (note ∷ []) []) none) reports
+
+  one_report : (since : List Note) (count total more : ℕ) → handle < 65536 → more ≡ total + count → ReportsInAll handle since total
+      → ReportsInAll handle (since ++ note_completed handle count ∷ []) more
+  one_report since count total more below is reports = record {
+    counts = reports.counts ++ count ∷ [];
+    events = filter-append (is_completed_on handle) since (note_completed handle count ∷ [])
+        ∙ ap (λ (test : Bool). filter (is_completed_on handle) since ++ cond test (note_completed handle count ∷ []) []) (is_report handle count below)
+        ∙ ap (λ first. first ++ note_completed handle count ∷ []) reports.events
+        ∙ sym (map-append (note_completed handle) reports.counts (count ∷ []));
+    total_is = fold-append (λ total n. total + n) 0 reports.counts (count ∷ []) ∙ ap (λ n. n + count) reports.total_is ∙ sym is;
+  }
+
+  -- a step after which no more are reported
+  as_before : (setup : EndSetup) (past : List EndStep) (step : EndStep) (since : List Note) (count : ℕ)
+      → (end_after setup (end_facts setup past) step).outgoing.reported ≡ (end_facts setup past).outgoing.reported
+      → ReportsInAll handle since ((end_facts setup past).outgoing.reported + count)
+      → ReportsInAll handle since ((end_facts setup (past ++ step ∷ [])).outgoing.reported + count)
+  as_before setup past step since count same reports =
+      subst (λ n. ReportsInAll handle since (n + count)) (sym (ap (λ (facts : EndFacts). facts.outgoing.reported) (grows setup past step) ∙ same)) reports
+
+  first_reports : (setup : EndSetup) → ReportsInAll handle [] ((end_facts setup []).outgoing.reported + 0)
+  unfolding end_facts
+  first_reports setup = record { counts = []; events = refl; total_is = refl }
+
+  reports_kept : IsKeptInBook most handle IsReported
+  reports_kept = record {
+    opened = λ setup same. first_reports setup;
+    other = λ setup past waiting since count note is reports. one_plain since note _ (is.completed_none few) reports;
+    silent = λ setup past waiting since count step is reports.
+        as_before setup past step since count (silent_same setup (end_facts setup past) step is) reports;
+    sent = λ setup past waiting since count slot same reports.
+        let facts = end_facts setup past in
+        let more = end_notes setup facts (PacketSent slot) in
+        as_before setup past (PacketSent slot) (since ++ more) count (sent_same (is_acked facts.acknowledgement) facts.outgoing)
+        (plain since more _ (none_sent handle _ setup.link.handle facts) reports);
+    received = λ setup past waiting since count slot octets room same reports.
+        let facts = end_facts setup past in
+        let more = end_notes setup facts (PacketReceived slot octets room) in
+        as_before setup past (PacketReceived slot octets room) (since ++ more) count
+        (received_same slot room (good_pdu setup facts octets) facts)
+        (plain since more _ (none_took handle setup.link.handle room (good_pdu setup facts octets) facts) reports);
+    handed = λ setup past piece waiting since count below same reports.
+        one_plain since (note_received piece) _ (none_received handle piece) reports;
+    reported = λ setup past waiting since count complete below is reports.
+        let facts = end_facts setup past in
+        let after = ap (λ (facts : EndFacts). facts.outgoing.reported) (grows setup past DataReported) in
+        one_report since (suc complete) (facts.outgoing.reported + count) _ (omega (arith, below, few))
+        (let more : (end_facts setup (past ++ DataReported ∷ [])).outgoing.reported + count ≡ facts.outgoing.reported + count + suc complete =
+        omega (arith, after, is) in more) reports;
+    emptied = λ setup past waiting since count below reports.
+        one_report since 1 _ _ (omega (arith, below, few)) (omega arith) reports;
+  }
+
+pub packets_are_reported : (setup : Setup) (past : List Step) (handle : ℕ) (link : OpenLink) → setup.links ≤ 4096
+    → link_at handle (facts_of setup past).links ≡ Some link
+    → ReportsInAll handle (since_opened handle (notes_of setup past)) ((facts_in link).outgoing.reported + empties_of setup handle past)
+packets_are_reported setup past handle link few is =
+    (book_of handle (IsReported setup.links handle few) setup (reports_kept setup.links handle few) past link is).1

@@ -1,0 +1,47 @@
+-- Octets that a controller sends (Core 5.2, volume 6 part B, sections 2.1 to 2.4).
+use Rattle.std.specs.Prelude.{◌≡◌, ℕ, ◌≤◌, ◌<◌, List, [], ◌∷◌, ◌++◌, IfSome, ⊤}
+use Rattle.adv_pdu.specs.declared.pdu.AdvPdu.{AdvPdu}
+use Rattle.adv_pdu.specs.Pdu.{IsPdu}
+use Rattle.link_model.specs.Packets.{packet_sent}
+use Rattle.link_model.specs.Step.{Step, DataGiven, PacketSent}
+use Rattle.open_links.specs.OpenLinks.{OpenLink, facts_in, link_after, link_at}
+use Rattle.controller_model.specs.declared.doing.Doing.{Doing}
+use Rattle.controller_model.specs.declared.doing.Doing.TheVariants.{CentralSends, PeripheralSends}
+use Rattle.controller_model.specs.Facts.{Facts}
+use Rattle.controller_model.specs.Packets.{advertising_packet}
+
+-- they are the packet of a PDU, on one of the advertising channels
+pub record IsAdvertisingPacket (channel : ℕ) (octets : List ℕ) : Type 0 where
+  pub pdu : AdvPdu
+  pub is_pdu : IsPdu pdu
+  pub packet : octets ≡ advertising_packet channel pdu
+  pub channel_from : 37 ≤ channel
+  pub channel_to : channel ≤ 39
+
+-- it is to send on the link under this handle
+abbrev pub SendsOn : ℕ → Doing → Type 0
+SendsOn handle (CentralSends other) = other ≡ handle
+SendsOn handle (PeripheralSends other) = other ≡ handle
+SendsOn handle other = ⊥
+
+-- its host gave a link these packets of data, and nothing else happened to it
+abbrev pub AreGiven : List Step → Type 0
+AreGiven [] = ⊤
+AreGiven (DataGiven start body ∷ steps) = AreGiven steps
+AreGiven (step ∷ steps) = ⊥
+
+pub record HasOnlyBeenGiven (before after : OpenLink) : Type 0 where
+  pub given : List Step
+  pub are_given : AreGiven given
+  pub link_is : after ≡ record before { past = before.past ++ given }
+
+-- they are the packet of the link on which it is to send, on a data channel; to that link, if it is still open, nothing
+-- happened after that packet but that its host gave it data
+pub record IsLinkPacket (facts : Facts) (channel : ℕ) (octets : List ℕ) : Type 0 where
+  pub handle : ℕ
+  pub sends : SendsOn handle facts.turn.doing
+  pub link : OpenLink
+  pub packet : octets ≡ packet_sent link.setup (facts_in link)
+  pub channel_is : channel ≡ (facts_in link).event.channel
+  pub data_channel : channel < 37
+  pub last : IfSome (link_at handle facts.links) (HasOnlyBeenGiven (link_after (PacketSent facts.turn.slot) link))

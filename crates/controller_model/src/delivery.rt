@@ -1,0 +1,91 @@
+//! Laws of the data of one controller: what waits in it, and for how long. The bodies are empty:
+//! the contracts are the laws.
+ghost use Rattle.std.specs.Prelude.{◌≡◌, ◌≤◌, ◌+◌, ◌++◌, ℕ, true, List, [], Some, IsSome};
+ghost use Rattle.std.specs.Prelude.{filter, flat_map, length};
+ghost use Rattle.std.specs.List.{Contains};
+ghost use Rattle.ack_bit.specs.Nonempty.{nonempty};
+ghost use Rattle.ble_base.specs.declared.notes.Note.{Note};
+ghost use Rattle.link_model.specs.Data.{data_of, is_empty};
+ghost use Rattle.link_model.specs.Delivery.{numbered_notes, sent_note, took_note};
+ghost use Rattle.open_links.specs.Data.{buffers_taken, complete_in};
+ghost use Rattle.open_links.specs.OpenLinks.{OpenLink, facts_in, link_at};
+ghost use Rattle.controller_model.specs.Between.{is_between_turns};
+ghost use Rattle.controller_model.specs.Facts.{Setup};
+ghost use Rattle.controller_model.specs.Side.{facts_after, facts_of, notes_after, notes_of};
+ghost use Rattle.controller_model.specs.Since.{ReportsInAll, data_up, data_waiting, empties_of};
+ghost use Rattle.controller_model.specs.Since.{is_data_note, is_sent_on, is_took_on, since_opened};
+ghost use Rattle.controller_model.specs.Step.{Step};
+
+/// The packets of its host that wait on all links are never more than the buffers that a controller
+/// tells its host, and the pieces of data that its host has not received are never more than those
+/// that it has for them (Core 5.2, volume 4 part E, section 4.1).
+pub fn no_more_than_its_buffers()
+    ensures host { (setup : Setup) (past : List Step)
+        → buffers_taken (facts_of setup past).links ≤ setup.host_buffers }
+    ensures air { (setup : Setup) (past : List Step)
+        → length (facts_of setup past).received ≤ setup.air_buffers }
+{}
+
+/// Between turns no piece of data waits for the host, and no complete packet waits to be reported.
+pub fn nothing_waits_between_turns()
+    ensures received { (setup : Setup) (past : List Step) → is_between_turns past ≡ true
+        → (facts_of setup past).received ≡ [] }
+    ensures complete { (setup : Setup) (past : List Step) (handle : ℕ) (link : OpenLink)
+        → is_between_turns past ≡ true → link_at handle (facts_of setup past).links ≡ Some link
+        → complete_in link ≡ 0 }
+{}
+
+/// Since the link under a handle was opened, the notes of what was sent on it are those of the PDUs
+/// that its end sent and that are not empty, each once and in order, with the numbers 1, 2 and so
+/// on; and the notes of what was taken are those of the PDUs that its end accepted.
+pub fn a_link_notes_its_pdus()
+    ensures sent { (setup : Setup) (past : List Step) (handle : ℕ) (link : OpenLink)
+        → link_at handle (facts_of setup past).links ≡ Some link
+        → filter (is_sent_on handle) (since_opened handle (notes_of setup past))
+        ≡ numbered_notes (sent_note handle) 1
+        (nonempty is_empty (facts_in link).acknowledgement.sent) }
+    ensures took { (setup : Setup) (past : List Step) (handle : ℕ) (link : OpenLink)
+        → link_at handle (facts_of setup past).links ≡ Some link
+        → filter (is_took_on handle) (since_opened handle (notes_of setup past))
+        ≡ numbered_notes (took_note handle) 1
+        (nonempty is_empty (facts_in link).acknowledgement.accepted) }
+{}
+
+/// The data that the host received in ACL packets of a handle since its link was opened, and then
+/// that of the pieces that wait for the host, is the data of the PDUs that the end of the link
+/// accepted, in order. Between turns nothing waits, so that the host has all of it. A handle in ACL
+/// data has 12 bits (Core 5.2, volume 4 part E, section 5.4.2).
+pub fn data_is_handed_up_in_order()
+    ensures at_any_time { (setup : Setup) (past : List Step) (handle : ℕ) (link : OpenLink)
+        → setup.links ≤ 4096 → link_at handle (facts_of setup past).links ≡ Some link
+        → flat_map (data_up handle) (since_opened handle (notes_of setup past))
+        ++ data_waiting handle (facts_of setup past).received
+        ≡ data_of (facts_in link).acknowledgement.accepted }
+    ensures between_turns { (setup : Setup) (past : List Step) (handle : ℕ) (link : OpenLink)
+        → setup.links ≤ 4096 → is_between_turns past ≡ true
+        → link_at handle (facts_of setup past).links ≡ Some link
+        → flat_map (data_up handle) (since_opened handle (notes_of setup past))
+        ≡ data_of (facts_in link).acknowledgement.accepted }
+{}
+
+/// The counts in the Number Of Completed Packets events of a handle since its link was opened add
+/// up to the packets that were reported of it and the packets of no octet that its host gave it.
+/// Each of these events is for this handle alone (Core 5.2, volume 4 part E, section 7.7.19).
+pub fn complete_packets_are_reported()
+    ensures { (setup : Setup) (past : List Step) (handle : ℕ) (link : OpenLink)
+        → setup.links ≤ 4096 → link_at handle (facts_of setup past).links ≡ Some link
+        → ReportsInAll handle (since_opened handle (notes_of setup past))
+        ((facts_in link).outgoing.reported + empties_of setup handle past) }
+{}
+
+/// What was sent or taken on a link is noted only where the link under that handle is open before
+/// the step and after it, and so are its data and its complete packets given to the host.
+pub fn only_open_links_have_notes()
+    ensures before { (setup : Setup) (past : List Step) (step : Step) (note : Note) (handle : ℕ)
+        → setup.links ≤ 4096 → Contains (notes_after setup (facts_of setup past) step) note
+        → is_data_note handle note ≡ true → IsSome (link_at handle (facts_of setup past).links) }
+    ensures after { (setup : Setup) (past : List Step) (step : Step) (note : Note) (handle : ℕ)
+        → setup.links ≤ 4096 → Contains (notes_after setup (facts_of setup past) step) note
+        → is_data_note handle note ≡ true
+        → IsSome (link_at handle (facts_after setup (facts_of setup past) step).links) }
+{}

@@ -1,6 +1,0 @@
--- The proof of the law `pdus_mean_what_they_were_sent_as`.
-use Rattle.joint_runs.proofs.Collisions.{meant}
-use Rattle.joint_runs.proofs.laws.pdus_mean_what_they_were_sent_as.Goals as goal
-
-pub returns : goal.returns
-returns c = meant

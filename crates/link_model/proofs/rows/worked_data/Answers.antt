@@ -1,0 +1,30 @@
+-- Proof of `rows::worked_data`: the definitions compute.
+use Rattle.std.proofs.Common.{refl}
+use Rattle.ble_base.specs.ChannelMap.{data_channels, used_channels}
+use Rattle.frame_bits.specs.Crc.{crc, crc_octets, crc_of_bits, remainder}
+use Rattle.frame_bits.specs.Whitening.{mask_of, next_mask, whitening_bit, whitening_of}
+use Rattle.air_frame.specs.Hearing.{heard_in}
+use Rattle.chan_select.specs.Channel.{channel_of}
+use Rattle.chan_select.specs.PseudoRandom.{mam, perm, prn, reversed_octet, stage}
+use Rattle.link_model.specs.End.{facts_of, replies_of}
+use Rattle.link_model.specs.Packets.{good_pdu, packet_sent, verdict_of}
+use Rattle.link_model.specs.Pair.{pair_of}
+use Rattle.link_model.proofs.rows.worked_data.Goals as goal
+
+pub returns : goal.returns
+unfolding pair_of facts_of replies_of packet_sent good_pdu verdict_of heard_in channel_of mam perm prn reversed_octet stage used_channels data_channels crc crc_octets crc_of_bits remainder mask_of next_mask whitening_bit whitening_of
+returns c = record {
+  first = refl;
+  first_header = refl;
+  first_note = refl;
+  second_exchange = refl;
+  second = refl;
+  second_header = refl;
+  second_note = refl;
+  third = refl;
+  third_header = refl;
+  third_note = refl;
+  incomplete = refl;
+  complete = refl;
+  nothing_waits = refl;
+}

@@ -1,0 +1,141 @@
+-- The data of one end of a link: what its host gave it and what became of that (Core 5.2, volume 4 part E, section 4.1;
+-- volume 6 part B, sections 2.4.1 and 4.5.10).
+use Rattle.std.specs.Prelude.{ℕ, ◌+◌, ◌==◌, ◌&&◌, ◌||◌, nat_lt, Bool, false, not, List, [], ◌∷◌, ◌++◌, length, Option, Some, None, if◌then◌else◌}
+use Rattle.std.specs.List.{filter, find, flat_map}
+use Rattle.std.specs.Option.{option_map}
+use Rattle.acl_banks.specs.declared.pieces.Piece.{Piece}
+use Rattle.acl_banks.specs.History.{HostData}
+use Rattle.acl_banks.specs.Packets.{DataPacket, Marked, is_all_sent, marked_octets, new_packet, packet_after_acked, packet_after_went, piece_of, sent_length, unsent_octets, with_first, without_first}
+use Rattle.link_model.specs.Acknowledgement.{Pdu, empty_pdu}
+
+pub record Data : Type 0 where
+  -- the packets of the host that were kept to be sent, in order
+  pub given : List HostData
+  -- those of them that are not complete
+  pub packets : List DataPacket
+  -- how many are complete, with all octets acknowledged, and not reported to the host
+  pub complete : ℕ
+  -- how many were reported
+  pub reported : ℕ
+  -- the most octets of a piece
+  pub limit : ℕ
+  -- the PDU that is sent next where the last one is acknowledged, as the turn began, and whether a further one waited
+  -- then
+  pub fixed : Pdu
+  pub more : Bool
+
+-- payloads have at most 27 octets until the ends agree on more (section 4.5.10)
+abbrev pub first_data : Data
+first_data = record {
+  given = [];
+  packets = [];
+  complete = 0;
+  reported = 0;
+  limit = 27;
+  fixed = empty_pdu;
+  more = false;
+}
+
+-- ---- PDUs
+
+-- LLID 2 starts a message of the host, and LLID 1 continues it (section 2.4.1)
+abbrev pub llid_of : Bool → ℕ
+llid_of start = if start then 2 else 1
+
+-- the PDU of a piece, and an empty one where there is none
+abbrev pub pdu_with : Option Piece → Pdu
+pdu_with None = empty_pdu
+pdu_with (Some piece) = record { llid = llid_of piece.start; body = piece.body.items }
+
+-- a PDU with no payload counts as empty, and so does one with LLID 0, which is reserved (that it does is our choice)
+abbrev pub is_empty : Pdu → Bool
+is_empty pdu = pdu.llid == 0 || length pdu.body == 0
+
+abbrev pub is_data : Pdu → Bool
+is_data pdu = (pdu.llid == 1 || pdu.llid == 2) && not (length pdu.body == 0)
+
+-- the octets of data in a PDU, marked: only the first octet of a start is marked so
+abbrev pub data_in : Pdu → List Marked
+data_in pdu = if is_data pdu then marked_octets (pdu.llid == 2) pdu.body else []
+
+abbrev pub data_of : List Pdu → List Marked
+data_of pdus = flat_map data_in pdus
+
+-- how many PDUs are not empty: such PDUs have numbers, from 1 on (our choice)
+abbrev pub numbered : List Pdu → ℕ
+numbered pdus = length (filter (λ pdu. not (is_empty pdu)) pdus)
+
+-- ---- what waits
+
+abbrev pub is_unsent : DataPacket → Bool
+is_unsent packet = nat_lt (sent_length packet) (length packet.body)
+
+abbrev pub is_out : DataPacket → Bool
+is_out packet = nat_lt 0 packet.out
+
+-- the octets that were not sent
+abbrev pub unsent_of : Data → List Marked
+unsent_of outgoing = flat_map unsent_octets outgoing.packets
+
+-- the next piece: of the first packet with octets that were not sent
+abbrev pub next_piece : Data → Option Piece
+next_piece outgoing = option_map (piece_of outgoing.limit) (find is_unsent outgoing.packets)
+
+-- ---- steps
+
+-- the host gives a packet, which is kept; one of no octet has nothing to be sent
+abbrev pub data_given : ℕ → Bool → List ℕ → Data → Data
+data_given handle start [] outgoing = outgoing
+data_given handle start (octet ∷ octets) outgoing =
+    record outgoing {
+      given = outgoing.given ++ record { start = start; body = octet ∷ octets } ∷ [];
+      packets = outgoing.packets ++ new_packet handle start (octet ∷ octets) ∷ [];
+    }
+
+-- as a turn begins, the PDU that may be sent next is fixed (our choice)
+abbrev pub data_fixed : Data → Data
+data_fixed outgoing =
+    record outgoing {
+      fixed = pdu_with (next_piece outgoing);
+      more = nat_lt (length (pdu_with (next_piece outgoing)).body) (length (unsent_of outgoing));
+    }
+
+-- the fixed PDU is sent
+abbrev pub data_sent : Data → Data
+data_sent outgoing =
+    record outgoing {
+      packets =
+          (if is_data outgoing.fixed
+          then with_first is_unsent (packet_after_went outgoing.limit) outgoing.packets
+          else outgoing.packets);
+      fixed = empty_pdu;
+      more = false;
+    }
+
+abbrev pub data_sent_if : Bool → Data → Data
+data_sent_if is_new outgoing = if is_new then data_sent outgoing else outgoing
+
+-- the piece that is out is acknowledged; a packet is complete with its last piece
+abbrev pub is_completed : Option DataPacket → Bool
+is_completed None = false
+is_completed (Some packet) = is_all_sent packet
+
+abbrev pub data_completed : Bool → Data → Data
+data_completed completes outgoing =
+    record outgoing {
+      packets =
+          (if completes
+          then without_first is_out outgoing.packets
+          else with_first is_out packet_after_acked outgoing.packets);
+      complete = (if completes then outgoing.complete + 1 else outgoing.complete);
+    }
+
+abbrev pub data_acked : Data → Data
+data_acked outgoing = data_completed (is_completed (find is_out outgoing.packets)) outgoing
+
+abbrev pub data_acked_if : Bool → Data → Data
+data_acked_if acked outgoing = if acked then data_acked outgoing else outgoing
+
+-- the complete packets are reported to the host (volume 4 part E, section 7.7.19)
+abbrev pub data_reported : Data → Data
+data_reported outgoing = record outgoing { complete = 0; reported = outgoing.reported + outgoing.complete }

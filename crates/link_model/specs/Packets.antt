@@ -1,0 +1,72 @@
+-- The packets of one end of a link: what it sends, and its verdict on what reaches it (Core 5.2, volume 6 part B,
+-- sections 2.1, 2.4 and 4.5).
+use Rattle.std.specs.Prelude.{ℕ, ◌+◌, nat_le, not, Bool, List, ◌++◌, length, drop, Option, Some, None, if◌then◌else◌}
+use Rattle.ble_base.specs.declared.verdicts.Verdict.{Verdict}
+use Rattle.ble_base.specs.declared.verdicts.Verdict.TheVariants.{Missed, Broken, Good}
+use Rattle.air_frame.specs.declared.Heard.{Heard}
+use Rattle.air_frame.specs.declared.Heard.TheVariants.{NotOurs, Broken as Faulty, Whole}
+use Rattle.air_frame.specs.Hearing.{heard_in}
+use Rattle.air_frame.specs.Packet.{on_air}
+use Rattle.data_pdu.specs.declared.header.DataHeader.{DataHeader}
+use Rattle.data_pdu.specs.Header.{header_in, octets_of}
+use Rattle.ack_bit.specs.AckBits.{header_of}
+use Rattle.link_model.specs.Setup.{Setup}
+use Rattle.link_model.specs.Acknowledgement.{Pdu, bits_of, is_acked}
+use Rattle.link_model.specs.Data.{is_empty}
+use Rattle.link_model.specs.Facts.{Facts}
+
+-- the PDU in the packet that it sends: the last one again until that is acknowledged, and then the fixed one (section
+-- 4.5.9)
+abbrev pub pdu_sent : Facts → Pdu
+pdu_sent facts = if is_acked facts.acknowledgement then facts.outgoing.fixed else facts.acknowledgement.last
+
+-- MD: a further PDU waited as the turn began. After one that is sent again, that is the fixed one, unless it is empty
+-- (section 4.5.6; when it is looked at is our choice)
+abbrev pub more_sent : Facts → Bool
+more_sent facts = if is_acked facts.acknowledgement then facts.outgoing.more else not (is_empty facts.outgoing.fixed)
+
+-- the header of that packet (section 2.4)
+abbrev pub header_sent : Facts → DataHeader
+header_sent facts =
+    header_of (bits_of facts.acknowledgement) (pdu_sent facts).llid (more_sent facts) (length (pdu_sent facts).body)
+
+-- the packet that it sends, on the channel of the event (section 2.1)
+unfoldable pub packet_sent : Setup → Facts → List ℕ
+packet_sent setup facts =
+    on_air facts.event.channel setup.link.fields.access setup.link.fields.crc_init
+    (octets_of (header_sent facts) ++ (pdu_sent facts).body)
+
+-- what it hears on the channel of the event: its access address, and a CRC from its CRCInit (sections 2.1.2 and 3.1.1)
+abbrev pub heard_of : Setup → Facts → List ℕ → Heard
+heard_of setup facts octets =
+    heard_in facts.event.channel setup.link.fields.access setup.link.fields.crc_init octets
+
+-- the payload of a PDU is not longer than what this end receives (section 4.5.10)
+abbrev pub has_room_for : ℕ → List ℕ → Bool
+has_room_for max_rx pdu = nat_le (length pdu) (2 + max_rx)
+
+abbrev pub pdu_by : Bool → List ℕ → Option (List ℕ)
+pdu_by fits pdu = if fits then Some pdu else None
+
+-- the octets of the PDU of a good packet: a whole packet with a payload that is not too long
+abbrev pub good_in : ℕ → Heard → Option (List ℕ)
+good_in max_rx NotOurs = None
+good_in max_rx Faulty = None
+good_in max_rx (Whole pdu) = pdu_by (has_room_for max_rx pdu.items) pdu.items
+
+unfoldable pub good_pdu : Setup → Facts → List ℕ → Option (List ℕ)
+good_pdu setup facts octets = good_in setup.link.max_rx (heard_of setup facts octets)
+
+-- the verdict on octets (our choice): missed where they do not begin with the access address; broken where they are the
+-- packet of no PDU, or where the payload is longer than what this end receives; else good
+abbrev pub verdict_by : ℕ → Heard → Verdict
+verdict_by max_rx NotOurs = Missed
+verdict_by max_rx Faulty = Broken
+verdict_by max_rx (Whole pdu) = if has_room_for max_rx pdu.items then Good else Broken
+
+unfoldable pub verdict_of : Setup → Facts → List ℕ → Verdict
+verdict_of setup facts octets = verdict_by setup.link.max_rx (heard_of setup facts octets)
+
+-- the PDU in these octets
+abbrev pub pdu_of : List ℕ → Pdu
+pdu_of octets = record { llid = (header_in octets).llid; body = drop 2 octets }

@@ -1,6 +1,0 @@
--- Proof of `laws::data_is_sent_in_order`.
-use Rattle.one_end.proofs.Sending.{past_in_order}
-use Rattle.one_end.proofs.laws.data_is_sent_in_order.Goals as goal
-
-pub returns : goal.returns
-returns c = past_in_order

@@ -1,9 +1,0 @@
--- Proof of `delivery::only_open_links_have_notes`.
-use Rattle.one_side.proofs.OpenNotes.{open_after, open_before}
-use Rattle.one_side.proofs.delivery.only_open_links_have_notes.Goals as goal
-
-pub returns-clause-before : goal.returns-clause-before
-returns-clause-before c = open_before
-
-pub returns-clause-after : goal.returns-clause-after
-returns-clause-after c = open_after

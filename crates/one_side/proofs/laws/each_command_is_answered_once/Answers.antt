@@ -1,6 +1,0 @@
--- Proof of `laws::each_command_is_answered_once`.
-use Rattle.one_side.proofs.AnsweredOnce.{answered_once}
-use Rattle.one_side.proofs.laws.each_command_is_answered_once.Goals as goal
-
-pub returns : goal.returns
-returns c = answered_once

@@ -1,9 +1,0 @@
--- Proof of `laws::past_grows`.
-use Rattle.one_side.proofs.Pasts.{facts_more, notes_more}
-use Rattle.one_side.proofs.laws.past_grows.Goals as goal
-
-pub returns-clause-facts : goal.returns-clause-facts
-returns-clause-facts c = facts_more
-
-pub returns-clause-notes : goal.returns-clause-notes
-returns-clause-notes c = notes_more
