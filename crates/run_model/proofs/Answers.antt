@@ -67,7 +67,7 @@ answered laws given journal side up =
     let framed = ap packets_of (laws.by_frames setup (host_octets past)) ∙ ap (λ xs. packets_of (answers_of setup (frames xs))) octets in
     record {
       history = up.before;
-      journal_is = up.front_is;
+      of_run = up.of_run;
       alone = λ nothing. up.received_is side ∙ ap packets_of (laws.alone setup past nothing) ∙ framed;
       beside = λ none. ap without_le_packets (up.received_is side) ∙ sym (packets_apart (notes_of setup past))
           ∙ ap packets_of (laws.beside setup past none) ∙ packets_apart (notes_of setup (map HostOctet (host_octets past)))

@@ -13,6 +13,7 @@ pub mod Rounds
 pub mod OfStations
 pub mod Journals
 pub mod Parts
+pub mod OnePlace
 pub mod Ordered
 pub mod EntryEvents
 pub mod Fates

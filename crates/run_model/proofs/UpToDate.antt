@@ -16,7 +16,7 @@ use Rattle.run_model.specs.Pair.{given_of}
 use Rattle.run_model.specs.Due.{octets_called}
 use Rattle.run_model.specs.Feeding.{HasNoted, feed_total, feeds_at, is_note, is_of_feeding}
 use Rattle.run_model.specs.Readers.{fed_to_side, packets_of, packets_to_host, station_of, turns_of}
-use Rattle.run_model.specs.Entries.{IsUpToDate}
+use Rattle.run_model.specs.Entries.{IsBetweenTurns, IsUpToDate}
 use Rattle.run_model.proofs.Places.{each_at}
 use Rattle.run_model.proofs.Stations.{is_in}
 use Rattle.run_model.proofs.Dues.{TakenBefore, run_due}
@@ -32,14 +32,14 @@ is_side a b script A = refl
 is_side a b script B = refl
 
 up_to_date : (a b : List ℕ) (script : Script) (front : List Entry) (before rest : List Event) → history_of (run_of (given_of a b script)) ≡ before ++ rest
-    → front ≡ journal_of before
+    → IsBetweenTurns rest → front ≡ journal_of before
     → ((station : ℕ) → octets_called station before ≡ fed_to station before)
     → ((station : ℕ) → is_in station (given_of a b script).stations ≡ true → fed_to station before ≡ feeds_at (given_of a b script) station before)
     → ((station : ℕ) → HasNoted (given_of a b script) station before) → IsUpToDate (given_of a b script) front
-up_to_date a b script front before rest is are is_taken is_fed is_noted =
+up_to_date a b script front before rest is between are is_taken is_fed is_noted =
     let given = given_of a b script in record {
       before = before;
-      front_is = are;
+      of_run = record { after = rest; is_at = is; between = between; front_is = are };
       fed_is = λ side. ap (λ entries. fed_to_side side entries) are ∙ pair_fed a b script before rest side is
           ∙ is_fed (station_of side) (is_side a b script side)
           ∙ ap (λ n. take (feed_total (station_of side) (take n given.plans)) (given.station_of (station_of side)).stream)
@@ -50,6 +50,7 @@ up_to_date a b script front before rest is are is_taken is_fed is_noted =
     }
 
 record IsOutside (event : Event) : Type 0 where
+  pub begins : (rest : List Event) → IsBetweenTurns (event ∷ rest)
   pub feeds : is_of_feeding event ≡ false
   pub notes : is_note event ≡ false
 
@@ -59,7 +60,7 @@ not_note own link last (UpNote packet) slot a_on b_on X is = absurd cc
 not_note own link last note slot a_on b_on X is = absurd cc
 
 turn_event : (links : Links) (event : Event) (slot : ℕ) (a_on : Bool) (b_on : Option Bool) → entries_of links event ≡ Turn slot a_on b_on ∷ [] → IsOutside event
-turn_event links (TurnBegan number radios) slot a_on b_on is = record { feeds = refl; notes = refl }
+turn_event links (TurnBegan number radios) slot a_on b_on is = record { begins = λ rest. tt; feeds = refl; notes = refl }
 turn_event links (HostFed station octets) slot a_on b_on is = absurd cc
 turn_event links (Called station step) slot a_on b_on is = absurd cc
 turn_event links (Noted station note) slot a_on b_on is = not_note (side_of station) (links.link_of station) (links.last_of station) note slot a_on b_on _ is
@@ -73,7 +74,7 @@ pair_turn a b script front rest slot a_on b_on is =
     let history = history_of (run_of given) in
     let one = is_of_event history front rest (Turn slot a_on b_on) is in
     let outside = turn_event (links_of one.before) one.event slot a_on b_on one.entry_is in
-    up_to_date a b script front one.before (one.event ∷ one.after) one.is_at one.front_is
+    up_to_date a b script front one.before (one.event ∷ one.after) one.is_at (outside.begins one.after) one.front_is
     (each_at TakenBefore history one.before one.after one.event (run_due given).before one.is_at outside.feeds)
     (each_at (FedBefore given) history one.before one.after one.event (run_fed given (pair_distinct a b script)).each one.is_at outside.feeds)
     (each_at (NotedBefore given) history one.before one.after one.event (run_noted given).each one.is_at outside.notes)
@@ -82,5 +83,5 @@ pub pair_last : (a b : List ℕ) (script : Script) → IsUpToDate (given_of a b 
 pair_last a b script =
     let given = given_of a b script in
     let history = history_of (run_of given) in
-    up_to_date a b script (journal_of history) history [] (sym (append-nil history)) refl
+    up_to_date a b script (journal_of history) history [] (sym (append-nil history)) tt refl
     (run_due given).taken (run_fed given (pair_distinct a b script)).fed (run_noted given).noted

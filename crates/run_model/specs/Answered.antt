@@ -6,7 +6,7 @@ use Rattle.h4_frames.specs.Frames.{frames}
 use Rattle.controller_model.specs.Host.{HeardNothing, commands_of, opcodes_in, opcodes_of, with_answer}
 use Rattle.controller_model.specs.Notes.{HadNoLink, answers_in, answers_of, as_two_octets, is_event, one_further}
 use Rattle.run_model.specs.History.{Event, past_of}
-use Rattle.run_model.specs.Journal.{journal_of}
+use Rattle.run_model.specs.Entries.{IsHistoryBefore}
 use Rattle.run_model.specs.Run.{Given, setup_at}
 use Rattle.run_model.specs.Readers.{fed_to_side, packets_of, packets_to_host, station_of}
 
@@ -23,12 +23,12 @@ answers_to given side journal =
 abbrev pub commands_at : Given → Side → List Event → List (ℕ × Bool)
 commands_at given side history = commands_of (setup_at given (station_of side)) (past_of (station_of side) history)
 
--- the host of a side has received the answers to its packets, in order: nothing else while its side heard nothing, and
+-- by the events of the run up to there, the host of a side has received the answers to its packets, in order: nothing else while its side heard nothing, and
 -- only LE events between them while it had no link. In any case its commands are those in the octets that it sent, and
 -- each that has an answer has one, which names it, in their order
 pub record IsAnswered (given : Given) (journal : List Entry) (side : Side) : Type 0 where
   pub history : List Event
-  pub journal_is : journal ≡ journal_of history
+  pub of_run : IsHistoryBefore given journal history
   pub alone : HeardNothing (past_of (station_of side) history)
       → packets_to_host side journal ≡ answers_to given side journal
   pub beside : HadNoLink (setup_at given (station_of side)) (past_of (station_of side) history)

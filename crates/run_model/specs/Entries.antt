@@ -7,7 +7,7 @@ use Rattle.journal.specs.declared.entries.Entry.{Entry}
 use Rattle.journal.specs.declared.entries.Mark.{Mark}
 use Rattle.radio_replay.specs.Damage.{damaged_packet}
 use Rattle.controller_model.specs.Side.{notes_of}
-use Rattle.run_model.specs.History.{Event, Transmitted, Hearing, past_of}
+use Rattle.run_model.specs.History.{Event, TurnBegan, Transmitted, Hearing, past_of}
 use Rattle.run_model.specs.Links.{links_of}
 use Rattle.run_model.specs.Journal.{entries_of, journal_of, mark_of, side_of}
 use Rattle.run_model.specs.Run.{Given, history_of, run_of, setup_at}
@@ -41,11 +41,25 @@ pub record IsAired (given : Given) (front : List Entry) (side : Side) (channel :
   pub verdict_is : verdict ≡ hearing.verdict
   pub unchanged : verdict ≡ Good → damaged_packet hearing.fate octets ≡ octets
 
+-- no turn goes on: the next one begins, or nothing comes
+abbrev pub IsBetweenTurns : List Event → Type 0
+IsBetweenTurns [] = Unit {0}
+IsBetweenTurns (TurnBegan slot radios ∷ rest) = Unit {0}
+IsBetweenTurns (event ∷ rest) = ⊥
+
+-- the events of a run up to a place between two turns, of which these are the journal. There is one such place at the
+-- most for a journal
+pub record IsHistoryBefore (given : Given) (front : List Entry) (before : List Event) : Type 0 where
+  pub after : List Event
+  pub is_at : history_of (run_of given) ≡ before ++ after
+  pub between : IsBetweenTurns after
+  pub front_is : front ≡ journal_of before
+
 -- where a turn is over: each side was fed what the turns that began feed it, up to the end of its stream, its
 -- controller took all of that, and its host received what the calls on its controller give
 pub record IsUpToDate (given : Given) (front : List Entry) : Type 0 where
   pub before : List Event
-  pub front_is : front ≡ journal_of before
+  pub of_run : IsHistoryBefore given front before
   pub fed_is : (side : Side) → fed_to_side side front
       ≡ take (feed_total (station_of side) (take (length (turns_of front)) given.plans))
       (given.station_of (station_of side)).stream

@@ -11,7 +11,7 @@ ghost use Rattle.journal.specs.declared.entries.Mark.{Mark};
 ghost use Rattle.radio_replay.specs.Script.{Script};
 ghost use Rattle.controller_model.specs.Step.{Step};
 ghost use Rattle.run_model.specs.Due.{Each, IsDue, octets_called, packet_in};
-ghost use Rattle.run_model.specs.Entries.{IsAired, IsOfEvent, IsUpToDate};
+ghost use Rattle.run_model.specs.Entries.{IsAired, IsHistoryBefore, IsOfEvent, IsUpToDate};
 ghost use Rattle.run_model.specs.Feeding.{AreDistinct, HasNoted, feed_total, feeds_at};
 ghost use Rattle.run_model.specs.Feeding.{is_note, is_of_feeding};
 ghost use Rattle.run_model.specs.History.{Event, TurnBegan, Called, Transmitted, Hearing};
@@ -173,6 +173,12 @@ pub fn a_turn_leaves_nothing_over()
         ≡ front ++ Turn slot a_on b_on ∷ rest → IsUpToDate (given_of a b script) front }
     ensures last { (a b : List ℕ) (script : Script) → IsUpToDate (given_of a b script)
         (journal_of (history_of (run_of (given_of a b script)))) }
+{}
+
+/// A journal up to a place between two turns of a run has one history: the events before that place.
+pub fn a_place_between_turns_has_one_history()
+    ensures { (given : Given) (front : List Entry) (one other : List Event)
+        → IsHistoryBefore given front one → IsHistoryBefore given front other → one ≡ other }
 {}
 
 /// The entries of the journal of a pair are in order, turn after turn. In each, A is fed and its

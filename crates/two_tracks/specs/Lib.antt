@@ -1,0 +1,4 @@
+-- The definitions of this crate.
+pub mod Reached
+pub mod TwoEnds
+pub mod Worked

@@ -1,0 +1,50 @@
+-- What tells two values apart, and what lines of links must say of a link that is known.
+use Rattle.std.proofs.Common.{◌≡◌, ℕ, ◌+◌, true, false, nat_eq, List, length, Option, Some, None, is_some}
+use Rattle.std.proofs.Common.{sym, ap, ◌∙◌, arith}
+use Rattle.ble_base.specs.declared.roles.Role.{Role}
+use Rattle.ble_base.specs.declared.roles.Side.{Side}
+use Rattle.journal.specs.declared.entries.Entry.{Entry}
+use Rattle.run_model.specs.Readers.{turns_of}
+use Rattle.journal_links.specs.Begun.{LinkBegun, link_numbered}
+use Rattle.journal_links.specs.Entered.{IsEnteredInTime, anchor_in, channel_in}
+use Rattle.journal_links.specs.Opened.{IsOpenedInTime, central_side}
+use Rattle.wrong_journals.proofs.Packets.{some_is}
+
+pub numbers_differ : (one other : ℕ) → nat_eq one other ≡ false → one ≡ other → ⊥
+numbers_differ one other differ same = grind arith
+
+pub truths_differ : true ≡ false → ⊥
+truths_differ same = absurd (cc)
+
+pub some_is_none : {X : Type 0} (x : X) (one other : Option X) → one ≡ Some x → other ≡ None → one ≡ other → ⊥
+some_is_none x one other is_some is_none same = absurd (cc)
+
+-- ---- a link that is known
+
+pub record IsOpenedAs (front : List Entry) (side : Side) (role : Role) (link : LinkBegun) : Type 0 where
+  pub central : link.central ≡ central_side role side
+  pub turn : link.slot + 1 ≡ length (turns_of front)
+
+pub opened_as : (front : List Entry) (side : Side) (number : ℕ) (role : Role) (link : LinkBegun)
+    → link_numbered number front ≡ Some link → IsOpenedInTime front side number role
+    → IsOpenedAs front side role link
+opened_as front side number role link known opened =
+    let same : opened.link ≡ link = some_is opened.link link (sym opened.is_link ∙ known) in
+    record {
+      central = ap (λ (l : LinkBegun). l.central) (sym same) ∙ opened.central_is;
+      turn = ap (λ (l : LinkBegun). l.slot + 1) (sym same) ∙ opened.in_turn;
+    }
+
+pub record IsEnteredAs (front : List Entry) (event channel : ℕ) (link : LinkBegun) : Type 0 where
+  pub turn : length (turns_of front) ≡ anchor_in link event + 1
+  pub on : channel ≡ channel_in link event
+
+pub entered_as : (front : List Entry) (number event channel : ℕ) (link : LinkBegun)
+    → link_numbered number front ≡ Some link → IsEnteredInTime front number event channel
+    → IsEnteredAs front event channel link
+entered_as front number event channel link known entered =
+    let same : entered.link ≡ link = some_is entered.link link (sym entered.is_link ∙ known) in
+    record {
+      turn = entered.in_turn ∙ ap (λ (l : LinkBegun). anchor_in l event + 1) same;
+      on = entered.on_channel ∙ ap (λ (l : LinkBegun). channel_in l event) same;
+    }

@@ -1,0 +1,55 @@
+-- What is taken is not what is pending.
+use Rattle.std.proofs.Common.{ℕ, [], ◌∷◌, ◌++◌, Option, Some, None, is_some, get_or, refl, sym, ap}
+use Rattle.ble_base.specs.declared.roles.Side.TheVariants.{A, B}
+use Rattle.ble_base.specs.declared.verdicts.Verdict.TheVariants.{Good, Missed}
+use Rattle.journal.specs.declared.entries.Entry.TheVariants.{Air, Took}
+use Rattle.journal.specs.declared.entries.Mark.TheVariants.{Lost, Pass}
+use Rattle.adv_pdu.specs.Header.{kept_bits}
+use Rattle.adv_pdu.specs.Reading.{read_of}
+use Rattle.air_frame.specs.Hearing.{heard_in}
+use Rattle.frame_bits.specs.Crc.{crc, crc_octets, crc_of_bits, remainder}
+use Rattle.frame_bits.specs.Whitening.{mask_of, next_mask, whitening_bit, whitening_of}
+use Rattle.h4_frames.specs.Frames.{frames}
+use Rattle.controller_model.specs.Packets.{pdu_heard}
+use Rattle.wire_fields.specs.Field.{little_endian}
+use Rattle.journal_links.specs.Begun.{links_begun}
+use Rattle.journal_packets.specs.Belonging.{is_answer, link_of_packet}
+use Rattle.journal_acks.specs.Carried.{sent_line_of}
+use Rattle.journal_acks.specs.Exchange.{exchange_of}
+use Rattle.journal_acks.specs.Rows.{data_packet}
+use Rattle.journal_data.specs.Lines.{PduLine, lines_of}
+use Rattle.journal_pdus.specs.Pending.{pending_pdu}
+use Rattle.run_model.specs.Rows.{one_event_journal}
+use Rattle.wrong_journals.specs.Exchanges.{announced, heard, reply_packet, taken}
+use Rattle.wrong_journals.proofs.Differing.{numbers_differ, truths_differ}
+use Rattle.wrong_journals.proofs.exchanges.wrong_taking_is_refused.Goals as goal
+
+pub returns-clause-twice : goal.returns-clause-twice
+unfolding pending_pdu lines_of frames exchange_of sent_line_of link_of_packet is_answer links_begun pdu_heard heard_in read_of kept_bits crc crc_octets crc_of_bits remainder mask_of next_mask whitening_bit whitening_of little_endian
+returns-clause-twice c lawful =
+    truths_differ (ap (λ (o : Option PduLine). is_some o) (lawful (taken) [] (Took A 1 1 2 (0xAA ∷ [])) A refl refl))
+
+pub returns-clause-from_nothing : goal.returns-clause-from_nothing
+unfolding pending_pdu lines_of frames exchange_of sent_line_of link_of_packet is_answer links_begun pdu_heard heard_in read_of kept_bits crc crc_octets crc_of_bits remainder mask_of next_mask whitening_bit whitening_of little_endian
+returns-clause-from_nothing c lawful =
+    truths_differ (ap (λ (o : Option PduLine). is_some o) (lawful (one_event_journal) [] (Took A 1 1 2 (0xAA ∷ [])) A refl refl))
+
+pub returns-clause-never : goal.returns-clause-never
+unfolding pending_pdu lines_of frames exchange_of sent_line_of link_of_packet is_answer links_begun pdu_heard heard_in read_of kept_bits crc crc_octets crc_of_bits remainder mask_of next_mask whitening_bit whitening_of little_endian
+returns-clause-never c lawful =
+    truths_differ (sym (ap (λ (o : Option PduLine). is_some o) (lawful (heard) [] (Air A 25 reply_packet Pass Good) A refl refl)))
+
+pub returns-clause-lost : goal.returns-clause-lost
+unfolding pending_pdu lines_of frames exchange_of sent_line_of link_of_packet is_answer links_begun pdu_heard heard_in read_of kept_bits crc crc_octets crc_of_bits remainder mask_of next_mask whitening_bit whitening_of little_endian
+returns-clause-lost c lawful =
+    truths_differ (ap (λ (o : Option PduLine). is_some o) (lawful (announced ++ Air B 25 data_packet Lost Missed ∷ []) [] (Took A 1 1 2 (0xAA ∷ [])) A refl refl))
+
+pub returns-clause-otherwise : goal.returns-clause-otherwise
+unfolding pending_pdu lines_of frames exchange_of sent_line_of link_of_packet is_answer links_begun pdu_heard heard_in read_of kept_bits crc crc_octets crc_of_bits remainder mask_of next_mask whitening_bit whitening_of little_endian
+returns-clause-otherwise c lawful =
+    numbers_differ 0xAB 0xAA refl
+    (ap octet (lawful heard [] (Took A 1 1 2 (0xAB ∷ [])) A refl refl))
+  where
+    octet : Option PduLine → ℕ
+    octet None = 0
+    octet (Some line) = get_or line.pdu.body 0 0

@@ -1,0 +1,31 @@
+-- Journals of a link whose lines of links and events are not those of its CONNECT_IND.
+use Rattle.std.specs.Prelude.{List, [], ◌∷◌, ◌++◌}
+use Rattle.ble_base.specs.declared.roles.Role.TheVariants.{Central}
+use Rattle.ble_base.specs.declared.roles.Side.TheVariants.{A, B}
+use Rattle.journal.specs.declared.entries.Entry.{Entry}
+use Rattle.journal.specs.declared.entries.Entry.TheVariants.{Enter, Opened}
+use Rattle.run_model.specs.Rows.{one_connection_journal, turn_entry}
+
+-- the side that received the CONNECT_IND opens the link as its central
+abbrev pub roles_exchanged : List Entry
+roles_exchanged = one_connection_journal ++ Opened A 1 1 Central ∷ []
+
+-- a side opens the link one turn late
+abbrev pub opened_late : List Entry
+opened_late = one_connection_journal ++ turn_entry 1 ∷ Opened B 1 1 Central ∷ []
+
+-- a side opens a link that no CONNECT_IND began
+abbrev pub opened_from_nothing : List Entry
+opened_from_nothing = one_connection_journal ++ Opened B 2 1 Central ∷ []
+
+-- event 0 is entered one turn late
+abbrev pub entered_late : List Entry
+entered_late = one_connection_journal ++ turn_entry 1 ∷ turn_entry 2 ∷ turn_entry 3 ∷ Enter A 1 0 25 ∷ []
+
+-- event 0 is entered on another channel
+abbrev pub entered_elsewhere : List Entry
+entered_elsewhere = one_connection_journal ++ turn_entry 1 ∷ turn_entry 2 ∷ Enter A 1 0 24 ∷ []
+
+-- event 1 comes in the place of event 0
+abbrev pub entered_misnumbered : List Entry
+entered_misnumbered = one_connection_journal ++ turn_entry 1 ∷ turn_entry 2 ∷ Enter A 1 1 25 ∷ []

@@ -1,0 +1,52 @@
+-- Journals in which a host receives what it must not, or does not receive what it must.
+use Rattle.std.specs.Prelude.{List, [], ◌∷◌, ◌++◌}
+use Rattle.ble_base.specs.declared.roles.Side.TheVariants.{A, B}
+use Rattle.ble_base.specs.declared.verdicts.Verdict.TheVariants.{Good}
+use Rattle.journal.specs.declared.entries.Entry.{Entry}
+use Rattle.journal.specs.declared.entries.Entry.TheVariants.{Air, Up}
+use Rattle.journal.specs.declared.entries.Mark.TheVariants.{Pass}
+use Rattle.run_model.specs.Rows.{one_event_journal, turn_entry}
+use Rattle.wrong_journals.specs.Exchanges.{reply_packet, taken}
+
+-- the octet AA for the host of the peripheral, as the start of a message
+abbrev pub data_up : Entry
+data_up = Up A (0x02 ∷ 0x00 ∷ 0x20 ∷ 0x01 ∷ 0x00 ∷ 0xAA ∷ [])
+
+-- one packet of the host of the central is complete
+abbrev pub credit : Entry
+credit = Up B (0x04 ∷ 0x13 ∷ 0x05 ∷ 0x01 ∷ 0x00 ∷ 0x00 ∷ 0x01 ∷ 0x00 ∷ [])
+
+abbrev pub acknowledged : List Entry
+acknowledged = taken ++ Air A 25 reply_packet Pass Good ∷ []
+
+-- octets that were never taken
+abbrev pub up_from_nothing : List Entry
+up_from_nothing = one_event_journal ++ data_up ∷ []
+
+-- octets are handed up twice
+abbrev pub up_twice : List Entry
+up_twice = taken ++ data_up ∷ data_up ∷ []
+
+-- as the continuation of a message
+abbrev pub up_as_continuation : List Entry
+up_as_continuation = taken ++ Up A (0x02 ∷ 0x00 ∷ 0x10 ∷ 0x01 ∷ 0x00 ∷ 0xAA ∷ []) ∷ []
+
+-- octets that were taken are not handed up before the next turn
+abbrev pub never_up : List Entry
+never_up = acknowledged ++ credit ∷ turn_entry 4 ∷ []
+
+-- a credit for a packet that the other side did not take
+abbrev pub credit_from_nothing : List Entry
+credit_from_nothing = one_event_journal ++ credit ∷ []
+
+-- two credits for one packet
+abbrev pub credit_twice : List Entry
+credit_twice = acknowledged ++ data_up ∷ credit ∷ credit ∷ []
+
+-- a credit before the acknowledgement reached the central
+abbrev pub credit_too_early : List Entry
+credit_too_early = taken ++ data_up ∷ credit ∷ turn_entry 4 ∷ []
+
+-- no credit before the next turn
+abbrev pub never_credited : List Entry
+never_credited = acknowledged ++ data_up ∷ turn_entry 4 ∷ []

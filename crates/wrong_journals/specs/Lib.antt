@@ -1,0 +1,4 @@
+-- The journals of this crate.
+pub mod Events
+pub mod Exchanges
+pub mod Hosts

@@ -1,0 +1,43 @@
+//! PDUs that are sent or taken against the rules, and packets that carry what they must not.
+ghost use Rattle.journal_pdus.specs.Exchanged.{AllAreNew, AllAreNext, AllAreTakenAtOnce};
+ghost use Rattle.journal_pdus.specs.Exchanged.{AllGoOutAtOnce, AllTellWhatWaits};
+ghost use Rattle.wrong_journals.specs.Exchanges.{another_channel, empty_while_data_waits};
+ghost use Rattle.wrong_journals.specs.Exchanges.{less_than_waits, more_than_waits, never_taken};
+ghost use Rattle.wrong_journals.specs.Exchanges.{number_stays, packet_otherwise};
+ghost use Rattle.wrong_journals.specs.Exchanges.{packet_without_line, sent_as_continuation};
+ghost use Rattle.wrong_journals.specs.Exchanges.{sent_from_nothing, sent_misnumbered};
+ghost use Rattle.wrong_journals.specs.Exchanges.{sent_otherwise, sent_too_early};
+ghost use Rattle.wrong_journals.specs.Exchanges.{sent_without_packet, taken_from_nothing};
+ghost use Rattle.wrong_journals.specs.Exchanges.{taken_otherwise, taken_though_lost, taken_twice};
+
+/// A side takes each PDU once, as the first good packet brings it, with its octets.
+pub fn wrong_taking_is_refused()
+    ensures twice { AllAreTakenAtOnce taken_twice → ⊥ }
+    ensures from_nothing { AllAreTakenAtOnce taken_from_nothing → ⊥ }
+    ensures never { AllAreTakenAtOnce never_taken → ⊥ }
+    ensures lost { AllAreTakenAtOnce taken_though_lost → ⊥ }
+    ensures otherwise { AllAreTakenAtOnce taken_otherwise → ⊥ }
+{}
+
+/// A `sent` line is of the next piece of what the host submitted, with the next number, once all
+/// before it is acknowledged, and its packet is the next line of its side.
+pub fn wrong_sending_is_refused()
+    ensures otherwise { AllAreNext sent_otherwise → ⊥ }
+    ensures misnumbered { AllAreNext sent_misnumbered → ⊥ }
+    ensures continuation { AllAreNext sent_as_continuation → ⊥ }
+    ensures from_nothing { AllAreNext sent_from_nothing → ⊥ }
+    ensures too_early { AllAreNew sent_too_early → ⊥ }
+    ensures no_packet { AllGoOutAtOnce sent_without_packet → ⊥ }
+{}
+
+/// A packet has the channel of its event, the SN and NESN that the lines before it give, the PDU of
+/// the last `sent` line of its side, and MD where more waits; and no empty PDU while data waits.
+pub fn wrong_packets_are_refused()
+    ensures empty { AllTellWhatWaits empty_while_data_waits → ⊥ }
+    ensures number { AllTellWhatWaits number_stays → ⊥ }
+    ensures no_line { AllTellWhatWaits packet_without_line → ⊥ }
+    ensures otherwise { AllTellWhatWaits packet_otherwise → ⊥ }
+    ensures more { AllTellWhatWaits more_than_waits → ⊥ }
+    ensures less { AllTellWhatWaits less_than_waits → ⊥ }
+    ensures channel { AllTellWhatWaits another_channel → ⊥ }
+{}

@@ -1,0 +1,22 @@
+//! Data and credits that a host must not receive, or does not receive.
+ghost use Rattle.journal_data.specs.Delivered.{AllDataArrives};
+ghost use Rattle.journal_pdus.specs.Exchanged.{AllAreSettled};
+ghost use Rattle.wrong_journals.specs.Hosts.{credit_from_nothing, credit_too_early, credit_twice};
+ghost use Rattle.wrong_journals.specs.Hosts.{never_credited, never_up, up_as_continuation};
+ghost use Rattle.wrong_journals.specs.Hosts.{up_from_nothing, up_twice};
+
+/// A host receives what its side took, once and with the starts of messages, before the next turn.
+pub fn wrong_data_is_refused()
+    ensures from_nothing { AllDataArrives up_from_nothing → ⊥ }
+    ensures twice { AllDataArrives up_twice → ⊥ }
+    ensures continuation { AllDataArrives up_as_continuation → ⊥ }
+    ensures never { AllAreSettled never_up → ⊥ }
+{}
+
+/// A packet is credited once, after its acknowledgement and before the next turn.
+pub fn wrong_credits_are_refused()
+    ensures from_nothing { AllDataArrives credit_from_nothing → ⊥ }
+    ensures twice { AllDataArrives credit_twice → ⊥ }
+    ensures too_early { AllAreSettled credit_too_early → ⊥ }
+    ensures never { AllAreSettled never_credited → ⊥ }
+{}

@@ -1,0 +1,13 @@
+//! Small wrong journals, each of which the definition of a lawful journal refuses, at the clause that
+//! its law names. No code.
+#![tactic(auto)]
+
+mod events;
+mod exchanges;
+mod hosts;
+
+pub use crate::events::wrong_links_are_refused;
+pub use crate::exchanges::{
+    wrong_packets_are_refused, wrong_sending_is_refused, wrong_taking_is_refused,
+};
+pub use crate::hosts::{wrong_credits_are_refused, wrong_data_is_refused};
