@@ -1,9 +1,10 @@
-//! A second, plain writing of the rules of one end: one list for the queue, and flags and small
-//! numbers for the stages. What it sends, begins and completes; what it takes is beside it.
-use crate::Ask;
+//! A second, plain writing of the rules of one end: one list for the queue, and the kind and the
+//! stage of the procedure of each end. What it sends, begins and completes; what it takes is in
+//! `plain_taking`.
 use arrayvec::ArrayVec;
 use ble_base::{ErrCode, Kind};
 use data_pdu::Ctrl;
+use procedures::Ask;
 
 /// How a PDU came into the queue.
 #[derive(Clone, Copy, Debug, PartialEq, Eq)]
@@ -13,6 +14,32 @@ pub(crate) enum Source {
     Own,
     Grant,
     Given,
+}
+
+/// How far the own procedure is after its first PDU.
+#[derive(Clone, Copy, Debug, PartialEq, Eq)]
+pub(crate) enum OwnStage {
+    /// No further than that.
+    First,
+    /// A request was acknowledged.
+    Acknowledged,
+    /// A request was granted.
+    Granted,
+    /// The LL_PHY_REQ of a central was answered.
+    Answered,
+    /// LL_PHY_UPDATE_IND was sent after it.
+    Indicated,
+}
+
+/// How far the procedure of the peer that excludes others is.
+#[derive(Clone, Copy, Debug, PartialEq, Eq)]
+pub(crate) enum PeerStage {
+    /// The host of a central was asked.
+    Asked,
+    /// What this end sends for it waits.
+    Unsent,
+    /// It was sent.
+    Sent,
 }
 
 /// A PDU that waits, without its Instant or reference.
@@ -43,16 +70,13 @@ pub(crate) struct Plain {
     pub(crate) own: Option<Kind>,
     /// Its first PDU was sent.
     pub(crate) sent: bool,
-    /// Of a request 1 is acknowledged and 2 granted, of a central's PHY update 1 is answered and 2
-    /// indicated.
-    pub(crate) further: u8,
+    pub(crate) stage: OwnStage,
     /// The peer's procedure that excludes others.
     pub(crate) peer: Option<Kind>,
-    /// Of a request 0 is asked, 1 granted and 2 sent, of a PHY update 1 is unsent and 2 sent.
-    pub(crate) peer_step: u8,
+    pub(crate) peer_stage: PeerStage,
     pub(crate) encrypting: bool,
-    /// An indication waits; true for a map.
-    pub(crate) ahead: Option<bool>,
+    /// The kind of the indication that waits.
+    pub(crate) ahead: Option<Kind>,
     pub(crate) queue: ArrayVec<Item, 32>,
     pub(crate) out: Option<Item>,
     pub(crate) last: Option<u64>,
@@ -73,9 +97,9 @@ impl Plain {
             wanted: ArrayVec::new(),
             own: None,
             sent: false,
-            further: 0,
+            stage: OwnStage::First,
             peer: None,
-            peer_step: 0,
+            peer_stage: PeerStage::Asked,
             encrypting: false,
             ahead: None,
             queue: ArrayVec::new(),
@@ -116,7 +140,7 @@ impl Plain {
     pub(crate) fn idle(&mut self) {
         self.own = None;
         self.sent = false;
-        self.further = 0;
+        self.stage = OwnStage::First;
     }
 
     pub(crate) fn finishes(&mut self, kind: Kind) -> Option<Kind> {
@@ -194,8 +218,8 @@ impl Plain {
             }
             Source::Grant => {
                 self.last = Some(u64::from(event) + 6 + u64::from(latency));
-                if self.peer == Some(Kind::Request) && self.peer_step == 1 {
-                    self.peer_step = 2;
+                if self.peer == Some(Kind::Request) && self.peer_stage == PeerStage::Unsent {
+                    self.peer_stage = PeerStage::Sent;
                 }
             }
             Source::Own => self.own_went(
@@ -231,16 +255,17 @@ impl Plain {
             Ctrl::VersionInd { .. } => self.first_sent(Kind::Version, slot),
             Ctrl::LengthReq { .. } => self.first_sent(Kind::Length, slot),
             Ctrl::PhyUpdateInd { .. } => {
-                if self.own == Some(Kind::Phy) && self.further == 1 {
-                    self.further = 2;
+                if self.own == Some(Kind::Phy) && self.stage == OwnStage::Answered {
+                    self.stage = OwnStage::Indicated;
                     self.since = Some(slot);
                 }
-                if self.peer == Some(Kind::Phy) && self.peer_step == 1 {
-                    self.peer_step = 2;
+                if self.peer == Some(Kind::Phy) && self.peer_stage == PeerStage::Unsent {
+                    self.peer_stage = PeerStage::Sent;
                 }
             }
-            Ctrl::PhyRsp { .. } if self.peer == Some(Kind::Phy) && self.peer_step == 1 => {
-                self.peer_step = 2
+            Ctrl::PhyRsp { .. }
+                if self.peer == Some(Kind::Phy) && self.peer_stage == PeerStage::Unsent => {
+                self.peer_stage = PeerStage::Sent
             }
             _ => {}
         }
@@ -254,17 +279,17 @@ impl Plain {
         }
         match item.ctrl {
             Ctrl::PhyUpdateInd { .. } => {
-                if self.peer == Some(Kind::Phy) && self.peer_step == 2 {
+                if self.peer == Some(Kind::Phy) && self.peer_stage == PeerStage::Sent {
                     self.peer = None;
                 }
-                if self.own == Some(Kind::Phy) && self.further == 2 {
+                if self.own == Some(Kind::Phy) && self.stage == OwnStage::Indicated {
                     return self.finishes(Kind::Phy);
                 }
                 None
             }
             Ctrl::ConnectionParamReq { .. } => {
-                if self.runs(Kind::Request) && self.further == 0 {
-                    self.further = 1;
+                if self.runs(Kind::Request) && self.stage == OwnStage::First {
+                    self.stage = OwnStage::Acknowledged;
                 }
                 None
             }
@@ -278,7 +303,7 @@ impl Plain {
         }
         self.ahead = None;
         if self.central {
-            if self.peer == Some(Kind::Request) && self.peer_step == 2 {
+            if self.peer == Some(Kind::Request) && self.peer_stage == PeerStage::Sent {
                 self.peer = None;
             }
             if self.runs(Kind::Update) {
@@ -292,7 +317,7 @@ impl Plain {
         if matches!(self.peer, Some(Kind::Update | Kind::Map)) {
             self.peer = None;
         }
-        if self.own == Some(Kind::Request) && self.further == 2 {
+        if self.own == Some(Kind::Request) && self.stage == OwnStage::Granted {
             return self.finishes(Kind::Request);
         }
         None

@@ -1,9 +1,9 @@
 //! What the second, plain writing of the rules of one end does with a control PDU of the peer.
-use crate::plain::{Plain, Source};
-use crate::{Ask, Effect, Step};
+use crate::plain::{OwnStage, PeerStage, Plain, Source};
 use ble_base::{ChannelMap, ErrCode, Kind};
 use data_pdu::{Ctrl, CtrlRead};
 use instants::Indication;
+use procedures::{Ask, Effect, Step};
 
 /// A step that does nothing.
 const NOTHING: Step = Step {
@@ -76,8 +76,8 @@ impl Plain {
             CtrlRead::Unknown(_) => return true,
             CtrlRead::Known(ctrl) => ctrl,
         };
-        let granted = self.own == Some(Kind::Request) && self.further == 2;
-        let phy_answered = self.own == Some(Kind::Phy) && self.further > 0;
+        let granted = self.own == Some(Kind::Request) && self.stage == OwnStage::Granted;
+        let phy_answered = self.own == Some(Kind::Phy) && self.stage != OwnStage::First;
         match ctrl {
             Ctrl::ConnectionUpdateInd { .. }
             | Ctrl::ChannelMapInd { .. }
@@ -93,7 +93,7 @@ impl Plain {
             Ctrl::ConnectionParamReq { .. } => !self.central || !phy_answered,
             Ctrl::PhyReq { .. } if self.central => !phy_answered,
             Ctrl::PhyReq { .. } => !granted,
-            Ctrl::PhyRsp { .. } => self.central && self.runs(Kind::Phy) && self.further == 0,
+            Ctrl::PhyRsp { .. } => self.central && self.has_asked_phy(),
             _ => false,
         }
     }
@@ -108,6 +108,11 @@ impl Plain {
             CtrlRead::Known(ctrl) if self.central => self.central_took(ctrl, slot, quiet),
             CtrlRead::Known(ctrl) => self.peripheral_took(ctrl, slot, quiet),
         }
+    }
+
+    /// Whether the LL_PHY_REQ of this end was sent and not answered.
+    fn has_asked_phy(&self) -> bool {
+        self.runs(Kind::Phy) && self.stage == OwnStage::First
     }
 
     fn refused(&mut self, is_one: bool, code: u8) -> Step {
@@ -216,7 +221,7 @@ impl Plain {
             }
             Ctrl::RejectInd { code } => self.refused(true, code),
             Ctrl::RejectExtInd { opcode, code } => {
-                let later = self.central && self.further == 2 && opcode == 0x18;
+                let later = self.stage == OwnStage::Indicated && opcode == 0x18;
                 let is_one = self.began_with(opcode) || later;
                 self.refused(is_one, code)
             }
@@ -260,7 +265,7 @@ impl Plain {
             return None;
         }
         let code = if self.own == Some(kind) { 0x23 } else { 0x2A };
-        if self.further > 0 {
+        if self.stage != OwnStage::First {
             return Some(ends(code));
         }
         self.reject(first_opcode(false, kind), code);
@@ -289,7 +294,7 @@ impl Plain {
             return NOTHING;
         }
         self.peer = Some(Kind::Request);
-        self.peer_step = 0;
+        self.peer_stage = PeerStage::Asked;
         gives(Effect::AskHost {
             min,
             max,
@@ -344,12 +349,12 @@ impl Plain {
                     return step;
                 }
                 self.peer = Some(Kind::Phy);
-                self.peer_step = 1;
+                self.peer_stage = PeerStage::Unsent;
                 self.phy_update_ind();
                 NOTHING
             }
-            Ctrl::PhyRsp { .. } if self.runs(Kind::Phy) && self.further == 0 => {
-                self.further = 1;
+            Ctrl::PhyRsp { .. } if self.has_asked_phy() => {
+                self.stage = OwnStage::Answered;
                 self.since = Some(slot);
                 self.phy_update_ind();
                 NOTHING
@@ -358,21 +363,21 @@ impl Plain {
         }
     }
 
-    /// An indication is taken, true for a map.
-    fn indicated(&mut self, is_map: bool, indication: Indication, slot: u64) -> Step {
-        let answer = !is_map && self.own == Some(Kind::Request) && self.further > 0;
-        if is_map && self.own == Some(Kind::Request) && self.further == 2 {
+    /// The indication of an update or a map is taken.
+    fn indicated(&mut self, kind: Kind, indication: Indication, slot: u64) -> Step {
+        let requests = self.own == Some(Kind::Request);
+        if kind == Kind::Map && requests && self.stage == OwnStage::Granted {
             return ends(0x2A);
         }
         if let Some(other) = self.ahead {
-            return ends(if other == is_map { 0x23 } else { 0x2A });
+            return ends(if other == kind { 0x23 } else { 0x2A });
         }
-        self.ahead = Some(is_map);
-        if answer {
-            self.further = 2;
+        self.ahead = Some(kind);
+        if kind == Kind::Update && requests && self.stage != OwnStage::First {
+            self.stage = OwnStage::Granted;
             self.since = Some(slot);
         } else {
-            self.peer = Some(if is_map { Kind::Map } else { Kind::Update });
+            self.peer = Some(kind);
         }
         gives(Effect::Indicated(indication))
     }
@@ -393,7 +398,7 @@ impl Plain {
                 instant,
                 ..
             } => self.indicated(
-                false,
+                Kind::Update,
                 Indication::Update {
                     win_offset,
                     interval,
@@ -404,7 +409,7 @@ impl Plain {
                 slot,
             ),
             Ctrl::ChannelMapInd { map, instant } => match ChannelMap::new(map) {
-                Some(map) => self.indicated(true, Indication::Map { map, instant }, slot),
+                Some(map) => self.indicated(Kind::Map, Indication::Map { map, instant }, slot),
                 None => NOTHING,
             },
             Ctrl::EncReq { .. } | Ctrl::PauseEncReq => {
@@ -419,11 +424,11 @@ impl Plain {
             }
             Ctrl::FeatureReq { features } => self.feature_rsp(features),
             Ctrl::PhyReq { .. } => {
-                if self.own == Some(Kind::Request) && self.further == 2 {
+                if self.own == Some(Kind::Request) && self.stage == OwnStage::Granted {
                     return ends(0x2A);
                 }
                 self.peer = Some(Kind::Phy);
-                self.peer_step = 1;
+                self.peer_stage = PeerStage::Unsent;
                 self.owed(Ctrl::PhyRsp { tx: 1, rx: 1 })
             }
             Ctrl::PhyUpdateInd { .. } if self.peer == Some(Kind::Phy) => {

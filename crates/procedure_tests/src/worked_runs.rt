@@ -1,10 +1,10 @@
 //! Runs of two ends, worked out by hand, by their public calls.
 ghost use Rattle.instants.specs.Track.{HasInterval};
 
-use crate::{Ask, Effect, ProcTable, Step};
 use ble_base::{ChannelMap, ErrCode, EventNo, Kind, Role, SlotNo};
 use data_pdu::{Ctrl, CtrlRead};
 use instants::{Indication, ParamTrack, Params};
+use procedures::{Ask, Effect, ProcTable, Step};
 use std::process::Abort;
 use std::test::Fail;
 

@@ -1,10 +1,10 @@
 //! A start, a pause and a restart with the sample data of the standard, the table of what a phase
 //! lets an end take, and what no phase but Clear and Secure can do.
 
-use crate::laws::*;
-use crate::{Asked, Clear, Forged, HalfClear, HalfKeyed, Pausing, Phase, Secure, Session};
 use ble_base::Role;
 use data_pdu::Ctrl;
+use enc_phase::laws::*;
+use enc_phase::{Asked, Clear, Forged, HalfClear, HalfKeyed, Pausing, Phase, Secure, Session};
 use std::test::Fail;
 
 /// The session of the sample data (Core 5.2, volume 6 part C, section 1).

@@ -1,6 +1,6 @@
 //! Vectors from outside, as numbers whose most significant octet comes first.
 
-use super::*;
+use aes_block::Aes;
 
 const KEY: u128 = 0x2b7e151628aed2a6abf7158809cf4f3c;
 
@@ -58,20 +58,4 @@ fn encrypts_what_the_host_gives(rt: HostRuntime) {
     let answer: u128 = 0x5ac5b47080b7cdd830047b6ad8e0c469;
     let aes = Aes::new(&key.to_le_bytes());
     assert_eq!(rt; aes.encrypt(&block.to_le_bytes()), answer.to_le_bytes());
-}
-
-/// Words of the expanded key in appendix A.1 of FIPS 197.
-#[test]
-fn expands_as_published(rt: HostRuntime) {
-    let words = key_schedule::expand(&KEY.to_be_bytes());
-    for (place, word) in [
-        (3, 0x09cf4f3c),
-        (4, 0xa0fafe17),
-        (8, 0xf2c295f2),
-        (11, 0x7359f67f),
-        (40, 0xd014f9a8),
-        (43, 0xb6630ca6),
-    ] {
-        assert_eq!(rt; words.get(place).copied(), Some(word), "word {place}");
-    }
 }

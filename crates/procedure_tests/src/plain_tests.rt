@@ -3,10 +3,10 @@ ghost use Rattle.std.specs.Prelude.{◌≡◌, ◌≤◌, ◌<◌, ◌^◌, IsTr
 ghost use Rattle.procedures.specs.Going.{is_update};
 ghost use Rattle.procedures.specs.Wants.{IsAsk};
 
-use crate::plain::{Plain, Source, param_req, update_ind};
-use crate::{Ask, ProcTable};
+use crate::plain::{PeerStage, Plain, Source, param_req, update_ind};
 use ble_base::{ChannelMap, ErrCode, EventNo, Kind, Role, SlotNo};
 use data_pdu::{Ctrl, CtrlRead};
+use procedures::{Ask, ProcTable};
 use std::process::Abort;
 use std::test::Fail;
 
@@ -241,7 +241,7 @@ fn answers(both: &mut Both, grants: bool) {
     if grants {
         both.table.host_answer(Ok(update_ask(20)));
         both.plain.peer = Some(Kind::Request);
-        both.plain.peer_step = 1;
+        both.plain.peer_stage = PeerStage::Unsent;
         both.plain.push(Source::Grant, update_ind(20, 0, 100, 0));
     } else {
         both.table.host_answer(Err(ErrCode(0x3B)));

@@ -1,7 +1,7 @@
 //! The sample data of Core 5.2, volume 6 part C, section 1, two long payloads by another program,
 //! and each length.
 
-use super::*;
+use ccm_link::{Forged, SealKey, laws, seal, session_key, unseal};
 use std::test::Fail;
 
 const LTK: u128 = 0x4C68384139F574D836BCF34E9DFB01BF;
