@@ -162,8 +162,8 @@ fn seals_and_unseals_long_payloads(rt: HostRuntime) -> Result<(), Fail> {
         let sealed = key.seal(counter, sample.from_central, &IV, sample.header, &body);
         let octets = sealed.as_slice();
         assert_eq!(rt; octets.len(), 255);
-        assert_eq!(rt; &octets[..16], sample.first.as_slice());
-        assert_eq!(rt; &octets[235..], sample.last.as_slice());
+        assert!(rt; octets.starts_with(&sample.first));
+        assert!(rt; octets.ends_with(&sample.last));
         let opened = key.unseal(counter, sample.from_central, &IV, sample.header, octets)?;
         assert_eq!(rt; opened.as_slice(), body.as_slice());
     }
