@@ -57,6 +57,3 @@ impl Aes {
         columns::write(rounds::last(state, columns::round_key(words, LAST_ROUND)))
     }
 }
-
-#[cfg(test)]
-mod tests;

@@ -103,6 +103,3 @@ pub fn unseal(
 {
     SealKey::new(key).unseal(counter, from_central, iv, header, body)
 }
-
-#[cfg(test)]
-mod tests;

@@ -1,7 +1,7 @@
 -- The rules of joint runs hold of some PDUs where they hold of all.
 use Rattle.std.proofs.Common.{◌≡◌, Bool, true, false, not, ◌&&◌, List, [], ◌∷◌, if◌then◌else◌, refl, ap, sym, ◌∙◌, subst}
 use Rattle.std.proofs.lemmas.Bool.{and_parts, and_from}
-use Rattle.collisions.specs.Machine.{run_from, step}
+use Rattle.machines.specs.Machine.{run_from, step}
 use Rattle.collision_steps.specs.SubLists.{Directions, Last, Move, after_move, after_sending, after_taking, central_acked, central_sends, central_takes, clear, fixed, is_clear, is_fixed, is_kept, is_move_kept, is_on_air, is_taken, may_move, moves_kept, on_air, part, part_of, peripheral_acked, peripheral_fixes, peripheral_sends, peripheral_takes, reliable, taken}
 
 module _ {A : Type 0} (keeps : A → Bool) where

@@ -1,7 +1,7 @@
 -- The two directions of a link and the rules of joint runs about them, over any PDUs; and the same for some of the PDUs
 -- alone. The rules speak of what was sent and taken before, so they hold of some PDUs where they hold of all.
 use Rattle.std.specs.Prelude.{Bool, true, false, not, ◌&&◌, List, [], ◌∷◌, if◌then◌else◌}
-use Rattle.collisions.specs.Machine.{Machine, step}
+use Rattle.machines.specs.Machine.{Machine, step}
 
 -- where the last PDU of a direction is: there is none that is not acknowledged; it is fixed; it was sent and not taken;
 -- it was taken

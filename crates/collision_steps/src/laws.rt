@@ -18,7 +18,7 @@ ghost use Rattle.procedures.specs.Going.{entered_step, host_answer_step, termina
 ghost use Rattle.collisions.specs.CentralTable;
 ghost use Rattle.collisions.specs.PeripheralTable;
 ghost use Rattle.collision_steps.specs.Parts.{outgoing_part};
-ghost use Rattle.collisions.specs.Machine.{run_from};
+ghost use Rattle.machines.specs.Machine.{run_from};
 ghost use Rattle.collision_steps.specs.SubLists.{Directions, Move, is_move_kept, may_move};
 ghost use Rattle.collision_steps.specs.SubLists.{moves_kept, part_of, reliable};
 ghost use Rattle.collision_steps.specs.CentralPart;

@@ -19,14 +19,14 @@ use Rattle.collisions.specs.declared.joint.End.TheVariants.{Open, Collided}
 use Rattle.collisions.specs.declared.joint.Way.{Way}
 use Rattle.collisions.specs.declared.joint.Way.TheVariants.{OnAir}
 use Rattle.collisions.specs.declared.joint.Link.{Link}
-use Rattle.collisions.specs.Machine.{run, run_from, step}
+use Rattle.machines.specs.Machine.{run, run_from, step}
 use Rattle.collisions.specs.Pdus.{first_kind, is_held_back, is_timed, reason_of, rejection_of}
 use Rattle.collisions.specs.CentralTable
 use Rattle.collisions.specs.PeripheralTable
 use Rattle.collisions.specs.JointRun.{act, central_takes, central_sends, collisions, fits_sending, is_after, is_clear, is_empty, may, may_act, may_send_pdu, pdu_on_air, peripheral_takes, Timing, timing_of}
 use Rattle.collisions.specs.Meaning.{central_reads, is_free, is_meant, is_ready, peripheral_reads, reads_if_some}
 use Rattle.collisions.specs.CollisionLaws.{IsCollision, is_silent}
-use Rattle.collisions.proofs.Closing.{act_is_known, is_lawful}
+use Rattle.machines.proofs.Closing.{act_is_known, is_lawful}
 use Rattle.collisions.proofs.CollisionEvents.{coded, is_coded}
 use Rattle.collisions.proofs.CollisionStates.{states}
 use Rattle.collisions.proofs.CollisionsClosed.{all_closed}

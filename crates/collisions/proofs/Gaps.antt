@@ -8,7 +8,7 @@ use Rattle.collisions.specs.declared.events.Event.TheVariants.{PeripheralTakes}
 use Rattle.collisions.specs.declared.joint.Way.{Way}
 use Rattle.collisions.specs.declared.joint.Way.TheVariants.{OnAir}
 use Rattle.collisions.specs.declared.joint.Link.{Link}
-use Rattle.collisions.specs.Machine.{Machine, run, run_from, step}
+use Rattle.machines.specs.Machine.{Machine, run, run_from, step}
 use Rattle.collisions.specs.Pdus.{is_timed}
 use Rattle.collisions.specs.JointRun.{act, collisions, is_after, is_open, is_pdu, is_taken, may, may_act, pdu_on_air, start}
 use Rattle.collisions.specs.Numbers.{Move, Numbered, central_enters, central_sends, peripheral_enters, event_of, last_instant, makes, may_move, move, numbered_collisions, numbered_start, timing_by}

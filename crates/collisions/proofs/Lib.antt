@@ -1,20 +1,11 @@
 -- The lemmas of this crate.
-pub mod Closing
 pub mod CollisionCodes
 pub mod CollisionEvents
 pub mod CollisionStates
 pub mod Collided
 pub mod Collisions
 pub mod CollisionsClosed
-pub mod Digits
 pub mod Gaps
 pub mod Lifting
 pub mod Numbers
-pub mod PhasesClosed
-pub mod PhasesCodes
-pub mod PhasesCounters
-pub mod PhasesEvents
-pub mod PhasesProved
-pub mod PhasesStates
 pub mod Rejections
-pub mod Trees

@@ -11,7 +11,7 @@ use Rattle.collisions.specs.declared.events.Place.TheVariants.{Before, At, After
 use Rattle.collisions.specs.declared.joint.Way.{Way}
 use Rattle.collisions.specs.declared.joint.Way.TheVariants.{Clear, Fixed, OnAir, Taken}
 use Rattle.collisions.specs.declared.joint.Link.{Link}
-use Rattle.collisions.specs.Machine.{run, run_from, step}
+use Rattle.machines.specs.Machine.{run, run_from, step}
 use Rattle.collisions.specs.Pdus.{is_held_back, is_timed}
 use Rattle.collisions.specs.CentralTable
 use Rattle.collisions.specs.PeripheralTable
@@ -19,7 +19,7 @@ use Rattle.collisions.specs.JointRun.{Timing, act, central_acked, central_keeps,
 use Rattle.collisions.specs.Numbers.{Move, Numbered, central_enters, central_sends as sends, event_of, has_move, is_next_timed, makes, may_move, move, numbered_collisions, numbered_start, peripheral_enters, timing_by}
 use Rattle.collisions.specs.Agreement.{is_lagging}
 use Rattle.collisions.specs.Meaning.{is_meant}
-use Rattle.collisions.proofs.Closing.{act_is_known, is_known, right_is}
+use Rattle.machines.proofs.Closing.{act_is_known, is_known, right_is}
 use Rattle.collisions.proofs.CollisionEvents.{coded, is_coded}
 use Rattle.collisions.proofs.CollisionStates.{states}
 use Rattle.collisions.proofs.CollisionsClosed.{all_closed, start_known}

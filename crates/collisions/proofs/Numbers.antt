@@ -10,7 +10,7 @@ use Rattle.collisions.specs.declared.events.Place.TheVariants.{Before, At, After
 use Rattle.collisions.specs.declared.joint.Way.{Way}
 use Rattle.collisions.specs.declared.joint.Way.TheVariants.{Clear, Fixed, OnAir, Taken}
 use Rattle.collisions.specs.declared.joint.Link.{Link}
-use Rattle.collisions.specs.Machine.{run, run_from, step}
+use Rattle.machines.specs.Machine.{run, run_from, step}
 use Rattle.collisions.specs.Pdus.{is_timed, is_held_back}
 use Rattle.collisions.specs.CentralTable
 use Rattle.collisions.specs.PeripheralTable

@@ -18,7 +18,7 @@ use Rattle.collisions.specs.declared.events.Place.{Place}
 use Rattle.collisions.specs.declared.joint.Way.{Way}
 use Rattle.collisions.specs.declared.joint.Way.TheVariants.{Clear, Fixed, OnAir, Taken}
 use Rattle.collisions.specs.declared.joint.Link.{Link}
-use Rattle.collisions.specs.Machine.{run_from, step}
+use Rattle.machines.specs.Machine.{run_from, step}
 use Rattle.collisions.specs.Pdus.{first_pdu_of, reason_of, rejection_of}
 use Rattle.collisions.specs.CentralTable
 use Rattle.collisions.specs.PeripheralTable

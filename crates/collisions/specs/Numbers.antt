@@ -9,7 +9,7 @@ use Rattle.collisions.specs.declared.joint.Link.{Link}
 use Rattle.collisions.specs.Pdus.{is_timed}
 use Rattle.collisions.specs.CentralTable.{next_pdu}
 use Rattle.collisions.specs.JointRun.{Timing, act, is_open, is_pdu, may_act, pdu_on_air, start}
-use Rattle.collisions.specs.Machine.{Machine}
+use Rattle.machines.specs.Machine.{Machine}
 
 pub record Numbered : Type 0 where
   pub link : Link

@@ -16,7 +16,7 @@ ghost use Rattle.collisions.specs.declared.events.Event.TheVariants.{PeripheralT
 ghost use Rattle.collisions.specs.declared.events.Place.{Place};
 ghost use Rattle.collisions.specs.declared.joint.End.TheVariants.{Open, Collided};
 ghost use Rattle.collisions.specs.declared.joint.Way.TheVariants.{OnAir};
-ghost use Rattle.collisions.specs.Machine.{run, run_from};
+ghost use Rattle.machines.specs.Machine.{run, run_from};
 ghost use Rattle.collisions.specs.Pdus.{is_timed, reason_of, rejection_of};
 ghost use Rattle.collisions.specs.PeripheralTable.{is_waiting, refusal_by};
 ghost use Rattle.collisions.specs.JointRun.{collisions, may, act, is_after};

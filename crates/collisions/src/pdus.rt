@@ -5,10 +5,9 @@ ghost use Rattle.collisions.specs.Pdus.{is_timed, is_held_back, is_request};
 
 /// The procedures of which at most one may be in progress at a time: each is incompatible with each
 /// of them (Core 5.2, volume 6 part B, section 5.3).
-#[derive(Clone, Copy, Debug, PartialEq, Eq, Default)]
+#[derive(Clone, Copy)]
 pub enum Exclusive {
     /// Connection Update, by the central (section 5.1.1).
-    #[default]
     Update,
     /// Connection Parameters Request, by the peripheral (section 5.1.7).
     Request,
@@ -19,10 +18,9 @@ pub enum Exclusive {
 }
 
 /// Why a procedure is rejected.
-#[derive(Clone, Copy, Debug, PartialEq, Eq, Default)]
+#[derive(Clone, Copy)]
 pub enum Reason {
     /// Error 0x23, LL Procedure Collision: the central runs a procedure of the same kind.
-    #[default]
     SameKind,
     /// Error 0x2A, Different Transaction Collision: it runs one of another kind.
     OtherKind,
@@ -31,7 +29,7 @@ pub enum Reason {
 }
 
 /// A PDU of these procedures.
-#[derive(Clone, Copy, Debug, PartialEq, Eq, Default)]
+#[derive(Clone, Copy, Default)]
 pub enum Pdu {
     /// LL_CONNECTION_UPDATE_IND of a procedure of the central.
     #[default]

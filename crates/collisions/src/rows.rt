@@ -16,7 +16,7 @@ ghost use Rattle.collisions.specs.declared.events.Event.TheVariants.{PeripheralE
 ghost use Rattle.collisions.specs.declared.events.Place.TheVariants.{Before};
 ghost use Rattle.collisions.specs.declared.joint.End.TheVariants.{Open, InstantPassed};
 ghost use Rattle.collisions.specs.declared.joint.Way.TheVariants.{OnAir};
-ghost use Rattle.collisions.specs.Machine.{run};
+ghost use Rattle.machines.specs.Machine.{run};
 ghost use Rattle.collisions.specs.JointRun.{collisions};
 ghost use Rattle.collisions.specs.Rows.{request_granted, instant_entered, both_sent, next_taken};
 ghost use Rattle.collisions.specs.Rows.{update_taken_late, update_taken_too_late, request_kept};

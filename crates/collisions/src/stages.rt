@@ -1,10 +1,9 @@
 //! The stages of the procedures that exclude each other, at each end.
 
 /// The stage of a central's own procedure.
-#[derive(Clone, Copy, Debug, PartialEq, Eq, Default)]
+#[derive(Clone, Copy)]
 pub enum CentralOwn {
     /// None of these procedures is in progress.
-    #[default]
     Idle,
     /// LL_CONNECTION_UPDATE_IND waits to be sent.
     UpdateUnsent,
@@ -25,10 +24,9 @@ pub enum CentralOwn {
 }
 
 /// The stage of the peripheral's procedure at a central.
-#[derive(Clone, Copy, Debug, PartialEq, Eq, Default)]
+#[derive(Clone, Copy)]
 pub enum CentralPeer {
     /// None of these procedures is in progress.
-    #[default]
     Absent,
     /// LL_CONNECTION_PARAM_REQ has come, and the host was asked.
     HostAsked,
@@ -43,10 +41,9 @@ pub enum CentralPeer {
 }
 
 /// The stage of a peripheral's own procedure.
-#[derive(Clone, Copy, Debug, PartialEq, Eq, Default)]
+#[derive(Clone, Copy)]
 pub enum PeripheralOwn {
     /// None of these procedures is in progress.
-    #[default]
     Idle,
     /// LL_CONNECTION_PARAM_REQ waits to be sent.
     RequestUnsent,
@@ -63,10 +60,9 @@ pub enum PeripheralOwn {
 }
 
 /// The stage of the central's procedure at a peripheral.
-#[derive(Clone, Copy, Debug, PartialEq, Eq, Default)]
+#[derive(Clone, Copy)]
 pub enum PeripheralPeer {
     /// None of these procedures is in progress.
-    #[default]
     Absent,
     /// LL_CONNECTION_UPDATE_IND has come, and its instant is to come.
     UpdateTaken,

@@ -25,6 +25,3 @@ pub use crate::phase::Phase;
 pub use crate::secure::Secure;
 pub use crate::session::Session;
 pub use ccm_link::Forged;
-
-#[cfg(test)]
-mod tests;

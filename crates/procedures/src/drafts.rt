@@ -39,7 +39,7 @@ const NO_OFFSET: u16 = 0xFFFF;
 
 /// The rejection of a procedure of the peer: LL_REJECT_EXT_IND with the opcode that is refused and
 /// the reason (Core 5.2, volume 6 part B, section 2.4.2.18).
-#[derive(Clone, Copy, Debug, PartialEq, Eq, Default)]
+#[derive(Clone, Copy, Default)]
 pub struct Rejection {
     pub opcode: u8,
     pub code: ErrCode,
@@ -47,7 +47,7 @@ pub struct Rejection {
 
 /// A control PDU that waits to be sent and is not a rejection of a procedure of the peer (Core 5.2,
 /// volume 6 part B, section 2.4.2).
-#[derive(Clone, Copy, Debug, PartialEq, Eq)]
+#[derive(Clone, Copy)]
 pub enum Draft {
     /// LL_CONNECTION_UPDATE_IND of a central's own procedure.
     Update(NewParams),
@@ -104,7 +104,7 @@ impl Default for Draft {
 }
 
 /// A control PDU by its place in the order of sending.
-#[derive(Clone, Copy, Debug, PartialEq, Eq)]
+#[derive(Clone, Copy)]
 pub enum Outgoing {
     /// There is none.
     Nothing,

@@ -9,7 +9,7 @@ use crate::values::PayloadMax;
 const FIRST_OCTETS: u16 = 27;
 
 /// The most octets of a payload that each end receives and transmits, as this end knows them.
-#[derive(Clone, Copy, Debug, PartialEq, Eq)]
+#[derive(Clone, Copy)]
 pub struct Lengths {
     pub own_rx: PayloadMax,
     pub own_tx: PayloadMax,

@@ -18,12 +18,6 @@ mod map;
 mod opcodes;
 mod outcome;
 mod phy;
-#[cfg(test)]
-mod plain;
-#[cfg(test)]
-mod plain_taking;
-#[cfg(test)]
-mod plain_tests;
 mod queue;
 mod refusals;
 mod request;
@@ -33,8 +27,6 @@ mod steps;
 mod table;
 mod taking;
 mod termination;
-#[cfg(test)]
-mod tests;
 mod update;
 mod values;
 mod version;

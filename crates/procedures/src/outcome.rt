@@ -12,7 +12,7 @@ use crate::table::ProcTable;
 use ble_base::{ErrCode, Kind};
 
 /// What is to be sent for a PDU of the peer.
-#[derive(Clone, Copy, Debug, PartialEq, Eq)]
+#[derive(Clone, Copy)]
 pub enum Reply {
     /// Nothing.
     Nothing,
@@ -23,7 +23,7 @@ pub enum Reply {
 }
 
 /// What a control PDU of the peer does.
-#[derive(Clone, Copy, Debug, PartialEq, Eq)]
+#[derive(Clone, Copy)]
 pub struct Outcome {
     /// The procedures after it.
     pub progress: Progress,

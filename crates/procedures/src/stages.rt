@@ -5,7 +5,7 @@ use ble_base::EventNo;
 /// The stage of a procedure that either end may begin and that excludes no other: features,
 /// version, length (Core 5.2, volume 6 part B, sections 5.1.4, 5.1.5 and 5.1.9). Its first PDU is
 /// unsent, or sent and not answered.
-#[derive(Clone, Copy, Debug, PartialEq, Eq)]
+#[derive(Clone, Copy)]
 pub enum Exchange {
     FeaturesUnsent,
     FeaturesSent,
@@ -16,7 +16,7 @@ pub enum Exchange {
 }
 
 /// The stage of the procedure that a central began.
-#[derive(Clone, Copy, Debug, PartialEq, Eq)]
+#[derive(Clone, Copy)]
 pub enum OwnCentral {
     /// It began none.
     Idle,
@@ -46,7 +46,7 @@ pub enum OwnCentral {
 }
 
 /// The stage of a procedure of the peripheral that excludes others, at the central.
-#[derive(Clone, Copy, Debug, PartialEq, Eq)]
+#[derive(Clone, Copy)]
 pub enum PeerAtCentral {
     /// There is none.
     Absent,
@@ -64,7 +64,7 @@ pub enum PeerAtCentral {
 }
 
 /// The stage of the procedure that a peripheral began.
-#[derive(Clone, Copy, Debug, PartialEq, Eq)]
+#[derive(Clone, Copy)]
 pub enum OwnPeripheral {
     /// It began none.
     Idle,
@@ -86,7 +86,7 @@ pub enum OwnPeripheral {
 }
 
 /// The stage of a procedure of the central that excludes others, at the peripheral.
-#[derive(Clone, Copy, Debug, PartialEq, Eq)]
+#[derive(Clone, Copy)]
 pub enum PeerAtPeripheral {
     /// There is none.
     Absent,
@@ -101,7 +101,7 @@ pub enum PeerAtPeripheral {
 }
 
 /// The indication that a peripheral took and that does not hold yet.
-#[derive(Clone, Copy, Debug, PartialEq, Eq)]
+#[derive(Clone, Copy)]
 pub enum Ahead {
     /// There is none.
     Nothing,
@@ -112,7 +112,7 @@ pub enum Ahead {
 }
 
 /// What a central has of the procedures of its link.
-#[derive(Clone, Copy, Debug, PartialEq, Eq)]
+#[derive(Clone, Copy)]
 pub struct Central {
     /// The procedure that it began.
     pub own: OwnCentral,
@@ -123,7 +123,7 @@ pub struct Central {
 }
 
 /// What a peripheral has of the procedures of its link.
-#[derive(Clone, Copy, Debug, PartialEq, Eq)]
+#[derive(Clone, Copy)]
 pub struct Peripheral {
     /// The procedure that it began.
     pub own: OwnPeripheral,
@@ -136,7 +136,7 @@ pub struct Peripheral {
 }
 
 /// What an end has of the procedures of its link, by its role.
-#[derive(Clone, Copy, Debug, PartialEq, Eq)]
+#[derive(Clone, Copy)]
 pub enum Progress {
     Central(Central),
     Peripheral(Peripheral),

@@ -19,7 +19,7 @@ use ble_base::{ErrCode, Role, SlotNo};
 use std::marker::Model;
 
 /// Whether the link is to end (Core 5.2, volume 6 part B, section 5.1.6).
-#[derive(Clone, Copy, Debug, PartialEq, Eq)]
+#[derive(Clone, Copy)]
 pub enum Closing {
     /// It is not.
     Open,
@@ -32,7 +32,7 @@ pub enum Closing {
 /// The table of control procedures of one end of a link (Core 5.2, volume 6 part B, section 5.1).
 ///
 /// It holds what the host wants, what either end began, and the control PDUs that wait to be sent.
-#[derive(Debug, PartialEq, Eq, Drop)]
+#[derive(Drop)]
 pub struct ProcTable {
     /// What either end began.
     pub(crate) progress: Progress,

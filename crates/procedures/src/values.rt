@@ -8,7 +8,7 @@ use std::marker::Model;
 
 /// The parameters that a connection update sets (Core 5.2, volume 6 part B, section 5.1.1), which a
 /// link may have.
-#[derive(Clone, Copy, Debug, PartialEq, Eq)]
+#[derive(Clone, Copy)]
 pub struct NewParams {
     interval: u16,
     latency: u16,
@@ -73,7 +73,7 @@ impl NewParams {
 
 /// The most octets of a payload that an end receives or transmits: 27 to 251 (Core 5.2, volume 6
 /// part B, section 4.5.10).
-#[derive(Clone, Copy, Debug, PartialEq, Eq)]
+#[derive(Clone, Copy)]
 pub struct PayloadMax {
     octets: u8,
 }
@@ -113,7 +113,7 @@ impl PayloadMax {
 
 /// A PDU of the encryption procedures, or LL_TERMINATE_IND where a key is missing, with its fields
 /// in their ranges.
-#[derive(Clone, Copy, Debug, PartialEq, Eq)]
+#[derive(Clone, Copy)]
 pub struct CipherPdu {
     ctrl: Ctrl,
 }

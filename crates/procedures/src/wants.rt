@@ -11,7 +11,7 @@ use ble_base::Kind;
 use std::marker::Model;
 
 /// What the host wants and was not begun, in order. Each kind is there at most once.
-#[derive(Debug, PartialEq, Eq, Drop)]
+#[derive(Drop)]
 pub struct Wants {
     asks: ArrayVec<Ask, 8>,
 }
