@@ -4,6 +4,7 @@ ghost use Rattle.std.specs.Prelude.{◌≡◌, true, false, ℕ, ◌+◌, ◌-�
 ghost use Rattle.h4_frames.specs.Fits.{FitsStage};
 ghost use Rattle.h4_frames.specs.Packets.{word_of, handle_of, is_start};
 ghost use Rattle.h4_frames.specs.declared.packet.HostPacket.TheVariants.{Acl};
+ghost use Rattle.h4_frames.specs.declared.stage.Stage.TheVariants.{AclHead, CommandHead};
 ghost use Rattle.h4_frames.specs.Machine.{step, IsEnd, indicator_step, command_start, acl_start, packet_end, seen_with};
 
 use crate::packet::{Fed, HostPacket};
@@ -102,8 +103,23 @@ impl Stage {
         }
     }
 
-    /// Takes the first octet of a packet, if it is an indicator.
+    /// Begins the head of a command.
     #[inline(never)]
+    fn begins_command_head(&mut self)
+        ensures { self.new ≡ CommandHead (record { items = [] }) }
+    {
+        *self = Stage::CommandHead(ArrayVec::new());
+    }
+
+    /// Begins the head of ACL data.
+    #[inline(never)]
+    fn begins_acl_head(&mut self)
+        ensures { self.new ≡ AclHead (record { items = [] }) }
+    {
+        *self = Stage::AclHead(ArrayVec::new());
+    }
+
+    /// Takes the first octet of a packet, if it is an indicator.
     fn begins_packet(&mut self, octet: u8) -> bool
         ensures on { result ≡ true → (self.new, Fed.More) ≡ indicator_step octet }
         ensures ends { result ≡ false → IsEnd (indicator_step octet).1 }
@@ -111,8 +127,8 @@ impl Stage {
         ensures fits { FitsStage self.old → FitsStage self.new }
     {
         match octet {
-            COMMAND_INDICATOR => *self = Stage::CommandHead(ArrayVec::new()),
-            ACL_INDICATOR => *self = Stage::AclHead(ArrayVec::new()),
+            COMMAND_INDICATOR => self.begins_command_head(),
+            ACL_INDICATOR => self.begins_acl_head(),
             _ => return false,
         }
         true
