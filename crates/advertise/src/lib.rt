@@ -7,8 +7,6 @@ mod answers;
 pub mod laws;
 mod params;
 pub mod rows;
-#[cfg(test)]
-mod tests;
 
 pub use crate::advertiser::{AdvOff, AdvOn};
 pub use crate::answers::AdvAnswer;

@@ -1,5 +1,5 @@
 -- A controller that knows its past, after a step.
-use Rattle.std.proofs.Common.{◌≡◌, ℕ, ◌+◌, List, [], ◌∷◌, ◌++◌, length, drop, refl, ap, sym, ◌∙◌, subst}
+use Rattle.std.proofs.Common.{◌≡◌, ℕ, ◌+◌, List, [], ◌∷◌, ◌++◌, length, drop, refl, ap, sym, ◌∙◌, subst, append-nil}
 use Rattle.std.proofs.lemmas.List.{drop_at}
 use Rattle.ble_base.specs.declared.notes.Note.{Note}
 use Rattle.h4_frames.specs.declared.packet.Fed.{Fed}
@@ -107,6 +107,16 @@ octet_goes setup past octet was old new framer fed before noted fed_is empty fee
           ∙ ap (λ (octets : List ℕ). framer_after (octets ++ octet ∷ [])) (sym (fed_octets setup facts (result_of facts.octets octet)));
     })
     (from_empty before noted _ empty (told setup facts k framed) ∙ ap (notes_fed setup facts) fed_result)
+
+-- an octet that completes nothing
+pub more_goes : (setup : Setup) (past : List Step) (octet : ℕ) (was new : Held) (framer : Stage) (noted : List Note)
+    → new ≡ record was { framer = framer } → noted ≡ []
+    → ((octets : List ℕ) → was.framer ≡ framer_after octets → frames (octets ++ octet ∷ []) ≡ frames octets ++ frame_entry (length octets + 1) More)
+    → ((octets : List ℕ) → was.framer ≡ framer_after octets → framer ≡ framer_after (octets ++ octet ∷ []))
+    → Knows setup was past → Goes setup new past (HostOctet octet) noted
+more_goes setup past octet was new framer noted framed empty feeds frames_on knows =
+    octet_goes setup past octet was new new framer More noted noted framed empty feeds frames_on
+    (λ has facts k is. k) (λ has facts k is. sym (append-nil noted)) refl knows
 
 -- ---- a step of a turn
 

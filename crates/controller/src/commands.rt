@@ -5,6 +5,7 @@ ghost use Rattle.arrayvec.specs.ArrayVec.{array_vec_len};
 ghost use Rattle.acl_banks.specs.declared.pieces.Piece.{Piece};
 ghost use Rattle.hci_cmd.specs.Command.{command_of};
 ghost use Rattle.hci_cmd.specs.declared.command.CmdRead.TheVariants.{Known};
+ghost use Rattle.hci_cmd.specs.declared.command.Command.TheVariants.{LeCreateCancel};
 ghost use Rattle.host_view.specs.Unbuilt.{status_of};
 ghost use Rattle.open_links.specs.Knowing.{Knows as KnowsLinks};
 ghost use Rattle.open_links.specs.OpenLinks.{Links};
@@ -24,7 +25,7 @@ ghost use Rattle.controller.specs.Steps.{held_accepted, links_notes, place_after
 use crate::advertising::{Advertising, ON};
 use crate::answers::{short_answer, status_answer};
 use crate::controllers::Controller;
-use crate::masks::{tell, wants_enhanced};
+use crate::masks::{tell, tell_if, wants_enhanced};
 use crate::opening::{connection_failed, note_shuts};
 use crate::scanning::Scanning;
 use adv_pdu::ConnectFields;
@@ -66,18 +67,27 @@ fn fields_given(max: u16, latency: u16, timeout: u16) -> ConnectFields
     }
 }
 
-/// The event that an accepted command causes after its answer: LE Create Connection Cancel that of a
-/// connection that was not made.
-fn event_caused(view: &HostView, command: &Command) -> Option<Event>
-    ensures { (facts : Facts) → view.now ≡ facts.view
-        → option_to_list result ≡ events_caused facts command.now }
+/// Sends the host the event of a connection that was not made because the host cancelled it.
+#[inline(never)]
+fn tell_cancelled(view: &HostView, out: &mut Outbox)
+    requires { array_vec_len out.old < 64 }
+    ensures { (facts : Facts) → view.now ≡ facts.view → out.new.items
+        ≡ out.old.items ++ notes_of_events facts.view (events_caused facts LeCreateCancel) }
+{
+    let status = ErrCode::UNKNOWN_CONNECTION_IDENTIFIER;
+    tell(view, &connection_failed(wants_enhanced(view), status), out);
+}
+
+/// Sends the host the event that an accepted command causes after its answer: LE Create Connection
+/// Cancel that of a connection that was not made.
+fn tell_caused(view: &HostView, command: &Command, out: &mut Outbox)
+    requires { array_vec_len out.old < 64 }
+    ensures { (facts : Facts) → view.now ≡ facts.view → out.new.items
+        ≡ out.old.items ++ notes_of_events facts.view (events_caused facts command.now) }
 {
     match command {
-        Command::LeCreateCancel => Some(connection_failed(
-            wants_enhanced(view),
-            ErrCode::UNKNOWN_CONNECTION_IDENTIFIER,
-        )),
-        _ => None,
+        Command::LeCreateCancel => tell_cancelled(view, out),
+        _ => {}
     }
 }
 
@@ -303,20 +313,20 @@ impl<const L: usize, const T: usize, const R: usize> Controller<L, T, R> {
     }
 
     /// Carries out an accepted command, and notes its answer and what it causes.
-    fn take_accepted(&mut self, command: &Command, answer: Option<Event>, out: &mut Outbox)
+    fn take_accepted(&mut self, command: &Command, answer: &Option<Event>, out: &mut Outbox)
         requires status { status_of self.old.view command.now ≡ 0 }
         requires room { array_vec_len out.old ≤ 50 }
         ensures at { (has : Setup) (facts : Facts) → IsAt has self.old facts
             → IsAt has self.new (facts_accepted has facts command.now) }
         ensures notes { (has : Setup) (facts : Facts) → IsAt has self.old facts
             → out.new.items ≡ out.old.items ++ notes_before facts command.now
-            ++ notes_of_events facts.view (option_to_list answer)
+            ++ notes_of_events facts.view (option_to_list answer.now)
             ++ notes_of_events facts.view (events_caused facts command.now) }
         ensures stays { Stays self.old self.new }
     {
         self.accept_links(command, out);
-        tell(&self.view, answer, out);
-        tell(&self.view, event_caused(&self.view, command), out);
+        tell_if(&self.view, answer, out);
+        tell_caused(&self.view, command, out);
         self.accept(command);
     }
 
@@ -333,9 +343,9 @@ impl<const L: usize, const T: usize, const R: usize> Controller<L, T, R> {
         let status = status(&self.view, command);
         let answer = self.answer(opcode, command, status);
         if status == ErrCode::SUCCESS {
-            self.take_accepted(command, answer, out);
+            self.take_accepted(command, &answer, out);
         } else {
-            tell(&self.view, answer, out);
+            tell_if(&self.view, &answer, out);
         }
     }
 
@@ -349,13 +359,14 @@ impl<const L: usize, const T: usize, const R: usize> Controller<L, T, R> {
             ≡ out.old.items ++ notes_commanded has facts opcode (command_of opcode parameters.now) }
         ensures stays { Stays self.old self.new }
     {
-        match read(opcode, parameters) {
-            CmdRead::Known(command) => self.take_known(opcode, &command, out),
+        let command = read(opcode, parameters);
+        match &command {
+            CmdRead::Known(command) => self.take_known(opcode, command, out),
             CmdRead::UnknownOpcode => {
                 let answer = status_answer(ErrCode::UNKNOWN_HCI_COMMAND, opcode);
-                tell(&self.view, Some(answer), out);
+                tell(&self.view, &answer, out);
             }
-            CmdRead::BadLength => tell(&self.view, Some(short_answer(opcode)), out),
+            CmdRead::BadLength => tell(&self.view, &short_answer(opcode), out),
         }
     }
 
@@ -372,7 +383,7 @@ impl<const L: usize, const T: usize, const R: usize> Controller<L, T, R> {
             Fed::More => {}
             Fed::LostSync => {
                 let event = Event::HardwareError { code: LOST_SYNC };
-                tell(&self.view, Some(event), out);
+                tell(&self.view, &event, out);
             }
             Fed::Packet(HostPacket::Command { opcode, body }) => {
                 self.take_command(*opcode, body.as_slice(), out);

@@ -1,5 +1,5 @@
 //! A controller between its host and the radio.
-ghost use Rattle.std.specs.Prelude.{◌≡◌, ◌*◌, ◌+◌, ◌<◌, ◌≤◌, ◌^◌};
+ghost use Rattle.std.specs.Prelude.{◌≡◌, ◌*◌, ◌+◌, ◌<◌, ◌≤◌, ◌^◌, ◌↔◌, IsTrue};
 ghost use Rattle.std.specs.Prelude.{ℕ, List, [], ◌∷◌, ◌++◌, length, IfOk};
 ghost use Rattle.ble_base.specs.declared.Config.{Config};
 ghost use Rattle.controller_model.specs.Facts.{Setup, free_radio, setup_of};
@@ -135,8 +135,29 @@ impl<const L: usize, const T: usize, const R: usize> Controller<L, T, R> {
             → Goes setup self.new past (HostOctet octet) out.new.items }
         ensures order { (slot : ℕ) → MayBegin slot self.old → MayBegin slot self.new }
     {
+        if !self.framer.goes_on(octet) {
+            self.end_octets(octet, out);
+        }
+    }
+
+    /// Takes an octet of the host that ends a packet, or the search for one. Most octets end
+    /// nothing, so this is kept out of their code.
+    #[inline(never)]
+    fn end_octets(&mut self, octet: u8, out: &mut Outbox)
+        requires empty { out.old.items ≡ [] }
+        ensures goes { (setup : Setup) (past : List Step) → Knows setup self.old past
+            → Goes setup self.new past (HostOctet octet) out.new.items }
+        ensures order { (slot : ℕ) → MayBegin slot self.old → MayBegin slot self.new }
+    {
         let fed = self.framer.feed(octet);
         self.take(&fed, out);
+    }
+
+    /// Whether a turn may begin in this slot: the last one has ended, and began in an earlier slot.
+    pub fn may_begin(&self, slot: SlotNo) -> bool
+        ensures { IsTrue result ↔ MayBegin slot.0 self.now }
+    {
+        self.between && self.turn.begun <= slot.0
     }
 
     /// Begins a turn in this slot, with the radio on or off, and gives what is wanted in its first

@@ -107,7 +107,7 @@ fn tell_completed(view: &HostView, completed: &[Completed], out: &mut Outbox)
         handle: one.handle,
         count: one.count,
     };
-    tell(view, Some(event), out);
+    tell(view, &event, out);
     tell_completed(view, rest, out);
 }
 
@@ -117,11 +117,7 @@ fn tell_one(view: &HostView, handle: u16, out: &mut Outbox)
     ensures { out.new.items
         ≡ out.old.items ++ notes_of_events view.now (CompletedPackets handle 1 ∷ []) }
 {
-    tell(
-        view,
-        Some(Event::CompletedPackets { handle, count: 1 }),
-        out,
-    );
+    tell(view, &Event::CompletedPackets { handle, count: 1 }, out);
 }
 
 /// The host receives what becomes of a packet that is not kept: an empty one is complete at once,
@@ -137,7 +133,7 @@ fn tell_offer(view: &HostView, offer: Offer, handle: u16, out: &mut Outbox)
             let event = Event::BufferOverflow {
                 link_kind: ACL_LINK,
             };
-            tell(view, Some(event), out);
+            tell(view, &event, out);
         }
     }
 }

@@ -9,33 +9,17 @@
 #![tactic(auto)]
 
 mod advertising;
-#[cfg(test)]
-mod advertising_tests;
-#[cfg(test)]
-mod answer_tests;
 mod answers;
-#[cfg(test)]
-mod channel_tests;
-#[cfg(test)]
-mod command_tests;
 mod commands;
 mod controllers;
-#[cfg(test)]
-mod data_tests;
 mod host_data;
 mod intents;
-#[cfg(test)]
-mod link_tests;
 mod masks;
 mod opening;
 mod packets;
 mod phases;
 mod radio;
 mod scanning;
-#[cfg(test)]
-mod scanning_tests;
-#[cfg(test)]
-mod tests;
 mod turns;
 
 pub use crate::controllers::Controller;

@@ -1,5 +1,5 @@
 //! The masks of events: what is sent to the host, and what is withheld.
-ghost use Rattle.std.specs.Prelude.{◌≡◌, ◌<◌, ◌≤◌, ◌+◌, ◌++◌};
+ghost use Rattle.std.specs.Prelude.{◌≡◌, ◌<◌, ◌≤◌, ◌+◌, ◌++◌, ◌∷◌, []};
 ghost use Rattle.std.specs.Option.{option_to_list};
 ghost use Rattle.arrayvec.specs.ArrayVec.{array_vec_len};
 ghost use Rattle.hci_evt.specs.Event.{mask_bit_of};
@@ -37,14 +37,26 @@ pub(crate) fn wants_enhanced(view: &HostView) -> bool
 }
 
 /// Sends the host an event, if its masks let it through.
-pub(crate) fn tell(view: &HostView, event: Option<Event>, out: &mut Outbox)
+pub(crate) fn tell(view: &HostView, event: &Event, out: &mut Outbox)
     requires room { array_vec_len out.old < 64 }
     ensures notes { out.new.items
-        ≡ out.old.items ++ notes_of_events view.now (option_to_list event) }
+        ≡ out.old.items ++ notes_of_events view.now (event.now ∷ []) }
+    ensures few { array_vec_len out.new ≤ array_vec_len out.old + 1 }
+{
+    if passes(view, event) {
+        out.push(Note::Up(write(event)));
+    }
+}
+
+/// Sends the host an event, if there is one and its masks let it through.
+pub(crate) fn tell_if(view: &HostView, event: &Option<Event>, out: &mut Outbox)
+    requires room { array_vec_len out.old < 64 }
+    ensures notes { out.new.items
+        ≡ out.old.items ++ notes_of_events view.now (option_to_list event.now) }
     ensures few { array_vec_len out.new ≤ array_vec_len out.old + 1 }
 {
     match event {
-        Some(event) if passes(view, &event) => out.push(Note::Up(write(&event))),
-        _ => {}
+        None => {}
+        Some(event) => tell(view, event, out),
     }
 }

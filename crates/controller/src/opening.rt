@@ -137,8 +137,8 @@ fn tell_opened(view: &HostView, link: &LinkSetup, out: &mut Outbox)
     };
     out.push(note_opened(link));
     let complete = connection_complete(wants_enhanced(view), link);
-    tell(view, Some(complete), out);
-    tell(view, Some(selection), out);
+    tell(view, &complete, out);
+    tell(view, &selection, out);
 }
 
 /// Notes that links are shut by a Reset.
@@ -173,7 +173,7 @@ fn tell_ended(view: &HostView, ended: &LinkEnded, out: &mut Outbox)
         handle: ended.handle,
         reason: ended.reason.0,
     };
-    tell(view, Some(event), out);
+    tell(view, &event, out);
 }
 
 /// The same of each of these links.

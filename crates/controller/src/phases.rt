@@ -26,7 +26,7 @@ ghost use Rattle.controller.specs.Steps.{held_connecting};
 
 use crate::advertising::MOST_DATA;
 use crate::controllers::Controller;
-use crate::masks::tell;
+use crate::masks::tell_if;
 use crate::opening::address_kind;
 use crate::packets::read_pdu;
 use adv_pdu::{AdvPdu, ConnectFields};
@@ -303,7 +303,7 @@ impl<const L: usize, const T: usize, const R: usize> Controller<L, T, R> {
             return Doing::Rests;
         };
         let answer = on.hears(&pdu, self.view.accept_list());
-        tell(&self.view, event_reported(answer, &pdu), out);
+        tell_if(&self.view, &event_reported(answer, &pdu), out);
         asks_if(may_ask && does_ask(answer), channel, &pdu)
     }
 

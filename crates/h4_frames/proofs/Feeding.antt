@@ -1,13 +1,13 @@
 -- The step of a framer that was fed the past.
-use Rattle.std.proofs.Common.{◌≡◌, ◌≢◌, ◌↔◌, ℕ, ◌+◌, Bool, true, false, ◌||◌, cond, eqb, List, [], ◌∷◌, ◌++◌, length, Option, Some, None, refl, ap, ◌∙◌, arith}
+use Rattle.std.proofs.Common.{◌≡◌, ◌≢◌, ◌↔◌, ℕ, ◌+◌, Bool, true, false, ◌||◌, cond, eqb, List, [], ◌∷◌, ◌++◌, length, Option, Some, None, refl, ap, ◌∙◌, subst, arith}
 use Rattle.std.proofs.lemmas.Bool.{eqb-true, eqb-false}
 use Rattle.std.proofs.lemmas.List.{length_push}
 use Rattle.h4_frames.specs.declared.packet.Fed.{Fed}
-use Rattle.h4_frames.specs.declared.packet.Fed.TheVariants.{More, LostSync}
+use Rattle.h4_frames.specs.declared.packet.Fed.TheVariants.{More, Packet, LostSync}
 use Rattle.h4_frames.specs.declared.stage.Stage.{Stage}
 use Rattle.h4_frames.specs.Packets.{SizedPacket}
 use Rattle.h4_frames.specs.Frames.{frames_from, frames, Rest, Begun, Passed, rest_from, rest, frame_entry, IsBetweenPackets}
-use Rattle.h4_frames.specs.Machine.{step, framer_after}
+use Rattle.h4_frames.specs.Machine.{step, framer_after, IsEnd}
 use Rattle.h4_frames.proofs.Steps.{found_fed, fed_of, next, goes_on}
 use Rattle.h4_frames.proofs.Stages.{IsRest, is_rest, steps}
 
@@ -62,3 +62,19 @@ feeds past x before stage fed is e =
       framer_after = ap (λ p. p.0) both;
       lost = rw same (lost_of (rest past) x);
     }
+
+-- ---- an octet that ends something
+
+is_new : (entries : List (ℕ × Fed)) (place : ℕ) (fed : Fed) → IsEnd fed → entries ++ frame_entry place fed ≢ entries
+is_new entries place More ended = absurd ended
+is_new entries place (Packet packet) ended = λ same.
+    omega (arith, ap length same, length_push entries (place, Packet packet))
+is_new entries place LostSync ended = λ same.
+    omega (arith, ap length same, length_push entries (place, LostSync))
+
+pub ends_add : (past : List ℕ) (x : ℕ) (before : Stage) → before ≡ framer_after past → IsEnd (step before x).1
+    → frames (past ++ x ∷ []) ≢ frames past
+ends_add past x before is ended =
+    let fed_is : (step before x).1 ≡ fed_of (rest past) x = rw is (ap (λ p. p.1) (stage_step past x)) in
+    let new = is_new (frames past) (length past + 1) (fed_of (rest past) x) (subst IsEnd fed_is ended) in
+    rw (frames_step past x) new

@@ -1,5 +1,5 @@
 -- The stages of a framer, octet by octet (our choice).
-use Rattle.std.specs.Prelude.{ℕ, ◌+◌, ◌-◌, ◌==◌, nat_lt, if◌then◌else◌, List, [], ◌∷◌, ◌++◌, length, take, slice_index, Option, Some, None}
+use Rattle.std.specs.Prelude.{ℕ, ◌+◌, ◌-◌, ◌==◌, nat_lt, if◌then◌else◌, List, [], ◌∷◌, ◌++◌, length, take, slice_index, Option, Some, None, ⊤}
 use Rattle.ble_base.specs.declared.limits.TheConstants.{PAYLOAD_OCTETS}
 use Rattle.h4_frames.specs.declared.packet.HostPacket.{HostPacket}
 use Rattle.h4_frames.specs.declared.packet.HostPacket.TheVariants.{Command, Acl}
@@ -75,6 +75,11 @@ step (CommandBody part) octet =
     end_of_part (whole_command (command_with part octet)) (CommandBody (command_with part octet))
 step (AclBody part) octet = end_of_part (whole_acl (acl_with part octet)) (AclBody (acl_with part octet))
 step (Search seen) octet = search_step (seen_with seen octet)
+
+-- an octet ends something: no more are needed after it
+abbrev pub IsEnd : Fed → Type 0
+IsEnd More = ⊥
+IsEnd other = ⊤
 
 -- the stage after a command's indicator and these octets
 abbrev pub command_stage : List ℕ → Stage

@@ -1,6 +1,6 @@
 //! The framer: its stage, and the packets of all octets that it was fed.
 
-ghost use Rattle.std.specs.Prelude.{◌≡◌, ◌≢◌, ℕ, ◌+◌, ◌↔◌, List, [], ◌∷◌, ◌++◌, length};
+ghost use Rattle.std.specs.Prelude.{◌≡◌, ◌≢◌, true, false, ℕ, ◌+◌, ◌↔◌, List, [], ◌∷◌, ◌++◌, length};
 
 use crate::packet::Fed;
 use crate::stage::Stage;
@@ -37,6 +37,21 @@ impl Framer {
         Framer {
             stage: Stage::Indicator,
         }
+    }
+
+    /// Takes the next octet where more are needed after it, as most are. Else nothing changes, and
+    /// `feed` takes it.
+    #[inline]
+    pub fn goes_on(&mut self, octet: u8) -> bool
+        ensures on { (past : List ℕ) → self.old ≡ framer_after past → result ≡ true
+            → frames (past ++ octet ∷ []) ≡ frames past ++ frame_entry (length past + 1) Fed.More }
+        ensures framer_after { (past : List ℕ) → self.old ≡ framer_after past → result ≡ true
+            → self.new ≡ framer_after (past ++ octet ∷ []) }
+        ensures ends { (past : List ℕ) → self.old ≡ framer_after past → result ≡ false
+            → frames (past ++ octet ∷ []) ≢ frames past }
+        ensures same { result ≡ false → self.new ≡ self.old }
+    {
+        self.stage.goes_on(octet)
     }
 
     /// Takes the next octet and gives its result. An octet that is not part of a packet is taken

@@ -8,8 +8,6 @@ mod laws;
 mod packet;
 mod part;
 mod stage;
-#[cfg(test)]
-mod tests;
 
 pub use framer::Framer;
 pub use laws::{frames_are_in_order, frames_are_the_division, frames_grow, results_are_the_frames};

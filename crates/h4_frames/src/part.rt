@@ -1,6 +1,6 @@
 //! Packets whose head is complete and whose octets are still coming.
 
-ghost use Rattle.std.specs.Prelude.{◌≡◌, IfNone};
+ghost use Rattle.std.specs.Prelude.{◌≡◌, IsSome, Some, None, true, false};
 ghost use Rattle.h4_frames.specs.Parts.{HasRoom, command_with, whole_command, IsOpen, acl_with, whole_acl};
 
 use crate::packet::HostPacket;
@@ -32,43 +32,73 @@ pub struct AclPart {
 }
 
 impl CommandPart {
-    /// Takes the next parameter octet, and gives the command if that is the last.
-    pub fn push(&mut self, octet: u8) -> Option<HostPacket>
+    /// Takes the next parameter octet, if more are needed after it.
+    #[inline]
+    pub fn goes_on(&mut self, octet: u8) -> bool
         requires { HasRoom self.old }
-        ensures whole { result ≡ whole_command (command_with self.old octet) }
-        ensures grown { IfNone result (self.new ≡ command_with self.old octet) }
+        ensures on { result ≡ true → (self.new ≡ command_with self.old octet)
+            × (whole_command (command_with self.old octet) ≡ None) }
+        ensures ends { result ≡ false → IsSome (whole_command (command_with self.old octet)) }
+        ensures same { result ≡ false → self.new ≡ self.old }
+        ensures room { HasRoom self.new }
     {
+        if self.left == 1 {
+            return false;
+        }
         put_octets(&mut self.body, &[octet]);
         self.left -= 1;
-        if self.left > 0 {
-            return None;
-        }
-        Some(HostPacket::Command {
+        true
+    }
+
+    /// Takes the last parameter octet, and gives the command.
+    pub fn end(&mut self, octet: u8) -> HostPacket
+        requires room { HasRoom self.old }
+        requires last { IsSome (whole_command (command_with self.old octet)) }
+        ensures { Some result ≡ whole_command (command_with self.old octet) }
+    {
+        put_octets(&mut self.body, &[octet]);
+        HostPacket::Command {
             opcode: self.opcode,
             body: self.body.take(),
-        })
+        }
     }
 }
 
 impl AclPart {
-    /// Takes the next octet of data, and gives the packet if that is the last.
-    pub fn push(&mut self, octet: u8) -> Option<HostPacket>
+    /// Takes the next octet of data, if more are needed after it.
+    #[inline]
+    pub fn goes_on(&mut self, octet: u8) -> bool
         requires { IsOpen self.old }
-        ensures whole { result ≡ whole_acl (acl_with self.old octet) }
-        ensures grown { IfNone result (self.new ≡ acl_with self.old octet) }
+        ensures on { result ≡ true → (self.new ≡ acl_with self.old octet)
+            × (whole_acl (acl_with self.old octet) ≡ None) }
+        ensures ends { result ≡ false → IsSome (whole_acl (acl_with self.old octet)) }
+        ensures same { result ≡ false → self.new ≡ self.old }
+        ensures open { IsOpen self.new }
     {
+        if self.left == 1 {
+            return false;
+        }
         if !self.body.is_full() {
             put_octets(&mut self.body, &[octet]);
         }
         self.left -= 1;
-        if self.left > 0 {
-            return None;
+        true
+    }
+
+    /// Takes the last octet of data, and gives the packet.
+    pub fn end(&mut self, octet: u8) -> HostPacket
+        requires open { IsOpen self.old }
+        requires last { IsSome (whole_acl (acl_with self.old octet)) }
+        ensures { Some result ≡ whole_acl (acl_with self.old octet) }
+    {
+        if !self.body.is_full() {
+            put_octets(&mut self.body, &[octet]);
         }
-        Some(HostPacket::Acl {
+        HostPacket::Acl {
             handle: self.handle,
             start: self.start,
             length: self.length,
             body: self.body.take(),
-        })
+        }
     }
 }

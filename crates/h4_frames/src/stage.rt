@@ -1,9 +1,11 @@
 //! The stages of a framer, and how an octet changes them.
 
-ghost use Rattle.std.specs.Prelude.{◌≡◌, ℕ, ◌+◌, ◌-◌, ◌<◌, ◌≤◌, List, [], ◌∷◌, ◌++◌, length};
+ghost use Rattle.std.specs.Prelude.{◌≡◌, true, false, ℕ, ◌+◌, ◌-◌, ◌<◌, ◌≤◌, List, [], ◌∷◌, ◌++◌, length};
 ghost use Rattle.h4_frames.specs.Fits.{FitsStage};
-ghost use Rattle.h4_frames.specs.Packets.{word_of};
-ghost use Rattle.h4_frames.specs.Machine.{step, indicator_step, command_start, acl_start, search_step, packet_end, seen_with};
+ghost use Rattle.h4_frames.specs.Packets.{word_of, handle_of, is_start};
+ghost use Rattle.h4_frames.specs.declared.packet.HostPacket.TheVariants.{Acl};
+ghost use Rattle.h4_frames.specs.declared.stage.Stage.TheVariants.{AclHead, CommandHead};
+ghost use Rattle.h4_frames.specs.Machine.{step, IsEnd, indicator_step, command_start, acl_start, packet_end, seen_with};
 
 use crate::packet::{Fed, HostPacket};
 use crate::part::{AclPart, CommandPart};
@@ -54,116 +56,149 @@ impl Stage {
         ensures step { (self.new, result) ≡ step self.old octet }
         ensures fits { FitsStage self.new }
     {
+        if self.goes_on(octet) {
+            return Fed::More;
+        }
+        self.ends(octet)
+    }
+
+    /// Takes the next octet where more are needed after it. Else nothing changes.
+    #[inline]
+    pub fn goes_on(&mut self, octet: u8) -> bool
+        requires { FitsStage self.old }
+        ensures on { result ≡ true → (self.new, Fed.More) ≡ step self.old octet }
+        ensures ends { result ≡ false → IsEnd (step self.old octet).1 }
+        ensures same { result ≡ false → self.new ≡ self.old }
+        ensures fits { FitsStage self.new }
+    {
         match self {
-            Stage::Indicator => self.indicator_step(octet),
+            Stage::Indicator => self.begins_packet(octet),
             Stage::CommandHead(head) => {
-                put_octets(head, &[octet]);
-                if head.len() < 3 {
-                    return Fed::More;
+                if head.len() < 2 {
+                    put_octets(head, &[octet]);
+                    return true;
                 }
                 let opcode = word_of(head[0], head[1]);
-                let count = head[2];
-                self.start_command(opcode, count)
+                self.begins_command(opcode, octet)
             }
             Stage::AclHead(head) => {
-                put_octets(head, &[octet]);
-                if head.len() < 4 {
-                    return Fed::More;
+                if head.len() < 3 {
+                    put_octets(head, &[octet]);
+                    return true;
                 }
                 let word = word_of(head[0], head[1]);
-                let length = word_of(head[2], head[3]);
-                self.start_acl(word, length)
+                let length = word_of(head[2], octet);
+                self.begins_acl(word, length)
             }
-            Stage::CommandBody(part) => match part.push(octet) {
-                None => Fed::More,
-                Some(packet) => self.end_packet(packet),
-            },
-            Stage::AclBody(part) => match part.push(octet) {
-                None => Fed::More,
-                Some(packet) => self.end_packet(packet),
-            },
+            Stage::CommandBody(part) => part.goes_on(octet),
+            Stage::AclBody(part) => part.goes_on(octet),
             Stage::Search(seen) => {
-                let seen = seen_with(*seen, octet);
-                self.search_step(seen)
+                let more = seen_with(*seen, octet);
+                if more == 4 {
+                    return false;
+                }
+                *seen = more;
+                true
             }
         }
     }
 
-    /// Takes the first octet of a packet.
-    fn indicator_step(&mut self, octet: u8) -> Fed
-        ensures { (self.new, result) ≡ indicator_step octet }
+    /// Begins the head of a command.
+    #[inline(never)]
+    fn begins_command_head(&mut self)
+        ensures { self.new ≡ CommandHead (record { items = [] }) }
+    {
+        *self = Stage::CommandHead(ArrayVec::new());
+    }
+
+    /// Begins the head of ACL data.
+    #[inline(never)]
+    fn begins_acl_head(&mut self)
+        ensures { self.new ≡ AclHead (record { items = [] }) }
+    {
+        *self = Stage::AclHead(ArrayVec::new());
+    }
+
+    /// Takes the first octet of a packet, if it is an indicator.
+    fn begins_packet(&mut self, octet: u8) -> bool
+        ensures on { result ≡ true → (self.new, Fed.More) ≡ indicator_step octet }
+        ensures ends { result ≡ false → IsEnd (indicator_step octet).1 }
+        ensures same { result ≡ false → self.new ≡ self.old }
+        ensures fits { FitsStage self.old → FitsStage self.new }
     {
         match octet {
-            COMMAND_INDICATOR => {
-                *self = Stage::CommandHead(ArrayVec::new());
-                Fed::More
-            }
-            ACL_INDICATOR => {
-                *self = Stage::AclHead(ArrayVec::new());
-                Fed::More
-            }
-            _ => {
-                *self = Stage::Search(0);
-                Fed::LostSync
-            }
+            COMMAND_INDICATOR => self.begins_command_head(),
+            ACL_INDICATOR => self.begins_acl_head(),
+            _ => return false,
         }
+        true
     }
 
-    /// Ends the head of a command.
-    fn start_command(&mut self, opcode: u16, count: u8) -> Fed
-        ensures { (self.new, result) ≡ command_start opcode count }
+    /// Ends the head of a command that has parameters.
+    #[inline(never)]
+    fn begins_command(&mut self, opcode: u16, count: u8) -> bool
+        ensures on { result ≡ true → (self.new, Fed.More) ≡ command_start opcode count }
+        ensures ends { result ≡ false → IsEnd (command_start opcode count).1 }
+        ensures same { result ≡ false → self.new ≡ self.old }
+        ensures fits { FitsStage self.old → FitsStage self.new }
     {
-        let body = ArrayVec::new();
         if count == 0 {
-            return self.end_packet(HostPacket::Command { opcode, body });
+            return false;
         }
         *self = Stage::CommandBody(CommandPart {
             opcode,
             left: count,
-            body,
+            body: ArrayVec::new(),
         });
-        Fed::More
+        true
     }
 
-    /// Ends the head of ACL data: the word of handle and flags, and the length.
-    fn start_acl(&mut self, word: u16, length: u16) -> Fed
-        ensures { (self.new, result) ≡ acl_start word length }
+    /// Ends the head of ACL data that has octets: the word of handle and flags, and the length.
+    #[inline(never)]
+    fn begins_acl(&mut self, word: u16, length: u16) -> bool
+        ensures on { result ≡ true → (self.new, Fed.More) ≡ acl_start word length }
+        ensures ends { result ≡ false → IsEnd (acl_start word length).1 }
+        ensures same { result ≡ false → self.new ≡ self.old }
+        ensures fits { FitsStage self.old → FitsStage self.new }
     {
-        let handle = word % HANDLES;
-        let start = word / HANDLES % 4 != CONTINUATION;
-        let body = ArrayVec::new();
         if length == 0 {
-            return self.end_packet(HostPacket::Acl {
-                handle,
-                start,
-                length,
-                body,
-            });
+            return false;
         }
         *self = Stage::AclBody(AclPart {
-            handle,
-            start,
+            handle: handle_of(word),
+            start: is_start(word),
             length,
             left: length,
-            body,
+            body: ArrayVec::new(),
         });
-        Fed::More
+        true
     }
 
-    /// Goes on with the search after `seen` octets of an HCI_Reset came last.
-    fn search_step(&mut self, seen: u8) -> Fed
-        requires { seen ≤ 4 }
-        ensures search { (self.new, result) ≡ search_step seen }
+    /// Takes the next octet, which ends something.
+    fn ends(&mut self, octet: u8) -> Fed
+        requires fits { FitsStage self.old }
+        requires end { IsEnd (step self.old octet).1 }
+        ensures step { (self.new, result) ≡ step self.old octet }
         ensures fits { FitsStage self.new }
     {
-        if seen < 4 {
-            *self = Stage::Search(seen);
-            return Fed::More;
-        }
-        self.end_packet(HostPacket::Command {
-            opcode: RESET_OPCODE,
-            body: ArrayVec::new(),
-        })
+        let packet = match self {
+            Stage::Indicator => {
+                *self = Stage::Search(0);
+                return Fed::LostSync;
+            }
+            Stage::CommandHead(head) => HostPacket::Command {
+                opcode: word_of(head[0], head[1]),
+                body: ArrayVec::new(),
+            },
+            Stage::AclHead(head) => acl_without_octets(word_of(head[0], head[1])),
+            Stage::CommandBody(part) => part.end(octet),
+            Stage::AclBody(part) => part.end(octet),
+            Stage::Search(_) => HostPacket::Command {
+                opcode: RESET_OPCODE,
+                body: ArrayVec::new(),
+            },
+        };
+        self.end_packet(packet)
     }
 
     /// Ends a packet.
@@ -172,6 +207,32 @@ impl Stage {
     {
         *self = Stage::Indicator;
         Fed::Packet(packet)
+    }
+}
+
+/// The handle of a word of handle and flags.
+fn handle_of(word: u16) -> u16
+    ensures { result ≡ handle_of word }
+{
+    word % HANDLES
+}
+
+/// Whether a word of handle and flags starts a message.
+fn is_start(word: u16) -> bool
+    ensures { result ≡ is_start word }
+{
+    word / HANDLES % 4 != CONTINUATION
+}
+
+/// ACL data of no octets, with this word of handle and flags.
+fn acl_without_octets(word: u16) -> HostPacket
+    ensures { result ≡ Acl (handle_of word) (is_start word) 0 (record { items = [] }) }
+{
+    HostPacket::Acl {
+        handle: handle_of(word),
+        start: is_start(word),
+        length: 0,
+        body: ArrayVec::new(),
     }
 }
 

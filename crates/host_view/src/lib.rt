@@ -15,8 +15,6 @@ mod noted;
 mod refusals;
 mod scanning;
 mod statuses;
-#[cfg(test)]
-mod tests;
 mod unbuilt;
 mod view;
 

@@ -11,8 +11,6 @@ pub mod laws;
 mod reports;
 pub mod rows;
 mod scanner;
-#[cfg(test)]
-mod tests;
 mod windows;
 
 pub use crate::accept_list::{ACCEPT_LIST_SIZE, AcceptList, ListFull};

@@ -5,8 +5,6 @@
 mod activities;
 mod laws;
 mod plan;
-#[cfg(test)]
-mod tests;
 mod wants;
 
 pub use crate::activities::Activity;

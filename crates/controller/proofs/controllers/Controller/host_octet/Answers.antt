@@ -2,11 +2,11 @@
 use Rattle.std.proofs.Common.{refl, sym, subst}
 use Rattle.controller.specs.Held.{Held}
 use Rattle.controller.specs.Knowing.{Knows}
-use Rattle.controller.proofs.Going.{octet_goes}
+use Rattle.controller.proofs.Going.{more_goes}
 use Rattle.controller.proofs.controllers.Controller.host_octet.Goals as goal
 
-pub returns-clause-goes : goal.returns-clause-goes
-returns-clause-goes g c = λ setup past knows.
-    octet_goes setup past c.args.octet _ _ _ _ _ _ _ refl c.requires.empty
-    c.feed-fed.ensures.frames c.feed-fed.ensures.framer_after c.take.ensures.at c.take.ensures.notes
-    c.take.ensures.stays.framer (subst (λ (held : Held). Knows setup held past) (sym c.self.view_is) knows)
+pub returns-else-not-goes_on-clause-goes : goal.returns-else-not-goes_on-clause-goes
+returns-else-not-goes_on-clause-goes g c = λ setup past knows.
+    more_goes setup past c.args.octet _ _ _ _ refl c.requires.empty
+    (λ octets is. c.if-not-goes_on.ensures.on octets is refl) (λ octets is. c.if-not-goes_on.ensures.framer_after octets is refl)
+    (subst (λ (held : Held). Knows setup held past) (sym c.self.view_is) knows)

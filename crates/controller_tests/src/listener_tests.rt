@@ -1,15 +1,15 @@
-//! Worked rows of what no contract says, and each public call once.
+//! Scanners and initiators: worked rows, and each public call once.
 ghost use Rattle.std.specs.Prelude.{◌≡◌};
 
-use crate::laws::*;
-use crate::rows::*;
-use crate::{
-    AcceptList, InitParams, Initiator, ListFull, Report, ReportKind, ScanAnswer, ScanParams,
-    Scanner, is_same_address, next_access, slots_of,
-};
 use adv_pdu::{AdvPdu, ConnectFields};
 use arrayvec::ArrayVec;
 use ble_base::{Address, ChannelMap, SlotNo};
+use scan_init::laws::*;
+use scan_init::rows::*;
+use scan_init::{
+    AcceptList, InitParams, Initiator, ListFull, Report, ReportKind, ScanAnswer, ScanParams,
+    Scanner, is_same_address, next_access, slots_of,
+};
 use std::test::Fail;
 
 /// A device with a public address that ends in this octet.

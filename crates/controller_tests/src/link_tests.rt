@@ -1,10 +1,10 @@
 //! Links of two controllers, call by call: packets, notes and events as worked out by hand.
-use crate::tests::{
+use crate::shared::{
     ADVERTISE, CONNECTABLE_B, MASK, PUBLIC_A, PUBLIC_B, RESET, Small, begin, begin_noting, command,
     complete, give, phase, rest, sends, settings, started, turn, up,
 };
-use crate::{Controller, Intent};
 use ble_base::{Address, ErrCode, EventNo, Note, Outbox, Role, Verdict};
+use controller::{Controller, Intent};
 use std::alloc::Global;
 use std::process::Abort;
 

@@ -1,8 +1,11 @@
-//! Tests of what no contract says: the packets of written-out octets.
+//! The packets of written-out octets of a host.
 ghost use Rattle.std.specs.Prelude.{◌≤◌, length};
 
-use super::*;
 use arrayvec::ArrayVec;
+use h4_frames::{
+    Fed, Framer, HostPacket, frames_are_in_order, frames_are_the_division, frames_grow,
+    results_are_the_frames,
+};
 use std::alloc::{AllocError, Global};
 use std::test::Fail;
 use wire_fields::put_octets;

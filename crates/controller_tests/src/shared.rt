@@ -1,9 +1,9 @@
-//! What the tests of this crate share: controllers, hosts and turns.
+//! What the tests of a controller share: controllers, hosts and turns.
 ghost use Rattle.std.specs.Prelude.{◌≡◌, ◌≤◌, [], length};
 
-use super::*;
 use arrayvec::ArrayVec;
 use ble_base::{Config, Note, Outbox, SlotNo};
+use controller::{Controller, Intent};
 use std::alloc::Global;
 use std::process::Abort;
 use std::test::Fail;
@@ -146,7 +146,7 @@ pub(crate) fn begin_noting<const L: usize>(
     requires { out.old.items ≡ [] }
 {
     let slot = SlotNo(u64::from(slot));
-    assert!(rt; controller.between && controller.turn.begun <= slot.0);
+    assert!(rt; controller.may_begin(slot));
     controller.begin_turn(slot, on, out)
 }
 

@@ -1,8 +1,7 @@
 //! Scanning, turn by turn, and what it reports, as worked out by hand.
 ghost use Rattle.std.specs.Prelude.{◌<◌};
 
-use crate::Intent;
-use crate::tests::{
+use crate::shared::{
     ADVERTISEMENTS, CONNECTABLE_B, MASK, PUBLIC_A, PUBLIC_B, REQUEST_TO_B, RESET, RESPONSE_OF_B,
     Small, begin, channel_of, command, phase, rest, sends, started, turn, up,
 };
@@ -10,6 +9,7 @@ use adv_pdu::AdvPdu;
 use air_frame::{ADVERTISING_ACCESS, ADVERTISING_CRC_INIT, build};
 use arrayvec::ArrayVec;
 use ble_base::{AIR_PACKET_OCTETS, Address, Outbox, Verdict};
+use controller::Intent;
 use std::process::Abort;
 
 /// ADV_DIRECT_IND from the device with the first address to that with the second, on channel 37.
@@ -164,6 +164,8 @@ fn reports_what_it_scans(rt: HostRuntime) {
     damaged[0] ^= 0x01;
     assert_eq!(rt; controller.judge(&damaged), Verdict::Missed);
     controller.end_turn(&mut Outbox::new());
+    // The turn is over.
+    assert_eq!(rt; controller.judge(&advertisement), Verdict::Missed);
 }
 
 #[test]

@@ -1,10 +1,10 @@
 //! Advertising, turn by turn, as worked out by hand.
-use crate::Intent;
-use crate::tests::{
+use crate::shared::{
     ADVERTISE, ADVERTISEMENTS, CONNECTABLE_B, PARAMETERS, PUBLIC_A, PUBLIC_B, REQUEST_TO_B,
     RESPONSE_OF_B, Small, begin, channel_of, command, phase, sends, started, turn,
 };
 use ble_base::Outbox;
+use controller::Intent;
 use std::process::Abort;
 
 const STOP_ADVERTISING: [u8; 5] = [0x01, 0x0A, 0x20, 0x01, 0x00];

@@ -1,8 +1,8 @@
 //! The statuses of the table of commands, row by row, and what accepted commands and notes change.
-use super::*;
 use arrayvec::ArrayVec;
 use ble_base::{Address, Kind, Note, Role};
 use hci_cmd::Command;
+use host_view::{HostView, laws, status};
 use std::process::Abort;
 
 const PEER: Address = Address {
@@ -142,6 +142,14 @@ fn accept_list(rt: HostRuntime) {
         octets: [1; 6],
     };
     assert!(rt; view.accept_list().has(random) && !view.accept_list().has(PEER));
+    let remove = Command::LeRemoveFromList {
+        kind: 1,
+        address: [1; 6],
+    };
+    if status(&view, &remove).0 == 0 {
+        view.command(&remove);
+    }
+    assert!(rt; !view.accept_list().has(random));
 }
 
 #[test]

@@ -1,5 +1,5 @@
 //! Commands, their answers and what they change, as worked out by hand.
-use crate::tests::{ADVERTISE, PARAMETERS, PUBLIC_A, RESET, command, complete, give, started};
+use crate::shared::{ADVERTISE, PARAMETERS, PUBLIC_A, RESET, command, complete, give, started};
 
 #[test]
 fn answers_commands(rt: HostRuntime) {

@@ -1,6 +1,6 @@
 //! Each of the 42 commands once as it is accepted or refused, and its answer by the layout of its
 //! return parameters (Core 5.2, volume 4 part E, section 7). No link is open, and nothing is on.
-use crate::tests::{PUBLIC_A, give, started};
+use crate::shared::{PUBLIC_A, give, started};
 use arrayvec::ArrayVec;
 use std::alloc::Global;
 use std::process::Abort;

@@ -1,9 +1,9 @@
 //! Data of links, call by call: packets, notes and credits as worked out by hand.
-use crate::Intent;
 use crate::link_tests::{Pair, entered, linked, pauses};
-use crate::tests::{begin_noting, give, phase, sends, up};
+use crate::shared::{begin_noting, give, phase, sends, up};
 use arrayvec::ArrayVec;
 use ble_base::{Note, Outbox, Verdict};
+use controller::Intent;
 use std::process::Abort;
 
 /// A packet of 30 octets, the numbers from 1 on, for link 0, and the two parts of it that the other

@@ -1,6 +1,6 @@
 //! Winners of a slot, worked out by hand.
-use crate::{Activity, Hold, Plan, winner_exists, winner_is_unique};
 use ble_base::SlotNo;
+use slot_plan::{Activity, Hold, Plan, winner_exists, winner_is_unique};
 
 /// The activity that has slot 50, of two that want it. Each comes with the slot in which it was
 /// last served.

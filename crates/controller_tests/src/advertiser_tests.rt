@@ -1,10 +1,10 @@
-//! Each public call once, on rows worked by hand.
+//! Each public call of an advertiser once, on rows worked by hand.
 ghost use Rattle.std.specs.Prelude.{◌≡◌};
 
-use crate::laws::*;
-use crate::rows::*;
-use crate::{AdvAnswer, AdvOff, AdvParams};
 use adv_pdu::{AdvPdu, ConnectFields};
+use advertise::laws::*;
+use advertise::rows::*;
+use advertise::{AdvAnswer, AdvOff, AdvParams};
 use arrayvec::ArrayVec;
 use ble_base::{Address, SlotNo};
 use scan_init::AcceptList;

@@ -1,8 +1,8 @@
 //! The channels of a whole link, against programs that go by single steps and bits.
-use crate::Intent;
 use crate::link_tests::{CONNECT_IND, Pair, entered, ready};
-use crate::tests::{CONNECTABLE_B, begin, begin_noting, command, phase, rest, sends};
+use crate::shared::{CONNECTABLE_B, begin, begin_noting, command, phase, rest, sends};
 use ble_base::{Note, Outbox};
+use controller::Intent;
 use std::process::Abort;
 
 /// The CONNECT_IND of the first link, but with ChSel 0.
