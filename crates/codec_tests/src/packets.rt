@@ -1,6 +1,7 @@
 //! A packet worked out by hand, and what a listener makes of it, whole and damaged.
 
-use super::*;
+use air_frame::{ADVERTISING_ACCESS, Heard, build, laws, unframe};
+use arrayvec::ArrayVec;
 use std::test::Fail;
 
 const PDU: [u8; 2] = [0x01, 0x00];
@@ -33,9 +34,6 @@ fn builds_as_worked_out(rt: HostRuntime) {
 
 #[test]
 fn hears_as_worked_out(rt: HostRuntime) -> Result<(), Fail> {
-    laws::pdu_form_is_a_count();
-    laws::packet_tells_its_pdu();
-    laws::short_damage_is_never_whole();
     assert_eq!(rt;
         unframe(37, ADVERTISING_ACCESS, 0, &PACKET),
         Heard::Whole(ArrayVec::try_from(PDU.as_slice())?)
@@ -55,4 +53,11 @@ fn hears_as_worked_out(rt: HostRuntime) -> Result<(), Fail> {
         );
     }
     Ok(())
+}
+
+#[test]
+fn laws_are_called() {
+    laws::pdu_form_is_a_count();
+    laws::packet_tells_its_pdu();
+    laws::short_damage_is_never_whole();
 }

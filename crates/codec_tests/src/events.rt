@@ -1,7 +1,7 @@
 //! A field vector and the mask bit of each event, events of recorded streams, and octets that are
 //! no event.
-use super::*;
 use arrayvec::ArrayVec;
+use hci_evt::{Event, MaskBit, mask_bit, read, write};
 use std::process::Abort;
 
 const PUBLIC_A: [u8; 6] = [0x0A, 0x00, 0x00, 0xEE, 0xFF, 0xC0];

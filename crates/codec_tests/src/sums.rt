@@ -1,7 +1,7 @@
 //! Worked values, and a register that is shifted bit by bit as the standard draws it.
 
-use super::laws::*;
-use super::*;
+use frame_bits::laws::*;
+use frame_bits::{crc_octets, crc24, whiten};
 
 /// Initial CRC, octets, CRC, and the octets that are sent.
 const SUMS: [(u32, &[u8], u32, [u8; 3]); 5] = [
@@ -14,11 +14,6 @@ const SUMS: [(u32, &[u8], u32, [u8; 3]); 5] = [
 
 #[test]
 fn sums_as_worked_out(rt: HostRuntime) {
-    remainder_is_modulo();
-    crc_goes_on();
-    crc_is_linear();
-    crc_goes_highest_first();
-    short_change_is_seen();
     for (init, octets, sum, sent) in SUMS {
         assert!(rt; init < 0x100_0000);
         let crc = crc24(init, octets);
@@ -55,8 +50,6 @@ fn whitening_start(channel: u8) -> u8 {
 
 #[test]
 fn whitens_as_worked_out(rt: HostRuntime) {
-    whitening_goes_bit_by_bit();
-    whitening_is_linear();
     let mut octets = [0; 5];
     whiten(37, &mut octets);
     assert_eq!(rt; octets, [0x8d, 0xd2, 0x57, 0xa1, 0x3d]);
@@ -106,4 +99,15 @@ fn whitens_as_the_register_does(rt: HostRuntime) {
             assert_eq!(rt; octet, whitened, "channel {channel}");
         }
     }
+}
+
+#[test]
+fn laws_are_called() {
+    remainder_is_modulo();
+    crc_goes_on();
+    crc_is_linear();
+    crc_goes_highest_first();
+    short_change_is_seen();
+    whitening_goes_bit_by_bit();
+    whitening_is_linear();
 }

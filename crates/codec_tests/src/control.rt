@@ -1,6 +1,6 @@
 //! Control PDUs against octets by hand from their layouts (Core 5.2, volume 6 part B, section
 //! 2.4.2; those of encryption are the sample data of volume 6 part C, section 1).
-use crate::{Ctrl, CtrlRead, read_ctrl, write_ctrl};
+use data_pdu::{Ctrl, CtrlRead, read_ctrl, write_ctrl};
 use std::process::Abort;
 
 /// The control PDU is in range, and these octets are it, read and written.

@@ -1,9 +1,9 @@
 //! Tests of what no contract says.
-use crate::{
+use arrayvec::ArrayVec;
+use ble_base::{
     Address, ChannelMap, Config, ErrCode, EventNo, Kind, Note, Outbox, Role, Side, SlotNo, Verdict,
     instant_gap,
 };
-use arrayvec::ArrayVec;
 use std::test::Fail;
 
 #[test]
@@ -21,19 +21,40 @@ fn maps_are_read(rt: HostRuntime) {
     }
 }
 
+/// The channels of a map by their places.
+const USED: [(u8, u8); 9] = [
+    (0, 9),
+    (1, 10),
+    (2, 21),
+    (3, 22),
+    (4, 23),
+    (5, 33),
+    (6, 34),
+    (7, 35),
+    (8, 36),
+];
+
+/// The channel of a map at a place among the used ones, if there is one.
+fn nth(map: &ChannelMap, index: u8) -> Option<u8> {
+    if index < map.count() {
+        Some(map.nth(index))
+    } else {
+        None
+    }
+}
+
 #[test]
 fn map_is_walked(rt: HostRuntime) -> Result<(), Fail> {
     let map = ChannelMap::new(0x1E_00E0_0600).ok_or("no map")?;
     assert_eq!(rt; map.bits(), 0x1E_00E0_0600);
     assert_eq!(rt; map.count(), 9);
-    let used = [9, 10, 21, 22, 23, 33, 34, 35, 36];
-    for (index, channel) in used.iter().enumerate() {
-        assert!(rt; map.uses(*channel));
-        if index < usize::from(map.count()) {
-            assert_eq!(rt; map.nth(index as u8), *channel);
-        }
+    for (index, channel) in USED {
+        assert_eq!(rt; nth(&map, index), Some(channel));
+        assert!(rt; map.uses(channel), "{channel}");
     }
-    assert!(rt; !map.uses(0) && !map.uses(37) && !map.uses(255));
+    for channel in [0, 37, 255] {
+        assert!(rt; !map.uses(channel), "{channel}");
+    }
     assert_eq!(rt; ChannelMap::default().count(), 37);
     Ok(())
 }
@@ -80,24 +101,32 @@ fn gaps_wrap_round(rt: HostRuntime) {
     assert_eq!(rt; Side::B.other(), Side::A);
 }
 
+fn outbox(given: [Note; 3]) -> Outbox {
+    let mut notes = Outbox::new();
+    for note in given {
+        let _ = notes.try_push(note);
+    }
+    notes
+}
+
 #[test]
 fn shared_types_fit_in_vectors(rt: HostRuntime) {
-    let mut notes = Outbox::new();
-    notes.push(Note::Up(ArrayVec::new()));
-    notes.push(Note::Opened {
+    let peer = Address {
+        random: true,
+        octets: [1, 2, 3, 4, 5, 0xC6],
+    };
+    let opened = Note::Opened {
         handle: 1,
         role: Role::Central,
         own: Address::default(),
-        peer: Address {
-            random: true,
-            octets: [1, 2, 3, 4, 5, 0xC6],
-        },
-    });
-    notes.push(Note::Refused {
+        peer,
+    };
+    let refused = Note::Refused {
         handle: 1,
         kind: Kind::Request,
         code: ErrCode(0x2A),
-    });
+    };
+    let notes = outbox([Note::Up(ArrayVec::new()), opened, refused]);
     assert_eq!(rt; notes.len(), 3);
     assert_eq!(rt;
         Note::default(),

@@ -1,7 +1,7 @@
 //! PDUs and their octets on the air.
 ghost use Rattle.adv_pdu.specs.Pdu.{FitsBits};
 
-use super::*;
+use adv_pdu::{AdvPdu, ConnectFields};
 use arrayvec::ArrayVec;
 use ble_base::Address;
 use std::process::Abort;
@@ -26,7 +26,12 @@ fn expect_octets(rt: &impl Abort, pdu: AdvPdu, octets: &[u8])
     requires { FitsBits pdu }
 {
     assert_eq!(rt; pdu.write().as_slice(), octets);
-    assert_eq!(rt; AdvPdu::read(octets), Some(pdu), "at {octets:?}");
+    expect_read(rt, octets, Some(pdu));
+}
+
+/// What is read from octets.
+fn expect_read(rt: &impl Abort, octets: &[u8], pdu: Option<AdvPdu>) {
+    assert_eq!(rt; AdvPdu::read(octets), pdu, "at {octets:?}");
 }
 
 fn holding(rt: &impl Abort, octets: &[u8]) -> ArrayVec<u8, 31> {
@@ -156,8 +161,15 @@ fn bits_are_ignored(rt: HostRuntime) {
             from,
             body: ArrayVec::new(),
         };
-        assert_eq!(rt; AdvPdu::read(&octets), Some(want), "at {first}");
+        expect_read(&rt, &octets, Some(want));
     }
+}
+
+/// A PDU with no bit of 1 whose second octet counts these after it, of 38.
+fn zeros(count: u8) -> [u8; 40] {
+    let mut octets = [0; 40];
+    octets[1] = count;
+    octets
 }
 
 #[test]
@@ -175,13 +187,12 @@ fn no_pdus(rt: HostRuntime) {
         &[0x03, 13, 1, 2, 3, 4, 5, 6, 1, 2, 3, 4, 5, 6, 7],
         &[0x05, 12, 1, 2, 3, 4, 5, 6, 1, 2, 3, 4, 5, 6],
     ] {
-        assert_eq!(rt; AdvPdu::read(octets), None, "at {octets:?}");
+        expect_read(&rt, octets, None);
     }
-    let mut longest = [0; 40];
-    longest[1] = 37;
-    assert!(rt; AdvPdu::read(&longest[..39]).is_some());
-    longest[1] = 38;
-    assert_eq!(rt; AdvPdu::read(&longest), None);
+    let longest = zeros(37);
+    let [octets @ .., _] = &longest;
+    assert!(rt; AdvPdu::read(octets).is_some());
+    expect_read(&rt, &zeros(38), None);
 }
 
 #[test]

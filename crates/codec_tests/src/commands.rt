@@ -1,8 +1,7 @@
 //! A field vector for each command, commands of recorded streams, and opcodes of no command.
-use super::*;
 use arrayvec::ArrayVec;
+use hci_cmd::{CmdRead, Command, HandleCount, read};
 use std::process::Abort;
-use std::test::Fail;
 
 /// The octets 1, 2, 3 and so on: the parameters of each vector are the first of them, so two fields
 /// that were exchanged show.
@@ -22,12 +21,40 @@ const DATA: [u8; 31] = [
 /// length.
 fn expect_first(rt: &impl Abort, opcode: u16, length: usize, command: Command) {
     let body = OCTETS.get(..length).expect(rt, "length");
-    let long = OCTETS.get(..length + 1).expect(rt, "length");
-    assert_eq!(rt; read(opcode, body), CmdRead::Known(command), "{opcode:x}");
-    assert_eq!(rt; read(opcode, long), CmdRead::BadLength, "{opcode:x}");
+    expect_command(rt, opcode, body, command);
+    expect_bad_length(rt, opcode, OCTETS.get(..length + 1).expect(rt, "length"));
     if let [_, short @ ..] = body {
-        assert_eq!(rt; read(opcode, short), CmdRead::BadLength, "{opcode:x}");
+        expect_bad_length(rt, opcode, short);
     }
+}
+
+fn expect_command(rt: &impl Abort, opcode: u16, body: &[u8], command: Command) {
+    assert_eq!(rt;
+        read(opcode, body),
+        CmdRead::Known(command),
+        "{opcode:x} {body:?}"
+    );
+}
+
+fn expect_bad_length(rt: &impl Abort, opcode: u16, body: &[u8]) {
+    assert_eq!(rt;
+        read(opcode, body),
+        CmdRead::BadLength,
+        "{opcode:x} {body:?}"
+    );
+}
+
+/// Counts of complete packets by handle.
+fn counts_of(rt: &impl Abort, pairs: &[(u16, u16)]) -> ArrayVec<HandleCount, 63> {
+    let mut counts = ArrayVec::new();
+    for (handle, count) in pairs {
+        let pair = HandleCount {
+            handle: *handle,
+            count: *count,
+        };
+        assert!(rt; counts.try_push(pair).is_ok());
+    }
+    counts
 }
 
 /// Rows of an opcode, the length of its parameters, and the command that the first octets make.
@@ -138,18 +165,13 @@ fn le_commands_of_links(rt: HostRuntime) {
 }
 
 #[test]
-fn counts_of_two_handles(rt: HostRuntime) -> Result<(), Fail> {
-    let body = [2, 0x01, 0x02, 0x03, 0x04, 0x05, 0x06, 0x07, 0x08, 0x09];
-    let mut counts = ArrayVec::new();
-    for (handle, count) in [(0x0201, 0x0403), (0x0605, 0x0807)] {
-        assert!(rt; counts.try_push(HandleCount { handle, count }).is_ok());
-    }
+fn counts_of_two_handles(rt: HostRuntime) {
+    let counts = counts_of(&rt, &[(0x0201, 0x0403), (0x0605, 0x0807)]);
     let command = Command::HostCompleted { counts };
-    assert_eq!(rt; read(0x0C35, &body[..9]), CmdRead::Known(command));
-    assert_eq!(rt; read(0x0C35, &body), CmdRead::BadLength);
-    assert_eq!(rt; read(0x0C35, &body[..8]), CmdRead::BadLength);
-    assert_eq!(rt; read(0x0C35, &[]), CmdRead::BadLength);
-    Ok(())
+    expect_command(&rt, 0x0C35, &[2, 1, 2, 3, 4, 5, 6, 7, 8], command);
+    expect_bad_length(&rt, 0x0C35, &[2, 1, 2, 3, 4, 5, 6, 7, 8, 9]);
+    expect_bad_length(&rt, 0x0C35, &[2, 1, 2, 3, 4, 5, 6, 7]);
+    expect_bad_length(&rt, 0x0C35, &[]);
 }
 
 const KEY: [u8; 16] = [
@@ -157,14 +179,6 @@ const KEY: [u8; 16] = [
 ];
 
 const ADDRESS: [u8; 6] = [0x0B, 0x00, 0x00, 0xEE, 0xFF, 0xC0];
-
-fn expect_command(rt: &impl Abort, opcode: u16, body: &[u8], command: Command) {
-    assert_eq!(rt;
-        read(opcode, body),
-        CmdRead::Known(command),
-        "{opcode:x} {body:?}"
-    );
-}
 
 #[test]
 fn recorded_commands_of_the_device(rt: HostRuntime) {
@@ -305,15 +319,7 @@ fn recorded_commands_of_a_link(rt: HostRuntime) {
 
 #[test]
 fn recorded_keys_and_counts(rt: HostRuntime) {
-    let mut counts = ArrayVec::new();
-    assert!(rt;
-        counts
-            .try_push(HandleCount {
-                handle: 0,
-                count: 1
-            })
-            .is_ok()
-    );
+    let counts = counts_of(&rt, &[(0, 1)]);
     for (opcode, body, command) in [
         (
             0x2019,

@@ -1,5 +1,5 @@
 //! Worked rows of the header.
-use crate::{DataHeader, read_header, write_header};
+use data_pdu::{DataHeader, read_header, write_header};
 
 #[test]
 fn headers_are_read_and_written(rt: HostRuntime) {

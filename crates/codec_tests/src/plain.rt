@@ -1,7 +1,9 @@
 //! `build` and `unframe` compared with a second program: the rules of the standard, bit by bit,
 //! with no call of the proved code. A bit is 0 or 1, and lists of bits are in the order of the air.
 
-use super::*;
+use air_frame::{ADVERTISING_ACCESS, ADVERTISING_CRC_INIT, Heard, build, unframe};
+use arrayvec::ArrayVec;
+use std::process::Abort;
 use std::test::Fail;
 
 /// Access address and initial CRC of the advertising channels.
@@ -77,27 +79,67 @@ fn packet(channel: u8, access: u32, init: u32, pdu: &[u8]) -> [u8; 19] {
     octets
 }
 
+/// The packet with one bit changed.
+fn changed(octets: [u8; 19], place: usize, bit: u8) -> [u8; 19] {
+    let mut damaged = octets;
+    if let Some(octet) = damaged.get_mut(place) {
+        *octet ^= 1 << (bit % 8);
+    }
+    damaged
+}
+
+/// What `build` makes of a row, if it is in range.
+fn built(channel: u8, access: u32, init: u32, pdu: &[u8]) -> Option<ArrayVec<u8, 264>> {
+    let [_, length, payload @ ..] = pdu else {
+        return None;
+    };
+    if channel >= 40 || init >= 0x100_0000 || payload.len() != usize::from(*length) {
+        return None;
+    }
+    Some(build(channel, access, init, pdu))
+}
+
+/// What `unframe` makes of octets, if the row is in range.
+fn heard(channel: u8, access: u32, init: u32, octets: &[u8]) -> Option<Heard> {
+    if channel >= 40 || init >= 0x100_0000 {
+        return None;
+    }
+    Some(unframe(channel, access, init, octets))
+}
+
+/// Each bit that is changed in the first octets of a packet is seen.
+fn expect_seen(rt: &impl Abort, row: (u8, u32, u32), octets: [u8; 19], count: usize) {
+    let (channel, access, init) = row;
+    for place in 0..count {
+        let want = if place < 4 {
+            Heard::NotOurs
+        } else {
+            Heard::Broken
+        };
+        for bit in 0..8u8 {
+            let damaged = changed(octets, place, bit);
+            let sent = damaged.get(..count).expect(rt, "count");
+            let found = heard(channel, access, init, sent).expect(rt, "range");
+            assert_eq!(rt; found, want, "with bit {bit} of octet {place} changed");
+        }
+    }
+}
+
 #[test]
 fn packets_are_as_the_plain_rules_say(rt: HostRuntime) -> Result<(), Fail> {
     for (channel, (access, init), pdu) in PACKETS {
-        assert!(rt; channel < 40 && init < 0x100_0000);
-        assert!(rt; pdu.len() >= 2 && pdu.len() <= 12 && pdu.len() == 2 + pdu[1] as usize);
         let octets = packet(channel, access, init, pdu);
         let count = pdu.len() + 7;
-        let built = build(channel, access, init, pdu);
-        assert_eq!(rt; built.as_slice(), &octets[..count], "of {pdu:?}");
-        let heard = unframe(channel, access, init, &octets[..count]);
-        assert_eq!(rt; heard, Heard::Whole(ArrayVec::try_from(pdu)?), "of {pdu:?}");
-        for place in 0..8 * count {
-            let mut damaged = octets;
-            damaged[place / 8] ^= 1 << (place % 8);
-            let heard = unframe(channel, access, init, &damaged[..count]);
-            let want = match place {
-                0..32 => Heard::NotOurs,
-                _ => Heard::Broken,
-            };
-            assert_eq!(rt; heard, want, "with bit {place} changed in {pdu:?}");
-        }
+        expect_seen(&rt, (channel, access, init), octets, count);
+        let sent = octets.get(..count).ok_or("a long PDU")?;
+        let built = built(channel, access, init, pdu).ok_or("no PDU")?;
+        assert_eq!(rt; built.as_slice(), sent, "of {pdu:?}");
+        let whole = Heard::Whole(ArrayVec::try_from(pdu)?);
+        assert_eq!(rt;
+            heard(channel, access, init, sent),
+            Some(whole),
+            "of {pdu:?}"
+        );
     }
     Ok(())
 }
