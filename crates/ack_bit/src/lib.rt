@@ -4,7 +4,5 @@
 
 mod ack_end;
 pub mod laws;
-#[cfg(test)]
-mod tests;
 
 pub use crate::ack_end::{AckEnd, AckSeen};

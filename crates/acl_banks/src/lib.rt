@@ -7,8 +7,6 @@ mod packets;
 mod pieces;
 mod queue;
 mod rx_bank;
-#[cfg(test)]
-mod tests;
 mod tx_bank;
 
 pub use crate::laws::octets_are_sent_in_order;

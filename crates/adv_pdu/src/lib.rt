@@ -10,6 +10,3 @@ mod reading;
 mod writing;
 
 pub use pdu::{AdvPdu, ConnectFields};
-
-#[cfg(test)]
-mod tests;

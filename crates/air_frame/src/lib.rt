@@ -23,8 +23,3 @@ pub enum Heard {
     /// and the number of octets that the second of them counts (section 2.3).
     Whole(ArrayVec<u8, 257>),
 }
-
-#[cfg(test)]
-mod plain;
-#[cfg(test)]
-mod tests;

@@ -14,8 +14,6 @@ mod notes;
 mod procedure_kinds;
 mod roles;
 mod settings;
-#[cfg(test)]
-mod tests;
 mod verdicts;
 
 pub use crate::addresses::Address;

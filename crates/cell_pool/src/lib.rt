@@ -5,7 +5,5 @@
 
 mod cell;
 mod pool;
-#[cfg(test)]
-mod tests;
 
 pub use crate::pool::{CellNo, CellPool};

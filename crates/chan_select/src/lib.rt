@@ -6,7 +6,5 @@ mod hopping;
 pub mod laws;
 mod pseudo_random;
 mod selection;
-#[cfg(test)]
-mod tests;
 
 pub use crate::selection::{Algorithm, Selector};

@@ -2,15 +2,11 @@
 #![tactic(auto)]
 
 mod ctrl;
-#[cfg(test)]
-mod ctrl_tests;
 mod header;
 pub mod laws;
 mod layouts;
 mod ranges;
 mod reading;
-#[cfg(test)]
-mod tests;
 mod writing;
 
 pub use crate::ctrl::{Ctrl, CtrlRead};

@@ -7,6 +7,3 @@ mod whitening;
 
 pub use crc::{crc_octets, crc24};
 pub use whitening::whiten;
-
-#[cfg(test)]
-mod tests;

@@ -8,6 +8,3 @@ mod rows;
 
 pub use command::{CmdRead, Command, HandleCount};
 pub use reading::read;
-
-#[cfg(test)]
-mod tests;

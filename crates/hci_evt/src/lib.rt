@@ -12,6 +12,3 @@ pub use event::{Event, MaskBit};
 pub use mask::mask_bit;
 pub use reading::read;
 pub use writing::write;
-
-#[cfg(test)]
-mod tests;

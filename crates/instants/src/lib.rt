@@ -4,8 +4,6 @@
 
 mod indications;
 mod laws;
-#[cfg(test)]
-mod tests;
 mod track;
 
 pub use crate::indications::{Indication, Params};

@@ -13,6 +13,3 @@ mod steps;
 pub use crate::ends::{LinkEnd, LinkStep};
 pub use crate::laws::{a_bank_changes_alone, a_link_leaves_others, a_link_that_knows_is_tied};
 pub use link_model::LinkSetup;
-
-#[cfg(test)]
-mod tests;

@@ -22,6 +22,3 @@ pub use crate::laws::{
 pub use crate::links::OpenLinks;
 pub use crate::offers::{Completed, Offer};
 pub use link_end::{LinkEnd, LinkSetup, LinkStep};
-
-#[cfg(test)]
-mod tests;

@@ -8,6 +8,3 @@ mod put;
 
 pub use fields::Fields;
 pub use put::{put_octets, put_u8, put_u16, put_u24, put_u32, put_u40, put_u64};
-
-#[cfg(test)]
-mod tests;

@@ -1,0 +1,24 @@
+//! Tests of the codecs over outside vectors: commands and events of a host, PDUs, packets on the
+//! air, and the types that all of them share.
+#![tactic(auto)]
+
+#[cfg(test)]
+mod advertising;
+#[cfg(test)]
+mod base;
+#[cfg(test)]
+mod commands;
+#[cfg(test)]
+mod control;
+#[cfg(test)]
+mod events;
+#[cfg(test)]
+mod fields;
+#[cfg(test)]
+mod headers;
+#[cfg(test)]
+mod packets;
+#[cfg(test)]
+mod plain;
+#[cfg(test)]
+mod sums;
