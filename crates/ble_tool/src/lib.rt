@@ -2,15 +2,9 @@
 #![tactic(auto)]
 
 mod commands;
-#[cfg(test)]
-mod data_tests;
 mod faults;
-#[cfg(test)]
-mod link_tests;
 mod messages;
 mod pairs;
-#[cfg(test)]
-mod tests;
 mod tool;
 
 pub use crate::commands::{Command, FILE_LIMIT, PairNames, Source};

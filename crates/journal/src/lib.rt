@@ -9,8 +9,6 @@ mod line_reading;
 mod lines;
 mod octets;
 mod readers;
-#[cfg(test)]
-mod tests;
 mod word_tuples;
 mod words;
 

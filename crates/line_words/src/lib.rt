@@ -9,8 +9,6 @@ mod cursors;
 mod cuts;
 mod numbers;
 mod signs;
-#[cfg(test)]
-mod tests;
 
 pub use crate::cursors::{Lines, Words};
 pub use crate::cuts::{cut, two_parts};

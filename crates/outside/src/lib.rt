@@ -9,12 +9,10 @@ mod mem_sink;
 mod real_files;
 mod real_sink;
 mod sink;
-#[cfg(test)]
-mod tests;
 
 pub use files::{FileFault, Files};
 pub use mem_files::MemFiles;
 pub use mem_sink::MemSink;
-pub use real_files::RealFiles;
+pub use real_files::{RealFiles, read_whole};
 pub use real_sink::RealSink;
 pub use sink::{Sink, SinkFault};

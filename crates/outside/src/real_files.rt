@@ -81,7 +81,7 @@ fn read_named<R: rt::Files>(
 
 /// Reads all that a reader has left, of at most `limit` octets. At most one octet more is read.
 #[tactic(auto, using(crate::proofs::Fronts::whole_front))]
-pub(crate) fn read_whole<R: Read + Drop>(
+pub fn read_whole<R: Read + Drop>(
     reader: R,
     alloc: Global,
     limit: u32,
@@ -123,7 +123,7 @@ fn read_front<R: Read + Drop>(reader: R, alloc: Global, most: u64) -> Result<Vec
 
 /// Why a file was not read, where the system's error is of this kind: `Memory` exactly where the
 /// system says so, and `Failed` everywhere else.
-pub(crate) fn fault_of(kind: ErrorKind) -> FileFault
+fn fault_of(kind: ErrorKind) -> FileFault
     ensures { result ≡ fault_of kind }
 {
     match kind {

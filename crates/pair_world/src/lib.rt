@@ -16,8 +16,6 @@ mod phases;
 mod run;
 mod stations;
 mod stops;
-#[cfg(test)]
-mod tests;
 mod turns;
 mod wishes;
 

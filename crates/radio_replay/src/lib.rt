@@ -29,8 +29,6 @@ mod lines;
 mod numbers;
 mod schedules;
 mod side_lines;
-#[cfg(test)]
-mod tests;
 mod turns;
 
 pub use crate::fates::Fate;

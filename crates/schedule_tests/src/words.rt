@@ -1,5 +1,5 @@
 //! Tests of what no contract says: texts and the words and numbers in them.
-use crate::{Lines, Words, cut, read_number, read_sign, two_parts};
+use line_words::{Lines, Words, cut, read_number, read_sign, two_parts};
 
 #[test]
 fn a_text_has_lines_of_words(rt: HostRuntime) {

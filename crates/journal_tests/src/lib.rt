@@ -1,0 +1,5 @@
+//! Tests of the lines of a journal: `journal`, over its public contracts alone.
+#![tactic(auto)]
+
+#[cfg(test)]
+mod lines;

@@ -1,0 +1,15 @@
+//! Tests of the program, from its words, files and schedules to its status, journal and error line.
+#![tactic(auto)]
+
+#[cfg(test)]
+mod air;
+#[cfg(test)]
+mod answers;
+#[cfg(test)]
+mod calls;
+#[cfg(test)]
+mod data;
+#[cfg(test)]
+mod links;
+#[cfg(test)]
+mod statuses;
