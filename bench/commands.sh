@@ -2,7 +2,7 @@
 # Measures what a command of a host costs: the instructions of 40,000 HCI Resets.
 # Needs the toolchain, python3 and valgrind.
 cd "$(dirname "$0")/.." || exit 1
-(cd crates/ble && rt run -- pair data/a.bin data/b.bin data/schedule) >/dev/null 2>&1 || {
+(cd crates/ble && rt run -- pair data/advertiser.bin data/scanner.bin data/one-advertisement) >/dev/null 2>&1 || {
   echo "the program did not build" >&2
   exit 1
 }

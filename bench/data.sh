@@ -3,7 +3,7 @@
 # turns and against a link that carries empty PDUs.
 # Needs the toolchain, python3 and valgrind.
 cd "$(dirname "$0")/.." || exit 1
-(cd crates/ble && rt run -- pair data/a.bin data/b.bin data/schedule) >/dev/null 2>&1 || {
+(cd crates/ble && rt run -- pair data/advertiser.bin data/scanner.bin data/one-advertisement) >/dev/null 2>&1 || {
   echo "the program did not build" >&2
   exit 1
 }
