@@ -9,7 +9,7 @@ use acl_banks::{RxBank, TxBank};
 use adv_pdu::ConnectFields;
 use arrayvec::ArrayVec;
 use ble_base::{AIR_PACKET_OCTETS, ErrCode, EventNo, Note, Outbox, Role, SlotNo, Verdict};
-use link_end::{LinkEnd, LinkSetup, a_link_that_knows_is_tied};
+use link_end::{LinkEnd, LinkSetup};
 use std::alloc::Global;
 use std::marker::Model;
 use std::test::Fail;
@@ -127,8 +127,8 @@ impl Side {
     }
 
     /// It hears nothing before this slot.
+    #[tactic(auto, using(link_end::proofs::Tying::before_later))]
     fn wait(&mut self, slot: u64) {
-        a_link_that_knows_is_tied();
         if self.next < slot {
             self.next = slot;
         }
