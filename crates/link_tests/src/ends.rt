@@ -53,7 +53,10 @@ fn open(
         return Err("the fields begin no link".into());
     }
     let setup = LinkSetup {
+        handle: 0,
+        fields,
         two,
+        max_rx: 251,
         ..setup(role, 0, 0x0B, fields)
     };
     let tx = given(alloc, body)?;
