@@ -1,3 +1,4 @@
 -- The definitions of this crate.
+pub mod Advertising
 pub mod Hearing
 pub mod Packet

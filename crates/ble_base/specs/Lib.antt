@@ -3,5 +3,6 @@ pub mod Bits
 pub mod ChannelMap
 pub mod ErrorCodes
 pub mod Instant
+pub mod Limits
 pub mod Note
 pub mod Side

@@ -17,20 +17,23 @@ use Rattle.ble_tool.specs.declared.commands.Command.{Command}
 use Rattle.ble_tool.specs.declared.commands.Command.TheVariants.{Pair}
 use Rattle.ble_tool.specs.declared.commands.Source.{Source}
 use Rattle.ble_tool.specs.declared.commands.Source.TheVariants.{A, B, Schedule}
-use Rattle.ble_tool.specs.declared.commands.TheConstants.{FILE_LIMIT}
 use Rattle.ble_tool.specs.Status.{Outcome, Done, NoCommand, Failed}
 use Rattle.ble_tool.specs.World.{Reads, Writes, World, HaveReadsFailed, HaveWritesFailed, HasWritten, HasWrittenPart}
 use Rattle.ble_tool.specs.World.{HasWrittenNothing}
 
 -- ---- limits
 
+-- the most octets in each file of a command: 1 MiB (our choice)
+abbrev pub file_limit : ℕ
+file_limit = 1048576
+
 -- a content is within the limit
 abbrev pub IsWithinLimit : List ℕ → Type 0
-IsWithinLimit octets = length octets ≤ FILE_LIMIT
+IsWithinLimit octets = length octets ≤ file_limit
 
 -- a content is over the limit
 abbrev pub IsOverLimit : List ℕ → Type 0
-IsOverLimit octets = FILE_LIMIT < length octets
+IsOverLimit octets = file_limit < length octets
 
 -- a file is within the limit, where its content is known
 abbrev pub Fits : Reads → Source → Type 0

@@ -4,6 +4,12 @@
 #[cfg(test)]
 mod block_tests;
 #[cfg(test)]
+mod ends;
+#[cfg(test)]
 mod phase_tests;
 #[cfg(test)]
+mod scripts;
+#[cfg(test)]
 mod sealing_tests;
+#[cfg(test)]
+mod words;

@@ -5,4 +5,3 @@ pub mod Connecting
 pub mod FrameOctets
 pub mod Going
 pub mod Shutting
-pub mod Words

@@ -22,11 +22,11 @@ pub(crate) const ON: u8 = 1;
 const EVENT_SLOTS: u64 = 3;
 
 /// The most octets of advertising data (Core 5.2, volume 4 part E, section 7.8.7).
-pub(crate) const MOST_DATA: usize = 31;
+const MOST_DATA: usize = 31;
 
 /// What the host set of advertising (Core 5.2, volume 4 part E, sections 7.8.5 to 7.8.8), and the
 /// advertiser while it is on.
-#[derive(Debug, Drop)]
+#[derive(Drop)]
 pub(crate) struct Advertising {
     /// The parameters; the own address among them is found as it is turned on.
     off: AdvOff,

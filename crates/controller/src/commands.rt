@@ -1,14 +1,13 @@
 //! Commands of the host: their answers, and what they change.
 ghost use Rattle.std.specs.Prelude.{◌≡◌, ◌≤◌, ◌<◌, ◌+◌, ◌%◌, ◌++◌, ℕ, List, length, [], ◌∷◌};
-ghost use Rattle.std.specs.Option.{option_to_list};
 ghost use Rattle.arrayvec.specs.ArrayVec.{array_vec_len};
 ghost use Rattle.acl_banks.specs.declared.pieces.Piece.{Piece};
 ghost use Rattle.hci_cmd.specs.Command.{command_of};
 ghost use Rattle.hci_cmd.specs.declared.command.CmdRead.TheVariants.{Known};
-ghost use Rattle.hci_cmd.specs.declared.command.Command.TheVariants.{LeCreateCancel};
 ghost use Rattle.host_view.specs.Unbuilt.{status_of};
 ghost use Rattle.open_links.specs.Knowing.{Knows as KnowsLinks};
 ghost use Rattle.open_links.specs.OpenLinks.{Links};
+ghost use Rattle.controller_model.specs.Answers.{answer_with};
 ghost use Rattle.controller_model.specs.Commands.{advertising_after, events_caused, facts_accepted};
 ghost use Rattle.controller_model.specs.Commands.{facts_commanded, fields_given, initiator_after};
 ghost use Rattle.controller_model.specs.Commands.{links_after, notes_before, notes_commanded, own_address};
@@ -23,10 +22,7 @@ ghost use Rattle.controller.specs.Order.{Stays};
 ghost use Rattle.controller.specs.Steps.{held_accepted, links_notes, place_after};
 
 use crate::advertising::{Advertising, ON};
-use crate::answers::{short_answer, status_answer};
 use crate::controllers::Controller;
-use crate::masks::{tell, tell_if, wants_enhanced};
-use crate::opening::{connection_failed, note_shuts};
 use crate::scanning::Scanning;
 use adv_pdu::ConnectFields;
 use advertise::AdvParams;
@@ -34,7 +30,11 @@ use ble_base::{Address, ErrCode, Outbox, SlotNo};
 use h4_frames::{Fed, HostPacket};
 use hci_cmd::{CmdRead, Command, read};
 use hci_evt::Event;
-use host_view::{HostView, status};
+use host_notes::{
+    fields_with, note_shuts, refused_answer, short_answer, status_answer, tell, tell_accepted,
+    tell_caused,
+};
+use host_view::status;
 use scan_init::{InitParams, Initiator};
 use slot_plan::Activity;
 
@@ -64,30 +64,6 @@ fn fields_given(max: u16, latency: u16, timeout: u16) -> ConnectFields
         latency,
         timeout,
         ..ConnectFields::default()
-    }
-}
-
-/// Sends the host the event of a connection that was not made because the host cancelled it.
-#[inline(never)]
-fn tell_cancelled(view: &HostView, out: &mut Outbox)
-    requires { array_vec_len out.old < 64 }
-    ensures { (facts : Facts) → view.now ≡ facts.view → out.new.items
-        ≡ out.old.items ++ notes_of_events facts.view (events_caused facts LeCreateCancel) }
-{
-    let status = ErrCode::UNKNOWN_CONNECTION_IDENTIFIER;
-    tell(view, &connection_failed(wants_enhanced(view), status), out);
-}
-
-/// Sends the host the event that an accepted command causes after its answer: LE Create Connection
-/// Cancel that of a connection that was not made.
-fn tell_caused(view: &HostView, command: &Command, out: &mut Outbox)
-    requires { array_vec_len out.old < 64 }
-    ensures { (facts : Facts) → view.now ≡ facts.view → out.new.items
-        ≡ out.old.items ++ notes_of_events facts.view (events_caused facts command.now) }
-{
-    match command {
-        Command::LeCreateCancel => tell_cancelled(view, out),
-        _ => {}
     }
 }
 
@@ -313,19 +289,21 @@ impl<const L: usize, const T: usize, const R: usize> Controller<L, T, R> {
     }
 
     /// Carries out an accepted command, and notes its answer and what it causes.
-    fn take_accepted(&mut self, command: &Command, answer: &Option<Event>, out: &mut Outbox)
+    fn take_accepted(&mut self, opcode: u16, command: &Command, out: &mut Outbox)
         requires status { status_of self.old.view command.now ≡ 0 }
         requires room { array_vec_len out.old ≤ 50 }
         ensures at { (has : Setup) (facts : Facts) → IsAt has self.old facts
             → IsAt has self.new (facts_accepted has facts command.now) }
         ensures notes { (has : Setup) (facts : Facts) → IsAt has self.old facts
             → out.new.items ≡ out.old.items ++ notes_before facts command.now
-            ++ notes_of_events facts.view (option_to_list answer.now)
+            ++ notes_of_events facts.view (answer_with has facts opcode command.now 0)
             ++ notes_of_events facts.view (events_caused facts command.now) }
         ensures stays { Stays self.old self.new }
     {
+        let mut fields = fields_with(ErrCode::SUCCESS);
+        self.put_returned(command, &mut fields);
         self.accept_links(command, out);
-        tell_if(&self.view, answer, out);
+        tell_accepted(&self.view, opcode, command, fields, out);
         tell_caused(&self.view, command, out);
         self.accept(command);
     }
@@ -341,11 +319,10 @@ impl<const L: usize, const T: usize, const R: usize> Controller<L, T, R> {
         ensures stays { Stays self.old self.new }
     {
         let status = status(&self.view, command);
-        let answer = self.answer(opcode, command, status);
         if status == ErrCode::SUCCESS {
-            self.take_accepted(command, &answer, out);
+            self.take_accepted(opcode, command, out);
         } else {
-            tell_if(&self.view, &answer, out);
+            tell(&self.view, &refused_answer(opcode, command, status), out);
         }
     }
 

@@ -14,7 +14,6 @@ mod commands;
 mod controllers;
 mod host_data;
 mod intents;
-mod masks;
 mod opening;
 mod packets;
 mod phases;

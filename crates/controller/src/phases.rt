@@ -1,10 +1,10 @@
 //! A phase of a turn: what is made of a packet that was heard, or of none.
 ghost use Rattle.std.specs.Prelude.{◌≡◌, ◌≤◌, ◌<◌, ◌+◌, ◌^◌, ℕ, false, List, IfSome};
-ghost use Rattle.std.specs.Option.{option_and_then, option_to_list};
+ghost use Rattle.std.specs.Option.{option_and_then};
 ghost use Rattle.arrayvec.specs.ArrayVec.{array_vec_len};
 ghost use Rattle.acl_banks.specs.declared.pieces.Piece.{Piece};
 ghost use Rattle.ble_base.specs.declared.notes.Note.{Note};
-ghost use Rattle.adv_pdu.specs.Pdu.{FitsBits, body_of, sender_of};
+ghost use Rattle.adv_pdu.specs.Pdu.{FitsBits, sender_of};
 ghost use Rattle.adv_pdu.specs.Ranges.{IsInRange};
 ghost use Rattle.scan_init.specs.Reports.{does_ask};
 ghost use Rattle.open_links.specs.Knowing.{Knows as KnowsLinks};
@@ -15,89 +15,33 @@ ghost use Rattle.advertise.specs.Answers.{advertiser_answer};
 ghost use Rattle.controller_model.specs.Packets.{pdu_heard};
 ghost use Rattle.controller_model.specs.Heard.{advertiser_answers, advertiser_heard};
 ghost use Rattle.controller_model.specs.Heard.{answers_by_connecting, asks_if, connects, if_pdu, taken_if};
-ghost use Rattle.controller_model.specs.Heard.{does_report, events_reported, facts_connecting};
 ghost use Rattle.controller_model.specs.Heard.{fields_sent, heard, initiator_heard, is_new_between};
-ghost use Rattle.controller_model.specs.Heard.{link_heard, link_to, next_access_of, octets_reported};
-ghost use Rattle.controller_model.specs.Heard.{report_event, scanner_heard, taken_under, unheard};
+ghost use Rattle.controller_model.specs.Heard.{link_heard, link_to, next_access_of};
+ghost use Rattle.controller_model.specs.Heard.{scanner_heard, taken_under, unheard};
 ghost use Rattle.controller.specs.Fitting.{CanDo, CanFollow, IsAnswerable, IsOpenable};
 ghost use Rattle.controller.specs.Knowing.{IsAt, Passes, PassesOn};
 ghost use Rattle.controller.specs.Order.{HasNotReceived, ReceivesOnce, Stays, listens_on_link};
 ghost use Rattle.controller.specs.Steps.{held_connecting};
 
-use crate::advertising::MOST_DATA;
 use crate::controllers::Controller;
-use crate::masks::tell_if;
-use crate::opening::address_kind;
 use crate::packets::read_pdu;
 use adv_pdu::{AdvPdu, ConnectFields};
 use advertise::{AdvAnswer, AdvOn};
-use arrayvec::ArrayVec;
 use ble_base::{Address, Outbox, Role, SlotNo};
 use controller_model::Doing;
-use hci_evt::Event;
+use host_notes::{event_reported, tell_if};
 use link_model::LinkSetup;
-use scan_init::{AcceptList, Initiator, ReportKind, ScanAnswer, next_access};
-use wire_fields::put_octets;
-
-/// The signal strength in a report where it is not known (Core 5.2, volume 4 part E, section
-/// 7.7.65.2).
-const NO_RSSI: u8 = 0x7F;
+use scan_init::{AcceptList, Initiator, ScanAnswer, next_access};
 
 /// The most octets of a payload that the ends of this controller receive (volume 6 part B, section
 /// 4.5.10).
 const MOST_RECEIVED: u16 = 251;
-
-/// The advertising or scan response data of a PDU.
-fn octets_reported(pdu: &AdvPdu) -> ArrayVec<u8, MOST_DATA>
-    ensures { result.items ≡ octets_reported (body_of pdu.now) }
-{
-    let mut octets = ArrayVec::new();
-    match pdu {
-        AdvPdu::Ind { body, .. }
-        | AdvPdu::Nonconn { body, .. }
-        | AdvPdu::ScanRsp { body, .. }
-        | AdvPdu::ScanInd { body, .. } => put_octets(&mut octets, body.as_slice()),
-        _ => {}
-    }
-    octets
-}
-
-/// The report of a PDU of this kind.
-fn report_event(pdu: &AdvPdu, kind: ReportKind) -> Event
-    ensures { result ≡ report_event pdu.now kind }
-{
-    let from = pdu.sender();
-    Event::AdvertisingReport {
-        kind: kind.event_type(),
-        address_kind: address_kind(&from),
-        address: from.octets,
-        octets: octets_reported(pdu),
-        rssi: NO_RSSI,
-    }
-}
-
-/// Whether the answer of a scanner has it report.
-fn does_report(answer: ScanAnswer) -> bool
-    ensures { result ≡ does_report answer }
-{
-    matches!(answer, ScanAnswer::Report | ScanAnswer::ReportAndAsk)
-}
 
 /// Whether the answer of a scanner has it send a SCAN_REQ.
 fn does_ask(answer: ScanAnswer) -> bool
     ensures { result ≡ does_ask answer }
 {
     matches!(answer, ScanAnswer::Ask | ScanAnswer::ReportAndAsk)
-}
-
-/// The report of a PDU, where the answer of the scanner has it report.
-fn event_reported(answer: ScanAnswer, pdu: &AdvPdu) -> Option<Event>
-    ensures { option_to_list result ≡ events_reported answer pdu.now }
-{
-    if !does_report(answer) {
-        return None;
-    }
-    Some(report_event(pdu, ReportKind::of(pdu)?))
 }
 
 /// What an active scanner does after an advertisement: it asks, or not.

@@ -15,7 +15,7 @@ const FIRST_SCAN_TIME: u16 = 0x0010;
 
 /// What the host set of scanning (Core 5.2, volume 4 part E, sections 7.8.10 and 7.8.11), and the
 /// scanner while it is on.
-#[derive(Debug, Drop)]
+#[derive(Drop)]
 pub(crate) struct Scanning {
     active: bool,
     /// The interval and the window, in units of 0.625 ms.

@@ -2,6 +2,7 @@
 -- 7.7.14 and 7.7.15).
 use Rattle.std.specs.Prelude.{◌≡◌, ℕ, ◌%◌, ◌==◌, ◌||◌, Bool, true, false, List, [], ◌∷◌, ◌++◌, length, replicate, slice_index, Option, Some, None, if◌then◌else◌}
 use Rattle.wire_fields.specs.Field.{little_endian}
+use Rattle.ble_base.specs.Limits.{payload_octets}
 use Rattle.hci_cmd.specs.declared.command.Command.{Command}
 use Rattle.hci_cmd.specs.declared.command.Command.TheVariants.{HostCompleted, ReadLocalVersion, ReadLocalFeatures, ReadBdAddr, LeReadBufferSize, LeReadFeatures, LeReadListSize, LeReadChannelMap, LeRand, LeKeyReply, LeKeyNegative, LeParamReply, LeParamNegative, LeSetDataLength, LeReadMaxLength, LeReadPhy}
 use Rattle.hci_cmd.specs.declared.command.CmdRead.{CmdRead}
@@ -45,12 +46,12 @@ abbrev pub returned : Setup → Facts → Command → List ℕ
 returned setup facts ReadLocalVersion = 0x0B ∷ 0x01 ∷ 0x00 ∷ 0x0B ∷ 0xFF ∷ 0xFF ∷ 0x01 ∷ 0x00 ∷ []
 returned setup facts ReadLocalFeatures = 0 ∷ 0 ∷ 0 ∷ 0 ∷ 0x60 ∷ 0 ∷ 0 ∷ 0 ∷ []
 returned setup facts ReadBdAddr = setup.public
-returned setup facts LeReadBufferSize = little_endian 2 251 ++ setup.host_buffers ∷ []
+returned setup facts LeReadBufferSize = little_endian 2 payload_octets ++ setup.host_buffers ∷ []
 returned setup facts LeReadFeatures = features
 returned setup facts LeReadListSize = 8 ∷ []
 returned setup facts LeRand = little_endian 8 (next_word setup facts.drawn)
 returned setup facts LeReadMaxLength =
-    little_endian 2 251 ++ little_endian 2 2120 ++ little_endian 2 251 ++ little_endian 2 2120
+    little_endian 2 payload_octets ++ little_endian 2 2120 ++ little_endian 2 payload_octets ++ little_endian 2 2120
 returned setup facts (LeReadChannelMap handle) =
     little_endian 2 handle ++ little_endian 5 (map_of (link_at handle facts.links))
 returned setup facts (LeReadPhy handle) = little_endian 2 handle ++ 1 ∷ 1 ∷ []

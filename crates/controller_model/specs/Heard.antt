@@ -4,6 +4,7 @@ use Rattle.std.specs.Prelude.{ℕ, ◌+◌, ◌&&◌, nat_lt, not, Bool, true, f
 use Rattle.ble_base.specs.declared.addresses.Address.{Address}
 use Rattle.ble_base.specs.declared.notes.Note.{Note}
 use Rattle.ble_base.specs.declared.roles.Role.TheVariants.{Central, Peripheral}
+use Rattle.ble_base.specs.Limits.{payload_octets}
 use Rattle.acl_banks.specs.declared.pieces.Piece.{Piece}
 use Rattle.adv_pdu.specs.declared.pdu.AdvPdu.{AdvPdu}
 use Rattle.adv_pdu.specs.declared.pdu.ConnectFields.{ConnectFields}
@@ -54,7 +55,7 @@ unheard other facts = goes_on facts Rests
 
 -- the most octets of a payload that the ends of this controller receive (section 4.5.10; our choice)
 abbrev pub most_received : ℕ
-most_received = 251
+most_received = payload_octets
 
 -- a link that it takes, under a free handle
 abbrev pub link_taken : Address → AdvPdu → ConnectFields → ℕ → LinkSetup

@@ -13,7 +13,7 @@ use Rattle.adv_pdu.specs.Reading.{read_of}
 use Rattle.advertise.specs.Advertising.{advertisement}
 use Rattle.air_frame.specs.declared.Heard.{Heard}
 use Rattle.air_frame.specs.declared.Heard.TheVariants.{NotOurs, Broken as Faulty, Whole}
-use Rattle.air_frame.specs.declared.advertising.TheConstants.{ADVERTISING_ACCESS, ADVERTISING_CRC_INIT}
+use Rattle.air_frame.specs.Advertising.{advertising_access, advertising_crc_init}
 use Rattle.air_frame.specs.Hearing.{heard_in}
 use Rattle.air_frame.specs.Packet.{on_air}
 use Rattle.link_model.specs.declared.setup.LinkSetup.{LinkSetup}
@@ -29,7 +29,7 @@ use Rattle.controller_model.specs.Facts.{Facts, Use, Sends, Listens, Idle}
 
 -- a PDU on one of the advertising channels
 abbrev pub advertising_packet : ℕ → AdvPdu → List ℕ
-advertising_packet channel pdu = on_air channel ADVERTISING_ACCESS ADVERTISING_CRC_INIT (written pdu)
+advertising_packet channel pdu = on_air channel advertising_access advertising_crc_init (written pdu)
 
 abbrev pub sends_pdu : ℕ → Option AdvPdu → Use
 sends_pdu channel None = Idle
@@ -114,7 +114,7 @@ channel_listened Idle = None
 -- ---- the verdict on what reaches it (our choice)
 
 abbrev pub heard_on_channel : ℕ → List ℕ → Heard
-heard_on_channel channel octets = heard_in channel ADVERTISING_ACCESS ADVERTISING_CRC_INIT octets
+heard_on_channel channel octets = heard_in channel advertising_access advertising_crc_init octets
 
 abbrev pub verdict_by : Heard → Verdict
 verdict_by NotOurs = Missed

@@ -1,167 +1,134 @@
-//! The channels of a whole link, against programs that go by single steps and bits.
-use crate::link_tests::{CONNECT_IND, Pair, entered, ready};
-use crate::shared::{CONNECTABLE_B, begin, begin_noting, command, phase, rest, sends};
-use ble_base::{Note, Outbox};
-use controller::Intent;
-use std::process::Abort;
+//! The channels of the events of a link, by both algorithms.
+use crate::scripts::check;
+use std::alloc::AllocError;
 
-/// The CONNECT_IND of the first link, but with ChSel 0.
-const WITHOUT_CH_SEL: [u8; 43] = [
-    0xD6, 0xBE, 0x89, 0x8E, 0x88, 0xF0, 0x5D, 0xA1, 0x3D, 0x49, 0x99, 0x70, 0x7E, 0x31, 0x11, 0xA6,
-    0x69, 0xB7, 0xD1, 0xA2, 0x30, 0x98, 0xAA, 0xD0, 0x9E, 0x52, 0x33, 0xD8, 0xA2, 0x98, 0x08, 0x24,
-    0x83, 0x3B, 0x03, 0x8E, 0x5C, 0x0B, 0x4A, 0x6D, 0xD8, 0xE1, 0xAE,
-];
+/// Both ends over six events, of which nothing is heard. A device with ChSel 0 asks for algorithm
+/// #1. The channels and the packets are those of another program, which goes by single bits.
+const CHANNELS: &str = "\
+# Algorithm #2 on all channels
+a host 01010c08ffffffffff1f0020 = up 040e0401010c00
+a host 010d20196000600000000b0000eeffc000180018000000480000000000 = up 040f0400010d20
+b host 01010c08ffffffffff1f0020 = up 040e0401010c00
+b host 010a200101 = up 040e04010a2000
+a begin 0 = listen 37
+a hear d6be898eadd45ca13d499970ede427 = send 37 \
+    d6be898ea8f05da13d4999707e3111a669b7d1a23098aad09e5233d8a2980824833b038e5c0b4a6dc6c387
+a unheard = idle open 0 central public 0a0000eeffc0 public 0b0000eeffc0 up \
+    043e130100000000000b0000eeffc018000000480000
+a unheard = idle
+a end
+b begin 0 = send 37 d6be898eadd45ca13d499970ede427
+b unheard = listen 37
+b judge d6be898ea8f05da13d4999707e3111a669b7d1a23098aad09e5233d8a2980824833b038e5c0b4a6dc6c387 = \
+    good
+b hear d6be898ea8f05da13d4999707e3111a669b7d1a23098aad09e5233d8a2980824833b038e5c0b4a6dc6c387 = \
+    idle open 0 peripheral public 0b0000eeffc0 public 0a0000eeffc0 up \
+    043e130100000001000a0000eeffc018000000480000
+b unheard = idle
+b end
+a turns 1 144 = 2 send 25 2941767150fa1ee550 enter 0 0 25 listen 25 idle idle 26 send 20 \
+    29417671f5555c9e1e enter 0 1 20 listen 20 idle idle 50 send 6 29417671f79cae9061 enter 0 2 6 \
+    listen 6 idle idle 74 send 21 294176713ca752e1c2 enter 0 3 21 listen 21 idle idle 98 send 34 \
+    29417671f30e4b8d9f enter 0 4 34 listen 34 idle idle 122 send 36 2941767145206d8f56 enter 0 5 \
+    36 listen 36 idle idle
+b turns 1 144 = 2 listen 25 enter 0 0 25 idle idle idle 26 listen 20 enter 0 1 20 idle idle idle \
+    50 listen 6 enter 0 2 6 idle idle idle 74 listen 21 enter 0 3 21 idle idle idle 98 listen 34 \
+    enter 0 4 34 idle idle idle 122 listen 36 enter 0 5 36 idle idle idle
+start
+# Algorithm #2 on the channels 9, 10, 21, 22, 23, 33, 34, 35 and 36
+a host 01010c08ffffffffff1f0020 = up 040e0401010c00
+a host 010d20196000600000000b0000eeffc000180018000000480000000000 = up 040f0400010d20
+b host 01010c08ffffffffff1f0020 = up 040e0401010c00
+b host 010a200101 = up 040e04010a2000
+a host 011420050006e0001e = up 040e0401142000
+a begin 0 = listen 37
+a hear d6be898eadd45ca13d499970ede427 = send 37 \
+    d6be898ea8f05da13d4999707e3111a669b7d1a23098aad09e5233d8a2980824833bfc7743f44b6d171dc3
+a unheard = idle open 0 central public 0a0000eeffc0 public 0b0000eeffc0 up \
+    043e130100000000000b0000eeffc018000000480000
+a unheard = idle
+a end
+b begin 0 = send 37 d6be898eadd45ca13d499970ede427
+b unheard = listen 37
+b judge d6be898ea8f05da13d4999707e3111a669b7d1a23098aad09e5233d8a2980824833bfc7743f44b6d171dc3 = \
+    good
+b hear d6be898ea8f05da13d4999707e3111a669b7d1a23098aad09e5233d8a2980824833bfc7743f44b6d171dc3 = \
+    idle open 0 peripheral public 0b0000eeffc0 public 0a0000eeffc0 up \
+    043e130100000001000a0000eeffc018000000480000
+b unheard = idle
+b end
+a turns 1 144 = 2 send 35 294176713afc45f243 enter 0 0 35 listen 35 idle idle 26 send 9 \
+    29417671c0d6f11597 enter 0 1 9 listen 9 idle idle 50 send 33 29417671a819580cfb enter 0 2 33 \
+    listen 33 idle idle 74 send 21 294176713ca752e1c2 enter 0 3 21 listen 21 idle idle 98 send \
+    34 29417671f30e4b8d9f enter 0 4 34 listen 34 idle idle 122 send 36 2941767145206d8f56 enter \
+    0 5 36 listen 36 idle idle
+b turns 1 144 = 2 listen 35 enter 0 0 35 idle idle idle 26 listen 9 enter 0 1 9 idle idle idle \
+    50 listen 33 enter 0 2 33 idle idle idle 74 listen 21 enter 0 3 21 idle idle idle 98 listen \
+    34 enter 0 4 34 idle idle idle 122 listen 36 enter 0 5 36 idle idle idle
+start
+# Algorithm #1 on all channels
+a host 01010c08ffffffffff1f0020 = up 040e0401010c00
+a host 010d20196000600000000b0000eeffc000180018000000480000000000 = up 040f0400010d20
+b host 01010c08ffffffffff1f0020 = up 040e0401010c00
+b host 010a200101 = up 040e04010a2000
+a begin 0 = listen 37
+a hear d6be898e8dd45ca13d4999703ea7d9 = send 37 \
+    d6be898ea8f05da13d4999707e3111a669b7d1a23098aad09e5233d8a2980824833b038e5c0b4a6dc6c387
+a unheard = idle open 0 central public 0a0000eeffc0 public 0b0000eeffc0 up \
+    043e130100000000000b0000eeffc018000000480000
+a unheard = idle
+a end
+b begin 0 = send 37 d6be898eadd45ca13d499970ede427
+b unheard = listen 37
+b judge d6be898e88f05da13d4999707e3111a669b7d1a23098aad09e5233d8a2980824833b038e5c0b4a6dd8e1ae = \
+    good
+b hear d6be898e88f05da13d4999707e3111a669b7d1a23098aad09e5233d8a2980824833b038e5c0b4a6dd8e1ae = \
+    idle open 0 peripheral public 0b0000eeffc0 public 0a0000eeffc0 up \
+    043e130100000001000a0000eeffc018000000480000
+b unheard = idle
+b end
+a turns 1 144 = 2 send 5 29417671ac8bbd1105 enter 0 0 5 listen 5 idle idle 26 send 10 \
+    294176719bc1e294f3 enter 0 1 10 listen 10 idle idle 50 send 15 2941767176f8d7175e enter 0 2 \
+    15 listen 15 idle idle 74 send 20 29417671f5555c9e1e enter 0 3 20 listen 20 idle idle 98 \
+    send 25 2941767150fa1ee550 enter 0 4 25 listen 25 idle idle 122 send 30 294176712f26369845 \
+    enter 0 5 30 listen 30 idle idle
+b turns 1 144 = 2 listen 5 enter 0 0 5 idle idle idle 26 listen 10 enter 0 1 10 idle idle idle \
+    50 listen 15 enter 0 2 15 idle idle idle 74 listen 20 enter 0 3 20 idle idle idle 98 listen \
+    25 enter 0 4 25 idle idle idle 122 listen 30 enter 0 5 30 idle idle idle
+start
+# Algorithm #1 on the channels 9, 10, 21, 22, 23, 33, 34, 35 and 36
+a host 01010c08ffffffffff1f0020 = up 040e0401010c00
+a host 010d20196000600000000b0000eeffc000180018000000480000000000 = up 040f0400010d20
+b host 01010c08ffffffffff1f0020 = up 040e0401010c00
+b host 010a200101 = up 040e04010a2000
+a host 011420050006e0001e = up 040e0401142000
+a begin 0 = listen 37
+a hear d6be898e8dd45ca13d4999703ea7d9 = send 37 \
+    d6be898ea8f05da13d4999707e3111a669b7d1a23098aad09e5233d8a2980824833bfc7743f44b6d171dc3
+a unheard = idle open 0 central public 0a0000eeffc0 public 0b0000eeffc0 up \
+    043e130100000000000b0000eeffc018000000480000
+a unheard = idle
+a end
+b begin 0 = send 37 d6be898eadd45ca13d499970ede427
+b unheard = listen 37
+b judge d6be898e88f05da13d4999707e3111a669b7d1a23098aad09e5233d8a2980824833bfc7743f44b6d093fea = \
+    good
+b hear d6be898e88f05da13d4999707e3111a669b7d1a23098aad09e5233d8a2980824833bfc7743f44b6d093fea = \
+    idle open 0 peripheral public 0b0000eeffc0 public 0a0000eeffc0 up \
+    043e130100000001000a0000eeffc018000000480000
+b unheard = idle
+b end
+a turns 1 144 = 2 send 33 29417671a819580cfb enter 0 0 33 listen 33 idle idle 26 send 10 \
+    294176719bc1e294f3 enter 0 1 10 listen 10 idle idle 50 send 34 29417671f30e4b8d9f enter 0 2 \
+    34 listen 34 idle idle 74 send 21 294176713ca752e1c2 enter 0 3 21 listen 21 idle idle 98 \
+    send 35 294176713afc45f243 enter 0 4 35 listen 35 idle idle 122 send 22 2941767167b04160a6 \
+    enter 0 5 22 listen 22 idle idle
+b turns 1 144 = 2 listen 33 enter 0 0 33 idle idle idle 26 listen 10 enter 0 1 10 idle idle idle \
+    50 listen 34 enter 0 2 34 idle idle idle 74 listen 21 enter 0 3 21 idle idle idle 98 listen \
+    35 enter 0 4 35 idle idle idle 122 listen 22 enter 0 5 22 idle idle idle
+";
 
-/// The CONNECT_IND of the first link, and the one with ChSel 0, but with the nine channels below.
-const ON_NINE: [u8; 43] = [
-    0xD6, 0xBE, 0x89, 0x8E, 0xA8, 0xF0, 0x5D, 0xA1, 0x3D, 0x49, 0x99, 0x70, 0x7E, 0x31, 0x11, 0xA6,
-    0x69, 0xB7, 0xD1, 0xA2, 0x30, 0x98, 0xAA, 0xD0, 0x9E, 0x52, 0x33, 0xD8, 0xA2, 0x98, 0x08, 0x24,
-    0x83, 0x3B, 0xFC, 0x77, 0x43, 0xF4, 0x4B, 0x6D, 0x17, 0x1D, 0xC3,
-];
-
-const ON_NINE_WITHOUT_CH_SEL: [u8; 43] = [
-    0xD6, 0xBE, 0x89, 0x8E, 0x88, 0xF0, 0x5D, 0xA1, 0x3D, 0x49, 0x99, 0x70, 0x7E, 0x31, 0x11, 0xA6,
-    0x69, 0xB7, 0xD1, 0xA2, 0x30, 0x98, 0xAA, 0xD0, 0x9E, 0x52, 0x33, 0xD8, 0xA2, 0x98, 0x08, 0x24,
-    0x83, 0x3B, 0xFC, 0x77, 0x43, 0xF4, 0x4B, 0x6D, 0x09, 0x3F, 0xEA,
-];
-
-/// ADV_IND of the second device on channel 37, with ChSel 0.
-const CONNECTABLE_WITHOUT_CH_SEL: [u8; 15] = [
-    0xD6, 0xBE, 0x89, 0x8E, 0x8D, 0xD4, 0x5C, 0xA1, 0x3D, 0x49, 0x99, 0x70, 0x3E, 0xA7, 0xD9,
-];
-
-/// The access address of the first link, and its hop increment.
-const ACCESS: u32 = 0x7176_4129;
-
-const HOP: u32 = 5;
-
-const ALL: u64 = 0x1F_FFFF_FFFF;
-
-/// Channels 9, 10, 21, 22, 23, 33, 34, 35 and 36, and LE Set Host Channel Classification with them.
-const NINE: u64 = 0x1E_00E0_0600;
-
-const USE_NINE: [u8; 9] = [0x01, 0x14, 0x20, 0x05, 0x00, 0x06, 0xE0, 0x00, 0x1E];
-
-/// What a listener hears of another controller.
-fn heard_of<'a>(own: &Intent, other: &'a Intent) -> Option<&'a [u8]> {
-    match (own, other) {
-        (
-            Intent::Listen { channel },
-            Intent::Send {
-                channel: on,
-                octets,
-            },
-        ) if channel == on => { Some(octets.as_slice()) }
-        _ => None,
-    }
-}
-
-/// A turn of both, in which each hears what the other sends on its channel. Both note this as it
-/// begins.
-fn turn_of_both(rt: &impl Abort, pair: &mut Pair, slot: u32, expected: Option<Note>) {
-    let (mut out, mut other_out) = (Outbox::new(), Outbox::new());
-    let mut first = begin_noting(rt, &mut pair.central, slot, true, &mut out);
-    let mut second = begin_noting(rt, &mut pair.peripheral, slot, true, &mut other_out);
-    assert_eq!(rt; out.as_slice().first(), expected.as_ref(), "in {slot}");
-    assert_eq!(rt; other_out, out, "in {slot}");
-    for _ in 0..3 {
-        let next = phase(rt, &mut pair.central, heard_of(&first, &second));
-        second = phase(rt, &mut pair.peripheral, heard_of(&second, &first));
-        first = next;
-    }
-    pair.central.end_turn(&mut Outbox::new());
-    pair.peripheral.end_turn(&mut Outbox::new());
-}
-
-/// A link of 100 events, one every 24 slots from slot 2 on, on the channels that a plain program
-/// selects.
-fn follow(rt: &impl Abort, pair: &mut Pair, two: bool, map: u64) {
-    let mut unmapped = 0;
-    for slot in 1..2400_u32 {
-        let expected = if slot % 24 == 2 {
-            let event = slot / 24;
-            unmapped = (unmapped % 37 + HOP) % 37;
-            let channel = if two {
-                channel_two(event, map)
-            } else {
-                channel_one(unmapped, map)
-            };
-            Some(entered(u64::from(event), channel))
-        } else {
-            None
-        };
-        turn_of_both(rt, pair, slot, expected);
-    }
-}
-
-/// A link on these channels, with these packets as they are heard by the other side.
 #[test]
-fn channels_of_a_whole_link(rt: HostRuntime) {
-    for (two, is_nine, advertisement, connect) in [
-        (true, false, CONNECTABLE_B, CONNECT_IND),
-        (true, true, CONNECTABLE_B, ON_NINE),
-        (false, false, CONNECTABLE_WITHOUT_CH_SEL, WITHOUT_CH_SEL),
-        (
-            false,
-            true,
-            CONNECTABLE_WITHOUT_CH_SEL,
-            ON_NINE_WITHOUT_CH_SEL,
-        ),
-    ] {
-        let mut pair = ready(&rt, rt.alloc());
-        if is_nine {
-            command(&rt, &mut pair.central, &USE_NINE, 0x00);
-        }
-        begin(&rt, &mut pair.central, 0);
-        let wanted = phase(&rt, &mut pair.central, Some(&advertisement));
-        assert!(rt; !two || wanted == sends(&rt, 37, &connect));
-        rest(&mut pair.central);
-        begin(&rt, &mut pair.peripheral, 0);
-        phase(&rt, &mut pair.peripheral, None);
-        pair.peripheral.heard(&connect, &mut Outbox::new());
-        phase(&rt, &mut pair.peripheral, None);
-        pair.peripheral.end_turn(&mut Outbox::new());
-        follow(&rt, &mut pair, two, if is_nine { NINE } else { ALL });
-    }
-}
-
-/// Channel selection algorithm #1, where this is unmappedChannel (Core 5.2, volume 6 part B, section
-/// 4.5.8.2).
-fn channel_one(unmapped: u32, map: u64) -> u8 {
-    let used = map.count_ones();
-    remapped(map, unmapped, unmapped.checked_rem(used).unwrap_or(0))
-}
-
-/// Channel selection algorithm #2 (section 4.5.8.3), bit by bit.
-fn channel_two(event: u32, map: u64) -> u8 {
-    let identifier = (ACCESS >> 16 ^ ACCESS) & 0xFFFF;
-    let mut number = (event ^ identifier) & 0xFFFF;
-    for _ in 0..3 {
-        let mut turned = 0;
-        for bit in 0..8_u32 {
-            turned |= (number >> bit & 1) << (7 - bit);
-            turned |= (number >> (8 + bit) & 1) << (15 - bit);
-        }
-        number = ((turned & 0xFFFF) * 17 + identifier) & 0xFFFF;
-    }
-    let number = (number ^ identifier) & 0xFFFF;
-    let scaled = u64::from(map.count_ones()) * u64::from(number) / 65536;
-    remapped(map, number % 37, u32::try_from(scaled).unwrap_or(0))
-}
-
-/// The channel of an unmapped one: itself where the map uses it, else the one in use at this place.
-fn remapped(map: u64, unmapped: u32, place: u32) -> u8 {
-    if unmapped < 37 && map >> unmapped & 1 == 1 {
-        return unmapped as u8;
-    }
-    let mut left = place;
-    for channel in 0..37_u8 {
-        if map >> channel & 1 == 1 {
-            if left == 0 {
-                return channel;
-            }
-            left -= 1;
-        }
-    }
-    0xFF
+fn both_ends_change_channels(rt: HostRuntime) -> Result<(), AllocError> {
+    check(&rt, rt.alloc(), &[0x1D12_3456], CHANNELS)
 }

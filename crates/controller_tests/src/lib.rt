@@ -1,10 +1,12 @@
-//! Tests of a controller, over public contracts alone.
+//! Tests of a controller: scripts of calls, each with what it gives.
 #![tactic(auto)]
 
 #[cfg(test)]
 mod advertising_tests;
 #[cfg(test)]
 mod answer_tests;
+#[cfg(test)]
+mod calls;
 #[cfg(test)]
 mod channel_tests;
 #[cfg(test)]
@@ -16,4 +18,6 @@ mod link_tests;
 #[cfg(test)]
 mod scanning_tests;
 #[cfg(test)]
-mod shared;
+mod scripts;
+#[cfg(test)]
+mod words;

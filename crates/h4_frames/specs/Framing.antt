@@ -2,7 +2,7 @@
 -- Layouts of packets: volume 4 part E, sections 5.4.1 and 5.4.2. Recovery by an HCI_Reset: volume 4 part A, section 4;
 -- that its octets may begin anywhere is our choice.
 use Rattle.std.specs.Prelude.{◌≡◌, ℕ, ◌+◌, false, List, [], ◌∷◌, ◌++◌, length, take}
-use Rattle.ble_base.specs.declared.limits.TheConstants.{PAYLOAD_OCTETS}
+use Rattle.ble_base.specs.Limits.{payload_octets}
 use Rattle.h4_frames.specs.declared.packet.HostPacket.{HostPacket}
 use Rattle.h4_frames.specs.declared.packet.HostPacket.TheVariants.{Command, Acl}
 use Rattle.h4_frames.specs.declared.packet.Fed.{Fed}
@@ -18,7 +18,7 @@ pub data IsSentAs : HostPacket → List ℕ → Type 0 where
   -- indicator, handle and flags, the number of data octets, and these; at most 251 of them are kept (our choice)
   acl : (low high count_low count_high : ℕ) (octets : List ℕ) → word_of count_low count_high ≡ length octets
       → IsSentAs (Acl (handle_of (word_of low high)) (is_start (word_of low high)) (word_of count_low count_high)
-      (record { items = take PAYLOAD_OCTETS octets })) (0x02 ∷ low ∷ high ∷ count_low ∷ count_high ∷ octets)
+      (record { items = take payload_octets octets })) (0x02 ∷ low ∷ high ∷ count_low ∷ count_high ∷ octets)
 
 -- 01 03 0C 00 is nowhere in these octets
 abbrev pub HasNoReset : List ℕ → Type 0

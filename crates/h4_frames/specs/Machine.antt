@@ -1,6 +1,6 @@
 -- The stages of a framer, octet by octet (our choice).
 use Rattle.std.specs.Prelude.{ℕ, ◌+◌, ◌-◌, ◌==◌, nat_lt, if◌then◌else◌, List, [], ◌∷◌, ◌++◌, length, take, slice_index, Option, Some, None, ⊤}
-use Rattle.ble_base.specs.declared.limits.TheConstants.{PAYLOAD_OCTETS}
+use Rattle.ble_base.specs.Limits.{payload_octets}
 use Rattle.h4_frames.specs.declared.packet.HostPacket.{HostPacket}
 use Rattle.h4_frames.specs.declared.packet.HostPacket.TheVariants.{Command, Acl}
 use Rattle.h4_frames.specs.declared.packet.Fed.{Fed}
@@ -97,7 +97,7 @@ acl_stage (low ∷ high ∷ count_low ∷ count_high ∷ octets) =
       start = is_start word;
       length = count;
       left = count - length octets;
-      body = record { items = take PAYLOAD_OCTETS octets };
+      body = record { items = take payload_octets octets };
     })
 acl_stage head = AclHead (record { items = head })
 

@@ -1,7 +1,7 @@
 -- The packets that a host sends over H4, the UART transport (Core 5.2, volume 4 part A, section 2), and their layouts
 -- (volume 4 part E, sections 5.4.1 for commands and 5.4.2 for ACL data).
 use Rattle.std.specs.Prelude.{ℕ, ◌+◌, ◌/◌, ◌%◌, Bool, not, ◌||◌, ◌==◌, nat_le, if◌then◌else◌, List, [], ◌∷◌, length, take, Option, Some, None}
-use Rattle.ble_base.specs.declared.limits.TheConstants.{PAYLOAD_OCTETS}
+use Rattle.ble_base.specs.Limits.{payload_octets}
 use Rattle.wire_fields.specs.Field.{number_of}
 use Rattle.h4_frames.specs.declared.packet.HostPacket.{HostPacket}
 use Rattle.h4_frames.specs.declared.packet.HostPacket.TheVariants.{Command, Acl}
@@ -44,7 +44,7 @@ first_acl (low ∷ high ∷ count_low ∷ count_high ∷ octets) =
     if nat_le count (length octets)
     then Some (record {
       size = 5 + count;
-      packet = Acl (handle_of word) (is_start word) count (record { items = take PAYLOAD_OCTETS (take count octets) });
+      packet = Acl (handle_of word) (is_start word) count (record { items = take payload_octets (take count octets) });
     })
     else None
 first_acl _ = None

@@ -1,6 +1,6 @@
 -- Packets whose head is complete and whose octets are still coming (our choice).
 use Rattle.std.specs.Prelude.{ℕ, ◌+◌, ◌-◌, ◌<◌, ◌==◌, nat_lt, if◌then◌else◌, List, [], ◌∷◌, ◌++◌, length, Option, Some, None}
-use Rattle.ble_base.specs.declared.limits.TheConstants.{PAYLOAD_OCTETS}
+use Rattle.ble_base.specs.Limits.{payload_octets}
 use Rattle.h4_frames.specs.declared.packet.HostPacket.{HostPacket}
 use Rattle.h4_frames.specs.declared.packet.HostPacket.TheVariants.{Command, Acl}
 use Rattle.h4_frames.specs.declared.part.CommandPart.{CommandPart}
@@ -24,7 +24,7 @@ whole_command part = if part.left == 0 then Some (Command part.opcode part.body)
 
 -- the data with one octet more, up to 251 octets
 abbrev pub kept_data : List ℕ → ℕ → List ℕ
-kept_data body octet = if nat_lt (length body) PAYLOAD_OCTETS then body ++ octet ∷ [] else body
+kept_data body octet = if nat_lt (length body) payload_octets then body ++ octet ∷ [] else body
 
 -- the ACL data with one octet more
 abbrev pub acl_with : AclPart → ℕ → AclPart

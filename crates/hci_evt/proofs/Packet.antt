@@ -1,18 +1,32 @@
 -- The parts of a packet, one after another, and the event that a packet is.
-use Rattle.std.proofs.Common.{◌≡◌, ℕ, List, [], ◌∷◌, ◌++◌, ◌<◌, ◌≤◌, length, take, drop, ◌-◌, get_or, Option, Some, None, refl, sym, ap, ◌∙◌, append_assoc, inl, inr, arith}
+use Rattle.std.proofs.Common.{◌≡◌, ℕ, suc, ◌%◌, List, [], ◌∷◌, ◌++◌, ◌<◌, ◌≤◌, length, take, drop, ◌-◌, get_or, set, Option, Some, None, refl, sym, ap, ◌∙◌, inl, inr, arith}
 use Rattle.std.proofs.lemmas.Bool.Decides.{eqb_tells}
 use Rattle.std.proofs.Math.Seq.{take-length}
 use Rattle.std.specs.Prelude.{IfSome, IfNone}
-use Rattle.wire_fields.specs.Field.{little_endian, spelled, AllFit}
-use Rattle.wire_fields.proofs.Spelling.{octet_then}
+use Rattle.wire_fields.specs.Field.{Field, number, little_endian, appended, spelled, AllFit}
+use Rattle.wire_fields.proofs.Spelling.{appended-spelled, octet_then}
 use Rattle.hci_evt.specs.Event.{code_of, parameters_of, packet_of, IsEvent, Spells, written}
 use Rattle.hci_evt.specs.Reading.{event_in, event_of, IsPacket}
 use Rattle.hci_evt.specs.declared.event.Event.{Event}
 use Rattle.hci_evt.proofs.RoundTrip.{parameters_read}
 
-pub four_parts : (a b c d n p q r s : List ℕ) → n ≡ [] → p ≡ n ++ a → q ≡ p ++ b → r ≡ q ++ c → s ≡ r ++ d → s ≡ a ++ (b ++ (c ++ d))
-four_parts a b c d n p q r s none first second third fourth =
-    fourth ∙ rw (third, second, first, none) (simp append_assoc)
+-- the header and the parameters, before the third octet is their number
+parts_are : (code : ℕ) (fields : List Field) (n p q r s : List ℕ) → n ≡ [] → p ≡ n ++ little_endian 1 4 → q ≡ p ++ little_endian 1 code
+    → r ≡ q ++ little_endian 1 0 → s ≡ appended r fields → s ≡ 4 ∷ code % 256 ∷ 0 ∷ spelled fields
+unfolding little_endian
+parts_are code fields n p q r s none first second third fourth =
+    let header : r ≡ 4 ∷ code % 256 ∷ 0 ∷ [] = third ∙ rw (second, first, none) refl in
+    fourth ∙ appended-spelled r fields ∙ ap (λ (front : List ℕ). front ++ spelled fields) header
+
+pub with_length : (code : ℕ) (fields : List Field) (n p q r s t : List ℕ) → n ≡ [] → p ≡ n ++ little_endian 1 4 → q ≡ p ++ little_endian 1 code
+    → r ≡ q ++ little_endian 1 0 → s ≡ appended r fields → length s ≤ 258 → t ≡ set s 2 (length s - 3)
+    → t ≡ spelled (number 1 4 ∷ number 1 code ∷ number 1 (length (spelled fields)) ∷ fields)
+unfolding little_endian
+with_length code fields n p q r s t none first second third fourth few last =
+    let parts = parts_are code fields n p q r s none first second third fourth in
+    let long : length s ≡ suc (suc (suc (length (spelled fields)))) = ap length parts in
+    let count : length s - 3 ≡ length (spelled fields) % 256 = omega (arith, long, few) in
+    last ∙ (λ i. set (parts i) 2 (count i))
 
 header_is : (event : Event) → IsEvent event → written event ≡ 4 ∷ code_of event ∷ length (spelled (parameters_of event)) ∷ spelled (parameters_of event)
 header_is event is =

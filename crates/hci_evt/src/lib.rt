@@ -11,4 +11,4 @@ mod writing;
 pub use event::{Event, MaskBit};
 pub use mask::mask_bit;
 pub use reading::read;
-pub use writing::write;
+pub use writing::{put_event, write};

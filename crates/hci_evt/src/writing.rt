@@ -1,5 +1,6 @@
 //! Events, each written into its octets.
-ghost use Rattle.std.specs.Prelude.{◌≡◌, []};
+ghost use Rattle.std.specs.Prelude.{◌≡◌, ◌≤◌, ◌-◌, [], set};
+ghost use Rattle.arrayvec.specs.ArrayVec.{array_vec_len};
 ghost use Rattle.wire_fields.specs.Field.{appended, AllFit};
 ghost use Rattle.hci_evt.specs.Event.{code_of, parameters_of, written, IsEvent, IsWithinCapacity};
 
@@ -11,16 +12,16 @@ use wire_fields::{put_octets, put_u8, put_u16, put_u64};
 /// Appends one field, by its kind.
 macro_rules! put {
     ($packet:ident u8 $field:ident) => {
-        put_u8(&mut $packet, *$field)
+        put_u8($packet, *$field)
     };
     ($packet:ident u16 $field:ident) => {
-        put_u16(&mut $packet, *$field)
+        put_u16($packet, *$field)
     };
     ($packet:ident u64 $field:ident) => {
-        put_u64(&mut $packet, *$field)
+        put_u64($packet, *$field)
     };
     ($packet:ident [$count:literal] $field:ident) => {
-        put_octets(&mut $packet, $field)
+        put_octets($packet, $field)
     };
 }
 
@@ -40,28 +41,28 @@ macro_rules! put_rows {
                 $(put!($packet $status_kind $status_field);)*
             })*
             $(Event::$le_name { $($le_field),* } => {
-                put_u8(&mut $packet, $subevent);
+                put_u8($packet, $subevent);
                 $(put!($packet $le_kind $le_field);)*
             })*
             Event::CommandComplete { number, opcode, fields } => {
-                put_u8(&mut $packet, *number);
-                put_u16(&mut $packet, *opcode);
-                put_octets(&mut $packet, fields.as_slice());
+                put_u8($packet, *number);
+                put_u16($packet, *opcode);
+                put_octets($packet, fields.as_slice());
             }
             Event::CompletedPackets { handle, count } => {
-                put_u8(&mut $packet, 1);
-                put_u16(&mut $packet, *handle);
-                put_u16(&mut $packet, *count);
+                put_u8($packet, 1);
+                put_u16($packet, *handle);
+                put_u16($packet, *count);
             }
             Event::AdvertisingReport { kind, address_kind, address, octets, rssi } => {
-                put_u8(&mut $packet, 0x02);
-                put_u8(&mut $packet, 1);
-                put_u8(&mut $packet, *kind);
-                put_u8(&mut $packet, *address_kind);
-                put_octets(&mut $packet, address);
-                put_u8(&mut $packet, octets.len() as u8);
-                put_octets(&mut $packet, octets.as_slice());
-                put_u8(&mut $packet, *rssi);
+                put_u8($packet, 0x02);
+                put_u8($packet, 1);
+                put_u8($packet, *kind);
+                put_u8($packet, *address_kind);
+                put_octets($packet, address);
+                put_u8($packet, octets.len() as u8);
+                put_octets($packet, octets.as_slice());
+                put_u8($packet, *rssi);
             }
         }
     };
@@ -85,15 +86,16 @@ macro_rules! codes {
     };
 }
 
-/// The parameters of the event: the subevent code of an LE event, and then the fields.
-fn parameters(event: &Event) -> ArrayVec<u8, 255>
-    ensures items { result.items ≡ appended [] (parameters_of event.now) }
+/// Appends the parameters of the event to its header: the subevent code of an LE event, and then the
+/// fields.
+fn put_parameters(packet: &mut ArrayVec<u8, 260>, event: &Event)
+    requires { array_vec_len packet.old ≡ 3 }
+    ensures items { packet.new.items ≡ appended packet.old.items (parameters_of event.now) }
+    ensures few { array_vec_len packet.new ≤ 258 }
     ensures fits { AllFit (parameters_of event.now) }
     ensures room { IsWithinCapacity event.now }
 {
-    let mut packet = ArrayVec::new();
     event_rows!(put_rows packet event);
-    packet
 }
 
 /// The event code.
@@ -103,19 +105,38 @@ fn code(event: &Event) -> u8
     event_rows!(codes event)
 }
 
-/// The packet of the event: indicator 4, the event code, one octet of length, and the parameters
-/// (Core 5.2, volume 4 part A, section 2, and part E, section 5.4.4).
+/// Writes the number of octets after the header into its third place.
+fn set_length(packet: &mut ArrayVec<u8, 260>)
+    requires header { 3 ≤ array_vec_len packet.old }
+    requires few { array_vec_len packet.old ≤ 258 }
+    ensures { packet.new.items ≡ set packet.old.items 2 (array_vec_len packet.old - 3) }
+{
+    let octets = packet.as_mut_slice();
+    octets[2] = (octets.len() - 3) as u8;
+}
+
+/// Writes the packet of the event into an empty one: indicator 4, the event code, one octet of
+/// length, and the parameters (Core 5.2, volume 4 part A, section 2, and part E, section 5.4.4).
 ///
 /// `read` gives the event back from the packet.
+pub fn put_event(packet: &mut ArrayVec<u8, 260>, event: &Event)
+    requires { packet.old.items ≡ [] }
+    ensures items { packet.new.items ≡ written event.now }
+    ensures is_event { IsEvent event.now }
+{
+    put_u8(packet, INDICATOR);
+    put_u8(packet, code(event));
+    put_u8(packet, 0);
+    put_parameters(packet, event);
+    set_length(packet);
+}
+
+/// The packet of the event, as `put_event` writes it.
 pub fn write(event: &Event) -> ArrayVec<u8, 260>
     ensures items { result.items ≡ written event.now }
     ensures is_event { IsEvent event.now }
 {
-    let parameters = parameters(event);
     let mut packet = ArrayVec::new();
-    put_u8(&mut packet, INDICATOR);
-    put_u8(&mut packet, code(event));
-    put_u8(&mut packet, parameters.len() as u8);
-    put_octets(&mut packet, parameters.as_slice());
+    put_event(&mut packet, event);
     packet
 }

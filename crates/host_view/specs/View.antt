@@ -2,6 +2,7 @@
 -- (Core 5.2, volume 4 part E, section 7).
 use Rattle.std.specs.Prelude.{ℕ, Bool, false, List, [], ◌∷◌, Option, None}
 use Rattle.ble_base.specs.declared.addresses.Address.{Address}
+use Rattle.ble_base.specs.Limits.{payload_octets}
 use Rattle.host_view.specs.declared.links.Link.{Link}
 use Rattle.host_view.specs.declared.view.Advertising.{Advertising}
 use Rattle.host_view.specs.declared.view.Scanning.{Scanning}
@@ -37,7 +38,7 @@ abbrev pub first_scanning : Scanning
 first_scanning = record { on = false; own = 0; policy = 0 }
 
 abbrev pub first_flow : HostFlow
-first_flow = record { on = false; acl_length = 251; acl_count = 65535 }
+first_flow = record { on = false; acl_length = payload_octets; acl_count = 65535 }
 
 -- all 37 data channels
 abbrev pub all_channels : ℕ

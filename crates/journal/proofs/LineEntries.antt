@@ -1,6 +1,6 @@
 -- The line of an entry is read as that entry, so lines and texts determine their entries.
-use Rattle.std.proofs.Common.{◌≡◌, ℕ, zero, suc, ◌+◌, ◌-◌, ◌^◌, ◌<◌, Bool, true, false, List, [], ◌∷◌, ◌++◌, length, Some, None, refl, sym, ap, ◌∙◌, arith, append_assoc, append-nil}
-use Rattle.std.specs.Prelude.{Option, ◌==◌, ◌&&◌, nat_lt, map, decimal, codes, flat_map}
+use Rattle.std.proofs.Common.{◌≡◌, ℕ, zero, suc, ◌-◌, ◌^◌, ◌<◌, Bool, true, false, List, [], ◌∷◌, ◌++◌, Some, None, refl, sym, ap, ◌∙◌, arith, append_assoc, append-nil}
+use Rattle.std.specs.Prelude.{Option, ◌==◌, nat_lt, map, decimal, codes}
 use Rattle.std.specs.List.{All, list_all, slice_split, concat}
 use Rattle.std.specs.Str.{bytes_eq}
 use Rattle.std.proofs.lemmas.Bool.{and_from, and_right, le-leb}
@@ -19,7 +19,7 @@ use Rattle.ble_base.specs.declared.procedure_kinds.Kind.{Kind}
 use Rattle.ble_base.specs.declared.procedure_kinds.Kind.TheVariants.{Update, Request, Map, Phy, Features, Version, Length, Encrypt}
 use Rattle.ble_base.specs.declared.verdicts.Verdict.{Verdict}
 use Rattle.ble_base.specs.declared.verdicts.Verdict.TheVariants.{Missed, Broken, Forged, Good}
-use Rattle.line_words.specs.Text.{line_of, lines_of, with_newline, words_of}
+use Rattle.line_words.specs.Text.{line_of, lines_of, with_newline}
 use Rattle.line_words.proofs.SpelledLines.{is_above, above-line_of, lines_of-with_newline, words_of-line_of}
 use Rattle.line_words.proofs.SpelledNumbers.{above-decimal, above-encode_lower, no_colon-decimal, no_colon-encode_lower, number_in-decimal}
 use Rattle.journal.specs.declared.entries.Entry.{Entry}
@@ -260,12 +260,16 @@ above-entry (word ∷ words) some above = above-line_of word words above
 some_words : (entry : Entry) → IsEntry entry → entry_words entry ≡ [] → ⊥
 some_words entry fits none = let read = words_are entry fits in let no : None ≡ Some entry = rw none at read in absurd (cc)
 
+-- no octet of a line but its last is a newline
+pub above-line : (entry : Entry) → IsEntry entry → is_above 10 (line_of (entry_words entry)) ≡ true
+above-line entry fits = above-entry (entry_words entry) (some_words entry fits) (above-words entry fits)
+
 above-entries : (entries : List Entry) → All IsEntry entries → list_all (λ l. is_above 10 l) (map entry_line entries) ≡ true
 above-entries [] fit = refl
 above-entries (entry ∷ entries) fit =
     let here = All-head IsEntry entry entries fit in
     and_from (is_above 10 (entry_line entry)) (list_all (λ l. is_above 10 l) (map entry_line entries))
-    (above-entry (entry_words entry) (some_words entry here) (above-words entry here))
+    (above-line entry here)
     (above-entries entries (All-tail IsEntry entry entries fit))
 
 lines_of-text : (entries : List Entry) → All IsEntry entries → lines_of (text entries) ≡ map entry_line entries

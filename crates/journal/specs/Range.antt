@@ -1,5 +1,5 @@
 -- The entries whose numbers fit their types (our choice).
-use Rattle.std.specs.Prelude.{ℕ, ◌<◌, ◌^◌}
+use Rattle.std.specs.Prelude.{◌<◌, ◌^◌}
 use Rattle.std.specs.Bool.{⊤}
 use Rattle.hex.specs.Hex.{IsBytes}
 use Rattle.journal.specs.declared.entries.Entry.{Entry}

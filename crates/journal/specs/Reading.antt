@@ -1,6 +1,5 @@
 -- The entry that a line spells (our choice).
 use Rattle.std.specs.Prelude.{ℕ, Bool, List, [], ◌∷◌, Option, Some, None, if◌then◌else◌, codes, slice_get}
-use Rattle.std.specs.Option.{option_map}
 use Rattle.std.specs.Str.{bytes_eq}
 use Rattle.ble_base.specs.declared.ErrCode.{ErrCode}
 use Rattle.ble_base.specs.declared.roles.Side.{Side}
@@ -124,24 +123,43 @@ done_in (Some w) = done_of (side_in w.0) (u64_in w.1) (kind_in w.2)
 
 -- ---- lines
 
+-- the entry of a line with this name and these words after it, of a control procedure
+abbrev pub procedure_in : List ℕ → List (List ℕ) → Option Entry
+procedure_in name words =
+    if bytes_eq name (codes "applied") then applied_in (four_words words)
+    else if bytes_eq name (codes "began") then began_in (three_words words)
+    else if bytes_eq name (codes "refused") then refused_in (four_words words)
+    else if bytes_eq name (codes "done") then done_in (three_words words)
+    else None
+
+-- the same, also of a packet or a PDU
+abbrev pub packet_in : List ℕ → List (List ℕ) → Option Entry
+packet_in name words =
+    if bytes_eq name (codes "air") then air_in (five_words words)
+    else if bytes_eq name (codes "sent") then sent_in (five_words words)
+    else if bytes_eq name (codes "took") then took_in (five_words words)
+    else procedure_in name words
+
+-- the same, also of a link
+abbrev pub link_in : List ℕ → List (List ℕ) → Option Entry
+link_in name words =
+    if bytes_eq name (codes "open") then opened_in (four_words words)
+    else if bytes_eq name (codes "shut") then shut_in (three_words words)
+    else if bytes_eq name (codes "enter") then enter_in (four_words words)
+    else packet_in name words
+
+-- the same, also of a turn or a host
+abbrev pub named_in : List ℕ → List (List ℕ) → Option Entry
+named_in name words =
+    if bytes_eq name (codes "turn") then turn_in (two_words words)
+    else if bytes_eq name (codes "in") then fed_in (two_words words)
+    else if bytes_eq name (codes "up") then up_in (two_words words)
+    else link_in name words
+
 -- the entry of all words of a line
 abbrev pub entry_in : List (List ℕ) → Option Entry
 entry_in [] = None
-entry_in (head ∷ words) =
-    if bytes_eq head (codes "turn") then turn_in (two_words words)
-    else if bytes_eq head (codes "in") then fed_in (two_words words)
-    else if bytes_eq head (codes "up") then up_in (two_words words)
-    else if bytes_eq head (codes "air") then air_in (five_words words)
-    else if bytes_eq head (codes "open") then opened_in (four_words words)
-    else if bytes_eq head (codes "shut") then shut_in (three_words words)
-    else if bytes_eq head (codes "sent") then sent_in (five_words words)
-    else if bytes_eq head (codes "took") then took_in (five_words words)
-    else if bytes_eq head (codes "enter") then enter_in (four_words words)
-    else if bytes_eq head (codes "applied") then applied_in (four_words words)
-    else if bytes_eq head (codes "began") then began_in (three_words words)
-    else if bytes_eq head (codes "refused") then refused_in (four_words words)
-    else if bytes_eq head (codes "done") then done_in (three_words words)
-    else None
+entry_in (name ∷ words) = named_in name words
 
 -- the entry of the words of a line, if there is a line
 abbrev pub entry_of_line : Option (List ℕ) → Option Entry

@@ -1,5 +1,5 @@
 -- The text of a journal (our choice): a line for each entry, with one space between two words.
-use Rattle.std.specs.Prelude.{ℕ, List, [], ◌∷◌, ◌++◌, codes, decimal, flat_map}
+use Rattle.std.specs.Prelude.{ℕ, List, [], ◌∷◌, codes, decimal, flat_map}
 use Rattle.hex.specs.Hex.{encode_lower}
 use Rattle.line_words.specs.Text.{line_of, with_newline}
 use Rattle.journal.specs.declared.entries.Entry.{Entry}

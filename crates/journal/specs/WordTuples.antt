@@ -1,5 +1,6 @@
 -- Words, if there are exactly this many (our choice).
 use Rattle.std.specs.Prelude.{ℕ, List, [], ◌∷◌, Option, Some, None}
+use Rattle.std.specs.Option.{option_map}
 
 abbrev pub Two : Type 0
 Two = List ℕ × List ℕ
@@ -17,14 +18,15 @@ abbrev pub two_words : List (List ℕ) → Option Two
 two_words (a ∷ b ∷ []) = Some (a, b)
 two_words _ = None
 
+-- a word, and two after it
 abbrev pub three_words : List (List ℕ) → Option Three
-three_words (a ∷ b ∷ c ∷ []) = Some (a, b, c)
-three_words _ = None
+three_words [] = None
+three_words (first ∷ words) = option_map (λ w. (first, w.0, w.1)) (two_words words)
 
 abbrev pub four_words : List (List ℕ) → Option Four
-four_words (a ∷ b ∷ c ∷ d ∷ []) = Some (a, b, c, d)
-four_words _ = None
+four_words [] = None
+four_words (first ∷ words) = option_map (λ w. (first, w.0, w.1, w.2)) (three_words words)
 
 abbrev pub five_words : List (List ℕ) → Option Five
-five_words (a ∷ b ∷ c ∷ d ∷ e ∷ []) = Some (a, b, c, d, e)
-five_words _ = None
+five_words [] = None
+five_words (first ∷ words) = option_map (λ w. (first, w.0, w.1, w.2, w.3)) (four_words words)

@@ -13,6 +13,7 @@ use std::alloc::{AllocError, Global};
 /// error is out of memory.
 pub fn read_line(alloc: Global, octets: &[u8]) -> Result<Option<Entry>, AllocError>
     ensures written { IfOk result (λ read. IfSome read (λ entry. line entry ≡ octets.now)) }
+    ensures fits { IfOk result (λ read. IfSome read IsEntry) }
     ensures read { (entry : Entry) → IsEntry entry → line entry ≡ octets.now
         → IfOk result (λ read. read ≡ Some entry) }
     ensures none { IfOk result (λ read. IfNone read

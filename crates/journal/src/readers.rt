@@ -1,6 +1,6 @@
 //! Reading an entry from its line.
 ghost use Rattle.std.specs.Prelude.{◌≡◌, IfOk};
-ghost use Rattle.journal.specs.Reading.{air_in, applied_in, began_in, done_in, enter_in, entry_in, fed_in, first_entry, opened_in, refused_in, sent_in, shut_in, took_in, turn_in, up_in};
+ghost use Rattle.journal.specs.Reading.{air_in, applied_in, began_in, done_in, enter_in, entry_in, fed_in, first_entry, link_in, named_in, opened_in, packet_in, procedure_in, refused_in, sent_in, shut_in, took_in, turn_in, up_in};
 ghost use Rattle.journal.specs.WordTuples.{five_words, four_words, three_words, two_words};
 
 use crate::entries::Entry;
@@ -21,13 +21,14 @@ macro_rules! read {
     };
 }
 
-/// Reads the words after the name of a kind. There is no entry if none of these names is the head.
+/// Reads the words after the name of a kind. Where it is none of these names, the last reader goes
+/// on.
 macro_rules! read_by_name {
-    ($head:ident; $($name:literal => $read:expr;)*) => {
-        $(if $head == $name.as_slice() {
+    ($word:ident; $($name:literal => $read:expr;)* else $more:expr) => {
+        $(if $word == $name.as_slice() {
             return $read;
         })*
-        Ok(None)
+        $more
     };
 }
 
@@ -229,28 +230,66 @@ fn read_took(alloc: Global, words: Words<'_>) -> Result<Option<Entry>, AllocErro
     }))
 }
 
+/// Reads a line with this name, of a control procedure.
+fn read_procedure(name: &[u8], words: Words<'_>) -> Option<Entry>
+    ensures { result ≡ procedure_in name.now words.entry }
+{
+    read_by_name! {
+        name;
+        b"applied" => read_applied(words);
+        b"began" => read_began(words);
+        b"refused" => read_refused(words);
+        b"done" => read_done(words);
+        else None
+    }
+}
+
+/// Reads a line with this name, of a packet or a PDU too.
+fn read_packet(alloc: Global, name: &[u8], words: Words<'_>) -> Result<Option<Entry>, AllocError>
+    ensures { IfOk result (λ entry. entry ≡ packet_in name.now words.entry) }
+{
+    read_by_name! {
+        name;
+        b"air" => read_air(alloc, words);
+        b"sent" => read_sent(alloc, words);
+        b"took" => read_took(alloc, words);
+        else Ok(read_procedure(name, words))
+    }
+}
+
+/// Reads a line with this name, of a link too.
+fn read_link(alloc: Global, name: &[u8], words: Words<'_>) -> Result<Option<Entry>, AllocError>
+    ensures { IfOk result (λ entry. entry ≡ link_in name.now words.entry) }
+{
+    read_by_name! {
+        name;
+        b"open" => Ok(read_opened(words));
+        b"shut" => Ok(read_shut(words));
+        b"enter" => Ok(read_enter(words));
+        else read_packet(alloc, name, words)
+    }
+}
+
+/// Reads a line with this name, of a turn or a host too.
+fn read_named(alloc: Global, name: &[u8], words: Words<'_>) -> Result<Option<Entry>, AllocError>
+    ensures { IfOk result (λ entry. entry ≡ named_in name.now words.entry) }
+{
+    read_by_name! {
+        name;
+        b"turn" => Ok(read_turn(words));
+        b"in" => read_fed(alloc, words);
+        b"up" => read_up(alloc, words);
+        else read_link(alloc, name, words)
+    }
+}
+
 /// Reads the entry of all words of a line.
 fn read_words(alloc: Global, mut words: Words<'_>) -> Result<Option<Entry>, AllocError>
     ensures { IfOk result (λ entry. entry ≡ entry_in words.entry) }
 {
-    let Some(head) = words.next_word() else {
-        return Ok(None);
-    };
-    read_by_name! {
-        head;
-        b"turn" => Ok(read_turn(words));
-        b"in" => read_fed(alloc, words);
-        b"up" => read_up(alloc, words);
-        b"air" => read_air(alloc, words);
-        b"open" => Ok(read_opened(words));
-        b"shut" => Ok(read_shut(words));
-        b"sent" => read_sent(alloc, words);
-        b"took" => read_took(alloc, words);
-        b"enter" => Ok(read_enter(words));
-        b"applied" => Ok(read_applied(words));
-        b"began" => Ok(read_began(words));
-        b"refused" => Ok(read_refused(words));
-        b"done" => Ok(read_done(words));
+    match words.next_word() {
+        Some(name) => read_named(alloc, name, words),
+        None => Ok(None),
     }
 }
 

@@ -3,6 +3,7 @@
 use Rattle.std.specs.Prelude.{ℕ, ◌+◌, ◌==◌, ◌&&◌, ◌||◌, nat_lt, Bool, List, [], ◌∷◌, ◌++◌, drop, filter, length, not, Option, Some, None, if◌then◌else◌}
 use Rattle.std.specs.List.{find, flat_map}
 use Rattle.std.specs.Option.{option_map}
+use Rattle.ble_base.specs.Limits.{payload_octets}
 use Rattle.acl_banks.specs.History.{HostData}
 use Rattle.h4_frames.specs.Frames.{frames}
 use Rattle.h4_frames.specs.declared.packet.Fed.{Fed}
@@ -39,7 +40,7 @@ packets_framed before octets = flat_map packet_in (drop (length (frames before))
 
 -- a buffer has this number of octets (our choice)
 abbrev pub buffer_octets : ℕ
-buffer_octets = 251
+buffer_octets = payload_octets
 
 -- a packet with this number of octets is dropped where it is longer than a buffer, or has octets while all buffers are
 -- taken (our choice)

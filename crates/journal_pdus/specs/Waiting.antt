@@ -3,6 +3,7 @@
 use Rattle.std.specs.Prelude.{◌≡◌, ℕ, ◌+◌, ◌-◌, ◌==◌, ◌&&◌, nat_lt, Bool, true, false, List, [], ◌∷◌, drop, length, take, if◌then◌else◌}
 use Rattle.std.specs.List.{flat_map}
 use Rattle.ble_base.specs.declared.roles.Side.{Side}
+use Rattle.ble_base.specs.Limits.{first_payload_octets}
 use Rattle.acl_banks.specs.History.{HostData, octets_of}
 use Rattle.acl_banks.specs.Packets.{Marked}
 use Rattle.link_model.specs.Acknowledgement.{Pdu, empty_pdu}
@@ -23,7 +24,7 @@ octets_sent link lines = length (data_of_lines (pdus_on link lines.sent))
 
 -- a PDU has at most this number of octets of data, until the ends agree on more
 abbrev pub piece_octets : ℕ
-piece_octets = 27
+piece_octets = first_payload_octets
 
 -- the next PDU of these packets, of which this number of octets were sent: a piece of the first packet that was not
 -- sent whole, which starts a message or continues it; and an empty one where there is none

@@ -3,6 +3,7 @@
 use Rattle.std.specs.Prelude.{ℕ, ◌+◌, ◌==◌, ◌&&◌, ◌||◌, nat_lt, Bool, false, not, List, [], ◌∷◌, ◌++◌, length, Option, Some, None, if◌then◌else◌}
 use Rattle.std.specs.List.{filter, find, flat_map}
 use Rattle.std.specs.Option.{option_map}
+use Rattle.ble_base.specs.Limits.{first_payload_octets}
 use Rattle.acl_banks.specs.declared.pieces.Piece.{Piece}
 use Rattle.acl_banks.specs.History.{HostData}
 use Rattle.acl_banks.specs.Packets.{DataPacket, Marked, is_all_sent, marked_octets, new_packet, packet_after_acked, packet_after_went, piece_of, sent_length, unsent_octets, with_first, without_first}
@@ -31,7 +32,7 @@ first_data = record {
   packets = [];
   complete = 0;
   reported = 0;
-  limit = 27;
+  limit = first_payload_octets;
   fixed = empty_pdu;
   more = false;
 }

@@ -4,6 +4,7 @@ use Rattle.std.specs.Prelude.{ℕ, zero, suc, ◌+◌, ◌==◌, ◌||◌, nat_l
 use Rattle.std.specs.List.{filter, sum_by}
 use Rattle.std.specs.Option.{option_map}
 use Rattle.ble_base.specs.declared.notes.Note.{Note}
+use Rattle.ble_base.specs.Limits.{payload_octets}
 use Rattle.acl_banks.specs.declared.pieces.Piece.{Piece}
 use Rattle.link_model.specs.Step.{Step, DataGiven, DataReported, PduFixed}
 use Rattle.link_model.specs.End.{notes_after}
@@ -34,7 +35,7 @@ buffers_taken links = sum_by buffers_in links
 
 -- a buffer has this number of octets
 abbrev pub buffer_octets : ℕ
-buffer_octets = 251
+buffer_octets = payload_octets
 
 -- what becomes of a packet with this number of octets, for the link that may be under its handle
 abbrev pub offer_by : Option OpenLink → ℕ → Bool → Offer

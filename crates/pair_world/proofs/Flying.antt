@@ -308,7 +308,7 @@ pub flight_stops : (given : Given) (fates : List Fate) (slot : ℕ) (history : L
     channel octets (packets + 1) stop
     → entries ≡ log.entries → IsStopped (after_packet given fates (number_of side) history) slot entries stop
 flight_stops given fates slot history side sender listener log wanted listens channel octets packets entries Memory air wants unseen same = tt
-flight_stops given fates slot history side sender listener log wanted listens channel octets packets entries (Unseen packet sent heard) air wants unseen same =
+flight_stops given fates slot history side sender listener log wanted listens channel octets packets entries (Unseen changed) air wants unseen same =
     let fate_is : fate_at fates packets ≡ fate_at fates (fates_used history) = ap (fate_at fates) (sym air.fates_are) in
     let hearing = the_hearing given fates side channel octets history in
     let setup = setup_at given (number_of (other_side side)) in

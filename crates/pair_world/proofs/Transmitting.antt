@@ -19,7 +19,7 @@ use Rattle.pair_world.specs.Turns.{HasHeard}
 pub stopped_on : (run : Run) (next : List Event → Run) (slot : ℕ) (entries : List Entry) (stop : Stop) → IsStopped run slot entries stop
     → IsStopped (and_then run next) slot entries stop
 stopped_on run next slot entries Memory is = tt
-stopped_on run next slot entries (Unseen packet sent heard) is = record {
+stopped_on run next slot entries (Unseen unseen) is = record {
   before = is.before;
   stop = is.stop;
   stops = ap (λ (run : Run). and_then run next) is.stops;

@@ -1,5 +1,5 @@
 -- A run, turn by turn, from its first station on.
-use Rattle.std.proofs.Common.{◌≡◌, ℕ, zero, suc, ◌+◌, ◌<◌, ◌≤◌, List, [], ◌∷◌, map, length, drop, Some, refl, sym, ap, subst, ◌∙◌, arith}
+use Rattle.std.proofs.Common.{◌≡◌, ℕ, zero, suc, ◌+◌, ◌<◌, ◌≤◌, ◌⊎◌, inl, inr, List, [], ◌∷◌, map, length, drop, Some, refl, sym, ap, subst, ◌∙◌, arith}
 use Rattle.std.specs.Prelude.{slice_get}
 use Rattle.journal.specs.declared.entries.Entry.{Entry}
 use Rattle.radio_replay.specs.Script.{Script, Turn as ScriptTurn}
@@ -9,6 +9,8 @@ use Rattle.run_model.specs.Links.{links_of}
 use Rattle.run_model.specs.Pair.{IsRun, given_of, plan_of}
 use Rattle.run_model.specs.Run.{Given, Plan, Run, after_turn, and_then, run_from, run_of, setup_at}
 use Rattle.pair_world.specs.declared.links.TheConstants.{LINKS}
+use Rattle.pair_world.specs.declared.run.RunFault.{RunFault}
+use Rattle.pair_world.specs.declared.run.RunFault.TheVariants.{Memory as OutOfMemory}
 use Rattle.pair_world.specs.declared.stops.Stop.{Stop}
 use Rattle.pair_world.specs.declared.stops.Stop.TheVariants.{Unseen, Memory}
 use Rattle.pair_world.specs.Faults.{IsRunFault, fault_of}
@@ -128,7 +130,7 @@ pub is_fault : (given : Given) (turns : List ScriptTurn) (n : ℕ) (plan : Scrip
     → HasPlans given turns → slice_get turns n ≡ Some plan → (at : AtTurn given n a b log)
     → IsStopped (after_turn given n (plan_of plan) at.history) n entries stop → IsRunFault given (fault_of stop n entries)
 is_fault given turns n plan a b log entries Memory plans is at stopped = tt
-is_fault given turns n plan a b log entries (Unseen packet sent heard) plans is at stopped = record {
+is_fault given turns n plan a b log entries (Unseen unseen) plans is at stopped = record {
   history = stopped.before;
   stop = stopped.stop;
   stops = sym (ap (λ (run : Run). and_then run (run_from given (n + 1) (drop (n + 1) given.plans))) (sym stopped.stops)
@@ -139,3 +141,8 @@ is_fault given turns n plan a b log entries (Unseen packet sent heard) plans is 
   sent_is = stopped.sent_is;
   heard_is = stopped.heard_is;
 }
+
+-- the fault of a stop, or that there is no memory to tell it
+pub told : (given : Given) (fault made : RunFault) → (fault ≡ made) ⊎ (fault ≡ OutOfMemory) → IsRunFault given made → IsRunFault given fault
+told given fault made (inl is) holds = subst (IsRunFault given) (sym is) holds
+told given fault made (inr is) holds = subst (IsRunFault given) (sym is) tt

@@ -51,8 +51,8 @@ pub record IsUnseen (fate : Fate) (setup : Setup) (past : List Step) (channel : 
 -- that is why the run stops, or there is no memory
 abbrev pub IsUnseenOr : Fate → Setup → List Step → ℕ → List ℕ → ℕ → Stop → Type 0
 IsUnseenOr fate setup past channel octets place Memory = ⊤
-IsUnseenOr fate setup past channel octets place (Unseen packet sent heard) =
-    IsUnseen fate setup past channel octets place packet sent heard
+IsUnseenOr fate setup past channel octets place (Unseen unseen) =
+    IsUnseen fate setup past channel octets place unseen.packet unseen.sent.items unseen.heard.items
 
 -- ---- the numbers of links
 

@@ -23,4 +23,5 @@ IsLawfulSoFar script (UnseenFault turn packet sent heard journal) = IsLawful scr
 -- the fault of a stop in the turn of this slot, with the journal so far
 abbrev pub fault_of : Stop → ℕ → List Entry → RunFault
 fault_of Memory turn journal = OutOfMemory
-fault_of (Unseen packet sent heard) turn journal = UnseenFault turn packet sent heard journal
+fault_of (Unseen unseen) turn journal =
+    UnseenFault turn unseen.packet unseen.sent.items unseen.heard.items journal

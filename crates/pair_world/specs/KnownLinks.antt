@@ -2,7 +2,7 @@
 use Rattle.std.specs.Prelude.{ℕ, List, replicate, slice_index_or, slice_set}
 use Rattle.ble_base.specs.declared.notes.Note.{Note}
 use Rattle.ble_base.specs.declared.notes.Note.TheVariants.{Up, Opened, Shut, Sent, Took, Enter, Applied, Began, Refused, Done}
-use Rattle.pair_world.specs.declared.links.TheConstants.{LINKS}
+use Rattle.run_model.specs.Pair.{pair_links}
 
 pub record KnownLinks : Type 0 where
   -- the link that it began or received last
@@ -11,7 +11,7 @@ pub record KnownLinks : Type 0 where
   pub by_handle : List ℕ
 
 abbrev pub first_known : KnownLinks
-first_known = record { last = 0; by_handle = replicate LINKS 0 }
+first_known = record { last = 0; by_handle = replicate pair_links 0 }
 
 -- the link of a handle
 abbrev pub number_in : KnownLinks → ℕ → ℕ

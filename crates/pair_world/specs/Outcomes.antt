@@ -27,4 +27,5 @@ pub record HasStopped (run : Run) (slot packet : ℕ) (sent heard : List ℕ) (e
 -- it stops in this slot as the code says, or there is no memory
 abbrev pub IsStopped : Run → ℕ → List Entry → Stop → Type 0
 IsStopped run slot entries Memory = ⊤
-IsStopped run slot entries (Unseen packet sent heard) = HasStopped run slot packet sent heard entries
+IsStopped run slot entries (Unseen unseen) =
+    HasStopped run slot unseen.packet unseen.sent.items unseen.heard.items entries

@@ -11,7 +11,7 @@ use Rattle.run_model.specs.History.{Event, past_of}
 use Rattle.run_model.specs.Run.{Given, setup_at, octets_left}
 use Rattle.run_model.specs.Links.{Links, links_of}
 use Rattle.run_model.specs.Journal.{journal_of}
-use Rattle.pair_world.specs.declared.links.TheConstants.{LINKS}
+use Rattle.run_model.specs.Pair.{pair_links}
 use Rattle.pair_world.specs.KnownLinks.{KnownLinks, first_known, number_in}
 use Rattle.pair_world.specs.Logs.{LogState}
 
@@ -28,12 +28,12 @@ pub record StationState : Type 0 where
 -- a station knows the numbers of its links, by the handles that its controller has
 pub record KnowsLinks (station : ℕ) (links : Links) (known : KnownLinks) : Type 0 where
   pub last_is : known.last ≡ links.last_of station
-  pub size : length known.by_handle ≡ LINKS
-  pub by_handle_are : (handle : ℕ) → handle < LINKS → number_in known handle ≡ links.link_of station handle
+  pub size : length known.by_handle ≡ pair_links
+  pub by_handle_are : (handle : ℕ) → handle < pair_links → number_in known handle ≡ links.link_of station handle
 
 -- the code of a station is up to this history
 pub record Keeps (given : Given) (station : ℕ) (history : List Event) (state : StationState) : Type 0 where
-  pub handles : (setup_at given station).links ≡ LINKS
+  pub handles : (setup_at given station).links ≡ pair_links
   pub knows : Knows (setup_at given station) state.held (past_of station history)
   pub unfed_are : state.unfed ≡ octets_left given station history
   pub links_are : KnowsLinks station (links_of history) state.links

@@ -1,9 +1,9 @@
 -- A turn of a run, as the code of both stations goes through it (our choice).
 use Rattle.std.specs.Prelude.{◌≡◌, ℕ, ◌+◌, List, [], ◌∷◌, ◌++◌, map, Option}
-use Rattle.radio_replay.specs.Script.{Turn as Plan}
+use Rattle.radio_replay.specs.Script.{Turn as ScriptTurn}
 use Rattle.run_model.specs.History.{Event, TurnBegan, turns_begun, packets_on_air, fates_used, packet_received}
 use Rattle.run_model.specs.Pair.{plan_of}
-use Rattle.run_model.specs.Run.{Given, Plan as TurnPlan, after_feeds}
+use Rattle.run_model.specs.Run.{Given, Plan, after_feeds}
 use Rattle.pair_world.specs.Logs.{LogState}
 use Rattle.pair_world.specs.Stations.{StationState, Keeps, Writes}
 
@@ -32,10 +32,10 @@ pub record HasHeard (given : Given) (slot : ℕ) (a b : StationState) (log : Log
   pub heard_b : packet_received 1 history ≡ at_b
 
 -- a turn begins, and all stations are fed
-abbrev pub after_feeding : Given → ℕ → TurnPlan → List Event → List Event
+abbrev pub after_feeding : Given → ℕ → Plan → List Event → List Event
 after_feeding given slot plan history =
     after_feeds given plan given.stations (history ++ TurnBegan slot (map plan.radio_of given.stations) ∷ [])
 
 -- the schedule of a run
-abbrev pub HasPlans : Given → List Plan → Type 0
+abbrev pub HasPlans : Given → List ScriptTurn → Type 0
 HasPlans given turns = given.plans ≡ map plan_of turns

@@ -1,7 +1,7 @@
 //! Packets on the air.
 ghost use Rattle.std.specs.Prelude.{◌≡◌, ℕ, ◌+◌, ◌^◌, ◌<◌, ◌≤◌, false, List, [], ◌∷◌, length};
 ghost use Rattle.std.specs.Prelude.{slice_get, IfOk, IfErr, OnOk, OnErr, Some};
-ghost use Rattle.radio_replay.specs.Script.{Turn as Plan};
+ghost use Rattle.radio_replay.specs.Script.{Turn as ScriptTurn};
 ghost use Rattle.radio_replay.specs.Script.{fate_of};
 ghost use Rattle.radio_replay.specs.declared.fates.Fate.TheVariants.{Pass};
 ghost use Rattle.radio_replay.specs.Damage.{damaged_packet};
@@ -14,7 +14,8 @@ ghost use Rattle.run_model.specs.History.{Event, is_good};
 ghost use Rattle.run_model.specs.Journal.{mark_of};
 ghost use Rattle.run_model.specs.Links.{begins_link};
 ghost use Rattle.run_model.specs.Run.{Given, after_packet, is_lost};
-ghost use Rattle.pair_world.specs.Air.{InAir, HasFlown, HasLinked, IsReceived, IsSent, IsUnseenOr};
+ghost use Rattle.pair_world.specs.Air.{InAir, HasFlown, HasLinked, IsReceived, IsSent, IsUnseen};
+ghost use Rattle.pair_world.specs.Air.{IsUnseenOr};
 ghost use Rattle.pair_world.specs.Air.{verdict_by};
 ghost use Rattle.pair_world.specs.Logs.{with_entries};
 ghost use Rattle.pair_world.specs.Outcomes.{Reaches, IsStopped};
@@ -23,7 +24,7 @@ ghost use Rattle.pair_world.specs.Stations.{number_of};
 use crate::connect_inds::begins_link;
 use crate::logs::Log;
 use crate::stations::Station;
-use crate::stops::Stop;
+use crate::stops::{Stop, UnseenPacket};
 use crate::wishes::Wish;
 use arrayvec::ArrayVec;
 use ble_base::{AIR_PACKET_OCTETS, Side, Verdict};
@@ -74,8 +75,18 @@ fn judge(listener: &Station<'_>, listens: &Wish, channel: u8, octets: &[u8]) -> 
     }
 }
 
-/// The verdict of a station on a packet with this fate. The error is out of memory, or that damage
-/// goes unseen.
+/// The octets of a packet.
+fn copied(octets: &[u8]) -> ArrayVec<u8, AIR_PACKET_OCTETS>
+    requires { length octets.now ≤ 264 }
+    ensures { result.items ≡ octets.now }
+{
+    let mut copy = ArrayVec::new();
+    let _ = copy.try_extend_from_slice(octets);
+    copy
+}
+
+/// The verdict of a station on a packet with this fate. The error is that damage goes unseen. No
+/// memory is asked for.
 fn receive(
     turn: &Turn<'_>,
     fate: &Fate,
@@ -83,31 +94,30 @@ fn receive(
     octets: &[u8],
     listens: &Wish,
     listener: &Station<'_>,
-    log: &Log,
-) -> Result<Verdict, Stop>
+) -> Result<Verdict, UnseenPacket>
     requires few { turn.now.packets + 1 < 2 ^ 32 }
     requires fits { length octets.now ≤ 264 }
     ensures ok { IfOk result (λ verdict. (setup : Setup) (past : List Step)
         → Knows setup listener.now.held past
         → listens.now ≡ use_of (facts_of setup past)
         → IsReceived fate.now setup past channel octets.now verdict) }
-    ensures err { IfErr result (λ stop. (setup : Setup) (past : List Step)
+    ensures err { IfErr result (λ unseen. (setup : Setup) (past : List Step)
         → Knows setup listener.now.held past
         → listens.now ≡ use_of (facts_of setup past)
-        → IsUnseenOr fate.now setup past channel octets.now (turn.now.packets + 1) stop) }
+        → IsUnseen fate.now setup past channel octets.now (turn.now.packets + 1) unseen.packet
+        unseen.sent.items unseen.heard.items) }
 {
     if let Fate::Lost = fate {
         return Ok(Verdict::Missed);
     }
-    let mut heard = ArrayVec::<u8, AIR_PACKET_OCTETS>::new();
-    let _ = heard.try_extend_from_slice(octets);
+    let mut heard = copied(octets);
     fate.damage_packet(heard.as_mut_slice());
     let verdict = judge(listener, listens, channel, heard.as_slice());
     if is_good(verdict) && heard.as_slice() != octets {
-        return Err(Stop::Unseen {
+        return Err(UnseenPacket {
             packet: turn.packets + 1,
-            sent: log.copy(octets)?,
-            heard: log.copy(heard.as_slice())?,
+            sent: copied(octets),
+            heard,
         });
     }
     Ok(verdict)
@@ -156,15 +166,15 @@ fn send(
     requires turn { turn.old.number < length turn.old.schedule.now.turns }
     requires links { log.old.links + 1 < 2 ^ 64 }
     requires fits { length octets.now ≤ 264 }
-    ensures ok { IfOk result (λ good. (plan : Plan) (setup : Setup) (past : List Step)
-        → slice_get turn.old.schedule.now.turns turn.old.number ≡ Some plan
+    ensures ok { IfOk result (λ good. (scripted : ScriptTurn) (setup : Setup) (past : List Step)
+        → slice_get turn.old.schedule.now.turns turn.old.number ≡ Some scripted
         → Knows setup listener.old.held past → listens.now ≡ use_of (facts_of setup past)
-        → IsSent (fate_of plan turn.old.packets) side setup past channel octets.now good
+        → IsSent (fate_of scripted turn.old.packets) side setup past channel octets.now good
         sender.old listener.old log.old sender.new listener.new log.new) }
-    ensures err { IfErr result (λ stop. (plan : Plan) (setup : Setup) (past : List Step)
-        → slice_get turn.old.schedule.now.turns turn.old.number ≡ Some plan
+    ensures err { IfErr result (λ stop. (scripted : ScriptTurn) (setup : Setup) (past : List Step)
+        → slice_get turn.old.schedule.now.turns turn.old.number ≡ Some scripted
         → Knows setup listener.old.held past → listens.now ≡ use_of (facts_of setup past)
-        → IsUnseenOr (fate_of plan turn.old.packets) setup past channel octets.now
+        → IsUnseenOr (fate_of scripted turn.old.packets) setup past channel octets.now
         (turn.old.packets + 1) stop) }
     ensures same { OnErr result (log.new.entries ≡ log.old.entries) }
     ensures links { log.new.links ≤ log.old.links + 1 }
@@ -175,7 +185,10 @@ fn send(
         ≡ turn.old.number) }
 {
     let fate = turn.schedule.fate(turn.number, turn.packets);
-    let verdict = receive(turn, &fate, channel, octets, listens, listener, log)?;
+    let verdict = match receive(turn, &fate, channel, octets, listens, listener) {
+        Ok(verdict) => verdict,
+        Err(unseen) => return Err(Stop::Unseen(unseen)),
+    };
     let entry = Entry::Air {
         side,
         channel,
@@ -204,18 +217,19 @@ pub(crate) fn fly(
     requires few { turn.old.packets + 1 < 2 ^ 32 }
     requires turn { turn.old.number < length turn.old.schedule.now.turns }
     requires links { log.old.links + 1 < 2 ^ 64 }
-    ensures ok { IfOk result (λ good. (given : Given) (plan : Plan) (history : List Event)
-        → slice_get turn.old.schedule.now.turns turn.old.number ≡ Some plan
+    ensures ok { IfOk result (λ good. (given : Given) (scripted : ScriptTurn) (history : List Event)
+        → slice_get turn.old.schedule.now.turns turn.old.number ≡ Some scripted
         → InAir given turn.old.number history side sender.old listener.old log.old wanted.now
         listens.now turn.old.packets
-        → Reaches (after_packet given plan.fates (number_of side) history)
+        → Reaches (after_packet given scripted.fates (number_of side) history)
         (HasFlown given turn.old.number history side sender.new listener.new log.new wanted.now
         listens.now turn.new.packets good)) }
-    ensures err { IfErr result (λ stop. (given : Given) (plan : Plan) (history : List Event)
-        → slice_get turn.old.schedule.now.turns turn.old.number ≡ Some plan
+    ensures err { IfErr result (λ stop. (given : Given) (scripted : ScriptTurn)
+        (history : List Event)
+        → slice_get turn.old.schedule.now.turns turn.old.number ≡ Some scripted
         → InAir given turn.old.number history side sender.old listener.old log.old wanted.now
         listens.now turn.old.packets
-        → IsStopped (after_packet given plan.fates
+        → IsStopped (after_packet given scripted.fates
         (number_of side) history) turn.old.number log.new.entries stop) }
     ensures links { log.new.links ≤ log.old.links + 1 }
     ensures held { (sender.new.held ≡ sender.old.held) × (listener.new.held

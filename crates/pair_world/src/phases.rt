@@ -1,7 +1,7 @@
 //! The phases of a turn.
 ghost use Rattle.std.specs.Prelude.{◌≡◌, ℕ, ◌+◌, ◌^◌, ◌<◌, ◌≤◌, List, [], length, slice_get, Some};
 ghost use Rattle.std.specs.Prelude.{OnOk, IfOk, IfErr};
-ghost use Rattle.radio_replay.specs.Script.{Turn as Plan};
+ghost use Rattle.radio_replay.specs.Script.{Turn as ScriptTurn};
 ghost use Rattle.run_model.specs.History.{Event};
 ghost use Rattle.run_model.specs.Run.{Given, after_packets, after_phase, after_phases};
 ghost use Rattle.pair_world.specs.Air.{InPhase};
@@ -58,18 +58,20 @@ fn transmit(
     requires few { turn.old.packets + 2 < 2 ^ 32 }
     requires turn { turn.old.number < length turn.old.schedule.now.turns }
     requires links { log.old.links + 2 < 2 ^ 64 }
-    ensures ok { IfOk result (λ received. (given : Given) (plan : Plan) (history : List Event)
-        → slice_get turn.old.schedule.now.turns turn.old.number ≡ Some plan
+    ensures ok { IfOk result (λ received. (given : Given) (scripted : ScriptTurn)
+        (history : List Event)
+        → slice_get turn.old.schedule.now.turns turn.old.number ≡ Some scripted
         → InPhase given turn.old.number pair.old.a pair.old.b log.old wanted.now.a wanted.now.b
         turn.old.packets history
-        → Reaches (after_packets given plan.fates given.stations history)
+        → Reaches (after_packets given scripted.fates given.stations history)
         (HasHeard given turn.old.number pair.new.a pair.new.b log.new turn.new.packets
         (heard_of received.a wanted.now.b) (heard_of received.b wanted.now.a))) }
-    ensures err { IfErr result (λ stop. (given : Given) (plan : Plan) (history : List Event)
-        → slice_get turn.old.schedule.now.turns turn.old.number ≡ Some plan
+    ensures err { IfErr result (λ stop. (given : Given) (scripted : ScriptTurn)
+        (history : List Event)
+        → slice_get turn.old.schedule.now.turns turn.old.number ≡ Some scripted
         → InPhase given turn.old.number pair.old.a pair.old.b log.old wanted.now.a wanted.now.b
         turn.old.packets history
-        → IsStopped (after_packets given plan.fates given.stations history) turn.old.number
+        → IsStopped (after_packets given scripted.fates given.stations history) turn.old.number
         log.new.entries stop) }
     ensures links { OnOk result (log.new.links ≤ log.old.links + 2) }
     ensures held { (pair.new.a.held ≡ pair.old.a.held) × (pair.new.b.held ≡ pair.old.b.held) }
@@ -112,18 +114,20 @@ fn run_phase(
     requires turn { turn.old.number < length turn.old.schedule.now.turns }
     requires links { log.old.links + 2 < 2 ^ 64 }
     requires empty { out.old.items ≡ [] }
-    ensures ok { OnOk result ((given : Given) (plan : Plan) (history : List Event)
-        → slice_get turn.old.schedule.now.turns turn.old.number ≡ Some plan
+    ensures ok { OnOk result ((given : Given) (scripted : ScriptTurn) (history : List Event)
+        → slice_get turn.old.schedule.now.turns turn.old.number ≡ Some scripted
         → InPhase given turn.old.number pair.old.a pair.old.b log.old wanted.now.a wanted.now.b
         turn.old.packets history
-        → Reaches (after_phase given plan.fates history)
+        → Reaches (after_phase given scripted.fates history)
         (InPhase given turn.old.number pair.new.a pair.new.b log.new next.new.a next.new.b
         turn.new.packets)) }
-    ensures err { IfErr result (λ stop. (given : Given) (plan : Plan) (history : List Event)
-        → slice_get turn.old.schedule.now.turns turn.old.number ≡ Some plan
+    ensures err { IfErr result (λ stop. (given : Given) (scripted : ScriptTurn)
+        (history : List Event)
+        → slice_get turn.old.schedule.now.turns turn.old.number ≡ Some scripted
         → InPhase given turn.old.number pair.old.a pair.old.b log.old wanted.now.a wanted.now.b
         turn.old.packets history
-        → IsStopped (after_phase given plan.fates history) turn.old.number log.new.entries stop) }
+        → IsStopped (after_phase given scripted.fates history)
+        turn.old.number log.new.entries stop) }
     ensures begun { OnOk result ((slots : ℕ) → HaveBothBegun slots pair.old.a pair.old.b
         → HaveBothBegun slots pair.new.a pair.new.b) }
     ensures links { OnOk result (log.new.links ≤ log.old.links + 2) }
@@ -153,17 +157,19 @@ pub(crate) fn run_phases(
     requires turn { turn.old.number < length turn.old.schedule.now.turns }
     requires links { log.old.links + 6 < 2 ^ 64 }
     requires empty { out.old.items ≡ [] }
-    ensures ok { OnOk result ((given : Given) (plan : Plan) (history : List Event)
-        → slice_get turn.old.schedule.now.turns turn.old.number ≡ Some plan
+    ensures ok { OnOk result ((given : Given) (scripted : ScriptTurn) (history : List Event)
+        → slice_get turn.old.schedule.now.turns turn.old.number ≡ Some scripted
         → InPhase given turn.old.number pair.old.a pair.old.b log.old wanted.old.a wanted.old.b 0
         history
-        → Reaches (after_phases given plan.fates history)
+        → Reaches (after_phases given scripted.fates history)
         (PairIsUpTo given (turn.old.number + 1) pair.new.a pair.new.b log.new)) }
-    ensures err { IfErr result (λ stop. (given : Given) (plan : Plan) (history : List Event)
-        → slice_get turn.old.schedule.now.turns turn.old.number ≡ Some plan
+    ensures err { IfErr result (λ stop. (given : Given) (scripted : ScriptTurn)
+        (history : List Event)
+        → slice_get turn.old.schedule.now.turns turn.old.number ≡ Some scripted
         → InPhase given turn.old.number pair.old.a pair.old.b log.old wanted.old.a wanted.old.b 0
         history
-        → IsStopped (after_phases given plan.fates history) turn.old.number log.new.entries stop) }
+        → IsStopped (after_phases given scripted.fates history)
+        turn.old.number log.new.entries stop) }
     ensures begun { OnOk result ((slots : ℕ) → HaveBothBegun slots pair.old.a pair.old.b
         → HaveBothBegun slots pair.new.a pair.new.b) }
     ensures links { OnOk result (log.new.links ≤ log.old.links + 6) }

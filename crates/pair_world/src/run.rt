@@ -1,5 +1,5 @@
 //! A run.
-ghost use Rattle.std.specs.Prelude.{◌≡◌, ◌≤◌, [], length, IfOk, IfErr};
+ghost use Rattle.std.specs.Prelude.{◌≡◌, ◌≤◌, ◌⊎◌, [], length, IfOk, IfErr};
 ghost use Rattle.controller_model.specs.Facts.{setup_of};
 ghost use Rattle.run_model.specs.Pair.{IsRun, given_of};
 ghost use Rattle.run_model.specs.Run.{Given};
@@ -54,23 +54,31 @@ impl From<AllocError> for RunFault {
 }
 
 impl RunFault {
-    /// Why the turn in this slot stopped the run, whose journal so far this is.
-    fn of(stop: Stop, turn: u32, journal: Journal) -> RunFault
-        ensures { result ≡ fault_of stop turn journal }
+    /// The fault of a stop in the turn in this slot, with the journal so far. The octets of an
+    /// unseen packet are copied; the error is that there is no memory for them.
+    fn of(alloc: Global, stop: Stop, turn: u32, journal: Journal) -> Result<RunFault, AllocError>
+        ensures { IfOk result (λ fault. fault ≡ fault_of stop turn journal) }
     {
         match stop {
-            Stop::Memory => RunFault::Memory,
-            Stop::Unseen {
-                packet,
-                sent,
-                heard,
-            } => RunFault::Unseen {
+            Stop::Memory => Ok(RunFault::Memory),
+            Stop::Unseen(unseen) => Ok(RunFault::Unseen {
                 turn: u64::from(turn),
-                packet,
-                sent,
-                heard,
+                packet: unseen.packet,
+                sent: Octets::copy(alloc, unseen.sent.as_slice())?,
+                heard: Octets::copy(alloc, unseen.heard.as_slice())?,
                 journal,
-            },
+            }),
+        }
+    }
+
+    /// Why the turn in this slot stopped the run, whose journal so far this is: the fault of its
+    /// stop, or that there is no memory to tell it.
+    fn told(alloc: Global, stop: Stop, turn: u32, journal: Journal) -> RunFault
+        ensures { (result ≡ fault_of stop turn journal) ⊎ (result ≡ RunFault.Memory) }
+    {
+        match RunFault::of(alloc, stop, turn, journal) {
+            Ok(fault) => fault,
+            Err(_) => RunFault::Memory,
         }
     }
 }
@@ -107,7 +115,7 @@ fn run_turns(alloc: Global, schedule: &Schedule, mut pair: Pair<'_>) -> Result<J
     let mut log = Log::new(alloc);
     for turn in 0..schedule.turns() {
         if let Err(stop) = run_turn(schedule, turn, &mut wanted, &mut pair, &mut out, &mut log) {
-            return Err(RunFault::of(stop, turn, log.into_journal()));
+            return Err(RunFault::told(alloc, stop, turn, log.into_journal()));
         }
     }
     Ok(log.into_journal())
@@ -142,7 +150,8 @@ fn publics_are_six(schedule: &Schedule)
 /// between turns each host has all that its side took (volume 6 part B, sections 4.5.6 and 4.5.9).
 ///
 /// Errors: `Unseen` exactly where a fate changes a packet and its receiver would judge the changed
-/// one good; `Memory` where there is no memory.
+/// one good; `Memory` where there is no memory for the two controllers, for a line of the journal,
+/// or for the octets of such a packet.
 pub fn run_pair(alloc: Global, a: &[u8], b: &[u8], schedule: &Schedule) -> Result<Journal, RunFault>
     requires words_a { 1 ≤ length schedule.now.a.words.items }
     requires words_b { 1 ≤ length schedule.now.b.words.items }

@@ -1,20 +1,26 @@
 //! What stops a turn.
-use journal::Octets;
+use arrayvec::ArrayVec;
+use ble_base::AIR_PACKET_OCTETS;
 use std::alloc::AllocError;
+
+/// A changed packet that would be judged good. It is held in place, so that it is told apart from
+/// want of memory with no memory.
+#[derive(Drop)]
+pub(crate) struct UnseenPacket {
+    /// Its place among the packets of the turn, counted from 1.
+    pub packet: u32,
+    /// Its octets as sent, in the order of the air.
+    pub sent: ArrayVec<u8, AIR_PACKET_OCTETS>,
+    /// Its octets as they would be heard.
+    pub heard: ArrayVec<u8, AIR_PACKET_OCTETS>,
+}
 
 /// Why a run stops before the end of its schedule.
 #[derive(Drop)]
 pub(crate) enum Stop {
     /// A changed packet would be judged good.
-    Unseen {
-        /// Its place among the packets of the turn, counted from 1.
-        packet: u32,
-        /// Its octets as sent, in the order of the air.
-        sent: Octets,
-        /// Its octets as they would be heard.
-        heard: Octets,
-    },
-    /// There is no memory.
+    Unseen(UnseenPacket),
+    /// There is no memory for a line of the journal.
     Memory,
 }
 

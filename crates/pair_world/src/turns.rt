@@ -1,7 +1,7 @@
 //! One turn of a run.
 ghost use Rattle.std.specs.Prelude.{◌≡◌, ℕ, ◌+◌, ◌^◌, ◌<◌, ◌≤◌, List, [], length, slice_get, Some};
 ghost use Rattle.std.specs.Prelude.{OnOk, IfErr};
-ghost use Rattle.radio_replay.specs.Script.{Turn as Plan};
+ghost use Rattle.radio_replay.specs.Script.{Turn as ScriptTurn};
 ghost use Rattle.run_model.specs.History.{Event};
 ghost use Rattle.run_model.specs.Pair.{plan_of};
 ghost use Rattle.run_model.specs.Run.{Given, after_begins, after_ends, after_opening, after_turn};
@@ -30,11 +30,11 @@ fn feed_both(
     requires turn { number < length schedule.now.turns }
     requires order { MayBothBegin number pair.old.a pair.old.b }
     requires empty { out.old.items ≡ [] }
-    ensures ok { OnOk result ((given : Given) (plan : Plan) (history : List Event)
-        → slice_get schedule.now.turns number ≡ Some plan
+    ensures ok { OnOk result ((given : Given) (scripted : ScriptTurn) (history : List Event)
+        → slice_get schedule.now.turns number ≡ Some scripted
         → PairIsUpTo given number pair.old.a pair.old.b log.old history
         → HasFed given number pair.new.a pair.new.b log.new (after_feeding given number
-        (plan_of plan) history)) }
+        (plan_of scripted) history)) }
     ensures order { OnOk result (MayBothBegin number pair.new.a pair.new.b) }
     ensures links { OnOk result (log.new.links ≡ log.old.links) }
     ensures empty { OnOk result (out.new.items ≡ []) }
@@ -60,11 +60,11 @@ fn begin_both(
     requires turn { number < length schedule.now.turns }
     requires order { MayBothBegin number pair.old.a pair.old.b }
     requires empty { out.old.items ≡ [] }
-    ensures ok { OnOk result ((given : Given) (plan : Plan) (history : List Event)
-        → slice_get schedule.now.turns number ≡ Some plan
+    ensures ok { OnOk result ((given : Given) (scripted : ScriptTurn) (history : List Event)
+        → slice_get schedule.now.turns number ≡ Some scripted
         → HasFed given number pair.old.a pair.old.b log.old history
         → InPhase given number pair.new.a pair.new.b log.new wanted.new.a wanted.new.b 0
-        (after_begins given number (plan_of plan) given.stations history)) }
+        (after_begins given number (plan_of scripted) given.stations history)) }
     ensures begun { OnOk result (HaveBothBegun (number + 1) pair.new.a pair.new.b) }
     ensures links { OnOk result (log.new.links ≡ log.old.links) }
     ensures empty { OnOk result (out.new.items ≡ []) }
@@ -91,11 +91,11 @@ fn open_turn(
     requires turn { number < length schedule.now.turns }
     requires order { MayBothBegin number pair.old.a pair.old.b }
     requires empty { out.old.items ≡ [] }
-    ensures ok { OnOk result ((given : Given) (plan : Plan) (history : List Event)
-        → slice_get schedule.now.turns number ≡ Some plan
+    ensures ok { OnOk result ((given : Given) (scripted : ScriptTurn) (history : List Event)
+        → slice_get schedule.now.turns number ≡ Some scripted
         → PairIsUpTo given number pair.old.a pair.old.b log.old history
         → InPhase given number pair.new.a pair.new.b log.new wanted.new.a wanted.new.b 0
-        (after_opening given number (plan_of plan) history)) }
+        (after_opening given number (plan_of scripted) history)) }
     ensures begun { OnOk result (HaveBothBegun (number + 1) pair.new.a pair.new.b) }
     ensures links { OnOk result (log.new.links ≡ log.old.links) }
     ensures empty { OnOk result (out.new.items ≡ []) }
@@ -136,15 +136,17 @@ pub(crate) fn run_turn(
     requires order { MayBothBegin number pair.old.a pair.old.b }
     requires links { log.old.links + 6 < 2 ^ 64 }
     requires empty { out.old.items ≡ [] }
-    ensures ok { OnOk result ((given : Given) (plan : Plan) (history : List Event)
-        → slice_get schedule.now.turns number ≡ Some plan
+    ensures ok { OnOk result ((given : Given) (scripted : ScriptTurn) (history : List Event)
+        → slice_get schedule.now.turns number ≡ Some scripted
         → PairIsUpTo given number pair.old.a pair.old.b log.old history
-        → Reaches (after_turn given number (plan_of plan) history)
+        → Reaches (after_turn given number (plan_of scripted) history)
         (PairIsUpTo given (number + 1) pair.new.a pair.new.b log.new)) }
-    ensures err { IfErr result (λ stop. (given : Given) (plan : Plan) (history : List Event)
-        → slice_get schedule.now.turns number ≡ Some plan
+    ensures err { IfErr result (λ stop. (given : Given) (scripted : ScriptTurn)
+        (history : List Event)
+        → slice_get schedule.now.turns number ≡ Some scripted
         → PairIsUpTo given number pair.old.a pair.old.b log.old history
-        → IsStopped (after_turn given number (plan_of plan) history) number log.new.entries stop) }
+        → IsStopped (after_turn given number (plan_of scripted) history)
+        number log.new.entries stop) }
     ensures order { OnOk result (MayBothBegin (number + 1) pair.new.a pair.new.b) }
     ensures links { OnOk result (log.new.links ≤ log.old.links + 6) }
     ensures empty { OnOk result (out.new.items ≡ []) }

@@ -11,7 +11,7 @@ use Rattle.data_pdu.specs.declared.ctrl.Ctrl.TheVariants.{TerminateInd}
 use Rattle.procedures.specs.declared.asks.Ask.{Ask}
 use Rattle.procedures.specs.declared.asks.Ask.TheVariants.{Update as ask_update}
 use Rattle.procedures.specs.declared.drafts.Draft.TheVariants.{Grant, Cipher}
-use Rattle.procedures.specs.declared.opcodes.TheConstants.{CONNECTION_PARAM_REQ}
+use Rattle.procedures.specs.Opcodes.{connection_param_req_opcode}
 use Rattle.procedures.specs.declared.stages.Ahead.TheVariants.{Nothing}
 use Rattle.procedures.specs.declared.stages.OwnCentral.{OwnCentral}
 use Rattle.procedures.specs.declared.stages.OwnCentral.TheVariants.{Idle, UpdateSent, MapSent}
@@ -98,7 +98,7 @@ abbrev pub request_refused : TableFacts → ErrCode → TableFacts
 request_refused f code =
     record f {
       progress = peer_becomes Absent f.progress;
-      queue = with_rejection f.closing (record { opcode = CONNECTION_PARAM_REQ; code = code }) f.queue;
+      queue = with_rejection f.closing (record { opcode = connection_param_req_opcode; code = code }) f.queue;
     }
 
 abbrev pub granted_by : TableFacts → Ask → TableFacts

@@ -1,4 +1,5 @@
 -- The definitions of this crate.
+pub mod Opcodes
 pub mod Kinds
 pub mod Values
 pub mod Collisions

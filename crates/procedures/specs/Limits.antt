@@ -1,10 +1,16 @@
 -- The longest payloads of a link (Core 5.2, volume 6 part B, section 4.5.10).
 use Rattle.std.specs.Prelude.{ℕ, min}
+use Rattle.ble_base.specs.Limits.{first_payload_octets}
 use Rattle.procedures.specs.declared.lengths.Lengths.{Lengths}
 
 -- before any exchange: 27 octets each way but for what this end receives (section 4.5.10)
 abbrev pub first_lengths : ℕ → Lengths
-first_lengths own_rx = record { own_rx = own_rx; own_tx = 27; peer_rx = 27; peer_tx = 27 }
+first_lengths own_rx = record {
+  own_rx = own_rx;
+  own_tx = first_payload_octets;
+  peer_rx = first_payload_octets;
+  peer_tx = first_payload_octets;
+}
 
 -- the effective ones: no end sends more than the other receives (section 4.5.10)
 abbrev pub rx_of : Lengths → ℕ

@@ -3,7 +3,7 @@ use Rattle.std.specs.Prelude.{Bool, true, false, Option, Some, None, if◌then�
 use Rattle.ble_base.specs.declared.procedure_kinds.Kind.{Kind}
 use Rattle.ble_base.specs.declared.procedure_kinds.Kind.TheVariants.{Phy}
 use Rattle.procedures.specs.declared.drafts.Draft.TheVariants.{PhyRsp, PhyInd}
-use Rattle.procedures.specs.declared.opcodes.TheConstants.{PHY_REQ}
+use Rattle.procedures.specs.Opcodes.{phy_req_opcode}
 use Rattle.procedures.specs.declared.outcome.Outcome.{Outcome}
 use Rattle.procedures.specs.declared.stages.Central.{Central}
 use Rattle.procedures.specs.declared.stages.OwnCentral.{OwnCentral}
@@ -25,7 +25,7 @@ use Rattle.procedures.specs.Request.{against_central, after_grant}
 -- LL_PHY_REQ is taken at a central, which answers by LL_PHY_UPDATE_IND
 abbrev pub phy_req_at_central : TableFacts → Central → Outcome
 phy_req_at_central f c =
-    against_central f c Phy PHY_REQ (moved_and_answered f (central (record c { peer = PhyIndUnsent })) PhyInd)
+    against_central f c Phy phy_req_opcode (moved_and_answered f (central (record c { peer = PhyIndUnsent })) PhyInd)
 
 -- LL_PHY_RSP answers the request of the central, which sends LL_PHY_UPDATE_IND
 abbrev pub phy_answered : TableFacts → Central → Outcome

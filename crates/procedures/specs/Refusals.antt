@@ -5,7 +5,7 @@ use Rattle.ble_base.specs.declared.error_codes.ErrCode.{ErrCode}
 use Rattle.ble_base.specs.declared.roles.Role.{Role}
 use Rattle.ble_base.specs.declared.roles.Role.TheVariants.{Central, Peripheral}
 use Rattle.ble_base.specs.declared.procedure_kinds.Kind.{Kind}
-use Rattle.procedures.specs.declared.opcodes.TheConstants.{CONNECTION_UPDATE_IND, CHANNEL_MAP_IND, ENC_REQ, FEATURE_REQ, VERSION_IND, PERIPHERAL_FEATURE_REQ, CONNECTION_PARAM_REQ, LENGTH_REQ, PHY_REQ, PHY_UPDATE_IND}
+use Rattle.procedures.specs.Opcodes.{connection_update_ind_opcode, channel_map_ind_opcode, enc_req_opcode, feature_req_opcode, version_ind_opcode, peripheral_feature_req_opcode, connection_param_req_opcode, length_req_opcode, phy_req_opcode, phy_update_ind_opcode}
 use Rattle.procedures.specs.declared.outcome.Outcome.{Outcome}
 use Rattle.procedures.specs.declared.stages.Exchange.{Exchange}
 use Rattle.procedures.specs.declared.stages.Exchange.TheVariants.{FeaturesSent, VersionSent, LengthSent}
@@ -21,31 +21,31 @@ use Rattle.procedures.specs.Outcomes.{unchanged, moved}
 
 -- the PDU of a feature exchange that begins it, by the role of the end
 abbrev pub feature_opcode : Role → ℕ
-feature_opcode Central = FEATURE_REQ
-feature_opcode Peripheral = PERIPHERAL_FEATURE_REQ
+feature_opcode Central = feature_req_opcode
+feature_opcode Peripheral = peripheral_feature_req_opcode
 
 abbrev pub opcode_of_exchange : Role → Exchange → Option ℕ
 opcode_of_exchange role FeaturesSent = Some (feature_opcode role)
-opcode_of_exchange role VersionSent = Some VERSION_IND
-opcode_of_exchange role LengthSent = Some LENGTH_REQ
+opcode_of_exchange role VersionSent = Some version_ind_opcode
+opcode_of_exchange role LengthSent = Some length_req_opcode
 opcode_of_exchange role other = None
 
 abbrev pub opcode_at_central : OwnCentral → Option ℕ
 opcode_at_central (exchange stage) = opcode_of_exchange Central stage
-opcode_at_central UpdateSent = Some CONNECTION_UPDATE_IND
-opcode_at_central MapSent = Some CHANNEL_MAP_IND
-opcode_at_central PhySent = Some PHY_REQ
-opcode_at_central PhyAnswered = Some PHY_REQ
-opcode_at_central PhyIndicated = Some PHY_REQ
-opcode_at_central EncryptSent = Some ENC_REQ
+opcode_at_central UpdateSent = Some connection_update_ind_opcode
+opcode_at_central MapSent = Some channel_map_ind_opcode
+opcode_at_central PhySent = Some phy_req_opcode
+opcode_at_central PhyAnswered = Some phy_req_opcode
+opcode_at_central PhyIndicated = Some phy_req_opcode
+opcode_at_central EncryptSent = Some enc_req_opcode
 opcode_at_central other = None
 
 abbrev pub opcode_at_peripheral : OwnPeripheral → Option ℕ
 opcode_at_peripheral (exchange_p stage) = opcode_of_exchange Peripheral stage
-opcode_at_peripheral RequestSent = Some CONNECTION_PARAM_REQ
-opcode_at_peripheral RequestAcknowledged = Some CONNECTION_PARAM_REQ
-opcode_at_peripheral RequestGranted = Some CONNECTION_PARAM_REQ
-opcode_at_peripheral phy_sent = Some PHY_REQ
+opcode_at_peripheral RequestSent = Some connection_param_req_opcode
+opcode_at_peripheral RequestAcknowledged = Some connection_param_req_opcode
+opcode_at_peripheral RequestGranted = Some connection_param_req_opcode
+opcode_at_peripheral phy_sent = Some phy_req_opcode
 opcode_at_peripheral other = None
 
 -- the opcode of the first PDU of the own procedure, once it was sent; of an encryption only a start that follows no
@@ -56,7 +56,7 @@ first_opcode (peripheral p) = opcode_at_peripheral p.own
 
 -- the opcode of a later PDU of the own procedure that was sent: a central's PHY update has two
 abbrev pub later_opcode_at_central : OwnCentral → Option ℕ
-later_opcode_at_central PhyIndicated = Some PHY_UPDATE_IND
+later_opcode_at_central PhyIndicated = Some phy_update_ind_opcode
 later_opcode_at_central other = None
 
 abbrev pub later_opcode : Progress → Option ℕ

@@ -5,7 +5,7 @@ use Rattle.ble_base.specs.ErrorCodes.{invalid_ll_parameters}
 use Rattle.ble_base.specs.declared.error_codes.ErrCode.{ErrCode}
 use Rattle.ble_base.specs.declared.procedure_kinds.Kind.{Kind}
 use Rattle.ble_base.specs.declared.procedure_kinds.Kind.TheVariants.{Request}
-use Rattle.procedures.specs.declared.opcodes.TheConstants.{CONNECTION_PARAM_REQ}
+use Rattle.procedures.specs.Opcodes.{connection_param_req_opcode}
 use Rattle.procedures.specs.declared.outcome.Outcome.{Outcome}
 use Rattle.procedures.specs.declared.stages.Central.{Central}
 use Rattle.procedures.specs.declared.stages.OwnCentral.{OwnCentral}
@@ -68,14 +68,14 @@ abbrev pub request_judged : TableFacts → Central → ℕ → ℕ → ℕ → �
 request_judged f c min max latency timeout =
     (if are_valid min max latency timeout
     then with_effect (AskHost min max latency timeout) (moved f (central (record c { peer = HostAsked })))
-    else record (rejected f CONNECTION_PARAM_REQ (record { 0 = invalid_ll_parameters })) {
+    else record (rejected f connection_param_req_opcode (record { 0 = invalid_ll_parameters })) {
       progress = central (record c { peer = Absent });
     })
 
 -- LL_CONNECTION_PARAM_REQ is taken at a central
 abbrev pub request_taken : TableFacts → Central → ℕ → ℕ → ℕ → ℕ → Outcome
 request_taken f c min max latency timeout =
-    against_central f c Request CONNECTION_PARAM_REQ (request_judged f c min max latency timeout)
+    against_central f c Request connection_param_req_opcode (request_judged f c min max latency timeout)
 
 -- the indication that grants a request is sent
 abbrev pub grant_sent : PeerAtCentral → PeerAtCentral

@@ -10,7 +10,7 @@ use Rattle.data_pdu.specs.declared.ctrl.CtrlRead.TheVariants.{Known, Unknown, Ba
 use Rattle.instants.specs.declared.indications.Indication.TheVariants.{Update as update_indication, Map as map_indication}
 use Rattle.procedures.specs.declared.asks.Ask.{Ask}
 use Rattle.procedures.specs.declared.drafts.Draft.TheVariants.{VersionInd as version_draft}
-use Rattle.procedures.specs.declared.opcodes.TheConstants.{CONNECTION_UPDATE_IND, CHANNEL_MAP_IND, ENC_REQ, ENC_RSP, START_ENC_REQ, FEATURE_REQ, PAUSE_ENC_REQ, PERIPHERAL_FEATURE_REQ, CONNECTION_PARAM_REQ, CONNECTION_PARAM_RSP, PHY_UPDATE_IND}
+use Rattle.procedures.specs.Opcodes.{connection_update_ind_opcode, channel_map_ind_opcode, enc_req_opcode, enc_rsp_opcode, start_enc_req_opcode, feature_req_opcode, pause_enc_req_opcode, peripheral_feature_req_opcode, connection_param_req_opcode, connection_param_rsp_opcode, phy_update_ind_opcode}
 use Rattle.procedures.specs.declared.outcome.Outcome.{Outcome}
 use Rattle.procedures.specs.declared.outcome.Reply.{Reply}
 use Rattle.procedures.specs.declared.outcome.Reply.TheVariants.{Nothing as no_reply, Answer}
@@ -46,7 +46,7 @@ taken_by_either f (FeatureRsp features) = features_taken f features
 taken_by_either f (VersionInd version company sub) = version_taken f version company sub
 taken_by_either f (RejectInd code) = reject_taken f code
 taken_by_either f (ConnectionParamRsp min max latency timeout periodicity reference offsets) =
-    unknown f CONNECTION_PARAM_RSP
+    unknown f connection_param_rsp_opcode
 taken_by_either f (RejectExtInd opcode code) = reject_ext_taken f opcode code
 taken_by_either f (LengthReq rx rx_time tx tx_time) = length_asked f rx tx
 taken_by_either f (LengthRsp rx rx_time tx tx_time) = length_taken f rx tx
@@ -55,12 +55,12 @@ taken_by_either f other = unchanged f
 -- at a central; the PDUs that only a central sends are not known there
 abbrev pub taken_by_central : TableFacts → Central → Bool → Ctrl → Outcome
 taken_by_central f c quiet (ConnectionUpdateInd win_size win_offset interval latency timeout instant) =
-    unknown f CONNECTION_UPDATE_IND
-taken_by_central f c quiet (ChannelMapInd map instant) = unknown f CHANNEL_MAP_IND
-taken_by_central f c quiet (EncReq rand ediv skd_m iv_m) = unknown f ENC_REQ
-taken_by_central f c quiet (FeatureReq features) = unknown f FEATURE_REQ
-taken_by_central f c quiet PauseEncReq = unknown f PAUSE_ENC_REQ
-taken_by_central f c quiet (PhyUpdateInd to_peripheral to_central instant) = unknown f PHY_UPDATE_IND
+    unknown f connection_update_ind_opcode
+taken_by_central f c quiet (ChannelMapInd map instant) = unknown f channel_map_ind_opcode
+taken_by_central f c quiet (EncReq rand ediv skd_m iv_m) = unknown f enc_req_opcode
+taken_by_central f c quiet (FeatureReq features) = unknown f feature_req_opcode
+taken_by_central f c quiet PauseEncReq = unknown f pause_enc_req_opcode
+taken_by_central f c quiet (PhyUpdateInd to_peripheral to_central instant) = unknown f phy_update_ind_opcode
 taken_by_central f c quiet (EncRsp skd_s iv_s) = cipher_at_central f c quiet (EncRsp skd_s iv_s)
 taken_by_central f c quiet StartEncReq = cipher_at_central f c quiet StartEncReq
 taken_by_central f c quiet PauseEncRsp = cipher_at_central f c quiet PauseEncRsp
@@ -81,11 +81,11 @@ taken_by_peripheral f p quiet (EncReq rand ediv skd_m iv_m) = encryption_begun f
 taken_by_peripheral f p quiet PauseEncReq = encryption_begun f p PauseEncReq
 taken_by_peripheral f p quiet PauseEncRsp = pause_rsp_at_peripheral f quiet PauseEncRsp
 taken_by_peripheral f p quiet StartEncRsp = start_rsp_at_peripheral f p quiet StartEncRsp
-taken_by_peripheral f p quiet (EncRsp skd_s iv_s) = unknown f ENC_RSP
-taken_by_peripheral f p quiet StartEncReq = unknown f START_ENC_REQ
-taken_by_peripheral f p quiet (PeripheralFeatureReq features) = unknown f PERIPHERAL_FEATURE_REQ
+taken_by_peripheral f p quiet (EncRsp skd_s iv_s) = unknown f enc_rsp_opcode
+taken_by_peripheral f p quiet StartEncReq = unknown f start_enc_req_opcode
+taken_by_peripheral f p quiet (PeripheralFeatureReq features) = unknown f peripheral_feature_req_opcode
 taken_by_peripheral f p quiet (ConnectionParamReq min max latency timeout periodicity reference offsets) =
-    unknown f CONNECTION_PARAM_REQ
+    unknown f connection_param_req_opcode
 taken_by_peripheral f p quiet (FeatureReq features) = features_asked f features
 taken_by_peripheral f p quiet (PhyReq tx rx) = phy_req_at_peripheral f p
 taken_by_peripheral f p quiet (PhyUpdateInd to_peripheral to_central instant) = phy_ind_taken f p

@@ -1,5 +1,6 @@
 -- Values of the PDUs that this product sends, which are in their ranges (Core 5.2, volume 6 part B, section 2.4.2).
 use Rattle.std.specs.Prelude.{ℕ, ◌≤◌}
+use Rattle.ble_base.specs.Limits.{first_payload_octets, payload_octets}
 use Rattle.data_pdu.specs.Ranges.{IsUpdate}
 
 -- the parameters that an update sets: interval in 1.25 ms, latency in connection events, timeout in 10 ms
@@ -14,5 +15,5 @@ IsParams p = IsUpdate 1 0 p.interval p.latency p.timeout
 
 -- the most octets of a payload that an end receives or transmits (section 4.5.10)
 pub record IsPayloadMax (octets : ℕ) : Type 0 where
-  pub from : 27 ≤ octets
-  pub to : octets ≤ 251
+  pub from : first_payload_octets ≤ octets
+  pub to : octets ≤ payload_octets

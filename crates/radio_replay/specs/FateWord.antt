@@ -7,14 +7,14 @@ use Rattle.radio_replay.specs.declared.fates.Fate.{Fate}
 use Rattle.radio_replay.specs.declared.fates.Fate.TheVariants.{Pass, Lost, Damage}
 use Rattle.line_words.specs.Numbers.{number_in, in_range}
 use Rattle.line_words.specs.Parts.{two_parts}
-use Rattle.ble_base.specs.declared.limits.TheConstants.{AIR_PACKET_OCTETS}
-use Rattle.radio_replay.specs.declared.limits.TheConstants.{LAST_PLACE}
+use Rattle.ble_base.specs.Limits.{air_packet_octets}
+use Rattle.radio_replay.specs.Limits.{last_place}
 
 -- the octets, if there are 1 to 264 of them
 abbrev pub pattern_octets : Option (List ℕ) → Option (List ℕ)
 pattern_octets None = None
 pattern_octets (Some octets) =
-    if nat_le 1 (length octets) && nat_le (length octets) AIR_PACKET_OCTETS then Some octets else None
+    if nat_le 1 (length octets) && nat_le (length octets) air_packet_octets then Some octets else None
 
 -- the pattern that two hexadecimal digits for each octet spell, in either case
 abbrev pub pattern_in : List ℕ → Option (List ℕ)
@@ -29,7 +29,7 @@ both_parts_damage (Some place) (Some octets) = Some (Damage place (record { item
 -- a place from 0 to 263 and a pattern, if there are two parts
 abbrev pub parts_damage : Option (List ℕ × List ℕ) → Option Fate
 parts_damage None = None
-parts_damage (Some parts) = both_parts_damage (in_range 0 LAST_PLACE (number_in parts.0)) (pattern_in parts.1)
+parts_damage (Some parts) = both_parts_damage (in_range 0 last_place (number_in parts.0)) (pattern_in parts.1)
 
 -- the place and the pattern, with a colon between them
 abbrev pub damage_in : List ℕ → Option Fate

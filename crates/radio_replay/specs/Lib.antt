@@ -2,6 +2,7 @@
 pub mod Damage
 pub mod FateWord
 pub mod Gathering
+pub mod Limits
 pub mod Storage
 pub mod Numbers
 pub mod Schedule

@@ -12,7 +12,7 @@ use Rattle.radio_replay.specs.SideLine.{config_in_line}
 use Rattle.line_words.specs.Text.{lines_of, words_of}
 use Rattle.radio_replay.specs.declared.lines.Line.{Line}
 use Rattle.radio_replay.specs.TurnLine.{line_in, line_turns}
-use Rattle.radio_replay.specs.declared.limits.TheConstants.{MOST_TURNS}
+use Rattle.radio_replay.specs.Limits.{most_turns}
 
 -- a text is right, with these settings and turns; or it has a first line at fault, counted from 1: a line outside the
 -- grammar, or one with which there are too many turns
@@ -35,7 +35,7 @@ is_heading (Some line) = bytes_eq line (codes "ble-schedule 1")
 abbrev pub with_line : List Turn → Option (List Turn) → Result (List Turn) LineFault
 with_line turns None = Err Outside
 with_line turns (Some more) =
-    if nat_le (length turns + length more) MOST_TURNS then Ok (turns ++ more) else Err PastLimit
+    if nat_le (length turns + length more) most_turns then Ok (turns ++ more) else Err PastLimit
 
 -- the turns after a line of this number, if it is not at fault
 abbrev pub turns_then : ℕ → Result (List Turn) LineFault → (List Turn → Result (List Turn) (LineFault × ℕ))
@@ -87,7 +87,7 @@ IsLineFault number read (TooLong line) = (read ≡ Err PastLimit) × (line ≡ n
 abbrev pub checked_line : Option Line → ℕ → ℕ → Result Line ScheduleFault
 checked_line None turns number = Err (BadLine number)
 checked_line (Some line) turns number =
-    if nat_le (turns + length (line_turns line)) MOST_TURNS then Ok line else Err (TooLong number)
+    if nat_le (turns + length (line_turns line)) most_turns then Ok line else Err (TooLong number)
 
 -- the settings that were read of lines 2 and 3, or the fault of the first of the three lines that is at fault
 abbrev pub settings_read : Bool → Option Config → Option Config → Result (Config × Config) ScheduleFault

@@ -3,7 +3,7 @@ use Rattle.std.specs.Prelude.{ℕ, ◌≤◌, Bool, List, slice_index_or}
 use Rattle.ble_base.specs.declared.Config.{Config}
 use Rattle.radio_replay.specs.declared.fates.Fate.{Fate}
 use Rattle.radio_replay.specs.declared.fates.Fate.TheVariants.{Pass}
-use Rattle.radio_replay.specs.declared.limits.TheConstants.{MOST_FED}
+use Rattle.radio_replay.specs.Limits.{most_fed}
 
 -- a turn: which radios are on, the most octets that each side is fed, and the fates of its packets in order
 pub record Turn : Type 0 where
@@ -15,7 +15,7 @@ pub record Turn : Type 0 where
 
 -- a turn feeds at most 1048576 octets to each side
 abbrev pub CanBeFed : Turn → Type 0
-CanBeFed turn = (turn.feed_a ≤ MOST_FED) × (turn.feed_b ≤ MOST_FED)
+CanBeFed turn = (turn.feed_a ≤ most_fed) × (turn.feed_b ≤ most_fed)
 
 -- the settings of both sides, and the turns in order
 pub record Script : Type 0 where

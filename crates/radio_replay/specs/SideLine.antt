@@ -7,7 +7,7 @@ use Rattle.ble_base.specs.declared.Side.TheVariants.{A, B}
 use Rattle.radio_replay.specs.Numbers.{address_of, cursor_of, random_word_of}
 use Rattle.radio_replay.specs.Gathering.{with_first}
 use Rattle.line_words.specs.Text.{words_of}
-use Rattle.ble_base.specs.declared.limits.TheConstants.{RANDOM_WORDS}
+use Rattle.ble_base.specs.Limits.{most_random_words}
 
 -- the letter that names a side
 abbrev pub letter_of : Side → ℕ
@@ -22,7 +22,7 @@ all_random_words (word ∷ words) = with_first (random_word_of word) (all_random
 -- the random words that one to 64 words spell
 abbrev pub random_words_in : List (List ℕ) → Option (List ℕ)
 random_words_in words =
-    if nat_le 1 (length words) && nat_le (length words) RANDOM_WORDS then all_random_words words else None
+    if nat_le 1 (length words) && nat_le (length words) most_random_words then all_random_words words else None
 
 -- the settings, if each part was read
 abbrev pub settings : Option (List ℕ) → Option ℕ → Option (List ℕ) → Option Config

@@ -13,8 +13,8 @@ use Rattle.radio_replay.specs.Script.{CanBeFed, Turn}
 use Rattle.radio_replay.specs.SideLine.{letter_of}
 use Rattle.line_words.specs.Signs.{sign_of}
 use Rattle.line_words.specs.Text.{line_of, with_newline}
-use Rattle.ble_base.specs.declared.limits.TheConstants.{AIR_PACKET_OCTETS, RANDOM_WORDS}
-use Rattle.radio_replay.specs.declared.limits.TheConstants.{LAST_PLACE}
+use Rattle.ble_base.specs.Limits.{air_packet_octets, most_random_words}
+use Rattle.radio_replay.specs.Limits.{last_place}
 
 -- a random word in 16 hexadecimal digits
 abbrev pub random_word_text : ℕ → List ℕ
@@ -64,14 +64,14 @@ pub record CanBeSet (config : Config) : Type 0 where
   pub cursor : config.cursor < 2 ^ 32
   pub words : (k : ℕ) → slice_index config.words.items k < 2 ^ 64
   pub some : 1 ≤ length config.words.items
-  pub at_most : length config.words.items ≤ RANDOM_WORDS
+  pub at_most : length config.words.items ≤ most_random_words
 
 -- a fate that a schedule can give: a damage begins at a place from 0 to 263 and has 1 to 264 octets
 abbrev pub CanBeDone : Fate → Type 0
 CanBeDone Pass = ⊤
 CanBeDone Lost = ⊤
 CanBeDone (Damage at pattern) =
-    (at ≤ LAST_PLACE) × (1 ≤ length pattern.items) × (length pattern.items ≤ AIR_PACKET_OCTETS) × IsBytes pattern.items
+    (at ≤ last_place) × (1 ≤ length pattern.items) × (length pattern.items ≤ air_packet_octets) × IsBytes pattern.items
 
 -- a turn that a schedule can give
 abbrev pub CanBeTaken : Turn → Type 0

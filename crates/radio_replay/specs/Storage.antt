@@ -5,7 +5,7 @@ use Rattle.radio_replay.specs.declared.fates.Fate.{Fate}
 use Rattle.radio_replay.specs.declared.fates.Fate.TheVariants as fate
 use Rattle.radio_replay.specs.declared.kept_fates.Storage.{Storage}
 use Rattle.radio_replay.specs.declared.kept_fates.Storage.TheVariants.{Pass, Lost, Damage}
-use Rattle.ble_base.specs.declared.limits.TheConstants.{AIR_PACKET_OCTETS}
+use Rattle.ble_base.specs.Limits.{air_packet_octets}
 
 -- the fate that is kept
 abbrev pub stored_fate : Storage → Fate
@@ -17,4 +17,4 @@ stored_fate (Damage at pattern) = fate.Damage at (record { items = pattern.items
 abbrev pub Fits : Storage → Type 0
 Fits Pass = ⊤
 Fits Lost = ⊤
-Fits (Damage at pattern) = length pattern.items ≤ AIR_PACKET_OCTETS
+Fits (Damage at pattern) = length pattern.items ≤ air_packet_octets

@@ -10,7 +10,7 @@ use Rattle.line_words.specs.Numbers.{number_in, in_range}
 use Rattle.line_words.specs.Signs.{sign_value}
 use Rattle.radio_replay.specs.Gathering.{with_first}
 use Rattle.radio_replay.specs.Script.{Turn}
-use Rattle.radio_replay.specs.declared.limits.TheConstants.{MOST_FED, MOST_REPEATED}
+use Rattle.radio_replay.specs.Limits.{most_fed, most_repeated}
 
 -- the two radios, if both were read
 abbrev pub both_radios : Option Bool → Option Bool → Option (Bool × Bool)
@@ -40,7 +40,7 @@ abbrev pub feed_in : ℕ → List (List ℕ) → Option Feed
 feed_in letter [] = feed_of_count (Some 0) []
 feed_in letter ([] ∷ words) = feed_of_count (Some 0) ([] ∷ words)
 feed_in letter ((octet ∷ digits) ∷ words) =
-    if octet == letter then feed_of_count (in_range 1 MOST_FED (number_in digits)) words
+    if octet == letter then feed_of_count (in_range 1 most_fed (number_in digits)) words
     else feed_of_count (Some 0) ((octet ∷ digits) ∷ words)
 
 -- the fates that all these words spell
@@ -77,7 +77,7 @@ turn_in (radios ∷ words) = turn_after_radios (radios_of radios) words
 
 -- one number from 1, of at most six digits
 abbrev pub count_in : List (List ℕ) → Option ℕ
-count_in (word ∷ []) = in_range 1 MOST_REPEATED (number_in word)
+count_in (word ∷ []) = in_range 1 most_repeated (number_in word)
 count_in _ = None
 
 -- `run` and a number, or `t` and a turn

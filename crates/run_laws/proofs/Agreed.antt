@@ -54,7 +54,7 @@ ack_reported link = ack_kept DataReported link refl
 pub ack_fixed : (link : OpenLink) → ack_of (link_after PduFixed link) ≡ ack_of link
 ack_fixed link = ack_kept PduFixed link refl
 
-agree_by : (one after other : OpenLink) → after.setup ≡ one.setup → ack_of after ≡ ack_of one → Agree one other → Agree after other
+pub agree_by : (one after other : OpenLink) → after.setup ≡ one.setup → ack_of after ≡ ack_of one → Agree one other → Agree after other
 agree_by one after other setup same agree = λ both.
     subst (λ a. AreInAgreement a (ack_of other)) (sym same)
     (agree (subst (λ s. HaveOneConnectInd s other.setup) setup both))

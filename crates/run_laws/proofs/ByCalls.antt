@@ -15,7 +15,7 @@ use Rattle.run_model.proofs.Places.{each_at, each_event}
 use Rattle.run_model.proofs.Stations.{is_in, among, not_before}
 use Rattle.run_model.proofs.Walk.{Place, AtBegins, AtListening, IsKept, IsWhole, IsStopped, ends_with, run_kept}
 use Rattle.run_laws.proofs.Entering.{IsInTurn, turn_first, turn_kept}
-use Rattle.run_laws.proofs.Hearings.{AreHearing, IsOnAir, OnAirIf, hearing_kept, on_air, other_facts, own_facts, own_hears, use_sent_at, wanted_is}
+use Rattle.run_laws.proofs.Hearings.{AreHearing, IsOnAir, OnAirIf, hearing_kept, on_air, other_facts, own_facts, own_hears, use_in_phase, wanted_is}
 use Rattle.run_laws.proofs.TurnPlaces.{AllStand, Between, Standing, Within, at_stage, event_past, stands_at, stands_first, turned}
 
 -- ---- a call, as it changes what the stations hold
@@ -26,13 +26,13 @@ pub record IsCalled (given : Given) (station : ℕ) (step : Step) (before after 
   pub others : (other : ℕ) → (other == station) ≡ false → after other ≡ before other
 
 -- what it received was on the air: a packet of another station, on the channel on which it listens
-pub record WasSent (given : Given) (before : ℕ → Facts) (station : ℕ) (octets : List ℕ) : Type 0 where
+pub record WasSent (given : Given) (phases : ℕ) (before : ℕ → Facts) (station : ℕ) (octets : List ℕ) : Type 0 where
   pub sender : ℕ
   pub channel : ℕ
   pub is_one : is_in sender given.stations ≡ true
   pub differs : (station == sender) ≡ false
   pub listens : (before station).wanted ≡ Listens channel
-  pub sent : IsOnAir (before sender) channel octets
+  pub sent : IsOnAir phases (before sender) channel octets
 
 pub record IsKeptByCalls (given : Given) (M : (ℕ → Facts) → Type 0) : Type 0 where
   pub feeds : (station octet : ℕ) (before after : ℕ → Facts) → IsCalled given station (HostOctet octet) before after → M before → M after
@@ -41,7 +41,7 @@ pub record IsKeptByCalls (given : Given) (M : (ℕ → Facts) → Type 0) : Type
   pub passes : (station phases turns : ℕ) (received : Option (List ℕ)) (before after : ℕ → Facts) → IsCalled given station (step_of received) before after
       → IsInTurn (setup_at given station) (Within phases) turns (before station)
       → ((other : ℕ) → is_in other given.stations ≡ true → (before other).turn.slot + 1 ≡ turns)
-      → ((octets : List ℕ) → received ≡ Some octets → WasSent given before station octets) → M before → M after
+      → ((octets : List ℕ) → received ≡ Some octets → WasSent given phases before station octets) → M before → M after
   pub ends : (station : ℕ) (before after : ℕ → Facts) → IsCalled given station TurnEnds before after → M before → M after
 
 abbrev pub all_facts : Given → List Event → ℕ → Facts
@@ -68,7 +68,7 @@ pub record Holds (given : Given) (M : (ℕ → Facts) → Type 0) (place : Place
   pub hearing : AreHearing given place history
   pub so_far : HoldsSoFar given M history
 
-same_facts : (given : Given) (history : List Event) (event : Event) → ((station : ℕ) → steps_in station event ≡ []) → all_facts given (history ++ event ∷ []) ≡ all_facts given history
+pub same_facts : (given : Given) (history : List Event) (event : Event) → ((station : ℕ) → steps_in station event ≡ []) → all_facts given (history ++ event ∷ []) ≡ all_facts given history
 same_facts given history event none = fun_ext (λ station. ap (facts_of (setup_at given station)) (event_past station history event (none station)))
 
 module _ (given : Given) (M : (ℕ → Facts) → Type 0) where
@@ -125,7 +125,7 @@ at_turn given place history stand station is =
     let setup = setup_at given station in
     turned setup (IsInTurn setup) (turn_kept setup) (past_of station history) (stands_at place station (turns_begun history)) (turn_first setup) (stand station is)
 
-one_slot : (given : Given) (history : List Event) (station phases turns : ℕ) (listened : Bool)
+pub one_slot : (given : Given) (history : List Event) (station phases turns : ℕ) (listened : Bool)
     → StandsBy given history station (if listened then at_stage (Within (suc phases)) turns else at_stage (Within phases) turns)
     → (facts_at given station history).turn.slot + 1 ≡ turns
 one_slot given history station phases turns true stands = stands.slot_is
@@ -134,9 +134,9 @@ one_slot given history station phases turns false stands = stands.slot_is
 pub last_turn : (turns slot : ℕ) → turns ≡ slot + 1 → turns - 1 ≡ slot
 last_turn turns slot is = omega (arith, is)
 
-was_sent : (given : Given) → HaveAddresses given → (phases : ℕ) (done left : List ℕ) (station : ℕ) (history : List Event) → AreDistinct given.stations
+pub was_sent : (given : Given) → HaveAddresses given → (phases : ℕ) (done left : List ℕ) (station : ℕ) (history : List Event) → AreDistinct given.stations
     → given.stations ≡ done ++ station ∷ left → AreHearing given (AtListening phases done (station ∷ left)) history
-    → (octets : List ℕ) → packet_received station history ≡ Some octets → WasSent given (all_facts given history) station octets
+    → (octets : List ℕ) → packet_received station history ≡ Some octets → WasSent given phases (all_facts given history) station octets
 was_sent given six phases done left station history distinct are hearing octets is =
     let heard = own_hears given phases done left station history distinct are hearing octets is in record {
       sender = heard.sender;
@@ -144,15 +144,15 @@ was_sent given six phases done left station history distinct are hearing octets 
       is_one = heard.is_one;
       differs = heard.differs;
       listens = wanted_is given station history ∙ heard.listens;
-      sent = by (is_in heard.sender done) heard.sender heard.channel heard.is_one heard.sent;
+      sent = by (is_in heard.sender done) heard.sender heard.channel heard.is_one refl heard.sent;
     }
   where
-    by : (called : Bool) (sender channel : ℕ) → is_in sender given.stations ≡ true → OnAirIf called given history sender channel octets
-        → IsOnAir (facts_at given sender history) channel octets
-    by true sender channel is_one sent = sent
-    by false sender channel is_one sent =
-        on_air (facts_at given sender history) channel octets
-        (use_sent_at given six (AtListening phases done (station ∷ left)) history hearing.stand sender is_one channel octets sent)
+    by : (called : Bool) (sender channel : ℕ) → is_in sender given.stations ≡ true → is_in sender done ≡ called → OnAirIf called phases given history sender channel octets
+        → IsOnAir phases (facts_at given sender history) channel octets
+    by true sender channel is_one was sent = sent
+    by false sender channel is_one was sent =
+        on_air phases (facts_at given sender history) channel octets
+        (use_in_phase given six phases done (station ∷ left) history hearing.stand sender is_one was channel octets sent)
 
 pub holds_kept : (given : Given) (M : (ℕ → Facts) → Type 0) → IsKeptByCalls given M → HaveAddresses given → AreDistinct given.stations → IsKept given (Holds given M)
 holds_kept given M calls six distinct = let kept = hearing_kept given six distinct in record {

@@ -74,20 +74,21 @@ IsWell channel octets = (pdu : AdvPdu) → pdu_heard channel octets ≡ Some pdu
 pub one_channel : (one other : ℕ) → Listens one ≡ Listens other → one ≡ other
 one_channel one other is = cc
 
-sent_well : IsUnderstood → (facts : Facts) (channel : ℕ) (octets : List ℕ) → IsAdvertisingChannel channel → IsOnAir facts channel octets → IsWell channel octets
-sent_well understood facts channel octets on_channel (inl sent) = λ pdu is.
+sent_well : IsUnderstood → (phases : ℕ) (facts : Facts) (channel : ℕ) (octets : List ℕ) → IsAdvertisingChannel channel → IsOnAir phases facts channel octets
+    → IsWell channel octets
+sent_well understood phases facts channel octets on_channel (inl sent) = λ pdu is.
     let found : Some sent.pdu ≡ Some pdu = sym (ap (pdu_heard channel) sent.packet ∙ understood channel sent.pdu sent.is_pdu) ∙ is in
     let same : sent.pdu ≡ pdu = cc in
     subst HasChSel same sent.ch_sel
-sent_well understood facts channel octets on_channel (inr sent) = λ pdu is.
+sent_well understood phases facts channel octets on_channel (inr sent) = λ pdu is.
     let below : channel < 37 = subst (λ (n : ℕ). n < 37) (sym sent.channel_is) (link_channel sent.link) in
     let from = on_channel.0 in absurd (omega (arith, below, from))
 
-heard_well : IsUnderstood → (given : Given) (before : ℕ → Facts) (station channel : ℕ) (octets : List ℕ) → WasSent given before station octets
+heard_well : IsUnderstood → (given : Given) (phases : ℕ) (before : ℕ → Facts) (station channel : ℕ) (octets : List ℕ) → WasSent given phases before station octets
     → (before station).wanted ≡ Listens channel → IsAdvertisingChannel channel → IsWell channel octets
-heard_well understood given before station channel octets sent wanted on_channel =
+heard_well understood given phases before station channel octets sent wanted on_channel =
     let same = one_channel sent.channel channel (sym sent.listens ∙ wanted) in
-    sent_well understood (before sent.sender) channel octets on_channel (subst (λ n. IsOnAir (before sent.sender) n octets) same sent.sent)
+    sent_well understood phases (before sent.sender) channel octets on_channel (subst (λ n. IsOnAir phases (before sent.sender) n octets) same sent.sent)
 
 -- ---- an initiator
 
@@ -175,22 +176,22 @@ heard_octets None octets is = absurd cc
 heard_octets (Some heard) octets is = let same : heard ≡ octets = cc in ap Some same
 
 phase_makes_two : IsUnderstood → (given : Given) (station phases turns : ℕ) (received : Option (List ℕ)) (before : ℕ → Facts)
-    → IsInTurn (setup_at given station) (Within phases) turns (before station) → ((octets : List ℕ) → received ≡ Some octets → WasSent given before station octets)
+    → IsInTurn (setup_at given station) (Within phases) turns (before station) → ((octets : List ℕ) → received ≡ Some octets → WasSent given phases before station octets)
     → MakesTwo (facts_after (setup_at given station) (before station) (step_of received)).turn.doing
 phase_makes_two understood given station phases turns None before in_turn sent = unheard_two (before station).turn.doing (before station)
 phase_makes_two understood given station phases turns (Some octets) before in_turn sent =
     heard_two (setup_at given station) (before station) octets (before station).turn.doing refl
-    (λ channel doing. heard_well understood given before station channel octets (sent octets refl)
+    (λ channel doing. heard_well understood given phases before station channel octets (sent octets refl)
     (subst (IsListening (before station)) doing in_turn.listens) (subst FitsChannel doing in_turn.fits))
 
 phase_opens_two : IsUnderstood → (given : Given) (station phases turns : ℕ) (received : Option (List ℕ)) (before : ℕ → Facts)
-    → IsInTurn (setup_at given station) (Within phases) turns (before station) → ((octets : List ℕ) → received ≡ Some octets → WasSent given before station octets)
+    → IsInTurn (setup_at given station) (Within phases) turns (before station) → ((octets : List ℕ) → received ≡ Some octets → WasSent given phases before station octets)
     → MakesTwo (before station).turn.doing → MayOpen HasTwo (before station) (step_of received)
 phase_opens_two understood given station phases turns received before in_turn sent makes = record {
   made = λ channel link ends doing. subst MakesTwo doing makes;
   taken = λ channel octets on pdu fields handle is doing found takes.
       takes_two on.params (before station).view.accepted pdu fields takes
-      (heard_well understood given before station channel octets (sent octets (heard_octets received octets is))
+      (heard_well understood given phases before station channel octets (sent octets (heard_octets received octets is))
       (subst (IsListening (before station)) doing in_turn.listens) (subst FitsChannel doing in_turn.fits) pdu found);
 }
 

@@ -1,5 +1,5 @@
 -- What each station of a run hears in a phase: a packet that another one wants to send in it.
-use Rattle.std.proofs.Common.{◌≡◌, ℕ, ◌==◌, ◌⊎◌, inl, inr, Bool, true, false, Option, Some, None, List, [], ◌∷◌, ◌++◌, refl, sym, ap, subst, ◌∙◌}
+use Rattle.std.proofs.Common.{◌≡◌, ℕ, suc, ◌==◌, ◌⊎◌, inl, inr, Bool, true, false, Option, Some, None, List, [], ◌∷◌, ◌++◌, refl, sym, ap, subst, ◌∙◌}
 use Rattle.std.specs.Prelude.{map, take, if◌then◌else◌}
 use Rattle.std.proofs.lemmas.Bool.{eqb-true}
 use Rattle.adv_pdu.specs.declared.pdu.AdvPdu.{AdvPdu}
@@ -27,8 +27,9 @@ use Rattle.run_model.proofs.Calls.{past_other, past_own}
 use Rattle.run_model.proofs.LinkEnds.{is_listener, received_by, received_event}
 use Rattle.run_model.proofs.Stations.{is_in, among, in_more_other, in_more_same, not_before}
 use Rattle.run_model.proofs.Walk.{Place, AtPackets, AtListening, IsKept}
-use Rattle.run_laws.proofs.SentPackets.{HasChSel, IsUseSent, use_is_sent}
-use Rattle.run_laws.proofs.TurnPlaces.{AllStand, event_past, stands_at, stands_kept}
+use Rattle.run_laws.proofs.LinkPhases.{IsInPhase, SendsAs, in_phase, sends_as}
+use Rattle.run_laws.proofs.SentPackets.{HasChSel, IsLinkSent, IsUseSent, use_is_sent}
+use Rattle.run_laws.proofs.TurnPlaces.{AllStand, Within, at_stage, event_past, stands_at, stands_kept}
 
 -- ---- what is on the air
 
@@ -39,23 +40,44 @@ pub record IsPduOnAir (channel : ℕ) (octets : List ℕ) : Type 0 where
   pub on_channel : IsAdvertisingChannel channel
   pub ch_sel : HasChSel pdu
 
--- the packet of a link that is open at its sender, to which nothing happened after that
-pub record IsLinkOnAir (facts : Facts) (channel : ℕ) (octets : List ℕ) : Type 0 where
+-- the packet of a link that is open at its sender, to which nothing happened after that, in the phase after this number
+-- of phases of the turn
+pub record IsLinkOnAir (phases : ℕ) (facts : Facts) (channel : ℕ) (octets : List ℕ) : Type 0 where
   pub handle : ℕ
   pub slot : ℕ
   pub link : OpenLink
   pub is_open : link_at handle facts.links ≡ Some (link_after (PacketSent slot) link)
   pub packet : octets ≡ packet_sent link.setup (facts_in link)
   pub channel_is : channel ≡ (facts_in link).event.channel
+  pub role : SendsAs phases link.setup.link.role
 
-abbrev pub IsOnAir : Facts → ℕ → List ℕ → Type 0
-IsOnAir facts channel octets = IsPduOnAir channel octets ⊎ IsLinkOnAir facts channel octets
+abbrev pub IsOnAir : ℕ → Facts → ℕ → List ℕ → Type 0
+IsOnAir phases facts channel octets = IsPduOnAir channel octets ⊎ IsLinkOnAir phases facts channel octets
 
-pub on_air : (facts : Facts) (channel : ℕ) (octets : List ℕ) → IsUseSent facts (Sends channel octets) → IsOnAir facts channel octets
-on_air facts channel octets (inl sent) =
-    inl (record { pdu = sent.pdu; is_pdu = sent.is_pdu; packet = sent.packet; on_channel = sent.on_channel; ch_sel = sent.ch_sel })
-on_air facts channel octets (inr sent) =
-    inr (record { handle = sent.handle; slot = facts.turn.slot; link = sent.link; is_open = sent.is_open; packet = sent.packet; channel_is = sent.channel_is })
+-- what it wants to send, and what it does in which phase
+pub record IsUseInPhase (phases : ℕ) (facts : Facts) (channel : ℕ) (octets : List ℕ) : Type 0 where
+  pub wants : IsUseSent facts (Sends channel octets)
+  pub phase : IsInPhase phases facts.links facts.turn.doing
+
+link_role : (phases : ℕ) (facts : Facts) (channel : ℕ) (octets : List ℕ) (sent : IsLinkSent facts channel octets) → IsInPhase phases facts.links facts.turn.doing
+    → SendsAs phases sent.link.setup.link.role
+link_role phases facts channel octets sent phase =
+    sends_as phases sent.handle facts.links facts.turn.doing (link_after (PacketSent facts.turn.slot) sent.link) phase sent.sends sent.is_open
+
+pub on_air : (phases : ℕ) (facts : Facts) (channel : ℕ) (octets : List ℕ) → IsUseInPhase phases facts channel octets → IsOnAir phases facts channel octets
+on_air phases facts channel octets uses = by uses.wants
+  where
+    by : IsUseSent facts (Sends channel octets) → IsOnAir phases facts channel octets
+    by (inl sent) = inl (record { pdu = sent.pdu; is_pdu = sent.is_pdu; packet = sent.packet; on_channel = sent.on_channel; ch_sel = sent.ch_sel })
+    by (inr sent) = inr (record {
+      handle = sent.handle;
+      slot = facts.turn.slot;
+      link = sent.link;
+      is_open = sent.is_open;
+      packet = sent.packet;
+      channel_is = sent.channel_is;
+      role = link_role phases facts channel octets sent uses.phase;
+    })
 
 -- as the sender takes that it heard nothing, its links stay as they are
 sender_links : (facts : Facts) (handle : ℕ) (doing : Doing) → SendsOn handle doing → (facts_passed (unheard doing facts)).links ≡ facts.links
@@ -64,45 +86,48 @@ sender_links facts handle (PeripheralSends other) sends = refl
 sender_links facts handle (Advertises channel) sends = absurd sends
 sender_links facts handle other sends = absurd sends
 
-still_on_air : (setup : Setup) (facts : Facts) (channel : ℕ) (octets : List ℕ) → IsUseSent facts (Sends channel octets)
-    → IsOnAir (facts_after setup facts NothingHeard) channel octets
-still_on_air setup facts channel octets (inl sent) =
-    inl (record { pdu = sent.pdu; is_pdu = sent.is_pdu; packet = sent.packet; on_channel = sent.on_channel; ch_sel = sent.ch_sel })
-still_on_air setup facts channel octets (inr sent) =
-    inr (record {
+still_on_air : (setup : Setup) (phases : ℕ) (facts : Facts) (channel : ℕ) (octets : List ℕ) → IsUseInPhase phases facts channel octets
+    → IsOnAir phases (facts_after setup facts NothingHeard) channel octets
+still_on_air setup phases facts channel octets uses = by uses.wants
+  where
+    by : IsUseSent facts (Sends channel octets) → IsOnAir phases (facts_after setup facts NothingHeard) channel octets
+    by (inl sent) = inl (record { pdu = sent.pdu; is_pdu = sent.is_pdu; packet = sent.packet; on_channel = sent.on_channel; ch_sel = sent.ch_sel })
+    by (inr sent) = inr (record {
       handle = sent.handle;
       slot = facts.turn.slot;
       link = sent.link;
       is_open = ap (link_at sent.handle) (sender_links facts sent.handle facts.turn.doing sent.sends) ∙ sent.is_open;
       packet = sent.packet;
       channel_is = sent.channel_is;
+      role = link_role phases facts channel octets sent uses.phase;
     })
 
 -- ---- what is heard
 
 -- before the sender takes what it heard in the phase, it wants to send the packet
-abbrev pub OnAirIf : Bool → Given → List Event → ℕ → ℕ → List ℕ → Type 0
-OnAirIf true given history sender channel octets = IsOnAir (facts_at given sender history) channel octets
-OnAirIf false given history sender channel octets = use_at given sender history ≡ Sends channel octets
+abbrev pub OnAirIf : Bool → ℕ → Given → List Event → ℕ → ℕ → List ℕ → Type 0
+OnAirIf true phases given history sender channel octets = IsOnAir phases (facts_at given sender history) channel octets
+OnAirIf false phases given history sender channel octets = use_at given sender history ≡ Sends channel octets
 
-pub record IsHeard (given : Given) (called : List ℕ) (history : List Event) (station : ℕ) (octets : List ℕ) : Type 0 where
+pub record IsHeard (given : Given) (phases : ℕ) (called : List ℕ) (history : List Event) (station : ℕ) (octets : List ℕ) : Type 0 where
   pub sender : ℕ
   pub channel : ℕ
   pub is_one : is_in sender given.stations ≡ true
   pub differs : (station == sender) ≡ false
   pub listens : use_at given station history ≡ Listens channel
-  pub sent : OnAirIf (is_in sender called) given history sender channel octets
+  pub sent : OnAirIf (is_in sender called) phases given history sender channel octets
 
-abbrev pub Hears : Given → List ℕ → List Event → ℕ → Type 0
-Hears given called history station = (octets : List ℕ) → packet_received station history ≡ Some octets → IsHeard given called history station octets
+abbrev pub Hears : Given → ℕ → List ℕ → List Event → ℕ → Type 0
+Hears given phases called history station =
+    (octets : List ℕ) → packet_received station history ≡ Some octets → IsHeard given phases called history station octets
 
-abbrev HearsIf : Bool → Given → List ℕ → List Event → ℕ → Type 0
-HearsIf true given called history station = packet_received station history ≡ None
-HearsIf false given called history station = Hears given called history station
+abbrev HearsIf : Bool → Given → ℕ → List ℕ → List Event → ℕ → Type 0
+HearsIf true given phases called history station = packet_received station history ≡ None
+HearsIf false given phases called history station = Hears given phases called history station
 
 abbrev pub HearsAt : Given → Place → List Event → ℕ → Type 0
-HearsAt given (AtPackets phases done left) history station = Hears given [] history station
-HearsAt given (AtListening phases done left) history station = HearsIf (is_in station done) given done history station
+HearsAt given (AtPackets phases done left) history station = Hears given phases [] history station
+HearsAt given (AtListening phases done left) history station = HearsIf (is_in station done) given phases done history station
 HearsAt given place history station = packet_received station history ≡ None
 
 pub record AreHearing (given : Given) (place : Place) (history : List Event) : Type 0 where
@@ -133,8 +158,9 @@ feed_none given station (octet ∷ octets) history other none =
     octets_none given station (octet ∷ octets) (history ++ HostFed station (octet ∷ octets) ∷ []) other
     (received_event other history (HostFed station (octet ∷ octets)) ∙ none)
 
-hears_nothing : (given : Given) (called : List ℕ) (history : List Event) (station : ℕ) → packet_received station history ≡ None → Hears given called history station
-hears_nothing given called history station none = λ octets is. absurd (let h : None ≡ Some octets = sym none ∙ is in absurd cc)
+hears_nothing : (given : Given) (phases : ℕ) (called : List ℕ) (history : List Event) (station : ℕ) → packet_received station history ≡ None
+    → Hears given phases called history station
+hears_nothing given phases called history station none = λ octets is. absurd (let h : None ≡ Some octets = sym none ∙ is in absurd cc)
 
 pub use_same : (given : Given) (station : ℕ) (history after : List Event) → past_of station after ≡ past_of station history → use_at given station after ≡ use_at given station history
 use_same given station history after same = ap (λ past. use_of (facts_of (setup_at given station) past)) same
@@ -142,17 +168,17 @@ use_same given station history after same = ap (λ past. use_of (facts_of (setup
 facts_same : (given : Given) (station : ℕ) (history after : List Event) → past_of station after ≡ past_of station history → facts_at given station after ≡ facts_at given station history
 facts_same given station history after same = ap (facts_of (setup_at given station)) same
 
-on_air_same : (called : Bool) (given : Given) (history after : List Event) (sender channel : ℕ) (octets : List ℕ) → past_of sender after ≡ past_of sender history
-    → OnAirIf called given history sender channel octets → OnAirIf called given after sender channel octets
-on_air_same true given history after sender channel octets same sent =
-    subst (λ (facts : Facts). IsOnAir facts channel octets) (sym (facts_same given sender history after same)) sent
-on_air_same false given history after sender channel octets same sent = use_same given sender history after same ∙ sent
+on_air_same : (called : Bool) (phases : ℕ) (given : Given) (history after : List Event) (sender channel : ℕ) (octets : List ℕ)
+    → past_of sender after ≡ past_of sender history → OnAirIf called phases given history sender channel octets → OnAirIf called phases given after sender channel octets
+on_air_same true phases given history after sender channel octets same sent =
+    subst (λ (facts : Facts). IsOnAir phases facts channel octets) (sym (facts_same given sender history after same)) sent
+on_air_same false phases given history after sender channel octets same sent = use_same given sender history after same ∙ sent
 
 -- a packet on the air
-packet_heard : (given : Given) (fates : List Fate) (station channel : ℕ) (octets : List ℕ) (history : List Event) (other : ℕ) → is_in station given.stations ≡ true
+packet_heard : (given : Given) (phases : ℕ) (fates : List Fate) (station channel : ℕ) (octets : List ℕ) (history : List Event) (other : ℕ) → is_in station given.stations ≡ true
     → use_at given station history ≡ Sends channel octets → (received : Bool) → has_received other (hearings_of given fates station channel octets history) ≡ received
-    → Hears given [] history other → Hears given [] (history ++ Transmitted station channel octets (hearings_of given fates station channel octets history) ∷ []) other
-packet_heard given fates station channel octets history other is_one wanted true is hears = λ sent same.
+    → Hears given phases [] history other → Hears given phases [] (history ++ Transmitted station channel octets (hearings_of given fates station channel octets history) ∷ []) other
+packet_heard given phases fates station channel octets history other is_one wanted true is hears = λ sent same.
     let hearings = hearings_of given fates station channel octets history in
     let event = Transmitted station channel octets hearings in
     let after = history ++ event ∷ [] in
@@ -166,7 +192,7 @@ packet_heard given fates station channel octets history other is_one wanted true
       listens = use_same given other history after (event_past other history event refl) ∙ listener.listens;
       sent = use_same given station history after (event_past station history event refl) ∙ wanted ∙ ap (Sends channel) equal;
     }
-packet_heard given fates station channel octets history other is_one wanted false is hears = λ sent same.
+packet_heard given phases fates station channel octets history other is_one wanted false is hears = λ sent same.
     let hearings = hearings_of given fates station channel octets history in
     let event = Transmitted station channel octets hearings in
     let after = history ++ event ∷ [] in
@@ -184,8 +210,8 @@ unfolding use_of
 wanted_is given station history = refl
 
 -- a station that sends hears nothing
-pub sends_deaf : (given : Given) (called : List ℕ) (history : List Event) (station channel : ℕ) (octets : List ℕ) → Hears given called history station
-    → use_at given station history ≡ Sends channel octets → (received : Option (List ℕ)) → packet_received station history ≡ received → received ≡ None
+pub sends_deaf : {phases : ℕ} → (given : Given) (called : List ℕ) (history : List Event) (station channel : ℕ) (octets : List ℕ)
+    → Hears given phases called history station → use_at given station history ≡ Sends channel octets → (received : Option (List ℕ)) → packet_received station history ≡ received → received ≡ None
 sends_deaf given called history station channel octets hears wanted None is = refl
 sends_deaf given called history station channel octets hears wanted (Some heard) is =
     let h : Sends channel octets ≡ Listens (hears heard is).channel = sym wanted ∙ (hears heard is).listens in absurd cc
@@ -195,6 +221,17 @@ pub use_sent_at : (given : Given) → HaveAddresses given → (place : Place) (h
 use_sent_at given six place history stand station is channel octets wanted =
     subst (IsUseSent (facts_at given station history)) (wanted_is given station history ∙ wanted)
     (use_is_sent (setup_at given station) (past_of station history) (stands_at place station (turns_begun history)) (six station) (stand station is))
+
+-- what a station wants to send that did not take yet what it heard in the phase
+pub use_in_phase : (given : Given) → HaveAddresses given → (phases : ℕ) (done left : List ℕ) (history : List Event) → AllStand given (AtListening phases done left) history
+    → (station : ℕ) → is_in station given.stations ≡ true → is_in station done ≡ false
+    → (channel : ℕ) (octets : List ℕ) → use_at given station history ≡ Sends channel octets → IsUseInPhase phases (facts_at given station history) channel octets
+use_in_phase given six phases done left history stand station is out channel octets wanted =
+    let turns = turns_begun history in record {
+      wants = use_sent_at given six (AtListening phases done left) history stand station is channel octets wanted;
+      phase = in_phase (setup_at given station) (past_of station history) phases turns
+          (stand station is ∙ ap (λ b. Some (if b then at_stage (Within (suc phases)) turns else at_stage (Within phases) turns)) out);
+    }
 
 pub own_facts : (given : Given) (station : ℕ) (step : Step) (history : List Event)
     → facts_at given station (after_call given station step history) ≡ facts_after (setup_at given station) (facts_at given station history) step
@@ -208,36 +245,36 @@ other_facts given station step history other differs =
     ap (facts_of (setup_at given other)) (past_other other station step (notes_after (setup_at given station) (facts_at given station history) step) history differs)
 
 -- the sender takes what it heard, or another station does
-sender_by : (given : Given) (done : List ℕ) (station : ℕ) (history : List Event) (sender channel : ℕ) (octets : List ℕ) → is_in station done ≡ false
-    → (use_at given station history ≡ Sends channel octets → IsUseSent (facts_at given station history) (Sends channel octets)) → Hears given done history station
-    → (same : Bool) → (sender == station) ≡ same → OnAirIf (is_in sender done) given history sender channel octets
-    → OnAirIf (is_in sender (done ++ station ∷ [])) given (after_call given station (step_of (packet_received station history)) history) sender channel octets
-sender_by given done station history sender channel octets out uses hears true is sent =
+sender_by : (given : Given) (phases : ℕ) (done : List ℕ) (station : ℕ) (history : List Event) (sender channel : ℕ) (octets : List ℕ) → is_in station done ≡ false
+    → (use_at given station history ≡ Sends channel octets → IsUseInPhase phases (facts_at given station history) channel octets) → Hears given phases done history station
+    → (same : Bool) → (sender == station) ≡ same → OnAirIf (is_in sender done) phases given history sender channel octets
+    → OnAirIf (is_in sender (done ++ station ∷ [])) phases given (after_call given station (step_of (packet_received station history)) history) sender channel octets
+sender_by given phases done station history sender channel octets out uses hears true is sent =
     let one = eqb-true sender station is in
     let received = packet_received station history in
     let after = after_call given station (step_of received) history in
     let wanted : use_at given station history ≡ Sends channel octets =
-    subst (λ b. OnAirIf b given history station channel octets) out (subst (λ n. OnAirIf (is_in n done) given history n channel octets) one sent) in
+    subst (λ b. OnAirIf b phases given history station channel octets) out (subst (λ n. OnAirIf (is_in n done) phases given history n channel octets) one sent) in
     let deaf = sends_deaf given done history station channel octets hears wanted received refl in
     let own : facts_at given station after ≡ facts_after (setup_at given station) (facts_at given station history) NothingHeard =
     own_facts given station (step_of received) history ∙ ap (λ may. facts_after (setup_at given station) (facts_at given station history) (step_of may)) deaf in
-    subst (λ b. OnAirIf b given after sender channel octets) (sym (in_more_same sender station done is))
-    (subst (λ n. IsOnAir (facts_at given n after) channel octets) (sym one)
-    (subst (λ (facts : Facts). IsOnAir facts channel octets) (sym own)
-    (still_on_air (setup_at given station) (facts_at given station history) channel octets (uses wanted))))
-sender_by given done station history sender channel octets out uses hears false is sent =
+    subst (λ b. OnAirIf b phases given after sender channel octets) (sym (in_more_same sender station done is))
+    (subst (λ n. IsOnAir phases (facts_at given n after) channel octets) (sym one)
+    (subst (λ (facts : Facts). IsOnAir phases facts channel octets) (sym own)
+    (still_on_air (setup_at given station) phases (facts_at given station history) channel octets (uses wanted))))
+sender_by given phases done station history sender channel octets out uses hears false is sent =
     let step = step_of (packet_received station history) in
-    subst (λ b. OnAirIf b given (after_call given station step history) sender channel octets) (sym (in_more_other sender station done is))
-    (on_air_same (is_in sender done) given history (after_call given station step history) sender channel octets
+    subst (λ b. OnAirIf b phases given (after_call given station step history) sender channel octets) (sym (in_more_other sender station done is))
+    (on_air_same (is_in sender done) phases given history (after_call given station step history) sender channel octets
     (past_other sender station step (notes_after (setup_at given station) (facts_at given station history) step) history is) sent)
 
-listener_if : (given : Given) (done : List ℕ) (station : ℕ) (history : List Event) (other : ℕ) → is_in station done ≡ false
-    → ((channel : ℕ) (octets : List ℕ) → use_at given station history ≡ Sends channel octets → IsUseSent (facts_at given station history) (Sends channel octets))
-    → Hears given done history station → (other == station) ≡ false → (listened : Bool) → HearsIf listened given done history other
-    → HearsIf listened given (done ++ station ∷ []) (after_call given station (step_of (packet_received station history)) history) other
-listener_if given done station history other out uses hears differs true none =
+listener_if : (given : Given) (phases : ℕ) (done : List ℕ) (station : ℕ) (history : List Event) (other : ℕ) → is_in station done ≡ false
+    → ((channel : ℕ) (octets : List ℕ) → use_at given station history ≡ Sends channel octets → IsUseInPhase phases (facts_at given station history) channel octets)
+    → Hears given phases done history station → (other == station) ≡ false → (listened : Bool) → HearsIf listened given phases done history other
+    → HearsIf listened given phases (done ++ station ∷ []) (after_call given station (step_of (packet_received station history)) history) other
+listener_if given phases done station history other out uses hears differs true none =
     none_called given station (step_of (packet_received station history)) history other none
-listener_if given done station history other out uses hears differs false has = λ octets is.
+listener_if given phases done station history other out uses hears differs false has = λ octets is.
     let step = step_of (packet_received station history) in
     let after = after_call given station step history in
     let heard = has octets (sym (received_by given other station step history false differs) ∙ is) in record {
@@ -246,27 +283,27 @@ listener_if given done station history other out uses hears differs false has = 
       is_one = heard.is_one;
       differs = heard.differs;
       listens = use_same given other history after (past_other other station step (notes_after (setup_at given station) (facts_at given station history) step) history differs) ∙ heard.listens;
-      sent = sender_by given done station history heard.sender heard.channel octets out (uses heard.channel octets) hears (heard.sender == station) refl heard.sent;
+      sent = sender_by given phases done station history heard.sender heard.channel octets out (uses heard.channel octets) hears (heard.sender == station) refl heard.sent;
     }
 
-listener_by : (given : Given) (done : List ℕ) (station : ℕ) (history : List Event) (other : ℕ) → is_in station done ≡ false
-    → ((channel : ℕ) (octets : List ℕ) → use_at given station history ≡ Sends channel octets → IsUseSent (facts_at given station history) (Sends channel octets))
-    → Hears given done history station → (same : Bool) → (other == station) ≡ same → HearsIf (is_in other done) given done history other
-    → HearsIf (is_in other (done ++ station ∷ [])) given (done ++ station ∷ []) (after_call given station (step_of (packet_received station history)) history) other
-listener_by given done station history other out uses hears true is has =
+listener_by : (given : Given) (phases : ℕ) (done : List ℕ) (station : ℕ) (history : List Event) (other : ℕ) → is_in station done ≡ false
+    → ((channel : ℕ) (octets : List ℕ) → use_at given station history ≡ Sends channel octets → IsUseInPhase phases (facts_at given station history) channel octets)
+    → Hears given phases done history station → (same : Bool) → (other == station) ≡ same → HearsIf (is_in other done) given phases done history other
+    → HearsIf (is_in other (done ++ station ∷ [])) given phases (done ++ station ∷ []) (after_call given station (step_of (packet_received station history)) history) other
+listener_by given phases done station history other out uses hears true is has =
     let step = step_of (packet_received station history) in
-    subst (λ b. HearsIf b given (done ++ station ∷ []) (after_call given station step history) other) (sym (in_more_same other station done is))
+    subst (λ b. HearsIf b given phases (done ++ station ∷ []) (after_call given station step history) other) (sym (in_more_same other station done is))
     (received_by given other station step history true is)
-listener_by given done station history other out uses hears false is has =
-    subst (λ b. HearsIf b given (done ++ station ∷ []) (after_call given station (step_of (packet_received station history)) history) other)
+listener_by given phases done station history other out uses hears false is has =
+    subst (λ b. HearsIf b given phases (done ++ station ∷ []) (after_call given station (step_of (packet_received station history)) history) other)
     (sym (in_more_other other station done is))
-    (listener_if given done station history other out uses hears is (is_in other done) has)
+    (listener_if given phases done station history other out uses hears is (is_in other done) has)
 
 -- what a station hears whose turn it is to take it
 pub own_hears : (given : Given) (phases : ℕ) (done left : List ℕ) (station : ℕ) (history : List Event) → AreDistinct given.stations → given.stations ≡ done ++ station ∷ left
-    → AreHearing given (AtListening phases done (station ∷ left)) history → Hears given done history station
+    → AreHearing given (AtListening phases done (station ∷ left)) history → Hears given phases done history station
 own_hears given phases done left station history distinct are hearing =
-    subst (λ b. HearsIf b given done history station) (not_before given.stations done left station distinct are)
+    subst (λ b. HearsIf b given phases done history station) (not_before given.stations done left station distinct are)
     (hearing.hears station (among given.stations done left station are))
 
 pub hearing_kept : (given : Given) → HaveAddresses given → AreDistinct given.stations → IsKept given (AreHearing given)
@@ -287,25 +324,26 @@ hearing_kept given six distinct = let kept = stands_kept given distinct in recor
   on_begun = λ history hearing. record { stand = kept.on_begun history hearing.stand; hears = hearing.hears };
   on_phase = λ phases history few hearing. record {
     stand = kept.on_phase phases history few hearing.stand;
-    hears = λ station is. hears_nothing given [] history station (hearing.hears station is);
+    hears = λ station is. hears_nothing given phases [] history station (hearing.hears station is);
   };
   on_silence = λ phases done left station history are none hearing.
       record { stand = kept.on_silence phases done left station history are none hearing.stand; hears = hearing.hears };
   on_packet = λ phases plan done left station channel octets history are some due hearing. record {
     stand = kept.on_packet phases plan done left station channel octets history are some due hearing.stand;
-    hears = λ other is. packet_heard given plan.fates station channel octets history other (among given.stations done left station are) due.is_wanted
+    hears = λ other is. packet_heard given phases plan.fates station channel octets history other (among given.stations done left station are) due.is_wanted
         (has_received other (hearings_of given plan.fates station channel octets history)) refl (hearing.hears other is);
   };
   on_air = λ phases history hearing. record { stand = kept.on_air phases history hearing.stand; hears = hearing.hears };
   on_hearing = λ phases done left station history are some hearing. record {
     stand = kept.on_hearing phases done left station history are some hearing.stand;
-    hears = λ other is. listener_by given done station history other (not_before given.stations done left station distinct are)
-        (use_sent_at given six (AtListening phases done (station ∷ left)) history hearing.stand station (among given.stations done left station are))
+    hears = λ other is. listener_by given phases done station history other (not_before given.stations done left station distinct are)
+        (use_in_phase given six phases done (station ∷ left) history hearing.stand station (among given.stations done left station are)
+        (not_before given.stations done left station distinct are))
         (own_hears given phases done left station history distinct are hearing) (other == station) refl (hearing.hears other is);
   };
   on_heard = λ phases history hearing. record {
     stand = kept.on_heard phases history hearing.stand;
-    hears = λ station is. subst (λ b. HearsIf b given given.stations history station) is (hearing.hears station is);
+    hears = λ station is. subst (λ b. HearsIf b given phases given.stations history station) is (hearing.hears station is);
   };
   on_phases = λ history hearing. record { stand = kept.on_phases history hearing.stand; hears = hearing.hears };
   on_end = λ done left station history are some hearing. record {

@@ -1,12 +1,11 @@
--- In every run of two controllers with one link each, both ends of one link stay in agreement.
-use Rattle.std.proofs.Common.{◌≡◌, ℕ, zero, suc, ◌+◌, ◌<◌, ◌≤◌, ◌==◌, ◌||◌, inl, inr, Bool, true, false, Option, Some, None, List, [], ◌∷◌, ◌++◌, length, replicate, refl, sym, ap, subst, ◌∙◌, arith}
+-- What each call keeps of the links of two stations: that both ends of one link are in agreement.
+use Rattle.std.proofs.Common.{◌≡◌, ℕ, zero, suc, ◌+◌, ◌<◌, ◌≤◌, ◌==◌, inl, inr, Bool, true, false, Option, Some, None, List, [], ◌∷◌, length, refl, sym, ap, subst, ◌∙◌, arith}
 use Rattle.std.specs.Prelude.{if◌then◌else◌}
 use Rattle.std.specs.Option.{option_map}
-use Rattle.std.proofs.lemmas.Bool.{eqb-true, eqb-false, false_from_ne_true}
+use Rattle.std.proofs.lemmas.Bool.{eqb-true, eqb-false}
 use Rattle.link_model.specs.Setup.{Setup as EndSetup}
 use Rattle.link_model.specs.Acknowledgement.{first_acknowledgement}
 use Rattle.link_model.specs.Step.{DataGiven, PduFixed, PacketSent, PacketReceived, DataReported}
-use Rattle.link_model.specs.Pair.{AreInAgreement}
 use Rattle.link_model.proofs.Received.{IsHeardWhole}
 use Rattle.open_links.specs.OpenLinks.{Links, OpenLink, facts_in, link_after, link_at, link_from, link_served, new_link, with_change, with_change_from}
 use Rattle.open_links.specs.Turns.{is_anchor, link_entered}
@@ -20,29 +19,24 @@ use Rattle.controller_model.specs.Side.{facts_after, facts_of}
 use Rattle.controller_model.proofs.Always.{holds_step}
 use Rattle.controller_model.proofs.DataChannels.{link_channel}
 use Rattle.controller_model.proofs.Handles.{HaveOwnHandles, handles_kept, own_handles}
-use Rattle.run_model.specs.Feeding.{AreDistinct}
-use Rattle.run_model.specs.History.{Event}
-use Rattle.run_model.specs.LinkEnds.{HaveAddresses}
-use Rattle.run_model.specs.Run.{Given, facts_at, history_of, run_of, setup_at, step_of}
+use Rattle.run_model.specs.Run.{Given, setup_at, step_of}
 use Rattle.run_model.proofs.Stations.{is_in}
-use Rattle.run_laws.specs.Ends.{AreEnds, IsOpen, OpenEnd}
+use Rattle.run_laws.specs.Ends.{link_listened}
 use Rattle.run_laws.proofs.Agreed.{Agree, ack_given, ack_of, ack_reported, agree_entered, agree_fixed, agree_given, agree_new, agree_received, agree_reported, agree_sent, agree_served, first_ack, other_way}
-use Rattle.run_laws.proofs.ByCalls.{IsCalled, IsKeptByCalls, always_by_calls}
+use Rattle.run_laws.proofs.ByCalls.{IsCalled, IsKeptByCalls}
 use Rattle.run_laws.proofs.Entering.{IsInTurn}
 use Rattle.run_laws.proofs.Hearings.{IsOnAir}
-use Rattle.run_laws.proofs.LinkPasses.{IsPassing, Leaves, Opens, Receives, is_on_link, phase_passes}
+use Rattle.run_laws.proofs.LinkPasses.{IsPassing, IsPassingOn, Leaves, LeavesAll, Opens, OpensOne, Receives, ReceivesOn, is_on_link, phase_passes, phase_passes_on}
 use Rattle.run_laws.proofs.OpenSteps.{AtOpen, EachOpen, IsKeptByHosts, IsKeptOpen, IsKeptServed, MayOpen, begin_open, changed, end_open, none_open, octet_open, phase_open, open_has, open_more, opened, sends}
 use Rattle.run_laws.proofs.TurnPlaces.{Within}
 use Rattle.run_laws.proofs.TurnSteps.{MakesWell, begins_begun, begins_slot, octet_turn, phase_turn}
-use Rattle.run_laws.proofs.SameEvent.{one_connect_ind, two_stations}
+use Rattle.run_laws.proofs.TwoStations.{AreTwo, are_two, differs_back as apart_back}
 use Rattle.radio_replay.specs.Script.{Script}
 use Rattle.run_model.specs.Pair.{given_of}
-use Rattle.run_laws.proofs.ChSel.{one_channel}
 
--- there are two stations, each with one link at most
+-- there are two stations, and each has one link at most, which laws of journals need
 pub record IsPair (given : Given) : Type 0 where
-  pub only : (one other third : ℕ) → is_in one given.stations ≡ true → is_in other given.stations ≡ true → is_in third given.stations ≡ true
-      → (one == other) ≡ false → (one == third) ≡ false → third ≡ other
+  pub two : AreTwo given
   pub links : (station : ℕ) → (setup_at given station).links ≤ 1
 
 -- ---- the links of one station
@@ -115,7 +109,7 @@ before_next slot link is = omega (arith, is)
 own_step : (setup : Setup) (facts : Facts) (step : Step) → HaveOwnHandles setup facts → HaveOwnHandles setup (facts_after setup facts step)
 own_step setup facts step own = holds_step setup (HaveOwnHandles setup) (HaveOwnHandles setup) (handles_kept setup) facts step own
 
-station_fed : (setup : Setup) (facts : Facts) (octet : ℕ) → IsStation setup facts → IsStation setup (facts_after setup facts (HostOctet octet))
+pub station_fed : (setup : Setup) (facts : Facts) (octet : ℕ) → IsStation setup facts → IsStation setup (facts_after setup facts (HostOctet octet))
 station_fed setup facts octet is =
     let same = (octet_turn setup facts octet).turn in
     let after = facts_after setup facts (HostOctet octet) in record {
@@ -127,7 +121,7 @@ station_fed setup facts octet is =
           (λ on. octet_open (OpenedBefore facts.turn.slot) (before_hosts facts.turn.slot) setup facts octet (is.old on));
     }
 
-station_begins : (setup : Setup) (facts : Facts) (slot : ℕ) (on : Bool) → facts.turn.begun ≡ slot → IsStation setup facts → IsStation setup (facts_after setup facts (TurnBegins slot on))
+pub station_begins : (setup : Setup) (facts : Facts) (slot : ℕ) (on : Bool) → facts.turn.begun ≡ slot → IsStation setup facts → IsStation setup (facts_after setup facts (TurnBegins slot on))
 station_begins setup facts slot on begun is =
     let after = facts_after setup facts (TurnBegins slot on) in
     let before : EachOpen (OpenedBefore slot) after.links =
@@ -142,7 +136,7 @@ station_begins setup facts slot on begun is =
       old = λ does. subst (λ n. EachOpen (OpenedBefore n) after.links) now before;
     }
 
-station_ends : (setup : Setup) (facts : Facts) → IsStation setup facts → IsStation setup (facts_after setup facts TurnEnds)
+pub station_ends : (setup : Setup) (facts : Facts) → IsStation setup facts → IsStation setup (facts_after setup facts TurnEnds)
 station_ends setup facts is = record {
   own = own_step setup facts TurnEnds is.own;
   earlier = end_open (OpenedBefore facts.turn.begun) (before_hosts facts.turn.begun) setup facts is.earlier;
@@ -193,7 +187,7 @@ passing_old setup facts after received station (Receives handle octets is wanted
     subst (EachOpen (OpenedBefore facts.turn.slot)) (sym links_are)
     (received_before facts.turn.slot facts.turn.slot handle octets room replies facts.links (station.old on))
 
-station_passes : (setup : Setup) (facts : Facts) (phases turns : ℕ) (received : Option (List ℕ)) → IsInTurn setup (Within phases) turns facts → IsStation setup facts
+pub station_passes : (setup : Setup) (facts : Facts) (phases turns : ℕ) (received : Option (List ℕ)) → IsInTurn setup (Within phases) turns facts → IsStation setup facts
     → IsStation setup (facts_after setup facts (step_of received))
 station_passes setup facts phases turns received in_turn is =
     let after = facts_after setup facts (step_of received) in
@@ -209,38 +203,54 @@ station_passes setup facts phases turns received in_turn is =
 
 -- ---- the links of two stations
 
+-- a relation of each open link of one station and each of another
+abbrev pub AllPairs : (OpenLink → OpenLink → Type 0) → Links → Links → Type 0
+AllPairs R ones others = EachOpen (λ one. EachOpen (R one) others) ones
+
 abbrev pub AllAgree : Links → Links → Type 0
 AllAgree ones others = EachOpen (λ one. EachOpen (λ other. Agree one other) others) ones
 
-agree_back : (ones others : Links) → AllAgree ones others → AllAgree others ones
-agree_back ones [] all = tt
-agree_back ones (None ∷ others) all = (tt, agree_back ones others (open_more _ _ ones (λ one each. each.1) all))
-agree_back ones (Some other ∷ others) all = (
-  open_more _ (λ one. Agree other one) ones (λ one each. other_way one other each.0) all,
-  agree_back ones others (open_more _ _ ones (λ one each. each.1) all),
+pub pairs_back : (R S : OpenLink → OpenLink → Type 0) → ((one other : OpenLink) → R one other → S other one) → (ones others : Links) → AllPairs R ones others
+    → AllPairs S others ones
+pairs_back R S back ones [] all = tt
+pairs_back R S back ones (None ∷ others) all = (tt, pairs_back R S back ones others (open_more _ _ ones (λ one each. each.1) all))
+pairs_back R S back ones (Some other ∷ others) all = (
+  open_more _ (S other) ones (λ one each. back one other each.0) all,
+  pairs_back R S back ones others (open_more _ _ ones (λ one each. each.1) all),
 )
 
 abbrev pub WithAll : Links → OpenLink → Type 0
 WithAll others one = EachOpen (λ other. Agree one other) others
 
-all_entered : (others : Links) (slot : ℕ) (one : OpenLink) → WithAll others one → WithAll others (link_entered slot one)
-all_entered others slot one all = open_more (λ other. Agree one other) (λ other. Agree (link_entered slot one) other) others (λ other agree. agree_entered slot one other agree) all
+-- a relation that no step of the first link ends, but that it receives
+pub record IsKeptByFirst (R : OpenLink → OpenLink → Type 0) : Type 0 where
+  pub given : (start : Bool) (body : List ℕ) (one other : OpenLink) → R one other → R (link_after (DataGiven start body) one) other
+  pub reported : (one other : OpenLink) → R one other → R (link_after DataReported one) other
+  pub fixed : (one other : OpenLink) → R one other → R (link_after PduFixed one) other
+  pub served : (slot : ℕ) (one other : OpenLink) → R one other → R (link_served slot one) other
+  pub sent : (slot : ℕ) (one other : OpenLink) → R one other → R (link_after (PacketSent slot) one) other
+  pub entered : (slot : ℕ) (one other : OpenLink) → R one other → R (link_entered slot one) other
 
-all_hosts : (others : Links) → IsKeptByHosts (WithAll others)
-all_hosts others = record {
-  given = λ start body one all. open_more (λ other. Agree one other) (λ other. Agree (link_after (DataGiven start body) one) other) others
-      (λ other agree. agree_given start body one other agree) all;
-  reported = λ one all. open_more (λ other. Agree one other) (λ other. Agree (link_after DataReported one) other) others
-      (λ other agree. agree_reported one other agree) all;
-}
+pub agree_kept : IsKeptByFirst Agree
+agree_kept = record { given = agree_given; reported = agree_reported; fixed = agree_fixed; served = agree_served; sent = agree_sent; entered = agree_entered }
 
-all_served : (others : Links) → IsKeptServed (WithAll others)
-all_served others = record {
-  hosts = all_hosts others;
-  fixed = λ one all. open_more (λ other. Agree one other) (λ other. Agree (link_after PduFixed one) other) others (λ other agree. agree_fixed one other agree) all;
-  served = λ slot one all. open_more (λ other. Agree one other) (λ other. Agree (link_served slot one) other) others (λ other agree. agree_served slot one other agree) all;
-  sent = λ slot one all. open_more (λ other. Agree one other) (λ other. Agree (link_after (PacketSent slot) one) other) others (λ other agree. agree_sent slot one other agree) all;
-}
+module _ (R : OpenLink → OpenLink → Type 0) (kept : IsKeptByFirst R) (others : Links) where
+  pub all_entered : (slot : ℕ) (one : OpenLink) → EachOpen (R one) others → EachOpen (R (link_entered slot one)) others
+  all_entered slot one all = open_more (R one) (R (link_entered slot one)) others (λ other is. kept.entered slot one other is) all
+
+  pub all_hosts : IsKeptByHosts (λ one. EachOpen (R one) others)
+  all_hosts = record {
+    given = λ start body one all. open_more (R one) (R (link_after (DataGiven start body) one)) others (λ other is. kept.given start body one other is) all;
+    reported = λ one all. open_more (R one) (R (link_after DataReported one)) others (λ other is. kept.reported one other is) all;
+  }
+
+  pub all_served : IsKeptServed (λ one. EachOpen (R one) others)
+  all_served = record {
+    hosts = all_hosts;
+    fixed = λ one all. open_more (R one) (R (link_after PduFixed one)) others (λ other is. kept.fixed one other is) all;
+    served = λ slot one all. open_more (R one) (R (link_served slot one)) others (λ other is. kept.served slot one other is) all;
+    sent = λ slot one all. open_more (R one) (R (link_after (PacketSent slot) one)) others (λ other is. kept.sent slot one other is) all;
+  }
 
 -- a change of the link under one handle
 changed_at : (P : OpenLink → Type 0) (first handle : ℕ) (change : OpenLink → OpenLink) (links : Links)
@@ -285,42 +295,39 @@ listens_where (Some other) link channel wanted is at listens =
     equal ∙ ap (λ (l : OpenLink). (facts_in l).event.channel) same
 
 -- what it receives on a link is what the other station sent on its own
-heard_agree : IsHeardWhole → (slot : ℕ) (room : Bool) (octets : List ℕ) (one : OpenLink) (facts : Facts) (channel : ℕ) → length facts.links ≤ 1
-    → TakesShort one → channel ≡ (facts_in one).event.channel → IsOnAir facts channel octets → WithAll facts.links one → WithAll facts.links (link_after (PacketReceived slot octets room) one)
-heard_agree whole slot room octets one facts channel few fits is (inl sent) all =
+heard_agree : IsHeardWhole → (phases slot : ℕ) (room : Bool) (octets : List ℕ) (one : OpenLink) (facts : Facts) (channel : ℕ) → length facts.links ≤ 1
+    → TakesShort one → channel ≡ (facts_in one).event.channel → IsOnAir phases facts channel octets → WithAll facts.links one
+    → WithAll facts.links (link_after (PacketReceived slot octets room) one)
+heard_agree whole phases slot room octets one facts channel few fits is (inl sent) all =
     let below : channel < 37 = subst (λ (n : ℕ). n < 37) (sym is) (link_channel one) in
     let from = sent.on_channel.0 in absurd (omega (arith, below, from))
-heard_agree whole slot room octets one facts channel few fits is (inr sent) all =
+heard_agree whole phases slot room octets one facts channel few fits is (inr sent) all =
     let from = link_after (PacketSent sent.slot) sent.link in
     one_open (λ other. Agree (link_after (PacketReceived slot octets room) one) other) sent.handle facts.links from few sent.is_open
     (agree_received whole slot sent.slot room one sent.link octets fits sent.packet (sym sent.channel_is ∙ is)
     (open_has (λ other. Agree one other) 0 sent.handle facts.links from all sent.is_open))
 
-record HasChannel (facts : Facts) : Type 0 where
-  channel : ℕ
-  is : facts.wanted ≡ Listens channel
-
-passing_agree : IsHeardWhole → (given : Given) → (others : Facts) (facts after : Facts) (received : Option (List ℕ)) → length others.links ≤ 1
-    → EachOpen TakesShort facts.links → EachOpen (IsFresh others.turn.slot) others.links → others.turn.slot ≡ facts.turn.slot
-    → ((octets : List ℕ) (channel : ℕ) → received ≡ Some octets → facts.wanted ≡ Listens channel → IsOnAir others channel octets)
-    → ((octets : List ℕ) → received ≡ Some octets → HasChannel facts) → IsPassing facts received after
-    → AllAgree facts.links others.links → AllAgree after.links others.links
-passing_agree whole given others facts after received few short fresh slot heard listens (Leaves same on) all =
-    subst (λ links. AllAgree links others.links) (sym same) all
-passing_agree whole given others facts after received few short fresh slot heard listens (Opens link is none) all =
+-- a phase of the first station keeps a relation that a new link has, and one that receives keeps
+pub passing_keeps : (R : OpenLink → OpenLink → Type 0) → IsKeptByFirst R → (others : Links) (facts after : Facts) (received : Option (List ℕ))
+    → ((end : EndSetup) → end.opened ≡ facts.turn.slot → EachOpen (R (new_link end)) others)
+    → ((handle : ℕ) (octets : List ℕ) (room : Bool) (one : OpenLink) → received ≡ Some octets → link_listened facts.turn.doing ≡ Some handle
+    → facts.wanted ≡ listens_on (link_at handle facts.links) → link_at handle facts.links ≡ Some one → EachOpen (R one) others
+    → EachOpen (R (link_after (PacketReceived facts.turn.slot octets room) one)) others)
+    → IsPassingOn facts received after → AllPairs R facts.links others → AllPairs R after.links others
+passing_keeps R kept others facts after received new heard (LeavesAll same on) all = subst (λ links. AllPairs R links others) (sym same) all
+passing_keeps R kept others facts after received new heard (OpensOne link is none) all =
     let end : EndSetup = record { link = link; opened = facts.turn.slot } in
-    subst (λ links. AllAgree links others.links) (sym is)
-    (opened (WithAll others.links) end facts.links
-    (open_more (IsFresh others.turn.slot) (λ other. Agree (new_link end) other) others.links
-    (λ other new. agree_new end other (λ same. new (sym same ∙ sym slot))) fresh) all)
-passing_agree whole given others facts after received few short fresh slot heard listens (Receives handle octets is wanted on room replies links_are) all =
-    let channel = listens octets is in
-    subst (λ links. AllAgree links others.links) (sym links_are)
-    (sends (WithAll others.links) (all_served others.links) facts.turn.slot (reply_if replies handle) _
-    (changed_at (WithAll others.links) 0 handle (link_after (PacketReceived facts.turn.slot octets room)) facts.links
-    (λ one at each. heard_agree whole facts.turn.slot room octets one others channel.channel few (open_has TakesShort 0 handle facts.links one short at)
-    (listens_where (link_at handle facts.links) one channel.channel facts.wanted wanted at channel.is)
-    (heard octets channel.channel is channel.is) each) all))
+    subst (λ links. AllPairs R links others) (sym is) (opened (λ one. EachOpen (R one) others) end facts.links (new end refl) all)
+passing_keeps R kept others facts after received new heard (ReceivesOn handle octets is wanted listens on room replies links_are) all =
+    subst (λ links. AllPairs R links others) (sym links_are)
+    (sends (λ one. EachOpen (R one) others) (all_served R kept others) facts.turn.slot (reply_if replies handle) _
+    (changed_at (λ one. EachOpen (R one) others) 0 handle (link_after (PacketReceived facts.turn.slot octets room)) facts.links
+    (λ one at each. heard handle octets room one is listens wanted at each) all))
+
+-- a link that opens while those of the other station that have its slot are fresh
+pub new_agree : (slot : ℕ) (others : Links) → EachOpen (IsFresh slot) others → (end : EndSetup) → end.opened ≡ slot → WithAll others (new_link end)
+new_agree slot others fresh end now =
+    open_more (IsFresh slot) (λ other. Agree (new_link end) other) others (λ other new. agree_new end other (λ same. new (sym same ∙ now))) fresh
 
 -- ---- each call
 
@@ -330,7 +337,7 @@ pub record AreStations (given : Given) (facts : ℕ → Facts) : Type 0 where
       → AllAgree (facts one).links (facts other).links
 
 pub differs_back : (one other : ℕ) → (one == other) ≡ false → (other == one) ≡ false
-differs_back one other differs = false_from_ne_true (other == one) (λ same. eqb-false one other differs (sym (eqb-true other one same)))
+differs_back one other differs = apart_back one other differs
 
 stations_called : (given : Given) (station : ℕ) (step : Step) (before after : ℕ → Facts) → IsCalled given station step before after
     → IsStation (setup_at given station) (facts_after (setup_at given station) (before station) step)
@@ -361,7 +368,7 @@ stations_called given station step before after called next agrees are = record 
         subst (λ n. AllAgree (after n).links (after other).links) (sym (eqb-true one station here)) (called_agrees other is_too there)
     agree_by one other is is_too differs false true there here =
         subst (λ n. AllAgree (after one).links (after n).links) (sym (eqb-true other station here))
-        (agree_back (after station).links (after one).links (called_agrees one is there))
+        (pairs_back Agree Agree other_way (after station).links (after one).links (called_agrees one is there))
     agree_by one other is is_too differs false false there there_too =
         subst (λ (f : Facts). AllAgree f.links (after other).links) (sym (called.others one there))
         (subst (λ (f : Facts). AllAgree (before one).links f.links) (sym (called.others other there_too)) (are.agree one other is is_too differs))
@@ -369,7 +376,7 @@ stations_called given station step before after called next agrees are = record 
 pub few_links : (given : Given) → IsPair given → (station : ℕ) (facts : Facts) → IsStation (setup_at given station) facts → length facts.links ≤ 1
 few_links given pair station facts is = let many = is.own.many in let few = pair.links station in omega (arith, many, few)
 
-one_slot : (one other turns : ℕ) → one + 1 ≡ turns → other + 1 ≡ turns → one ≡ other
+pub one_slot : (one other turns : ℕ) → one + 1 ≡ turns → other + 1 ≡ turns → one ≡ other
 one_slot one other turns is is_too = omega (arith, is, is_too)
 
 pub agreement_kept : IsHeardWhole → (given : Given) → IsPair given → IsKeptByCalls given (AreStations given)
@@ -378,29 +385,33 @@ agreement_kept whole given pair = record {
       let setup = setup_at given station in
       let is = called.is_one in
       stations_called given station (HostOctet octet) before after called (station_fed setup (before station) octet (are.each station is))
-      (λ other is_too differs. octet_open (WithAll (before other).links) (all_hosts (before other).links) setup (before station) octet (are.agree station other is is_too differs)) are;
+      (λ other is_too differs. octet_open (WithAll (before other).links) (all_hosts Agree agree_kept (before other).links) setup (before station) octet (are.agree station other is is_too differs)) are;
   begins = λ station slot on before after called in_turn are.
       let setup = setup_at given station in
       let is = called.is_one in
       stations_called given station (TurnBegins slot on) before after called (station_begins setup (before station) slot on in_turn.begun_is (are.each station is))
-      (λ other is_too differs. begin_open (WithAll (before other).links) (WithAll (before other).links) (all_served (before other).links) setup slot on (before station)
-      (all_entered (before other).links slot) (are.agree station other is is_too differs)) are;
+      (λ other is_too differs. begin_open (WithAll (before other).links) (WithAll (before other).links) (all_served Agree agree_kept (before other).links) setup slot on (before station)
+      (all_entered Agree agree_kept (before other).links slot) (are.agree station other is is_too differs)) are;
   passes = λ station phases turns received before after called in_turn slots sent are.
       let setup = setup_at given station in
       let is = called.is_one in
       stations_called given station (step_of received) before after called (station_passes setup (before station) phases turns received in_turn (are.each station is))
-      (λ other is_too differs. passing_agree whole given (before other) (before station) _ received (few_links given pair other (before other) (are.each other is_too))
-      (are.each station is).short (are.each other is_too).fresh (one_slot _ _ turns (slots other is_too) in_turn.slot_is)
-      (λ octets channel was wanted. let heard = sent octets was in
-      subst (λ n. IsOnAir (before n) channel octets) (pair.only station other heard.sender is is_too heard.is_one differs heard.differs)
-      (subst (λ n. IsOnAir (before heard.sender) n octets) (one_channel heard.channel channel (sym heard.listens ∙ wanted)) heard.sent))
-      (λ octets was. record { channel = (sent octets was).channel; is = (sent octets was).listens })
-      (phase_passes setup (before station) received in_turn.listens) (are.agree station other is is_too differs)) are;
+      (λ other is_too differs.
+      let far = are.each other is_too in
+      passing_keeps Agree agree_kept (before other).links (before station) _ received
+      (λ end now. new_agree (before other).turn.slot (before other).links far.fresh end (now ∙ one_slot _ _ turns in_turn.slot_is (slots other is_too)))
+      (λ handle octets room one was listens wanted at each.
+      let heard = sent octets was in
+      let channel = listens_where (link_at handle (before station).links) one heard.channel (before station).wanted wanted at heard.listens in
+      heard_agree whole phases (before station).turn.slot room octets one (before other) heard.channel (few_links given pair other (before other) far)
+      (open_has TakesShort 0 handle (before station).links one (are.each station is).short at) channel
+      (subst (λ n. IsOnAir phases (before n) heard.channel octets) (pair.two.only station other heard.sender is is_too heard.is_one differs heard.differs) heard.sent) each)
+      (phase_passes_on setup (before station) received in_turn.listens) (are.agree station other is is_too differs)) are;
   ends = λ station before after called are.
       let setup = setup_at given station in
       let is = called.is_one in
       stations_called given station TurnEnds before after called (station_ends setup (before station) (are.each station is))
-      (λ other is_too differs. end_open (WithAll (before other).links) (all_hosts (before other).links) setup (before station)
+      (λ other is_too differs. end_open (WithAll (before other).links) (all_hosts Agree agree_kept (before other).links) setup (before station)
       (are.agree station other is is_too differs)) are;
 }
 
@@ -416,42 +427,11 @@ first_station setup = record {
   old = λ on. absurd cc;
 }
 
--- at any time of a run
-pub stays_in_agreement : IsHeardWhole → (given : Given) → IsPair given → (before rest : List Event) (central peripheral : OpenEnd) → AreDistinct given.stations → HaveAddresses given
-    → is_in central.station given.stations ≡ true → is_in peripheral.station given.stations ≡ true → history_of (run_of given) ≡ before ++ rest
-    → AreEnds before central peripheral → IsOpen given before central → IsOpen given before peripheral
-    → AreInAgreement (ack_of central.link) (ack_of peripheral.link)
-stays_in_agreement whole given pair before rest central peripheral distinct six is is_too at ends is_open is_open_too =
-    let are = always_by_calls given (AreStations given) (agreement_kept whole given pair) six distinct (record {
-      each = λ station in_it. first_station (setup_at given station);
-      agree = λ one other in_it in_too differs. none_open (WithAll (replicate (setup_at given other).links None)) (setup_at given one).links;
-    }) before rest at in
-    let differs = two_stations before central peripheral ends in
-    let all = are.agree central.station peripheral.station is is_too (false_from_ne_true (central.station == peripheral.station) (λ same. differs (eqb-true central.station peripheral.station same))) in
-    let others = (facts_at given peripheral.station before).links in
-    let each = open_has (WithAll others) 0 central.handle (facts_at given central.station before).links central.link all is_open in
-    (open_has (λ other. Agree central.link other) 0 peripheral.handle others peripheral.link each is_open_too (one_connect_ind before central peripheral ends))
-
 -- ---- a pair
-
-in_pair : (station : ℕ) → is_in station (0 ∷ 1 ∷ []) ≡ true → station ≤ 1
-in_pair station is = by (station == 0) (station == 1) refl refl is
-  where
-    by : (first second : Bool) → (station == 0) ≡ first → (station == 1) ≡ second → (first || (second || false)) ≡ true → station ≤ 1
-    by true second one other holds = let same = eqb-true station 0 one in omega (arith, same)
-    by false true one other holds = let same = eqb-true station 1 other in omega (arith, same)
-    by false false one other holds = absurd cc
-
-third_of_two : (one other third : ℕ) → one ≤ 1 → other ≤ 1 → third ≤ 1 → (one == other) ≡ false → (one == third) ≡ false → third ≡ other
-third_of_two one other third a b c differs differs_too =
-    let apart = eqb-false one other differs in
-    let apart_too = eqb-false one third differs_too in
-    omega (arith, a, b, c, apart, apart_too)
 
 pub is_pair : (a b : List ℕ) (script : Script) → IsPair (given_of a b script)
 is_pair a b script = record {
-  only = λ one other third is is_too is_three differs differs_too.
-      third_of_two one other third (in_pair one is) (in_pair other is_too) (in_pair third is_three) differs differs_too;
+  two = are_two (given_of a b script) 0 1 refl;
   links = links_of;
 }
   where

@@ -8,10 +8,16 @@ pub mod BetweenTurns
 pub mod SentPackets
 pub mod ConnectInds
 pub mod DistinctAccess
+pub mod LinkPhases
 pub mod Hearings
 pub mod ByCalls
 pub mod ChSel
 pub mod LinkPasses
 pub mod Agreed
+pub mod TwoStations
 pub mod InAgreement
+pub mod EachCall
+pub mod OpenedOnce
+pub mod OwnLinks
+pub mod TwoEnds
 pub mod OneEntry

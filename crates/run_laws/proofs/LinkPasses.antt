@@ -22,6 +22,7 @@ use Rattle.controller_model.specs.Packets.{facts_doing, links_sending, listens_o
 use Rattle.controller_model.specs.Side.{facts_after}
 use Rattle.controller_model.proofs.Always.{opening_is}
 use Rattle.run_model.specs.Run.{step_of}
+use Rattle.run_laws.specs.Ends.{link_listened}
 use Rattle.run_laws.proofs.TurnSteps.{IsListening}
 
 -- it sends or listens on a link
@@ -41,63 +42,78 @@ pub data IsPassing (facts : Facts) (received : Option (List ℕ)) (after : Facts
       → after.links ≡ links_sending facts.turn.slot (reply_if replies handle) (with_change handle (link_after (PacketReceived facts.turn.slot octets room)) facts.links)
       → IsPassing facts received after
 
+-- the same, with the link that receives named by what it does
+pub data IsPassingOn (facts : Facts) (received : Option (List ℕ)) (after : Facts) : Type 0 where
+  LeavesAll : after.links ≡ facts.links → (is_on_link after.turn.doing ≡ true → is_on_link facts.turn.doing ≡ true) → IsPassingOn facts received after
+  OpensOne : (link : LinkSetup) → after.links ≡ with_link (record { link = link; opened = facts.turn.slot }) facts.links
+      → is_on_link after.turn.doing ≡ false → IsPassingOn facts received after
+  ReceivesOn : (handle : ℕ) (octets : List ℕ) → received ≡ Some octets → facts.wanted ≡ listens_on (link_at handle facts.links)
+      → link_listened facts.turn.doing ≡ Some handle → is_on_link facts.turn.doing ≡ true → (room replies : Bool)
+      → after.links ≡ links_sending facts.turn.slot (reply_if replies handle) (with_change handle (link_after (PacketReceived facts.turn.slot octets room)) facts.links)
+      → IsPassingOn facts received after
+
+passing : (facts after : Facts) (received : Option (List ℕ)) → IsPassingOn facts received after → IsPassing facts received after
+passing facts after received (LeavesAll same on) = Leaves same on
+passing facts after received (OpensOne link is none) = Opens link is none
+passing facts after received (ReceivesOn handle octets is wanted listens on room replies links_are) = Receives handle octets is wanted on room replies links_are
+
 module _ (facts : Facts) (received : Option (List ℕ)) where
   abbrev Passing : Outcome → Type 0
-  Passing outcome = IsPassing facts received (facts_passed outcome)
+  Passing outcome = IsPassingOn facts received (facts_passed outcome)
 
   no_link : (X : Type 0) → false ≡ true → X
   no_link X is = absurd cc
 
   opens_passes : (link : LinkSetup) → Passing (opens link facts)
-  opens_passes link = Opens link (ap (λ (f : Facts). f.links) (opening_is link facts)) refl
+  opens_passes link = OpensOne link (ap (λ (f : Facts). f.links) (opening_is link facts)) refl
 
   unheard_passes : (doing : Doing) → facts.turn.doing ≡ doing → Passing (unheard doing facts)
-  unheard_passes (Advertises channel) is = Leaves refl (no_link _)
-  unheard_passes (Requests channel advertiser) is = Leaves refl (no_link _)
+  unheard_passes (Advertises channel) is = LeavesAll refl (no_link _)
+  unheard_passes (Requests channel advertiser) is = LeavesAll refl (no_link _)
   unheard_passes (Connects channel link) is = opens_passes link
-  unheard_passes (CentralSends handle) is = Leaves refl (λ on. ap is_on_link is)
-  unheard_passes other is = Leaves refl (no_link _)
+  unheard_passes (CentralSends handle) is = LeavesAll refl (λ on. ap is_on_link is)
+  unheard_passes other is = LeavesAll refl (no_link _)
 
   under_passes : (free : Option ℕ) (own : Address) (pdu : AdvPdu) (fields : ConnectFields) → Passing (taken_under free own pdu fields facts)
-  under_passes None own pdu fields = Leaves refl (no_link _)
+  under_passes None own pdu fields = LeavesAll refl (no_link _)
   under_passes (Some handle) own pdu fields = opens_passes (link_taken own pdu fields handle)
 
   if_passes : (new : Bool) (own : Address) (pdu : AdvPdu) (fields : ConnectFields) → Passing (taken_if new own pdu fields facts)
-  if_passes false own pdu fields = Leaves refl (no_link _)
+  if_passes false own pdu fields = LeavesAll refl (no_link _)
   if_passes true own pdu fields = under_passes (free_from 0 facts.links) own pdu fields
 
   answers_pass : (answer : AdvAnswer) (channel : ℕ) (own : Address) (pdu : AdvPdu) → Passing (advertiser_answers answer channel own pdu facts)
-  answers_pass Ignore channel own pdu = Leaves refl (no_link _)
-  answers_pass Respond channel own pdu = Leaves refl (no_link _)
+  answers_pass Ignore channel own pdu = LeavesAll refl (no_link _)
+  answers_pass Respond channel own pdu = LeavesAll refl (no_link _)
   answers_pass (Takes fields) channel own pdu = if_passes _ own pdu fields
 
   advertiser_passes : (on : Option AdvertiserFacts) (channel : ℕ) (pdu : AdvPdu) → Passing (advertiser_heard on channel pdu facts)
-  advertiser_passes None channel pdu = Leaves refl (no_link _)
+  advertiser_passes None channel pdu = LeavesAll refl (no_link _)
   advertiser_passes (Some on) channel pdu = answers_pass (advertiser_answer on.params facts.view.accepted pdu) channel on.params.own pdu
 
-  asks_pass : (asks : Bool) (channel : ℕ) (pdu : AdvPdu) (now : Facts) → now.links ≡ facts.links → IsPassing facts received (facts_doing (asks_if asks channel pdu) now)
-  asks_pass true channel pdu now same = Leaves same (no_link _)
-  asks_pass false channel pdu now same = Leaves same (no_link _)
+  asks_pass : (asks : Bool) (channel : ℕ) (pdu : AdvPdu) (now : Facts) → now.links ≡ facts.links → IsPassingOn facts received (facts_doing (asks_if asks channel pdu) now)
+  asks_pass true channel pdu now same = LeavesAll same (no_link _)
+  asks_pass false channel pdu now same = LeavesAll same (no_link _)
 
   scanner_passes : (on : Option ScannerFacts) (may_ask : Bool) (channel : ℕ) (pdu : AdvPdu) → Passing (scanner_heard on may_ask channel pdu facts)
-  scanner_passes None may_ask channel pdu = Leaves refl (no_link _)
+  scanner_passes None may_ask channel pdu = LeavesAll refl (no_link _)
   scanner_passes (Some on) may_ask channel pdu =
       asks_pass (may_ask && does_ask (scan_answer on.params facts.view.accepted on.recent pdu)) channel pdu (with_scanner (scanner_after on facts.view.accepted pdu) facts) refl
 
   connects_pass : (link : Option LinkSetup) (setup : Setup) (channel : ℕ) → Passing (connects link setup channel facts)
-  connects_pass None setup channel = Leaves refl (no_link _)
-  connects_pass (Some link) setup channel = Leaves refl (no_link _)
+  connects_pass None setup channel = LeavesAll refl (no_link _)
+  connects_pass (Some link) setup channel = LeavesAll refl (no_link _)
 
   initiator_passes : (on : Option InitiatorFacts) (setup : Setup) (channel : ℕ) (pdu : AdvPdu) → Passing (initiator_heard on setup channel pdu facts)
-  initiator_passes None setup channel pdu = Leaves refl (no_link _)
+  initiator_passes None setup channel pdu = LeavesAll refl (no_link _)
   initiator_passes (Some on) setup channel pdu = connects_pass (link_to setup on pdu facts) setup channel
 
   pdu_passes : (found : Option AdvPdu) (outcome : AdvPdu → Outcome) → ((pdu : AdvPdu) → Passing (outcome pdu)) → Passing (if_pdu found facts outcome)
-  pdu_passes None outcome some = Leaves refl (no_link _)
+  pdu_passes None outcome some = LeavesAll refl (no_link _)
   pdu_passes (Some pdu) outcome some = some pdu
 
 heard_passes : (setup : Setup) (facts : Facts) (octets : List ℕ) (doing : Doing) → facts.turn.doing ≡ doing → IsListening facts doing
-    → IsPassing facts (Some octets) (facts_passed (heard setup doing octets facts))
+    → IsPassingOn facts (Some octets) (facts_passed (heard setup doing octets facts))
 heard_passes setup facts octets (AwaitsRequest channel) is listens =
     pdu_passes facts (Some octets) (pdu_heard channel octets) _ (λ pdu. advertiser_passes facts (Some octets) facts.advertising.on channel pdu)
 heard_passes setup facts octets (Scans channel) is listens =
@@ -107,13 +123,17 @@ heard_passes setup facts octets (AwaitsResponse channel) is listens =
 heard_passes setup facts octets (Initiates channel) is listens =
     pdu_passes facts (Some octets) (pdu_heard channel octets) _ (λ pdu. initiator_passes facts (Some octets) facts.initiator setup channel pdu)
 heard_passes setup facts octets (CentralListens handle) is listens =
-    Receives handle octets refl listens (ap is_on_link is) (has_room setup facts) (replies_in (link_at handle facts.links) octets) refl
+    ReceivesOn handle octets refl listens (ap link_listened is) (ap is_on_link is) (has_room setup facts) (replies_in (link_at handle facts.links) octets) refl
 heard_passes setup facts octets (PeripheralListens handle) is listens =
-    Receives handle octets refl listens (ap is_on_link is) (has_room setup facts) (replies_in (link_at handle facts.links) octets) refl
+    ReceivesOn handle octets refl listens (ap link_listened is) (ap is_on_link is) (has_room setup facts) (replies_in (link_at handle facts.links) octets) refl
 heard_passes setup facts octets (Advertises channel) is listens = unheard_passes facts (Some octets) (Advertises channel) is
 heard_passes setup facts octets doing is listens = unheard_passes facts (Some octets) doing is
 
+pub phase_passes_on : (setup : Setup) (facts : Facts) (received : Option (List ℕ)) → IsListening facts facts.turn.doing
+    → IsPassingOn facts received (facts_after setup facts (step_of received))
+phase_passes_on setup facts None listens = unheard_passes facts None facts.turn.doing refl
+phase_passes_on setup facts (Some octets) listens = heard_passes setup facts octets facts.turn.doing refl listens
+
 pub phase_passes : (setup : Setup) (facts : Facts) (received : Option (List ℕ)) → IsListening facts facts.turn.doing
     → IsPassing facts received (facts_after setup facts (step_of received))
-phase_passes setup facts None listens = unheard_passes facts None facts.turn.doing refl
-phase_passes setup facts (Some octets) listens = heard_passes setup facts octets facts.turn.doing refl listens
+phase_passes setup facts received listens = passing facts _ received (phase_passes_on setup facts received listens)

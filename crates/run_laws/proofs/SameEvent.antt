@@ -1,6 +1,7 @@
 -- Two ends of one link come from one event of the history.
-use Rattle.std.proofs.Common.{◌≡◌, ◌≢◌, ℕ, ◌+◌, Bool, List, [], ◌∷◌, ◌++◌, sym, ap, subst, ◌∙◌, arith}
+use Rattle.std.proofs.Common.{◌≡◌, ◌≢◌, ℕ, ◌+◌, ◌==◌, Bool, false, List, [], ◌∷◌, ◌++◌, sym, ap, subst, ◌∙◌, arith}
 use Rattle.std.specs.Prelude.{Some}
+use Rattle.std.proofs.lemmas.Bool.{eqb-true, false_from_ne_true}
 use Rattle.ble_base.specs.declared.addresses.Address.{Address}
 use Rattle.adv_pdu.specs.declared.pdu.AdvPdu.TheVariants.{Connect}
 use Rattle.adv_pdu.specs.declared.pdu.ConnectFields.{ConnectFields}
@@ -58,3 +59,8 @@ two_stations history central peripheral ends = λ same.
     let from = subst (λ role. IsAtEnd role central.station central.link.setup ends.of_central.sent) ends.is_central ends.of_central.is_at_end in
     let to = subst (λ role. IsAtEnd role peripheral.station peripheral.link.setup ends.of_peripheral.sent) ends.is_peripheral ends.of_peripheral.is_at_end in
     to.0 (sym event.sender ∙ from.0 ∙ same)
+
+pub apart_ends : (history : List Event) (central peripheral : OpenEnd) → AreEnds history central peripheral → (central.station == peripheral.station) ≡ false
+apart_ends history central peripheral ends =
+    let differs = two_stations history central peripheral ends in
+    false_from_ne_true (central.station == peripheral.station) (λ same. differs (eqb-true central.station peripheral.station same))

@@ -1,5 +1,5 @@
-//! Both ends of one link in each run of a pair. The bodies only call the laws that they rest on:
-//! the contracts are the laws.
+//! Both ends of one link in each run. The bodies only call the laws that they rest on: the
+//! contracts are the laws.
 ghost use Rattle.std.specs.Prelude.{◌≡◌, ◌≢◌, ◌++◌, ◌∷◌, ℕ, Bool, List, Some, length};
 ghost use Rattle.std.specs.List.{Contains};
 ghost use Rattle.link_model.specs.Events.{IsInEvent, entries_in};

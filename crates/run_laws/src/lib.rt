@@ -1,4 +1,4 @@
-//! Laws over both ends of a link in every run of a pair of controllers. None of them names code.
+//! Laws over both ends of a link in every run of controllers. None of them names code.
 #![tactic(auto)]
 
 mod access;
@@ -9,7 +9,8 @@ mod rows;
 
 pub use crate::access::access_addresses_are_taken_in_order;
 pub use crate::agreement::{
-    ends_stay_in_agreement_in_every_run, what_is_taken_was_given_in_every_run,
+    both_ends_hear_each_other, ends_of_two_stations_agree, ends_stay_in_agreement_in_every_run,
+    ends_that_hear_each_other_agree, what_is_taken_was_given_in_every_run,
 };
 pub use crate::ends::{
     each_end_enters_its_events, ends_of_one_link_agree, ends_of_one_link_have_one_connect_ind,

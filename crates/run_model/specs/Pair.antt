@@ -19,7 +19,15 @@ plan_of turn = record {
   fates = turn.fates;
 }
 
--- both controllers can hold one link, and eight packets of data each way
+-- how many links each controller of a pair can hold (our choice)
+abbrev pub pair_links : ℕ
+pair_links = 1
+
+-- how many packets of its host each of them can hold, and how many from the air (our choice)
+abbrev pub pair_buffers : ℕ
+pair_buffers = 8
+
+-- a station that is set up so, with the stream of its host
 abbrev pub station_with : Setup → List ℕ → Station
 station_with setup stream = record { setup = setup; stream = stream }
 
@@ -27,7 +35,9 @@ station_with setup stream = record { setup = setup; stream = stream }
 abbrev pub given_of : List ℕ → List ℕ → Script → Given
 given_of a b script = record {
   stations = 0 ∷ 1 ∷ [];
-  station_of = one_of (station_with (setup_of script.a 1 8 8) a) (station_with (setup_of script.b 1 8 8) b);
+  station_of = one_of
+      (station_with (setup_of script.a pair_links pair_buffers pair_buffers) a)
+      (station_with (setup_of script.b pair_links pair_buffers pair_buffers) b);
   plans = map plan_of script.turns;
 }
 

@@ -8,7 +8,7 @@ use Rattle.ble_base.specs.declared.notes.Note.TheVariants.{Up}
 use Rattle.journal.specs.declared.entries.Entry.{Entry}
 use Rattle.journal.specs.declared.entries.Entry.TheVariants.{Turn, Fed, Air, Up as UpEntry}
 use Rattle.journal.specs.declared.entries.Mark.{Mark}
-use Rattle.radio_replay.specs.Script.{Script, Turn as Plan, fate_of}
+use Rattle.radio_replay.specs.Script.{Script, Turn as ScriptTurn, fate_of}
 use Rattle.run_model.specs.History.{Event, TurnBegan, HostFed, Called, Noted, Transmitted}
 use Rattle.run_model.specs.Journal.{mark_of}
 
@@ -62,7 +62,7 @@ abbrev pub turns_of : List Entry → List PairOpening
 turns_of journal = flat_map pair_openings_in journal
 
 -- how the turns of a schedule begin, the first of them in this slot
-abbrev pub turns_from : ℕ → List Plan → List PairOpening
+abbrev pub turns_from : ℕ → List ScriptTurn → List PairOpening
 turns_from slot [] = []
 turns_from slot (turn ∷ turns) =
     record { slot = slot; a_on = turn.a_on; b_on = Some turn.b_on } ∷ turns_from (slot + 1) turns
@@ -78,7 +78,7 @@ turn_packets journal = fold turn_packets_after 0 journal
 
 -- a packet that stands after these entries has the next fate of the turn that began last
 pub record HasNextFate (script : Script) (front : List Entry) (fate : Mark) : Type 0 where
-  pub turn : Plan
+  pub turn : ScriptTurn
   pub is_now : slice_get script.turns (length (turns_of front) - 1) ≡ Some turn
   pub fate_is : fate ≡ mark_of (fate_of turn (turn_packets front))
 

@@ -2,7 +2,7 @@
 -- them (our choice: the standard leaves that to a random number).
 use Rattle.std.specs.Prelude.{◌≡◌, ℕ, zero, suc, ◌+◌, ◌-◌, ◌*◌, ◌/◌, ◌%◌, ◌^◌, ◌<◌, ◌≤◌, ◌==◌, ◌&&◌, not, nat_le, nat_lt, Bool, true, false, bit_xor, Option, Some, None, option_and_then, if◌then◌else◌}
 use Rattle.std.specs.List.{list_any, range_with_len}
-use Rattle.air_frame.specs.declared.advertising.TheConstants.{ADVERTISING_ACCESS}
+use Rattle.air_frame.specs.Advertising.{advertising_access}
 
 -- ---- the addresses that a link may have
 
@@ -25,7 +25,7 @@ has_seven_equal_bits access = list_any (λ place. transitions_of access / 2 ^ pl
 
 -- how many of its 32 bits are not those of the advertising channels
 abbrev pub advertising_distance : ℕ → ℕ
-advertising_distance access = bit_count (bit_xor access ADVERTISING_ACCESS)
+advertising_distance access = bit_count (bit_xor access advertising_access)
 
 -- all four octets are the last one
 abbrev pub has_equal_octets : ℕ → Bool

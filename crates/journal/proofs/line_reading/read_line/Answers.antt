@@ -1,5 +1,6 @@
 -- Proof of `line_reading::read_line`.
 use Rattle.std.proofs.Common.{sym, ◌∙◌}
+use Rattle.journal.proofs.Fitting.{first_fits}
 use Rattle.journal.proofs.LineEntries.{is_found, not_found, other_line}
 use Rattle.journal.proofs.line_reading.read_line.Goals as goal
 
@@ -12,6 +13,10 @@ returns-in_default-clause-none c = λ entry fits same.
 
 pub returns-then-eq-clause-read : goal.returns-then-eq-clause-read
 returns-then-eq-clause-read c = is_found c.args.octets.now c.in_ok-entry.field-0 c.in-Some.entry c.in_ok-entry.ensures c.in-Some.is
+
+pub returns-then-eq-clause-fits : goal.returns-then-eq-clause-fits
+returns-then-eq-clause-fits c =
+    rw c.in-Some.is at (first_fits c.args.octets.now c.in_ok-entry.field-0 c.in_ok-entry.ensures)
 
 pub returns-else-eq-clause-none : goal.returns-else-eq-clause-none
 returns-else-eq-clause-none c =

@@ -1,7 +1,7 @@
 -- Proof of `run::run_turns`.
 use Rattle.std.proofs.Common.{◌<◌, ◌≤◌, length, ap, arith}
 use Rattle.pair_world.specs.Logs.{LogState}
-use Rattle.pair_world.proofs.WholeRuns.{at_first, is_fault, is_run, next_turn, place_in}
+use Rattle.pair_world.proofs.WholeRuns.{at_first, is_fault, is_run, next_turn, place_in, told}
 use Rattle.pair_world.proofs.run.run_turns.Goals as goal
 
 pub loop-turn-init : goal.loop-turn-init
@@ -34,7 +34,7 @@ returns-in-Err-clause-err c = λ given plans up.
     let below : n < length turns = omega (arith, c.loop-turn-test.true, c.turns-turn-end.ensures.count) in
     let place = place_in turns n below in
     let at = c.loop-turn.invariant.at given plans up in
-    rw c.of.ensures (rw c.into_journal.ensures
+    told given _ _ c.told.ensures (rw c.into_journal.ensures
     (is_fault given turns n place.0 c.loop-turn.pair.a c.loop-turn.pair.b c.loop-turn.log c.run_turn.new.log.entries c.in-Err.stop plans place.1 at
     (c.in-Err.ensures.err given place.0 at.history place.1 at.up)))
 

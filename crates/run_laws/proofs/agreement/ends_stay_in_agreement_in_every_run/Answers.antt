@@ -1,13 +1,11 @@
 -- Proof of `agreement::ends_stay_in_agreement_in_every_run`.
+use Rattle.std.proofs.Common.{refl}
 use Rattle.run_model.specs.Pair.{given_of}
 use Rattle.run_model.proofs.LinkEnds.{pair_addresses}
 use Rattle.run_model.proofs.Ordered.{pair_distinct}
-use Rattle.run_model.proofs.Stations.{contains_in}
-use Rattle.run_laws.proofs.InAgreement.{is_pair, stays_in_agreement}
 use Rattle.run_laws.proofs.agreement.ends_stay_in_agreement_in_every_run.Goals as goal
 
 pub returns : goal.returns
 returns c = λ a b script before rest central peripheral six six_too is is_too at ends is_open is_open_too.
-    let given = given_of a b script in
-    stays_in_agreement c.packet_tells_its_pdu.ensures.heard given (is_pair a b script) before rest central peripheral (pair_distinct a b script)
-    (pair_addresses a b script six six_too) (contains_in given.stations central.station is) (contains_in given.stations peripheral.station is_too) at ends is_open is_open_too
+    c.ends_of_two_stations_agree.ensures.agreement (given_of a b script) 0 1 before rest central peripheral refl (pair_distinct a b script)
+    (pair_addresses a b script six six_too) is is_too at ends is_open is_open_too

@@ -1,0 +1,5 @@
+-- The lemmas of this crate.
+pub mod HostSteps
+pub mod Known
+pub mod Loops
+pub mod Short

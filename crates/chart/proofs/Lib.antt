@@ -1,0 +1,6 @@
+-- The lemmas of this crate.
+pub mod Names
+pub mod Parts
+pub mod RowCounts
+pub mod Spelling
+pub mod Steps

@@ -1,6 +1,0 @@
--- Measure of `host_data::tell_completed`.
-use Rattle.std.proofs.Common.{length}
-use Rattle.controller.proofs.host_data.+tell_completed.Given as goal
-
-abbrev pub decreases-tell_completed : goal.decreases-tell_completed
-decreases-tell_completed l = length l.completed.now

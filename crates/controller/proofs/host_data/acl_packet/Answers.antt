@@ -1,7 +1,0 @@
--- Proof of `host_data::acl_packet`.
-use Rattle.std.proofs.Common.{arith}
-use Rattle.controller.proofs.Words.{wrapped}
-use Rattle.controller.proofs.host_data.acl_packet.Goals as goal
-
-pub returns : goal.returns
-returns c = grind (arith, wrapped, c.put_octets.ensures.items, c.put_u16-2.ensures.items, c.put_u16.ensures.items, c.push.ensures.items)

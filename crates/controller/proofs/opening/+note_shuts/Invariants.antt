@@ -1,6 +1,0 @@
--- Measure of `opening::note_shuts`.
-use Rattle.std.proofs.Common.{length}
-use Rattle.controller.proofs.opening.+note_shuts.Given as goal
-
-abbrev pub decreases-note_shuts : goal.decreases-note_shuts
-decreases-note_shuts l = length l.handles.now

@@ -1,0 +1,8 @@
+-- Proof of `word_tuples::four_words`.
+use Rattle.journal.proofs.WordLists.{four_are}
+use Rattle.journal.proofs.word_tuples.four_words.Goals as goal
+
+pub returns : goal.returns
+returns c =
+    four_are c.args.words c.in_ok-first.words c.in_ok-first.first.now
+    (c.in_ok-second.second.now, c.in_ok-second.third.now, c.in_ok-second.fourth.now) c.in_ok-first.ensures c.in_ok-second.ensures

@@ -1,0 +1,240 @@
+-- In which phase of a turn a controller sends or listens on a link, and as which end of it.
+use Rattle.std.proofs.Common.{◌≡◌, ℕ, zero, suc, ◌≤◌, Bool, true, false, Option, Some, None, List, refl, sym, subst, arith}
+use Rattle.std.specs.Prelude.{⊤, ◌&&◌, if◌then◌else◌}
+use Rattle.std.specs.Option.{option_map}
+use Rattle.ble_base.specs.declared.roles.Role.{Role}
+use Rattle.ble_base.specs.declared.roles.Role.TheVariants.{Central, Peripheral}
+use Rattle.adv_pdu.specs.declared.pdu.AdvPdu.{AdvPdu}
+use Rattle.advertise.specs.Advertising.{AdvertiserFacts}
+use Rattle.link_model.specs.End.{replies_by, replies_of}
+use Rattle.link_model.specs.Packets.{good_pdu}
+use Rattle.link_model.specs.Setup.{Setup as EndSetup}
+use Rattle.link_model.specs.Step.{PduFixed, PacketSent, PacketReceived}
+use Rattle.link_model.specs.Times.{has_second_exchange}
+use Rattle.open_links.specs.OpenLinks.{Links, OpenLink, facts_in, link_after, link_at, link_served, with_change}
+use Rattle.open_links.proofs.Handles.{changed_is}
+use Rattle.scan_init.specs.Reports.{does_ask, scan_answer}
+use Rattle.slot_plan.specs.declared.Activity.{Activity}
+use Rattle.slot_plan.specs.declared.Activity.TheVariants.{Link, Advertise, Scan, Initiate}
+use Rattle.slot_plan.specs.Holding.{is_held_in, winner_of}
+use Rattle.controller_model.specs.declared.doing.Doing.{Doing}
+use Rattle.controller_model.specs.declared.doing.Doing.TheVariants.{Advertises, CentralSends, CentralListens, PeripheralListens, PeripheralSends, Rests}
+use Rattle.controller_model.specs.Step.{Step, TurnBegins}
+use Rattle.controller_model.specs.Facts.{Setup, Facts}
+use Rattle.controller_model.specs.Heard.{asks_if, has_room, link_heard, link_taken, replies_in, reply_if, scanner_after, with_scanner}
+use Rattle.controller_model.specs.Links.{facts_ending}
+use Rattle.controller_model.specs.Outcome.{Outcome, facts_passed}
+use Rattle.controller_model.specs.Packets.{facts_doing}
+use Rattle.controller_model.specs.Radio.{advertises_at, advertises_on, doing_held, doing_won, exchange_begins, exchange_if, facts_entering, facts_won, first_exchange, initiates_on, initiator_channel, links_fixing, outcome_begun, plan_in, radio_served, scanner_channel, scans_on, second_exchange, served, slots_since, turn_begins, winner_served}
+use Rattle.controller_model.specs.Sent.{SendsOn}
+use Rattle.controller_model.specs.Side.{facts_after, facts_of}
+use Rattle.controller_model.proofs.Always.{opening_passes}
+use Rattle.controller_model.proofs.Phases.{EachOutcome, heard_is, unheard_is}
+use Rattle.run_model.specs.Run.{step_of}
+use Rattle.run_laws.proofs.TurnPlaces.{Between, IsTurned, Stage, Within, at_stage, standing, turned}
+
+abbrev pub HasRole : Role → Option OpenLink → Type 0
+HasRole role None = ⊤
+HasRole role (Some link) = link.setup.link.role ≡ role
+
+-- in the first phase a central sends and a peripheral listens; later a peripheral sends and a central listens
+abbrev pub IsInPhase : ℕ → Links → Doing → Type 0
+IsInPhase phases links (CentralSends handle) = (phases ≡ 0) × HasRole Central (link_at handle links)
+IsInPhase phases links (PeripheralListens handle) = (phases ≡ 0) × HasRole Peripheral (link_at handle links)
+IsInPhase phases links (CentralListens handle) = (1 ≤ phases) × HasRole Central (link_at handle links)
+IsInPhase phases links (PeripheralSends handle) = (1 ≤ phases) × HasRole Peripheral (link_at handle links)
+IsInPhase phases links other = ⊤
+
+-- the end that sends in a phase, which comes after this number of phases
+abbrev pub SendsAs : ℕ → Role → Type 0
+SendsAs zero role = role ≡ Central
+SendsAs (suc phases) role = role ≡ Peripheral
+
+later_as : (phases : ℕ) (role : Role) → 1 ≤ phases → role ≡ Peripheral → SendsAs phases role
+later_as zero role later is = absurd (omega (arith, later))
+later_as (suc phases) role later is = is
+
+-- the role of the link on which it sends
+pub sends_as : (phases handle : ℕ) (links : Links) (doing : Doing) (link : OpenLink) → IsInPhase phases links doing → SendsOn handle doing → link_at handle links ≡ Some link
+    → SendsAs phases link.setup.link.role
+sends_as phases handle links (CentralSends other) link is same at =
+    subst (λ n. SendsAs n link.setup.link.role) (sym is.0) (subst (HasRole Central) at (subst (λ n. HasRole Central (link_at n links)) same is.1))
+sends_as phases handle links (PeripheralSends other) link is same at =
+    later_as phases link.setup.link.role is.0 (subst (HasRole Peripheral) at (subst (λ n. HasRole Peripheral (link_at n links)) same is.1))
+sends_as phases handle links (Advertises channel) link is same at = absurd same
+sends_as phases handle links other link is same at = absurd same
+
+-- ---- what keeps the roles
+
+role_changed : (role : Role) (handle : ℕ) (change : OpenLink → OpenLink) (links : Links) → ((link : OpenLink) → (change link).setup ≡ link.setup)
+    → HasRole role (link_at handle links) → HasRole role (link_at handle (with_change handle change links))
+role_changed role handle change links same has =
+    subst (HasRole role) (sym (changed_is (option_map change) 0 handle links refl)) (by (link_at handle links) has)
+  where
+    by : (found : Option OpenLink) → HasRole role found → HasRole role (option_map change found)
+    by None is = tt
+    by (Some link) is = subst (λ (s : EndSetup). s.link.role ≡ role) (sym (same link)) is
+
+doing_in : (phases : ℕ) (doing : Doing) (facts : Facts) → IsInPhase phases facts.links doing → IsInPhase phases (facts_doing doing facts).links doing
+doing_in phases (CentralSends handle) facts is =
+    (is.0, role_changed Central handle (link_after (PacketSent facts.turn.slot)) facts.links (λ link. refl) is.1)
+doing_in phases (PeripheralSends handle) facts is =
+    (is.0, role_changed Peripheral handle (link_after (PacketSent facts.turn.slot)) facts.links (λ link. refl) is.1)
+doing_in phases (CentralListens handle) facts is = is
+doing_in phases (PeripheralListens handle) facts is = is
+doing_in phases (Advertises channel) facts is = tt
+doing_in phases other facts is = tt
+
+fixing_in : (phases : ℕ) (doing : Doing) (links : Links) → IsInPhase phases links doing → IsInPhase phases (links_fixing doing links) doing
+fixing_in phases (CentralSends handle) links is = (is.0, role_changed Central handle (link_after PduFixed) links (λ link. refl) is.1)
+fixing_in phases (PeripheralListens handle) links is = (is.0, role_changed Peripheral handle (link_after PduFixed) links (λ link. refl) is.1)
+fixing_in phases (CentralListens handle) links is = is
+fixing_in phases (PeripheralSends handle) links is = is
+fixing_in phases (Advertises channel) links is = tt
+fixing_in phases other links is = tt
+
+-- ---- a turn begins
+
+exchange_in : (role : Role) (handle : ℕ) (links : Links) → HasRole role (link_at handle links) → IsInPhase 0 links (exchange_begins role handle)
+exchange_in Central handle links has = (refl, has)
+exchange_in Peripheral handle links has = (refl, has)
+
+first_in : (slot handle : ℕ) (links : Links) (found : Option OpenLink) → link_at handle links ≡ found
+    → IsInPhase 0 (with_change handle (link_served slot) links) (first_exchange handle found)
+first_in slot handle links None at = tt
+first_in slot handle links (Some link) at =
+    let role = link.setup.link.role in
+    exchange_in role handle (with_change handle (link_served slot) links)
+    (role_changed role handle (link_served slot) links (λ one. refl) (subst (HasRole role) (sym at) refl))
+
+exchange_if_in : (continues : Bool) (role : Role) (handle : ℕ) (links : Links) → HasRole role (link_at handle links)
+    → IsInPhase 0 links (exchange_if continues role handle)
+exchange_if_in true role handle links has = exchange_in role handle links has
+exchange_if_in false role handle links has = tt
+
+second_in : (handle : ℕ) (links : Links) (found : Option OpenLink) → link_at handle links ≡ found → IsInPhase 0 links (second_exchange handle found)
+second_in handle links None at = tt
+second_in handle links (Some link) at =
+    exchange_if_in (has_second_exchange (facts_in link)) link.setup.link.role handle links (subst (HasRole link.setup.link.role) (sym at) refl)
+
+on_in : (channel : Option ℕ) (links : Links) → IsInPhase 0 links (advertises_on channel)
+on_in None links = tt
+on_in (Some channel) links = tt
+
+placed_in : (early : Bool) (channel : Option ℕ) (links : Links) → IsInPhase 0 links (if early then advertises_on channel else Rests)
+placed_in true channel links = on_in channel links
+placed_in false channel links = tt
+
+advertises_in : (place : ℕ) (on : Option AdvertiserFacts) (links : Links) → IsInPhase 0 links (advertises_at place on)
+advertises_in place None links = tt
+advertises_in place (Some on) links = placed_in _ _ links
+
+scans_in : (channel : Option ℕ) (links : Links) → IsInPhase 0 links (scans_on channel)
+scans_in None links = tt
+scans_in (Some channel) links = tt
+
+initiates_in : (channel : Option ℕ) (links : Links) → IsInPhase 0 links (initiates_on channel)
+initiates_in None links = tt
+initiates_in (Some channel) links = tt
+
+abbrev NextIn : Outcome → Type 0
+NextIn outcome = IsInPhase 0 outcome.facts.links outcome.next
+
+won_in : (slot : ℕ) (activity : Activity) (facts : Facts) → IsInPhase 0 (facts_won slot activity facts).links (doing_won slot activity facts)
+won_in slot (Link handle) facts = first_in slot handle facts.links (link_at handle facts.links) refl
+won_in slot Advertise facts = advertises_in 0 facts.advertising.on facts.links
+won_in slot Scan facts = scans_in (scanner_channel slot facts.scanning.on) facts.links
+won_in slot Initiate facts = initiates_in (initiator_channel slot facts.initiator) facts.links
+
+held_in : (slot : ℕ) (activity : Activity) (facts : Facts) → IsInPhase 0 facts.links (doing_held slot activity facts)
+held_in slot (Link handle) facts = second_in handle facts.links (link_at handle facts.links) refl
+held_in slot Advertise facts = advertises_in (slots_since slot facts.radio.hold) facts.advertising.on facts.links
+held_in slot Scan facts = tt
+held_in slot Initiate facts = tt
+
+winner_in : (slot : ℕ) (winner : Option Activity) (facts : Facts) → NextIn (winner_served slot winner facts)
+winner_in slot None facts = tt
+winner_in slot (Some activity) facts = won_in slot activity facts
+
+radio_in : (held : Bool) (slot : ℕ) (winner : Option Activity) (facts : Facts) → NextIn (radio_served held slot winner facts)
+radio_in true slot winner facts = held_in slot facts.radio.holder facts
+radio_in false slot winner facts = winner_in slot winner facts
+
+served_in : (on : Bool) (slot : ℕ) (winner : Option Activity) (facts : Facts) → NextIn (served on slot winner facts)
+served_in false slot winner facts = tt
+served_in true slot winner facts = radio_in (is_held_in facts.radio.hold slot) slot winner facts
+
+abbrev DoesIn : ℕ → Facts → Type 0
+DoesIn phases facts = IsInPhase phases facts.links facts.turn.doing
+
+begins_in : (setup : Setup) (slot : ℕ) (on : Bool) (facts : Facts) → DoesIn 0 (facts_after setup facts (TurnBegins slot on))
+begins_in setup slot on facts =
+    let begun = turn_begins slot (facts_ending slot facts) in
+    let outcome = outcome_begun slot on facts in
+    let winner = winner_of (plan_in slot begun) slot in
+    let before = served on slot winner (facts_entering slot begun) in
+    doing_in 0 outcome.next outcome.facts (fixing_in 0 before.next before.facts.links (served_in on slot winner (facts_entering slot begun)))
+
+-- ---- a phase passes
+
+asks_in : (phases : ℕ) (asks : Bool) (channel : ℕ) (pdu : AdvPdu) (links : Links) → IsInPhase phases links (asks_if asks channel pdu)
+asks_in phases true channel pdu links = tt
+asks_in phases false channel pdu links = tt
+
+asked_in : (phases : ℕ) (asks : Bool) (channel : ℕ) (pdu : AdvPdu) (facts : Facts) → DoesIn phases (facts_doing (asks_if asks channel pdu) facts)
+asked_in phases asks channel pdu facts = doing_in phases (asks_if asks channel pdu) facts (asks_in phases asks channel pdu facts.links)
+
+-- a peripheral alone answers
+reply_in : (phases handle : ℕ) (after : Links) (octets : List ℕ) (found : Option OpenLink) → (HasRole Peripheral found → HasRole Peripheral (link_at handle after))
+    → IsInPhase (suc phases) after (reply_if (replies_in found octets) handle)
+unfolding replies_of
+reply_in phases handle after octets None keeps = tt
+reply_in phases handle after octets (Some link) keeps = by link.setup.link.role (good_pdu link.setup (facts_in link) octets) refl
+  where
+    by : (role : Role) (pdu : Option (List ℕ)) → link.setup.link.role ≡ role → IsInPhase (suc phases) after (reply_if (replies_by role pdu) handle)
+    by Central pdu is = tt
+    by Peripheral None is = tt
+    by Peripheral (Some octets) is = (omega arith, keeps is)
+
+outcomes_in : (setup : Setup) (facts : Facts) (phases : ℕ) → DoesIn phases facts → EachOutcome setup facts (λ outcome. DoesIn (suc phases) (facts_passed outcome))
+outcomes_in setup facts phases is = record {
+  rests = tt;
+  awaits_request = λ channel doing. tt;
+  awaits_response = λ channel advertiser doing. tt;
+  central_listens = λ handle doing. (omega arith, (subst (IsInPhase phases facts.links) doing is).1);
+  sent = λ channel link doing. opening_passes (DoesIn (suc phases)) link facts tt;
+  responds = λ channel on doing is_on. tt;
+  taken = λ channel octets pdu on fields handle is_on hears takes free. opening_passes (DoesIn (suc phases)) (link_taken on.params.own pdu fields handle) facts tt;
+  scanned = λ channel octets pdu on doing is_on hears.
+      asked_in (suc phases) (true && does_ask (scan_answer on.params facts.view.accepted on.recent pdu)) channel pdu (with_scanner (scanner_after on facts.view.accepted pdu) facts);
+  answered = λ channel octets pdu on doing is_on hears.
+      asked_in (suc phases) (false && does_ask (scan_answer on.params facts.view.accepted on.recent pdu)) channel pdu (with_scanner (scanner_after on facts.view.accepted pdu) facts);
+  connects = λ channel octets pdu on access handle doing is_on hears answers next free in_range. tt;
+  received = λ handle octets.
+      let outcome = link_heard setup handle octets facts in
+      doing_in (suc phases) outcome.next outcome.facts
+      (reply_in phases handle outcome.facts.links octets (link_at handle facts.links)
+      (role_changed Peripheral handle (link_after (PacketReceived facts.turn.slot octets (has_room setup facts))) facts.links (λ link. refl)));
+}
+
+phase_in : (setup : Setup) (facts : Facts) (received : Option (List ℕ)) (phases : ℕ) → DoesIn phases facts → DoesIn (suc phases) (facts_after setup facts (step_of received))
+phase_in setup facts None phases is = unheard_is setup facts _ (outcomes_in setup facts phases is) facts.turn.doing refl
+phase_in setup facts (Some octets) phases is = heard_is setup facts _ (outcomes_in setup facts phases is) facts.turn.doing octets refl
+
+-- ---- at any time
+
+abbrev DoesAtStage : Stage → ℕ → Facts → Type 0
+DoesAtStage Between begun facts = ⊤
+DoesAtStage (Within phases) begun facts = DoesIn phases facts
+
+phases_kept : (setup : Setup) → IsTurned setup DoesAtStage
+phases_kept setup = record {
+  feeds = λ begun octet facts is. tt;
+  begins = λ begun on facts is. begins_in setup begun on facts;
+  passes = λ phases begun received facts is. phase_in setup facts received phases is;
+  ends = λ begun facts is. tt;
+}
+
+pub in_phase : (setup : Setup) (past : List Step) (phases begun : ℕ) → standing past ≡ Some (at_stage (Within phases) begun)
+    → IsInPhase phases (facts_of setup past).links (facts_of setup past).turn.doing
+in_phase setup past phases begun stands = turned setup DoesAtStage (phases_kept setup) past (at_stage (Within phases) begun) tt stands

@@ -1,0 +1,327 @@
+-- In every run, both ends of one link stay in agreement, if each hears of its link only what the other sends.
+use Rattle.std.proofs.Common.{◌≡◌, ℕ, ◌+◌, ◌==◌, ◌≤◌, ◌⊎◌, inl, inr, Bool, true, false, Option, Some, None, List, [], ◌∷◌, ◌++◌, replicate, refl, sym, ap, subst, ◌∙◌, append_assoc, arith}
+use Rattle.std.specs.Prelude.{if◌then◌else◌}
+use Rattle.std.proofs.lemmas.Bool.{eqb-true}
+use Rattle.ble_base.specs.declared.verdicts.Verdict.TheVariants.{Broken as BrokenPacket, Good}
+use Rattle.air_frame.specs.declared.Heard.{Heard}
+use Rattle.air_frame.specs.declared.Heard.TheVariants.{NotOurs, Broken, Whole}
+use Rattle.link_model.specs.End.{facts_received}
+use Rattle.link_model.specs.Facts.{Facts as EndFacts}
+use Rattle.link_model.specs.Packets.{good_in, good_pdu, has_room_for, heard_of, pdu_by, verdict_by, verdict_of}
+use Rattle.link_model.specs.Pair.{AreInAgreement}
+use Rattle.link_model.specs.Setup.{Setup as EndSetup}
+use Rattle.link_model.specs.Step.{PacketReceived, PacketSent}
+use Rattle.link_model.proofs.Received.{IsHeardWhole}
+use Rattle.open_links.specs.OpenLinks.{Links, OpenLink, facts_in, link_after, link_at, link_from, new_link}
+use Rattle.open_links.specs.Turns.{is_anchor}
+use Rattle.open_links.proofs.Ends.{entered_setup}
+use Rattle.open_links.proofs.Handles.{here, later}
+use Rattle.controller_model.specs.Step.{Step, HostOctet, TurnBegins, PacketHeard, NothingHeard, TurnEnds}
+use Rattle.controller_model.specs.Facts.{Facts, Setup}
+use Rattle.controller_model.specs.Side.{facts_after, facts_of}
+use Rattle.run_model.specs.Feeding.{AreDistinct}
+use Rattle.run_model.specs.History.{Event, Called}
+use Rattle.run_model.specs.LinkEnds.{HaveAddresses}
+use Rattle.run_model.specs.Run.{Given, facts_at, history_of, run_of, setup_at, step_of}
+use Rattle.run_model.proofs.Stations.{is_in}
+use Rattle.run_laws.specs.Ends.{AreEnds, HasSent, HaveOneConnectInd, HearEachOther, HearsItsLink, IsOpen, OpenEnd, ReceivesGood}
+use Rattle.run_laws.proofs.Agreed.{Agree, ack_of, agree_by, agree_received, exchange, step_facts}
+use Rattle.run_laws.proofs.ByCalls.{all_facts}
+use Rattle.run_laws.proofs.EachCall.{IsCallOf, IsPhase, call_at, facts_called, facts_others, kept_along}
+use Rattle.run_laws.proofs.InAgreement.{AllPairs, IsKeptByFirst, IsStation, TakesShort, agree_kept, all_entered, all_hosts, all_served, first_station, new_agree, one_slot, pairs_back, passing_keeps, station_begins, station_ends, station_fed, station_passes}
+use Rattle.run_laws.proofs.LinkPasses.{phase_passes_on}
+use Rattle.run_laws.proofs.OpenSteps.{AtOpen, EachOpen, begin_open, end_open, none_open, octet_open, open_has, open_more}
+use Rattle.run_laws.proofs.OpenedOnce.{opened_once}
+use Rattle.run_laws.proofs.SameEvent.{apart_ends, one_connect_ind}
+use Rattle.run_laws.proofs.TwoStations.{differs_back}
+
+-- ---- what is known of two links
+
+back : (one other : EndSetup) → HaveOneConnectInd one other → HaveOneConnectInd other one
+back one other same = record { fields = sym same.fields; opened = sym same.opened }
+
+through : (one other third : EndSetup) → HaveOneConnectInd one other → HaveOneConnectInd other third → HaveOneConnectInd one third
+through one other third same next = record { fields = same.fields ∙ next.fields; opened = same.opened ∙ next.opened }
+
+-- two ends of the link with this CONNECT_IND agree
+abbrev AgreeOn : EndSetup → OpenLink → OpenLink → Type 0
+AgreeOn end one other = HaveOneConnectInd one.setup end → Agree one other
+
+agree_on_back : (end far : EndSetup) → HaveOneConnectInd end far → (one other : OpenLink) → AgreeOn end one other → AgreeOn far other one
+agree_on_back end far same one other agree = λ own both.
+    let first = through one.setup other.setup far (back other.setup one.setup both) own in
+    exchange (ack_of one) (ack_of other) (agree (through one.setup far end first (back end far same)) (back other.setup one.setup both))
+
+on_kept : (end : EndSetup) → IsKeptByFirst (AgreeOn end)
+on_kept end = record {
+  given = λ start body one other agree own. agree_kept.given start body one other (agree own);
+  reported = λ one other agree own. agree_kept.reported one other (agree own);
+  fixed = λ one other agree own. agree_kept.fixed one other (agree own);
+  served = λ slot one other agree own. agree_kept.served slot one other (agree own);
+  sent = λ slot one other agree own. agree_kept.sent slot one other (agree own);
+  entered = λ slot one other agree own.
+      agree_kept.entered slot one other (agree (subst (λ s. HaveOneConnectInd s end) (entered_setup (is_anchor slot one) slot one) own));
+}
+
+-- ---- what is received
+
+-- a packet that is not good changes nothing
+good_or_kept : (slot : ℕ) (room : Bool) (octets : List ℕ) (link : OpenLink)
+    → (verdict_of link.setup (facts_in link) octets ≡ Good) ⊎ (ack_of (link_after (PacketReceived slot octets room) link) ≡ ack_of link)
+unfolding good_pdu verdict_of
+good_or_kept slot room octets link = got (of (heard_of link.setup (facts_in link) octets))
+  where
+    at : (fits : Bool) (pdu : List ℕ) → ((if fits then Good else BrokenPacket) ≡ Good)
+        ⊎ ((facts_received slot room (pdu_by fits pdu) (facts_in link)).acknowledgement ≡ ack_of link)
+    at true pdu = inl refl
+    at false pdu = inr refl
+
+    of : (heard : Heard) → (verdict_by link.setup.link.max_rx heard ≡ Good)
+        ⊎ ((facts_received slot room (good_in link.setup.link.max_rx heard) (facts_in link)).acknowledgement ≡ ack_of link)
+    of NotOurs = inr refl
+    of Broken = inr refl
+    of (Whole pdu) = at (has_room_for link.setup.link.max_rx pdu.items) pdu.items
+
+    got : (verdict_by link.setup.link.max_rx (heard_of link.setup (facts_in link) octets) ≡ Good)
+        ⊎ ((facts_received slot room (good_in link.setup.link.max_rx (heard_of link.setup (facts_in link) octets)) (facts_in link)).acknowledgement ≡ ack_of link)
+        → (verdict_of link.setup (facts_in link) octets ≡ Good) ⊎ (ack_of (link_after (PacketReceived slot octets room) link) ≡ ack_of link)
+    got (inl good) = inl good
+    got (inr kept) = inr (ap (λ (f : EndFacts). f.acknowledgement) (step_facts link (PacketReceived slot octets room)) ∙ kept)
+
+-- a link is under a handle from the first on
+from_first : (first handle : ℕ) (links : Links) (link : OpenLink) → link_from first handle links ≡ Some link → first ≤ handle
+from_first first handle [] link is = absurd cc
+from_first first handle (place ∷ links) link is = at (first == handle) refl is (from_first (first + 1) handle links link)
+  where
+    at : (test : Bool) → (first == handle) ≡ test → (if test then place else link_from (first + 1) handle links) ≡ Some link
+        → (link_from (first + 1) handle links ≡ Some link → first + 1 ≤ handle) → first ≤ handle
+    at true same found rest = let equal = eqb-true first handle same in omega (arith, equal)
+    at false other found rest = let more = rest found in omega (arith, more)
+
+each_under : (P : OpenLink → Type 0) (first : ℕ) (links : Links) → ((handle : ℕ) (link : OpenLink) → link_from first handle links ≡ Some link → P link) → EachOpen P links
+each_under P first [] has = tt
+each_under P first (place ∷ links) has = (
+  at place refl,
+  each_under P (first + 1) links (λ handle link is.
+      let from = from_first (first + 1) handle links link is in
+      has handle link (later first handle place links (omega (arith, from)) ∙ is)),
+)
+  where
+    at : (one : Option OpenLink) → place ≡ one → AtOpen P one
+    at None is = tt
+    at (Some link) is = has first link (here first place links ∙ is)
+
+one_some : (may : Option OpenLink) (one other : OpenLink) → may ≡ Some one → may ≡ Some other → one ≡ other
+one_some may one other is is_too = let same : Some one ≡ Some other = sym is ∙ is_too in cc
+
+-- ---- a station that takes a packet
+
+module _ (whole : IsHeardWhole) (given : Given) (six : HaveAddresses given) (distinct : AreDistinct given.stations) (end far : OpenEnd)
+    (same : HaveOneConnectInd end.link.setup far.link.setup) (in_too : is_in far.station given.stations ≡ true)
+    (before rest : List Event) (at : history_of (run_of given) ≡ before ++ rest) where
+  abbrev others : Links
+  others = (facts_at given far.station before).links
+
+  -- it takes it from the far end
+  taken_from : (slot : ℕ) (room : Bool) (octets : List ℕ) (one : OpenLink) → TakesShort one → HaveOneConnectInd one.setup end.link.setup
+      → HasSent given before far (facts_in one).event.channel octets → EachOpen (AgreeOn end.link.setup one) others
+      → EachOpen (AgreeOn end.link.setup (link_after (PacketReceived slot octets room) one)) others
+  taken_from slot room octets one fits is_end sent all =
+      let from = link_after (PacketSent sent.slot) sent.link in
+      let after = link_after (PacketReceived slot octets room) one in
+      let agree = open_has (AgreeOn end.link.setup one) 0 sent.handle others from all sent.is_open in
+      let taken : Agree after from = agree_received whole slot sent.slot room one sent.link octets fits sent.packet (sym sent.channel_is) (agree is_end) in
+      each_under (AgreeOn end.link.setup after) 0 others (λ handle other is_open own both.
+      let opened = sym both.opened ∙ is_end.opened ∙ same.opened ∙ sym sent.is_end.opened in
+      let under = opened_once given before rest far.station handle sent.handle other from distinct in_too at is_open sent.is_open opened in
+      let equal = one_some (link_at sent.handle others) from other sent.is_open (subst (λ n. link_at n others ≡ Some other) under is_open) in
+      subst (λ l. AreInAgreement (ack_of after) (ack_of l)) equal (taken (subst (λ (l : OpenLink). HaveOneConnectInd one.setup l.setup) (sym equal) both)))
+
+  -- what is not good changes nothing, and what is of another link says nothing of this one
+  received_from : (slot : ℕ) (room : Bool) (octets : List ℕ) (one : OpenLink) → TakesShort one
+      → (verdict_of one.setup (facts_in one) octets ≡ Good → HaveOneConnectInd one.setup end.link.setup → HasSent given before far (facts_in one).event.channel octets)
+      → EachOpen (AgreeOn end.link.setup one) others → EachOpen (AgreeOn end.link.setup (link_after (PacketReceived slot octets room) one)) others
+  received_from slot room octets one fits hears all = by (good_or_kept slot room octets one)
+    where
+      by : (verdict_of one.setup (facts_in one) octets ≡ Good) ⊎ (ack_of (link_after (PacketReceived slot octets room) one) ≡ ack_of one)
+          → EachOpen (AgreeOn end.link.setup (link_after (PacketReceived slot octets room) one)) others
+      by (inr kept) =
+          open_more (AgreeOn end.link.setup one) (AgreeOn end.link.setup (link_after (PacketReceived slot octets room) one)) others
+          (λ other agree own. agree_by one (link_after (PacketReceived slot octets room) one) other refl kept (agree own)) all
+      by (inl good) =
+          each_under (AgreeOn end.link.setup (link_after (PacketReceived slot octets room) one)) 0 others (λ handle other is_open own.
+          open_has (AgreeOn end.link.setup (link_after (PacketReceived slot octets room) one)) 0 handle others other
+          (taken_from slot room octets one fits own (hears good own) all) is_open own)
+
+-- ---- what is kept
+
+record AreAgreeing (given : Given) (one other : OpenEnd) (facts : ℕ → Facts) : Type 0 where
+  is_one : IsStation (setup_at given one.station) (facts one.station)
+  is_other : IsStation (setup_at given other.station) (facts other.station)
+  agree : AllPairs (AgreeOn one.link.setup) (facts one.station).links (facts other.station).links
+
+turn_around : (given : Given) (one other : OpenEnd) (facts : ℕ → Facts) → HaveOneConnectInd one.link.setup other.link.setup → AreAgreeing given one other facts
+    → AreAgreeing given other one facts
+turn_around given one other facts same are = record {
+  is_one = are.is_other;
+  is_other = are.is_one;
+  agree = pairs_back (AgreeOn one.link.setup) (AgreeOn other.link.setup) (agree_on_back one.link.setup other.link.setup same)
+      (facts one.station).links (facts other.station).links are.agree;
+}
+
+-- what an end takes in a call comes from the far end
+abbrev HearsNow : Given → List Event → OpenEnd → OpenEnd → Step → Type 0
+HearsNow given before end far step =
+    (octets : List ℕ) (link : OpenLink) → step ≡ PacketHeard octets → ReceivesGood (facts_at given end.station before) octets link
+    → HaveOneConnectInd link.setup end.link.setup → HasSent given before far (facts_in link).event.channel octets
+
+-- a call on the station of the one end
+module _ (whole : IsHeardWhole) (given : Given) (six : HaveAddresses given) (distinct : AreDistinct given.stations) (one other : OpenEnd)
+    (same : HaveOneConnectInd one.link.setup other.link.setup) (in_it : is_in one.station given.stations ≡ true) (in_too : is_in other.station given.stations ≡ true)
+    (differs : (one.station == other.station) ≡ false) (before rest : List Event) where
+  abbrev setup : Setup
+  setup = setup_at given one.station
+
+  abbrev facts : Facts
+  facts = facts_at given one.station before
+
+  abbrev far_facts : Facts
+  far_facts = facts_at given other.station before
+
+  abbrev Pairs : OpenLink → OpenLink → Type 0
+  Pairs = AgreeOn one.link.setup
+
+  abbrev WithFar : OpenLink → Type 0
+  WithFar link = EachOpen (Pairs link) far_facts.links
+
+  -- what the station holds after it
+  record IsNext (step : Step) : Type 0 where
+    is_one : IsStation setup (facts_after setup facts step)
+    agree : AllPairs Pairs (facts_after setup facts step).links far_facts.links
+
+  module _ (are : AreAgreeing given one other (all_facts given before)) where
+    phase_next : (received : Option (List ℕ)) → history_of (run_of given) ≡ before ++ Called one.station (step_of received) ∷ rest
+        → IsPhase given before one.station received → HearsNow given before one other (step_of received) → IsNext (step_of received)
+    phase_next received at phase hears =
+        let slots = one_slot facts.turn.slot far_facts.turn.slot phase.turns phase.in_turn.slot_is (phase.slots other.station in_too) in record {
+          is_one = station_passes setup facts phase.phases phase.turns received phase.in_turn are.is_one;
+          agree = passing_keeps Pairs (on_kept one.link.setup) far_facts.links facts _ received
+              (λ end now. open_more (Agree (new_link end)) (Pairs (new_link end)) far_facts.links (λ link agree own. agree)
+              (new_agree far_facts.turn.slot far_facts.links are.is_other.fresh end (now ∙ slots)))
+              (λ handle octets room link was listens wanted is_open all.
+              received_from whole given six distinct one other same in_too before (Called one.station (step_of received) ∷ rest) at facts.turn.slot room octets link
+              (open_has TakesShort 0 handle facts.links link are.is_one.short is_open)
+              (λ good. hears octets link (ap step_of was) (record { handle = handle; listens = listens; is_open = is_open; is_good = good })) all)
+              (phase_passes_on setup facts received phase.in_turn.listens) are.agree;
+        }
+
+    next : (step : Step) → history_of (run_of given) ≡ before ++ Called one.station step ∷ rest → IsCallOf given before one.station step
+        → HearsNow given before one other step → IsNext step
+    next (HostOctet octet) at call hears = record {
+      is_one = station_fed setup facts octet are.is_one;
+      agree = octet_open WithFar (all_hosts Pairs (on_kept one.link.setup) far_facts.links) setup facts octet are.agree;
+    }
+    next (TurnBegins slot on) at call hears = record {
+      is_one = station_begins setup facts slot on call.in_turn.begun_is are.is_one;
+      agree = begin_open WithFar WithFar (all_served Pairs (on_kept one.link.setup) far_facts.links) setup slot on facts
+          (all_entered Pairs (on_kept one.link.setup) far_facts.links slot) are.agree;
+    }
+    next (PacketHeard octets) at call hears = phase_next (Some octets) at call hears
+    next NothingHeard at call hears = phase_next None at call hears
+    next TurnEnds at call hears = record {
+      is_one = station_ends setup facts are.is_one;
+      agree = end_open WithFar (all_hosts Pairs (on_kept one.link.setup) far_facts.links) setup facts are.agree;
+    }
+
+    own_call : (step : Step) → history_of (run_of given) ≡ before ++ Called one.station step ∷ rest → HearsNow given before one other step
+        → AreAgreeing given one other (all_facts given (before ++ Called one.station step ∷ []))
+    own_call step at hears =
+        let made = next step at (call_at given before rest one.station step six distinct at) hears in
+        let own = sym (facts_called given one.station step before in_it).own in
+        let others = sym (facts_others given one.station step before other.station (differs_back one.station other.station differs)) in
+        let after = before ++ Called one.station step ∷ [] in record {
+          is_one = subst (IsStation setup) own made.is_one;
+          is_other = subst (IsStation (setup_at given other.station)) others are.is_other;
+          agree = subst (λ (f : Facts). AllPairs Pairs f.links (facts_at given other.station after).links) own
+              (subst (λ (f : Facts). AllPairs Pairs (facts_after setup facts step).links f.links) others made.agree);
+        }
+
+-- a call on a third station
+other_call : (given : Given) (one other : OpenEnd) (before : List Event) (station : ℕ) (step : Step) → (one.station == station) ≡ false → (other.station == station) ≡ false
+    → AreAgreeing given one other (all_facts given before) → AreAgreeing given one other (all_facts given (before ++ Called station step ∷ []))
+other_call given one other before station step differs differs_too are =
+    let first = sym (facts_others given station step before one.station differs) in
+    let second = sym (facts_others given station step before other.station differs_too) in
+    let after = before ++ Called station step ∷ [] in record {
+      is_one = subst (IsStation (setup_at given one.station)) first are.is_one;
+      is_other = subst (IsStation (setup_at given other.station)) second are.is_other;
+      agree = subst (λ (f : Facts). AllPairs (AgreeOn one.link.setup) f.links (facts_at given other.station after).links) first
+          (subst (λ (f : Facts). AllPairs (AgreeOn one.link.setup) (facts_at given one.station before).links f.links) second are.agree);
+    }
+
+-- ---- along a run
+
+first_agreeing : (given : Given) (one other : OpenEnd) → AreAgreeing given one other (all_facts given [])
+unfolding facts_of
+first_agreeing given one other = record {
+  is_one = first_station (setup_at given one.station);
+  is_other = first_station (setup_at given other.station);
+  agree = none_open (λ link. EachOpen (AgreeOn one.link.setup link) (replicate (setup_at given other.station).links None)) (setup_at given one.station).links;
+}
+
+module _ (whole : IsHeardWhole) (given : Given) (six : HaveAddresses given) (distinct : AreDistinct given.stations) (one other : OpenEnd)
+    (same : HaveOneConnectInd one.link.setup other.link.setup) (in_it : is_in one.station given.stations ≡ true) (in_too : is_in other.station given.stations ≡ true)
+    (differs : (one.station == other.station) ≡ false) (history rest : List Event) (at : history_of (run_of given) ≡ history ++ rest)
+    (hear : HearEachOther given history one other) where
+  place : (before after : List Event) (station : ℕ) (step : Step) → history ≡ before ++ Called station step ∷ after
+      → history_of (run_of given) ≡ before ++ Called station step ∷ (after ++ rest)
+  place before after station step is = at ∙ ap (λ events. events ++ rest) is ∙ append_assoc before (Called station step ∷ after) rest
+
+  hears_now : (end far : OpenEnd) → HearsItsLink given history end far → (before after : List Event) (step : Step) → history ≡ before ++ Called end.station step ∷ after
+      → HearsNow given before end far step
+  hears_now end far hears before after step is = λ octets link heard takes own.
+      hears before after octets link (is ∙ ap (λ s. before ++ Called end.station s ∷ after) heard) takes own
+
+  abbrev After : List Event → Step → ℕ → Type 0
+  After before step station = AreAgreeing given one other (all_facts given (before ++ Called station step ∷ []))
+
+  each_call : (before after : List Event) (station : ℕ) (step : Step) → history ≡ before ++ Called station step ∷ after → AreAgreeing given one other (all_facts given before)
+      → After before step station
+  each_call before after station step is are = by (station == one.station) (station == other.station) refl refl
+    where
+      of_one : history ≡ before ++ Called one.station step ∷ after → After before step one.station
+      of_one is_one =
+          own_call whole given six distinct one other same in_it in_too differs before (after ++ rest) are step (place before after one.station step is_one)
+          (hears_now one other hear.one_hears before after step is_one)
+
+      of_other : history ≡ before ++ Called other.station step ∷ after → After before step other.station
+      of_other is_other =
+          turn_around given other one _ (back one.link.setup other.link.setup same)
+          (own_call whole given six distinct other one (back one.link.setup other.link.setup same) in_too in_it (differs_back one.station other.station differs) before (after ++ rest)
+          (turn_around given one other _ same are) step (place before after other.station step is_other) (hears_now other one hear.other_hears before after step is_other))
+
+      by : (first second : Bool) → (station == one.station) ≡ first → (station == other.station) ≡ second → After before step station
+      by true second own is_too =
+          let equal = eqb-true station one.station own in
+          subst (After before step) (sym equal) (of_one (subst (λ n. history ≡ before ++ Called n step ∷ after) equal is))
+      by false true apart own =
+          let equal = eqb-true station other.station own in
+          subst (After before step) (sym equal) (of_other (subst (λ n. history ≡ before ++ Called n step ∷ after) equal is))
+      by false false apart apart_too =
+          other_call given one other before station step (differs_back station one.station apart) (differs_back station other.station apart_too) are
+
+  agreeing : AreAgreeing given one other (all_facts given history)
+  agreeing = kept_along given (AreAgreeing given one other) history each_call (first_agreeing given one other)
+
+-- at any time of a run
+pub stays_in_agreement : IsHeardWhole → (given : Given) → (before rest : List Event) (central peripheral : OpenEnd) → AreDistinct given.stations → HaveAddresses given
+    → is_in central.station given.stations ≡ true → is_in peripheral.station given.stations ≡ true → history_of (run_of given) ≡ before ++ rest
+    → AreEnds before central peripheral → HearEachOther given before central peripheral → IsOpen given before central → IsOpen given before peripheral
+    → AreInAgreement (ack_of central.link) (ack_of peripheral.link)
+stays_in_agreement whole given before rest central peripheral distinct six is is_too at ends hear is_open is_open_too =
+    let same = one_connect_ind before central peripheral ends in
+    let are = agreeing whole given six distinct central peripheral same is is_too (apart_ends before central peripheral ends) before rest at hear in
+    let others = (facts_at given peripheral.station before).links in
+    let end = central.link.setup in
+    let each = open_has (λ link. EachOpen (AgreeOn end link) others) 0 central.handle (facts_at given central.station before).links central.link are.agree is_open in
+    open_has (AgreeOn end central.link) 0 peripheral.handle others peripheral.link each is_open_too (record { fields = refl; opened = refl }) same

@@ -1,0 +1,20 @@
+-- Proof of `agreement::ends_that_hear_each_other_agree`.
+use Rattle.link_model.proofs.Taking.{past_delivered}
+use Rattle.open_links.specs.OpenLinks.{facts_in}
+use Rattle.run_model.proofs.Stations.{contains_in}
+use Rattle.run_laws.proofs.Agreed.{ack_of, exchange}
+use Rattle.run_laws.proofs.TwoEnds.{stays_in_agreement}
+use Rattle.run_laws.proofs.agreement.ends_that_hear_each_other_agree.Goals as goal
+
+pub returns-clause-agreement : goal.returns-clause-agreement
+returns-clause-agreement c = λ given before rest central peripheral distinct six is is_too at ends hear is_open is_open_too.
+    stays_in_agreement c.packet_tells_its_pdu.ensures.heard given before rest central peripheral distinct six (contains_in given.stations central.station is)
+    (contains_in given.stations peripheral.station is_too) at ends hear is_open is_open_too
+
+pub returns-clause-delivery : goal.returns-clause-delivery
+returns-clause-delivery c = λ given before rest central peripheral distinct six is is_too at ends hear is_open is_open_too.
+    let agreed = stays_in_agreement c.packet_tells_its_pdu.ensures.heard given before rest central peripheral distinct six (contains_in given.stations central.station is)
+    (contains_in given.stations peripheral.station is_too) at ends hear is_open is_open_too in (
+      past_delivered central.link.setup central.link.past (facts_in peripheral.link) agreed,
+      past_delivered peripheral.link.setup peripheral.link.past (facts_in central.link) (exchange (ack_of central.link) (ack_of peripheral.link) agreed),
+    )
