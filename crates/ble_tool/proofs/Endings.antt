@@ -5,8 +5,7 @@ use Rattle.std.specs.Result.{IsErrAnd}
 use Rattle.outside.specs.Known.{WhereKnown}
 use Rattle.journal.specs.declared.entries.Entry.{Entry}
 use Rattle.journal.specs.Text.{text}
-use Rattle.journal_pdus.specs.Lawful.{IsLawful}
-use Rattle.journal_pdus.specs.Settled.{AreSettled}
+use Rattle.journal_pdus.specs.Lawful.{IsLawful, IsWhole}
 use Rattle.pair_world.specs.Faults.{IsLawfulSoFar, IsRunFault}
 use Rattle.run_model.specs.Pair.{given_of, IsRun}
 use Rattle.run_model.specs.Run.{Given}
@@ -19,7 +18,7 @@ use Rattle.radio_replay.specs.Script.{Script}
 use Rattle.ble_tool.specs.declared.faults.Fault.{Fault}
 use Rattle.ble_tool.specs.declared.faults.Fault.TheVariants.{CannotRead, BadLine, CannotWrite, NoMemory, Unseen, TooLong, TooManyTurns}
 use Rattle.ble_tool.specs.declared.commands.Source.TheVariants.{A, B, Schedule}
-use Rattle.ble_tool.specs.Causes.{IsWithinLimit, AllFit, OfJournal, OfRun, IsSettledRun, OfUnseen, IsEnded, OfEnded, OfFiles, IsFirstBadLine, IsFirstLongLine}
+use Rattle.ble_tool.specs.Causes.{IsWithinLimit, AllFit, OfJournal, OfRun, IsWholeRun, OfUnseen, IsEnded, OfEnded, OfFiles, IsFirstBadLine, IsFirstLongLine}
 use Rattle.ble_tool.specs.Causes.{IsWriteFault, IsScheduleFault, IsEndOf, IsWrittenEnd, IsOctetsFault, IsPairFault, IsPairDone}
 use Rattle.ble_tool.specs.Conversions.{fault_of_schedule, end_of}
 use Rattle.ble_tool.specs.World.{Reads, Writes, world_of, writes_of, HasFailed, HasWritten, HasWrittenPart, HasWrittenNothing}
@@ -66,16 +65,17 @@ run_ended given (Ok journal) ok err = ok
 run_ended given (Err (EndedUnseen turn packet sent heard journal)) ok err = err
 run_ended given (Err NoRoomForRun) ok err = tt
 
-pub run_lawful : (script : Script) (run : Result (List Entry) RunFault) → IfOk run (IsLawful script) → IfErr run (IsLawfulSoFar script)
-    → IfOk (end_of run) (λ end. IsLawful script end.0)
-run_lawful script (Ok journal) ok err = ok
-run_lawful script (Err (EndedUnseen turn packet sent heard journal)) ok err = err
-run_lawful script (Err NoRoomForRun) ok err = tt
+pub run_lawful : (a b : List ℕ) (script : Script) (run : Result (List Entry) RunFault) → IfOk run (IsLawful a b script)
+    → IfErr run (IsLawfulSoFar a b script) → IfOk (end_of run) (λ end. IsLawful a b script end.0)
+run_lawful a b script (Ok journal) ok err = ok
+run_lawful a b script (Err (EndedUnseen turn packet sent heard journal)) ok err = err
+run_lawful a b script (Err NoRoomForRun) ok err = tt
 
-pub run_settled : (run : Result (List Entry) RunFault) → IfOk run AreSettled → IfOk (end_of run) (λ end. end.1 ≡ None → AreSettled end.0)
-run_settled (Ok journal) ok = λ none. ok
-run_settled (Err (EndedUnseen turn packet sent heard journal)) ok = λ none. absurd cc
-run_settled (Err NoRoomForRun) ok = tt
+pub run_whole : (script : Script) (run : Result (List Entry) RunFault) → IfOk run (IsWhole script)
+    → IfOk (end_of run) (λ end. end.1 ≡ None → IsWhole script end.0)
+run_whole script (Ok journal) ok = λ none. ok
+run_whole script (Err (EndedUnseen turn packet sent heard journal)) ok = λ none. absurd cc
+run_whole script (Err NoRoomForRun) ok = tt
 
 pub run_not_ended : (run : Result (List Entry) RunFault) → IfErr (end_of run) (λ fault. fault ≡ NoMemory)
 run_not_ended (Ok journal) = tt
@@ -94,9 +94,9 @@ stopped_by_schedule writes a b schedule (CannotRead source) is same = absurd is
 stopped_by_schedule writes a b schedule (TooLong source) is same = absurd is
 
 -- a fact of the text of a journal of a schedule that was read
-of_journal : (is_journal : Given → List Entry → Type 0) (fact : List ℕ → Type 0) (a b schedule : List ℕ) (script : Script)
+of_journal : (is_journal : Script → Given → List Entry → Type 0) (fact : List ℕ → Type 0) (a b schedule : List ℕ) (script : Script)
     (journal : List Entry) → schedule_of schedule ≡ Right script.a script.b script.turns
-    → is_journal (given_of a b script) journal → IsLawful script journal → fact (text journal) → OfJournal is_journal fact a b schedule
+    → is_journal script (given_of a b script) journal → IsLawful a b script journal → fact (text journal) → OfJournal is_journal fact a b schedule
 of_journal is_journal fact a b schedule script journal read is lawful holds = record {
   config_a = script.a;
   config_b = script.b;
@@ -121,7 +121,7 @@ is_ended given journal (Some (TooLong source)) end = absurd end
 -- a fault that is reported after the journal that was written
 reported : (writes : Writes) (a b schedule : List ℕ) (script : Script) (journal : List Entry) (fault : Fault)
     → schedule_of schedule ≡ Right script.a script.b script.turns → IsEndOf (given_of a b script) journal (Some fault)
-    → IsLawful script journal → HasWritten writes (text journal) → IsOctetsFault writes a b schedule fault
+    → IsLawful a b script journal → HasWritten writes (text journal) → IsOctetsFault writes a b schedule fault
 reported writes a b schedule script journal (Unseen turn packet sent heard) read end lawful wrote =
     of_journal _ (HasWritten writes) a b schedule script journal read end lawful wrote
 reported writes a b schedule script journal (BadLine number) read end lawful wrote = absurd end
@@ -134,11 +134,11 @@ reported writes a b schedule script journal (TooLong source) read end lawful wro
 -- a journal that was not written whole
 not_written : (writes : Writes) (a b schedule : List ℕ) (script : Script) (journal : List Entry) (fault : Fault)
     → schedule_of schedule ≡ Right script.a script.b script.turns → IsEnded (given_of a b script) journal
-    → IsLawful script journal → IsWriteFault writes (text journal) fault → IsOctetsFault writes a b schedule fault
+    → IsLawful a b script journal → IsWriteFault writes (text journal) fault → IsOctetsFault writes a b schedule fault
 not_written writes a b schedule script journal CannotWrite read end lawful is =
-    (is.0, of_journal IsEnded (HasWrittenPart writes) a b schedule script journal read end lawful is.1)
+    (is.0, of_journal (λ script. IsEnded) (HasWrittenPart writes) a b schedule script journal read end lawful is.1)
 not_written writes a b schedule script journal NoMemory read end lawful is =
-    inr (of_journal IsEnded (HasWrittenPart writes) a b schedule script journal read end lawful is)
+    inr (of_journal (λ script. IsEnded) (HasWrittenPart writes) a b schedule script journal read end lawful is)
 not_written writes a b schedule script journal (BadLine number) read end lawful is = absurd is
 not_written writes a b schedule script journal (TooManyTurns number) read end lawful is = absurd is
 not_written writes a b schedule script journal (Unseen turn packet sent heard) read end lawful is = absurd is
@@ -148,16 +148,16 @@ not_written writes a b schedule script journal (TooLong source) read end lawful 
 -- the journal of a run was written, with what is reported after it
 pub octets_done : (writes : Writes) (a b schedule : List ℕ) (script : Script) (journal : List Entry) (fault : Option Fault)
     (result : Result (Unit {0}) Fault) → schedule_of schedule ≡ Right script.a script.b script.turns
-    → IsEndOf (given_of a b script) journal fault → IsLawful script journal → (fault ≡ None → AreSettled journal)
+    → IsEndOf (given_of a b script) journal fault → IsLawful a b script journal → (fault ≡ None → IsWhole script journal)
     → IsWrittenEnd writes (text journal) fault result → OnOk result (OfRun (HasWritten writes) a b schedule)
-octets_done writes a b schedule script journal fault (Err cause) read end lawful settled written = tt
-octets_done writes a b schedule script journal fault (Ok done) read end lawful settled written =
-    of_journal IsSettledRun (HasWritten writes) a b schedule script journal read
-    (record { is_run = subst (IsEndOf (given_of a b script) journal) written.0 end; settled = settled written.0 }) lawful written.1
+octets_done writes a b schedule script journal fault (Err cause) read end lawful whole written = tt
+octets_done writes a b schedule script journal fault (Ok done) read end lawful whole written =
+    of_journal IsWholeRun (HasWritten writes) a b schedule script journal read
+    (record { is_run = subst (IsEndOf (given_of a b script) journal) written.0 end; whole = whole written.0 }) lawful written.1
 
 pub octets_not_done : (writes : Writes) (a b schedule : List ℕ) (script : Script) (journal : List Entry) (fault : Option Fault)
     (result : Result (Unit {0}) Fault) → schedule_of schedule ≡ Right script.a script.b script.turns
-    → IsEndOf (given_of a b script) journal fault → IsLawful script journal → IsWrittenEnd writes (text journal) fault result
+    → IsEndOf (given_of a b script) journal fault → IsLawful a b script journal → IsWrittenEnd writes (text journal) fault result
     → IfErr result (IsOctetsFault writes a b schedule)
 octets_not_done writes a b schedule script journal fault (Ok done) read end lawful written = tt
 octets_not_done writes a b schedule script journal fault (Err cause) read end lawful written =

@@ -4,12 +4,11 @@ use Rattle.outside.specs.Known.{WhereKnown}
 use Rattle.ble_base.specs.declared.Config.{Config}
 use Rattle.journal.specs.declared.entries.Entry.{Entry}
 use Rattle.journal.specs.Text.{text}
-use Rattle.journal_pdus.specs.Lawful.{IsLawful}
-use Rattle.journal_pdus.specs.Settled.{AreSettled}
+use Rattle.journal_pdus.specs.Lawful.{IsLawful, IsWhole}
 use Rattle.run_model.specs.Pair.{given_of, IsRun, EndsUnseen}
 use Rattle.run_model.specs.Run.{Given}
 use Rattle.radio_replay.specs.Schedule.{Right, Wrong, TooMany, schedule_of, line_number}
-use Rattle.radio_replay.specs.Script.{Turn}
+use Rattle.radio_replay.specs.Script.{Script, Turn}
 use Rattle.ble_tool.specs.declared.faults.Fault.{Fault}
 use Rattle.ble_tool.specs.declared.faults.Fault.TheVariants.{CannotRead, BadLine, CannotWrite, NoMemory, Unseen}
 use Rattle.ble_tool.specs.declared.faults.Fault.TheVariants.{TooLong, TooManyTurns}
@@ -52,33 +51,34 @@ AllFit reads = Fits reads A × Fits reads B × Fits reads Schedule
 -- ---- journals
 
 -- a fact of the text of some journal of this kind: a journal of these streams and of this schedule's text, which has
--- no line at fault. It is lawful: links are those of their CONNECT_INDs, and each PDU goes out and is taken as it is
--- due; after each of its lines, on each link, what the host of one side received is the first octets of what the host of
+-- no line at fault. It is lawful: it follows the schedule; links are those of their CONNECT_INDs, and each PDU goes out
+-- and is taken as it is due; after each of its lines, on each link, what the host of one side received is the first octets of what the host of
 -- the other submitted, and no packet is reported as complete that the other side did not accept whole
-pub record OfJournal (is_journal : Given → List Entry → Type 0) (fact : List ℕ → Type 0) (a b schedule : List ℕ)
-    : Type 0 where
+pub record OfJournal (is_journal : Script → Given → List Entry → Type 0) (fact : List ℕ → Type 0)
+    (a b schedule : List ℕ) : Type 0 where
   pub config_a : Config
   pub config_b : Config
   pub turns : List Turn
   pub journal : List Entry
   pub no_fault : schedule_of schedule ≡ Right config_a config_b turns
-  pub is_of_kind : is_journal (given_of a b (record { a = config_a; b = config_b; turns = turns })) journal
-  pub lawful : IsLawful (record { a = config_a; b = config_b; turns = turns }) journal
+  pub is_of_kind : is_journal (record { a = config_a; b = config_b; turns = turns })
+      (given_of a b (record { a = config_a; b = config_b; turns = turns })) journal
+  pub lawful : IsLawful a b (record { a = config_a; b = config_b; turns = turns }) journal
   pub holds : fact (text journal)
 
--- the journal of the whole run, at the end of which nothing waits for a host
-pub record IsSettledRun (given : Given) (journal : List Entry) : Type 0 where
+-- the journal of the whole run: all turns begin, and at the end nothing waits for a host
+pub record IsWholeRun (script : Script) (given : Given) (journal : List Entry) : Type 0 where
   pub is_run : IsRun given journal
-  pub settled : AreSettled journal
+  pub whole : IsWhole script journal
 
 -- a fact of the text of the journal of the whole run
 abbrev pub OfRun : (List ℕ → Type 0) → List ℕ → List ℕ → List ℕ → Type 0
-OfRun fact a b schedule = OfJournal IsSettledRun fact a b schedule
+OfRun fact a b schedule = OfJournal IsWholeRun fact a b schedule
 
 -- a fact of the text of the journal of a run that ends because damage to this packet would be judged good
 abbrev pub OfUnseen : ℕ → ℕ → List ℕ → List ℕ → (List ℕ → Type 0) → List ℕ → List ℕ → List ℕ → Type 0
 OfUnseen turn packet sent heard fact a b schedule =
-    OfJournal (λ given. EndsUnseen given turn packet sent heard) fact a b schedule
+    OfJournal (λ script given. EndsUnseen given turn packet sent heard) fact a b schedule
 
 -- the journal of a run, whole or ended by damage that would be judged good
 abbrev pub IsEnded : Given → List Entry → Type 0
@@ -87,7 +87,7 @@ IsEnded given journal = IsRun given journal
 
 -- a fact of the text of the journal of either run
 abbrev pub OfEnded : (List ℕ → Type 0) → List ℕ → List ℕ → List ℕ → Type 0
-OfEnded fact a b schedule = OfJournal IsEnded fact a b schedule
+OfEnded fact a b schedule = OfJournal (λ script. IsEnded) fact a b schedule
 
 -- a fact of the three files, where their content is known
 abbrev pub OfFiles : Reads → (List ℕ → List ℕ → List ℕ → Type 0) → Type 0

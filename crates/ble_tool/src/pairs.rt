@@ -2,8 +2,7 @@
 ghost use Rattle.std.specs.Prelude.{◌≡◌, ℕ, List, ◌++◌, ◌<◌, ◌≤◌, length, OnOk, IfOk, IfErr, None};
 ghost use Rattle.outside.specs.Known.{WhereKnown};
 ghost use Rattle.journal.specs.Text.{text};
-ghost use Rattle.journal_pdus.specs.Lawful.{IsLawful};
-ghost use Rattle.journal_pdus.specs.Settled.{AreSettled};
+ghost use Rattle.journal_pdus.specs.Lawful.{IsLawful, IsWhole};
 ghost use Rattle.run_model.specs.Pair.{given_of};
 ghost use Rattle.radio_replay.specs.Schedule.{Right, schedule_of};
 ghost use Rattle.ble_tool.specs.Causes.{IsWithinLimit, IsReadFault, IsWriteFault, OfRun};
@@ -113,7 +112,7 @@ fn read_schedule(alloc: Global, octets: &[u8]) -> Result<Schedule, Fault>
 
 /// Runs the two streams by a schedule: the journal to write, and the fault to report after it, if
 /// there is one.
-#[tactic(auto, using(crate::proofs::Endings::run_ended, crate::proofs::Endings::run_lawful, crate::proofs::Endings::run_not_ended, crate::proofs::Endings::run_settled))]
+#[tactic(auto, using(crate::proofs::Endings::run_ended, crate::proofs::Endings::run_lawful, crate::proofs::Endings::run_not_ended, crate::proofs::Endings::run_whole))]
 fn run_streams(
     alloc: Global,
     a: &[u8],
@@ -124,8 +123,8 @@ fn run_streams(
     requires words_b { 1 ≤ length schedule.now.b.words.items }
     ensures ok { IfOk result (λ end.
         IsEndOf (given_of a.now b.now schedule.now) end.0 end.1) }
-    ensures lawful { IfOk result (λ end. IsLawful schedule.now end.0) }
-    ensures settled { IfOk result (λ end. end.1 ≡ None → AreSettled end.0) }
+    ensures lawful { IfOk result (λ end. IsLawful a.now b.now schedule.now end.0) }
+    ensures whole { IfOk result (λ end. end.1 ≡ None → IsWhole schedule.now end.0) }
     ensures err { IfErr result (λ fault. fault ≡ Fault.NoMemory) }
 {
     end_of(run_pair(alloc, a, b, schedule))

@@ -1,4 +1,4 @@
--- What is promised of the links and the data of each journal.
+-- What is promised of the turns, the links and the data of each journal.
 use Rattle.std.specs.Prelude.{◌≡◌, ℕ, List, ◌∷◌, ◌++◌}
 use Rattle.ble_base.specs.declared.roles.Role.{Role}
 use Rattle.ble_base.specs.declared.roles.Side.{Side}
@@ -9,7 +9,10 @@ use Rattle.journal_links.specs.Entered.{IsEnteredInTime}
 use Rattle.journal_links.specs.Opened.{IsOpenedInTime}
 use Rattle.journal_packets.specs.Addresses.{AllAddressesAreNext}
 use Rattle.journal_data.specs.Delivered.{AllDataArrives}
+use Rattle.journal_turns.specs.Follows.{FollowsSchedule}
+use Rattle.journal_turns.specs.Scheduled.{AreAllTurns}
 use Rattle.journal_pdus.specs.Exchanged.{PdusAreDue}
+use Rattle.journal_pdus.specs.Settled.{AreSettled}
 
 -- each line of a link that a side holds from there on is in the turn of the CONNECT_IND of that link
 abbrev pub AllAreOpened : List Entry → Type 0
@@ -21,8 +24,10 @@ abbrev pub AllAreEntered : List Entry → Type 0
 AllAreEntered journal = (front rest : List Entry) (side : Side) (number event channel : ℕ)
     → journal ≡ front ++ Enter side number event channel ∷ rest → IsEnteredInTime front number event channel
 
--- a journal of a run by this script
-pub record IsLawful (script : Script) (journal : List Entry) : Type 0 where
+-- a journal of a run of these streams by this script, up to its end or to some place in a turn
+pub record IsLawful (a b : List ℕ) (script : Script) (journal : List Entry) : Type 0 where
+  -- its turns, what is fed in them, and the fates of packets are those of the script
+  pub follows : FollowsSchedule a b script journal
   -- links and their events are those of their CONNECT_INDs, each of which has the next access address
   pub addresses : AllAddressesAreNext script journal
   pub opened : AllAreOpened journal
@@ -31,3 +36,8 @@ pub record IsLawful (script : Script) (journal : List Entry) : Type 0 where
   pub due : PdusAreDue journal
   -- data arrives in order, and is credited only as it is accepted
   pub arrives : AllDataArrives journal
+
+-- the journal of a whole run: all turns of the script begin, and at the end nothing waits for a host
+pub record IsWhole (script : Script) (journal : List Entry) : Type 0 where
+  pub turns : AreAllTurns script journal
+  pub settled : AreSettled journal

@@ -1,18 +1,18 @@
-//! What is promised of links and data in every run of a pair, from the lines of its journal. The
-//! body only calls the laws that it rests on: the contract is the law.
+//! What is promised of turns, links and data in every run of a pair, from the lines of its journal.
+//! The body only calls the laws that it rests on: the contract is the law.
 ghost use Rattle.std.specs.Prelude.{◌≡◌, ℕ, List, length};
 ghost use Rattle.radio_replay.specs.Script.{Script};
 ghost use Rattle.run_model.specs.History.{Event};
 ghost use Rattle.run_model.specs.Journal.{journal_of};
 ghost use Rattle.run_model.specs.Pair.{given_of};
 ghost use Rattle.run_model.specs.Run.{GoesOn, history_of, run_of};
-ghost use Rattle.journal_pdus.specs.Lawful.{IsLawful};
-ghost use Rattle.journal_pdus.specs.Settled.{AreSettled};
+ghost use Rattle.journal_pdus.specs.Lawful.{IsLawful, IsWhole};
 
-/// In the journal of a run of a pair, whole or ended by damage, links and their events are those of
-/// their CONNECT_INDs, each of which has the next access address of its side; and data arrives in
-/// order (`journal_data::data_arrives_in_order_in_every_journal`). Line by line (Core 5.2, volume 6
-/// part B, sections 4.5.6 and 4.5.9, and volume 4 part E, section 7.7.19):
+/// The journal of a run of a pair, whole or ended by damage, follows its schedule
+/// (`journal_turns::each_journal_follows_its_schedule`). Links and their events are those of their
+/// CONNECT_INDs, each of which has the next access address of its side; and data arrives in order
+/// (`journal_data::data_arrives_in_order_in_every_journal`). Line by line (Core 5.2, volume 6 part B,
+/// sections 4.5.6 and 4.5.9, and volume 4 part E, section 7.7.19):
 ///
 /// - each packet of a link has the channel, the access address, the CRCInit, SN and NESN that the
 ///   lines before it give, and carries the PDU that its side sent last, until that is acknowledged;
@@ -30,16 +30,18 @@ ghost use Rattle.journal_pdus.specs.Settled.{AreSettled};
 pub fn each_journal_is_lawful()
     ensures lawful { (a b : List ℕ) (script : Script) → length script.a.public ≡ 6
         → length script.b.public ≡ 6
-        → IsLawful script (journal_of (history_of (run_of (given_of a b script)))) }
-    ensures settled_at_the_end { (a b : List ℕ) (script : Script) (history : List Event)
+        → IsLawful a b script (journal_of (history_of (run_of (given_of a b script)))) }
+    ensures whole { (a b : List ℕ) (script : Script) (history : List Event)
         → length script.a.public ≡ 6 → length script.b.public ≡ 6
-        → run_of (given_of a b script) ≡ GoesOn history → AreSettled (journal_of history) }
+        → run_of (given_of a b script) ≡ GoesOn history
+        → IsWhole script (journal_of history) }
 {
     controller_model::a_pdu_is_understood();
     advertise::laws::connections_are_taken();
     scan_init::laws::searches_give_each_valid_address();
     air_frame::laws::packet_tells_its_pdu();
     run_model::each_packet_on_the_air_is_due();
+    journal_turns::each_journal_follows_its_schedule();
     journal_links::each_opened_line_names_its_link();
     journal_links::each_enter_line_is_at_its_anchor();
     journal_packets::each_link_has_the_next_address();

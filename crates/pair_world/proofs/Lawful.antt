@@ -1,8 +1,7 @@
--- The journal of a run, whole or ended by damage, is lawful; and at the end of a whole run nothing waits.
-use Rattle.std.proofs.Common.{◌≡◌, List, sym, ap, subst, ◌∙◌}
+-- The journal of a run, whole or ended by damage, is lawful; and that of a whole run is whole.
+use Rattle.std.proofs.Common.{◌≡◌, ℕ, List, sym, ap, subst, ◌∙◌}
 use Rattle.journal.specs.declared.entries.Entry.{Entry}
-use Rattle.journal_pdus.specs.Lawful.{IsLawful}
-use Rattle.journal_pdus.specs.Settled.{AreSettled}
+use Rattle.journal_pdus.specs.Lawful.{IsLawful, IsWhole}
 use Rattle.radio_replay.specs.Script.{Script}
 use Rattle.run_model.specs.History.{Event}
 use Rattle.run_model.specs.Journal.{journal_of}
@@ -12,15 +11,16 @@ use Rattle.pair_world.specs.Faults.{IsLawfulSoFar, IsRunFault}
 use Rattle.pair_world.specs.declared.run.RunFault.{RunFault}
 use Rattle.pair_world.specs.declared.run.RunFault.TheVariants.{Unseen, Memory}
 
-pub all_lawful : (script : Script) (given : Given) (journal : List Entry) → IsLawful script (journal_of (history_of (run_of given))) → IsRun given journal → IsLawful script journal
-all_lawful script given journal lawful is = subst (IsLawful script) (ap (λ run. journal_of (history_of run)) is.is_whole ∙ sym is.written) lawful
+pub all_lawful : (a b : List ℕ) (script : Script) (given : Given) (journal : List Entry) → IsLawful a b script (journal_of (history_of (run_of given))) → IsRun given journal
+    → IsLawful a b script journal
+all_lawful a b script given journal lawful is = subst (IsLawful a b script) (ap (λ run. journal_of (history_of run)) is.is_whole ∙ sym is.written) lawful
 
-pub lawful_so_far : (script : Script) (given : Given) (fault : RunFault) → IsLawful script (journal_of (history_of (run_of given))) → IsRunFault given fault
-    → IsLawfulSoFar script fault
-lawful_so_far script given Memory lawful is = tt
-lawful_so_far script given (Unseen turn packet sent heard journal) lawful is =
-    subst (IsLawful script) (ap (λ run. journal_of (history_of run)) is.stops ∙ sym is.written) lawful
+pub lawful_so_far : (a b : List ℕ) (script : Script) (given : Given) (fault : RunFault) → IsLawful a b script (journal_of (history_of (run_of given)))
+    → IsRunFault given fault → IsLawfulSoFar a b script fault
+lawful_so_far a b script given Memory lawful is = tt
+lawful_so_far a b script given (Unseen turn packet sent heard journal) lawful is =
+    subst (IsLawful a b script) (ap (λ run. journal_of (history_of run)) is.stops ∙ sym is.written) lawful
 
-pub all_settled : (given : Given) (journal : List Entry) → ((history : List Event) → run_of given ≡ GoesOn history → AreSettled (journal_of history))
-    → IsRun given journal → AreSettled journal
-all_settled given journal settled is = subst AreSettled (sym is.written) (settled is.history is.is_whole)
+pub is_whole : (script : Script) (given : Given) (journal : List Entry) → ((history : List Event) → run_of given ≡ GoesOn history → IsWhole script (journal_of history))
+    → IsRun given journal → IsWhole script journal
+is_whole script given journal whole is = subst (IsWhole script) (sym is.written) (whole is.history is.is_whole)

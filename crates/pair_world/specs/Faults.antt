@@ -16,9 +16,9 @@ IsRunFault given OutOfMemory = ⊤
 IsRunFault given (UnseenFault turn packet sent heard journal) = EndsUnseen given turn packet sent heard journal
 
 -- the journal before unseen damage is lawful
-abbrev pub IsLawfulSoFar : Script → RunFault → Type 0
-IsLawfulSoFar script OutOfMemory = ⊤
-IsLawfulSoFar script (UnseenFault turn packet sent heard journal) = IsLawful script journal
+abbrev pub IsLawfulSoFar : List ℕ → List ℕ → Script → RunFault → Type 0
+IsLawfulSoFar a b script OutOfMemory = ⊤
+IsLawfulSoFar a b script (UnseenFault turn packet sent heard journal) = IsLawful a b script journal
 
 -- the fault of a stop in the turn of this slot, with the journal so far
 abbrev pub fault_of : Stop → ℕ → List Entry → RunFault

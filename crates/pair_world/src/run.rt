@@ -3,8 +3,7 @@ ghost use Rattle.std.specs.Prelude.{◌≡◌, ◌≤◌, ◌⊎◌, [], length,
 ghost use Rattle.controller_model.specs.Facts.{setup_of};
 ghost use Rattle.run_model.specs.Pair.{IsRun, given_of};
 ghost use Rattle.run_model.specs.Run.{Given};
-ghost use Rattle.journal_pdus.specs.Lawful.{IsLawful};
-ghost use Rattle.journal_pdus.specs.Settled.{AreSettled};
+ghost use Rattle.journal_pdus.specs.Lawful.{IsLawful, IsWhole};
 ghost use Rattle.pair_world.specs.Faults.{IsLawfulSoFar, IsRunFault, fault_of};
 ghost use Rattle.pair_world.specs.Logs.{first_log};
 ghost use Rattle.pair_world.specs.Order.{MayBothBegin};
@@ -143,7 +142,8 @@ fn publics_are_six(schedule: &Schedule)
 /// leaves unfed are not part of the run. `schedule` has at least one random word for each
 /// controller.
 ///
-/// In the journal, after each of its lines, what one host receives of a link is the first octets of
+/// The journal follows the schedule: its turns, what is fed in them, and the fates of packets are
+/// those of the schedule. In it, after each of its lines, what one host receives of a link is the first octets of
 /// what the other submitted, and no packet is reported as complete that the other side did not
 /// accept whole (Core 5.2, volume 4 part E, section 4.1). Each new PDU is the next piece of what a
 /// host submitted, and is taken as the first good packet brings it; MD says whether more waits; and
@@ -157,12 +157,12 @@ pub fn run_pair(alloc: Global, a: &[u8], b: &[u8], schedule: &Schedule) -> Resul
     requires words_b { 1 ≤ length schedule.now.b.words.items }
     ensures ok { IfOk result (IsRun (given_of a.now b.now schedule.now)) }
     ensures err { IfErr result (IsRunFault (given_of a.now b.now schedule.now)) }
-    // Links are those of their CONNECT_INDs, data arrives in order, and what goes out and what is
-    // taken is what is due.
-    ensures lawful { IfOk result (IsLawful schedule.now) }
-    ensures lawful_so_far { IfErr result (IsLawfulSoFar schedule.now) }
-    // At the end nothing waits for a host.
-    ensures settled { IfOk result AreSettled }
+    // It follows the schedule; links are those of their CONNECT_INDs, data arrives in order, and
+    // what goes out and what is taken is what is due.
+    ensures lawful { IfOk result (IsLawful a.now b.now schedule.now) }
+    ensures lawful_so_far { IfErr result (IsLawfulSoFar a.now b.now schedule.now) }
+    // All turns begin, and at the end nothing waits for a host.
+    ensures whole { IfOk result (IsWhole schedule.now) }
 {
     journal_pdus::each_journal_is_lawful();
     publics_are_six(schedule);

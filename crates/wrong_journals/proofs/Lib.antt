@@ -1,3 +1,4 @@
 -- The lemmas of this crate.
 pub mod Differing
 pub mod Packets
+pub mod Turning

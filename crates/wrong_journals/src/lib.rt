@@ -5,9 +5,14 @@
 mod events;
 mod exchanges;
 mod hosts;
+mod turns;
 
 pub use crate::events::wrong_links_are_refused;
 pub use crate::exchanges::{
     wrong_packets_are_refused, wrong_sending_is_refused, wrong_taking_is_refused,
 };
 pub use crate::hosts::{wrong_credits_are_refused, wrong_data_is_refused};
+pub use crate::turns::{
+    wrong_fates_are_refused, wrong_feeds_are_refused, wrong_radios_are_refused,
+    wrong_turns_are_refused, wrong_verdicts_are_refused,
+};

@@ -7,7 +7,7 @@ pub returns-clause-ok : goal.returns-clause-ok
 returns-clause-ok g c =
     octets_done (writes_of g.O.Sink.written g.O.Sink.is_reliable g.O.Sink.faults c.args.out.now c.write_end.new.out)
     c.args.a.now c.args.b.now c.args.schedule.now c.in_ok-schedule.schedule c.in_ok-journal.journal c.in_ok-journal.fault
-    c.write_end.result c.in_ok-schedule.ensures.ok c.in_ok-journal.ensures.ok c.in_ok-journal.ensures.lawful c.in_ok-journal.ensures.settled c.write_end.ensures
+    c.write_end.result c.in_ok-schedule.ensures.ok c.in_ok-journal.ensures.ok c.in_ok-journal.ensures.lawful c.in_ok-journal.ensures.whole c.write_end.ensures
 
 pub returns-clause-err : goal.returns-clause-err
 returns-clause-err g c =

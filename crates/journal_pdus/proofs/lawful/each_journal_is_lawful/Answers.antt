@@ -5,6 +5,7 @@ use Rattle.journal_pdus.proofs.lawful.each_journal_is_lawful.Goals as goal
 
 pub returns-clause-lawful : goal.returns-clause-lawful
 returns-clause-lawful c = λ a b script six six_too. record {
+  follows = c.each_journal_follows_its_schedule.ensures.follows a b script;
   addresses = c.each_link_has_the_next_address.ensures a b script six six_too;
   opened = λ front rest side number handle role at. c.each_opened_line_names_its_link.ensures a b script front rest side number handle role six six_too at;
   entered = λ front rest side number event channel at. c.each_enter_line_is_at_its_anchor.ensures a b script front rest side number event channel six six_too at;
@@ -15,7 +16,9 @@ returns-clause-lawful c = λ a b script six six_too. record {
   arrives = c.data_arrives_in_order_in_every_journal.ensures a b script six six_too;
 }
 
-pub returns-clause-settled_at_the_end : goal.returns-clause-settled_at_the_end
-returns-clause-settled_at_the_end c = λ a b script history six six_too whole.
-    journal_settled c.packet_tells_its_pdu.ensures.heard c.a_pdu_is_understood.ensures.says c.connections_are_taken.ensures.taken
-    c.searches_give_each_valid_address.ensures.valid c.searches_give_each_valid_address.ensures.distinct a b script six six_too history whole
+pub returns-clause-whole : goal.returns-clause-whole
+returns-clause-whole c = λ a b script history six six_too whole. record {
+  turns = c.each_journal_follows_its_schedule.ensures.whole a b script history whole;
+  settled = journal_settled c.packet_tells_its_pdu.ensures.heard c.a_pdu_is_understood.ensures.says c.connections_are_taken.ensures.taken
+      c.searches_give_each_valid_address.ensures.valid c.searches_give_each_valid_address.ensures.distinct a b script six six_too history whole;
+}

@@ -1,7 +1,7 @@
 -- Proof of `run::run_pair`.
 use Rattle.std.proofs.Common.{refl}
 use Rattle.run_model.specs.Pair.{given_of}
-use Rattle.pair_world.proofs.Lawful.{all_lawful, all_settled, lawful_so_far}
+use Rattle.pair_world.proofs.Lawful.{all_lawful, is_whole, lawful_so_far}
 use Rattle.pair_world.proofs.Outcomes.{if_err_more, if_ok_more}
 use Rattle.pair_world.proofs.run.run_pair.Goals as goal
 
@@ -19,7 +19,7 @@ pub returns-clause-lawful : goal.returns-clause-lawful
 returns-clause-lawful c =
     let given = given_of c.args.a.now c.args.b.now c.args.schedule.now in
     if_ok_more c.run_turns.result _ _
-    (λ journal is. all_lawful c.args.schedule.now given journal
+    (λ journal is. all_lawful c.args.a.now c.args.b.now c.args.schedule.now given journal
     (c.each_journal_is_lawful.ensures.lawful c.args.a.now c.args.b.now c.args.schedule.now c.publics_are_six.ensures.a c.publics_are_six.ensures.b)
     (is given refl c.in_ok-pair.ensures.up)) c.run_turns.ensures.ok
 
@@ -27,15 +27,15 @@ pub returns-clause-lawful_so_far : goal.returns-clause-lawful_so_far
 returns-clause-lawful_so_far c =
     let given = given_of c.args.a.now c.args.b.now c.args.schedule.now in
     if_err_more c.run_turns.result _ _
-    (λ fault is. lawful_so_far c.args.schedule.now given fault
+    (λ fault is. lawful_so_far c.args.a.now c.args.b.now c.args.schedule.now given fault
     (c.each_journal_is_lawful.ensures.lawful c.args.a.now c.args.b.now c.args.schedule.now c.publics_are_six.ensures.a c.publics_are_six.ensures.b)
     (is given refl c.in_ok-pair.ensures.up)) c.run_turns.ensures.err
 
-pub returns-clause-settled : goal.returns-clause-settled
-returns-clause-settled c =
+pub returns-clause-whole : goal.returns-clause-whole
+returns-clause-whole c =
     let given = given_of c.args.a.now c.args.b.now c.args.schedule.now in
     if_ok_more c.run_turns.result _ _
-    (λ journal is. all_settled given journal
-    (λ history whole. c.each_journal_is_lawful.ensures.settled_at_the_end c.args.a.now c.args.b.now c.args.schedule.now history
+    (λ journal is. is_whole c.args.schedule.now given journal
+    (λ history whole. c.each_journal_is_lawful.ensures.whole c.args.a.now c.args.b.now c.args.schedule.now history
     c.publics_are_six.ensures.a c.publics_are_six.ensures.b whole)
     (is given refl c.in_ok-pair.ensures.up)) c.run_turns.ensures.ok

@@ -1,0 +1,5 @@
+-- The lemmas of this crate.
+pub mod Verdicts
+pub mod Scheduling
+pub mod Quiet
+pub mod RadiosOff

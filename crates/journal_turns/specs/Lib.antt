@@ -1,0 +1,5 @@
+-- The definitions of this crate.
+pub mod Scheduled
+pub mod Judged
+pub mod Radios
+pub mod Follows
