@@ -1,7 +1,7 @@
 -- What a packet on the air does to the counts of both ends of its link.
-use Rattle.std.proofs.Common.{◌≡◌, ℕ, ◌+◌, ◌<◌, ◌≤◌, ◌==◌, ◌&&◌, ◌⊎◌, inl, inr, Bool, true, false, not, Option, Some, None, List, [], ◌∷◌, ◌++◌, length, take, refl, sym, ap, subst, ◌∙◌, arith}
+use Rattle.std.proofs.Common.{◌≡◌, ℕ, ◌+◌, ◌<◌, ◌==◌, ◌&&◌, ◌⊎◌, inl, inr, Bool, true, false, not, Option, Some, None, List, [], ◌∷◌, ◌++◌, length, take, refl, sym, ap, subst, ◌∙◌, arith}
 use Rattle.std.specs.Prelude.{if◌then◌else◌}
-use Rattle.std.proofs.lemmas.Bool.{eqb-true, eq-eqb}
+use Rattle.std.proofs.lemmas.Bool.{eqb-true, eq-eqb, false_from_ne_true}
 use Rattle.ble_base.specs.Side.{other_side}
 use Rattle.ble_base.specs.declared.roles.Role.{Role}
 use Rattle.ble_base.specs.declared.roles.Role.TheVariants.{Central, Peripheral}
@@ -36,10 +36,9 @@ use Rattle.run_laws.specs.Ends.{HaveOneConnectInd}
 use Rattle.run_laws.proofs.Agreed.{Agree, ack_of}
 use Rattle.run_laws.proofs.ByCalls.{Holds}
 use Rattle.run_laws.proofs.ConnectInds.{on_channel}
-use Rattle.run_laws.proofs.Hearings.{use_sent_at, wanted_is}
-use Rattle.run_laws.proofs.InAgreement.{AreStations, IsPair, TakesShort, WithAll, differs_back, few_links}
+use Rattle.run_laws.proofs.Hearings.{wanted_is}
+use Rattle.run_laws.proofs.InAgreement.{AreStations, TakesShort, WithAll, differs_back}
 use Rattle.run_laws.proofs.OpenSteps.{open_has}
-use Rattle.run_laws.proofs.SentPackets.{IsUseSent}
 use Rattle.run_laws.proofs.TurnPlaces.{Within}
 use Rattle.journal_links.specs.Opened.{central_side}
 use Rattle.journal_links.specs.Begun.{LinkBegun, link_numbered, links_begun}
@@ -49,13 +48,13 @@ use Rattle.journal_packets.proofs.Replies.{sent_begins}
 use Rattle.journal_acks.specs.Counted.{IsCounted}
 use Rattle.journal_acks.specs.Exchange.{Exchanged, after_packet, carries_empty, with_heard, with_sent}
 use Rattle.journal_acks.proofs.Acks.{IsTold, hears_counted, told}
-use Rattle.journal_acks.proofs.Counting.{AreCountedSo, AreKnown, AreToTake, IsBegun, IsEndCounted, IsToTake, ahead_if, facts_event, moved, none_to_take, plain, taking_if}
+use Rattle.journal_acks.proofs.Counting.{AreCountedSo, AreKnown, AreToTake, IsBegun, IsEndCounted, IsToTake, ahead_if, apart_numbers, facts_event, moved, none_to_take, one_begun, plain, taking_if}
 use Rattle.journal_acks.proofs.Exchanging.{exchange_at, number_at, number_sent}
 use Rattle.journal_acks.proofs.FirstCounts.{IsFirst, first_event_at, first_old}
 use Rattle.journal_acks.proofs.LinkPhases.{IsPhased}
 use Rattle.journal_acks.proofs.LinkUses.{listens_under, sends_under}
 use Rattle.journal_acks.proofs.SentLines.{air_line}
-use Rattle.journal_acks.proofs.Standing.{AreOne, listener_role, listener_sends, listens_wanted, one_link, other_listens, other_sends, phased_at, sender_role, sends_on}
+use Rattle.journal_acks.proofs.Standing.{AreOne, listener_role, listener_sends, listens_wanted, one_listened, other_listens, other_sends, phased_at, sender_role, sends_on, sends_other}
 use Rattle.journal_acks.proofs.TwoStations.{IsListening, IsOfTwo, after_air, air_of_link, air_quiet, good_begins, hearing_of, judged, link_listens, one_hearing, other_is, other_of, other_received, own_differs, own_received, same_number, sent_empty, side_differs, side_other, side_same, unchanged}
 
 -- ---- the counts of a side after a packet
@@ -132,15 +131,6 @@ one_central phases station one other (inr a) (inr b) =
 one_central phases station one other (inl a) (inr b) = absurd (let x = a.0 in let y = b.0 in omega (arith, x, y))
 one_central phases station one other (inr a) (inl b) = absurd (let x = a.0 in let y = b.0 in omega (arith, x, y))
 
-one_begun : (history : List Event) (number other station station_too : ℕ) (one two : OpenLink) → number ≡ other → IsBegun history number station one.setup
-    → IsBegun history other station_too two.setup → HaveOneConnectInd one.setup two.setup
-one_begun history number other station station_too one two same begun begun_too =
-    let links : Some begun.link ≡ Some begun_too.link = sym begun.is_link ∙ ap (λ n. link_numbered n (journal_of history)) same ∙ begun_too.is_link in
-    let equal : begun.link ≡ begun_too.link = cc in record {
-      fields = sym begun.fields ∙ ap (λ (l : LinkBegun). l.fields) equal ∙ begun_too.fields;
-      opened = sym begun.slot ∙ ap (λ (l : LinkBegun). l.slot) equal ∙ begun_too.slot;
-    }
-
 pub advertises : (channel : ℕ) → IsAdvertisingChannel channel → is_advertising channel ≡ false → ⊥
 advertises channel on off = let h : true ≡ false = sym (on_channel channel on) ∙ off in absurd cc
 
@@ -167,7 +157,7 @@ pub record IsFar (given : Given) (history : List Event) (station other handle : 
 
 -- ---- a packet is on the air
 
-module _ (whole : IsHeardWhole) (given : Given) (Q : Place → List Event → Type 0) (known : AreKnown given Q) (are_two : IsOfTwo given) (pair : IsPair given) (six : HaveAddresses given)
+module _ (whole : IsHeardWhole) (given : Given) (Q : Place → List Event → Type 0) (known : AreKnown given Q) (are_two : IsOfTwo given) (six : HaveAddresses given)
     (distinct : AreDistinct given.stations) (phases : ℕ) (done left : List ℕ) (station channel : ℕ) (octets : List ℕ) (fates : List Fate) (history : List Event)
     (are : given.stations ≡ done ++ station ∷ left) (wanted : use_at given station history ≡ Sends channel octets)
     (q : Q (AtPackets phases done (station ∷ left)) history) (holds : Holds given (AreStations given) (AtPackets phases done (station ∷ left)) history)
@@ -198,9 +188,6 @@ module _ (whole : IsHeardWhole) (given : Given) (Q : Place → List Event → Ty
 
   phased : (one : ℕ) → is_in one given.stations ≡ true → IsPhased (setup_at given one) (Within phases) (turns_begun history) (facts one)
   phased one in_it = phased_at given here history holds.hearing.stand one in_it
-
-  few : (one : ℕ) → is_in one given.stations ≡ true → length (facts one).links ≤ 1
-  few one in_it = few_links given pair one (facts one) (holds.so_far.last.each one in_it)
 
   wants : (facts station).wanted ≡ Sends channel octets
   wants = wanted_is given station history ∙ wanted
@@ -253,15 +240,9 @@ module _ (whole : IsHeardWhole) (given : Given) (Q : Place → List Event → Ty
     abbrev pub own_number : ℕ
     own_number = number_at station sent.handle history
 
-    -- it is to send on its open link
-    pub sends_it : (handle : ℕ) (link : OpenLink) → link_at handle (facts station).links ≡ Some link → sends_under handle (facts station).turn.doing ≡ true
-    sends_it handle link is_open = by (use_sent_at given six here history holds.hearing.stand station is channel octets wanted)
-      where
-        by : IsUseSent (facts_at given station history) (Sends channel octets) → sends_under handle (facts_at given station history).turn.doing ≡ true
-        by (inl pdu) = absurd (advertises channel pdu.on_channel off)
-        by (inr on) =
-            let one = one_link (facts_at given station history).links handle on.handle link (link_after (PacketSent (facts_at given station history).turn.slot) on.link) (few station is) is_open on.is_open in
-            ap (λ n. sends_under n (facts_at given station history).turn.doing) one.handles ∙ sends_on on.handle (facts_at given station history).turn.doing on.sends
+    -- it is to send on that link
+    pub sends_it : sends_under sent.handle (facts station).turn.doing ≡ true
+    sends_it = sends_on sent.handle (facts station).turn.doing sent.sends
 
     exchanged : (number : ℕ) → own_number ≡ number → (side : Side)
         → exchange_at number after side ≡ after_packet (side_of station) (is_good hearing.verdict) (carries_empty (link_numbered number (journal_of history)) channel octets) (exchange_at number history) side
@@ -270,19 +251,36 @@ module _ (whole : IsHeardWhole) (given : Given) (Q : Place → List Event → Ty
         ∙ ap (λ b. after_air b (side_of station) (is_good hearing.verdict) (carries_empty (link_numbered number (journal_of history)) channel octets) (exchange_at number history))
         (eq-eqb own_number number same))
 
-    own_sent : (handle : ℕ) (link : OpenLink) → link_at handle (facts station).links ≡ Some link
+    -- the counts of every other link stay
+    unexchanged : (number : ℕ) → (own_number == number) ≡ false → (side : Side) → exchange_at number after side ≡ exchange_at number history side
+    unexchanged number apart side =
+        ap (λ (ends : Side → Exchanged). ends side) (air_of_link number own_number station channel octets history hearings hearing has off sent.belongs
+        ∙ ap (λ b. after_air b (side_of station) (is_good hearing.verdict) (carries_empty (link_numbered number (journal_of history)) channel octets) (exchange_at number history)) apart)
+
+    own_sent_by : (handle : ℕ) (link : OpenLink) → link_at handle (facts station).links ≡ Some link → (same : Bool) → (sent.handle == handle) ≡ same
         → IsEndCounted false (packet_received station history) handle (facts station).turn link (exchange_at (number_at station handle history) after (side_of station))
-    own_sent handle link is_open =
-        let one = one_link (facts station).links handle sent.handle link link_sent (few station is) is_open sent.is_open in
+    own_sent_by handle link is_open true one =
+        let equal = eqb-true sent.handle handle one in
         let number = number_at station handle history in
         subst (λ e. IsEndCounted false (packet_received station history) handle (facts station).turn link e)
-        (sym (exchanged number (ap (λ h. number_at station h history) (sym one.handles)) (side_of station)
+        (sym (exchanged number (ap (λ h. number_at station h history) equal) (side_of station)
         ∙ own_after (is_good hearing.verdict) (carries_empty (link_numbered number (journal_of history)) channel octets) station (exchange_at number history)))
-        (was_sent (packet_received station history) handle (facts station).turn link (exchange_at number history (side_of station)) (sends_it handle link is_open) (before_sent handle link is_open))
+        (was_sent (packet_received station history) handle (facts station).turn link (exchange_at number history (side_of station))
+        (ap (λ n. sends_under n (facts station).turn.doing) (sym equal) ∙ sends_it) (before_sent handle link is_open))
+    own_sent_by handle link is_open false differs =
+        let number = number_at station handle history in
+        subst (λ e. IsEndCounted false (packet_received station history) handle (facts station).turn link e)
+        (sym (unexchanged number (apart_numbers given Q known here history q station sent.handle handle link_sent link is sent.is_open is_open differs) (side_of station)))
+        (any_sending true false (packet_received station history) handle (facts station).turn link (exchange_at number history (side_of station))
+        (sends_other sent.handle handle (facts station).turn.doing sends_it differs) (before_sent handle link is_open))
+
+    own_sent : (handle : ℕ) (link : OpenLink) → link_at handle (facts station).links ≡ Some link
+        → IsEndCounted false (packet_received station history) handle (facts station).turn link (exchange_at (number_at station handle history) after (side_of station))
+    own_sent handle link is_open = own_sent_by handle link is_open (sent.handle == handle) refl
 
     pub sender_counted : IsCounted (with_sent (exchange_at own_number history (side_of station))) (ack_of link_sent)
     sender_counted =
-        let on = sends_it sent.handle link_sent sent.is_open in
+        let on = sends_it in
         sent_counted (packet_received station history) sent.handle (facts station).turn link_sent (exchange_at own_number history (side_of station)) on
         (listener_off sent.handle (facts station).turn on (listens_under sent.handle (facts station).turn.doing) refl) (before_sent sent.handle link_sent sent.is_open)
 
@@ -302,7 +300,7 @@ module _ (whole : IsHeardWhole) (given : Given) (Q : Place → List Event → Ty
           ∙ deaf_after (own_number == number) empty station (exchange_at number history)))
           (counted other handle link is_too is_open)
 
-      module _ (good : is_good hearing.verdict ≡ true) (handle : ℕ) (link : OpenLink) (is_open : link_at handle (facts other).links ≡ Some link) where
+      module _ (good : is_good hearing.verdict ≡ true) where
         listening : IsListening (facts other) channel octets
         listening =
             let is_judged = judged (use_at given other history) (fate_at fates (fates_used history)) channel (facts other) (damaged_packet (fate_at fates (fates_used history)) octets) good in
@@ -311,93 +309,111 @@ module _ (whole : IsHeardWhole) (given : Given) (Q : Place → List Event → Ty
             (sends_well (setup_at given other) (six other) (past_of other history)).does (phased other is_too).uses.in_turn.listens (phased other is_too).uses.scans
             (wanted_is given other history ∙ is_judged.listens) (subst (λ xs. is_good (verdict_of (facts other) xs) ≡ true) same is_judged.good)
 
-        one : AreOne handle listening.handle link listening.link
-        one = one_link (facts other).links handle listening.handle link listening.link (few other is_too) is_open listening.is_open
+        -- the link on which it listens
+        module _ (handle : ℕ) (link : OpenLink) (is_open : link_at handle (facts other).links ≡ Some link) (listens : listens_under handle (facts other).turn.doing ≡ true) where
+          one : AreOne handle listening.handle link listening.link
+          one = one_listened (facts other).links (facts other).turn.doing handle listening.handle link listening.link listens listening.on is_open listening.is_open
 
-        listens : listens_under handle (facts other).turn.doing ≡ true
-        listens = ap (λ n. listens_under n (facts other).turn.doing) one.handles ∙ listening.on
+          begins : take 4 octets ≡ access_octets link.setup.link.fields.access
+          begins = subst (λ (l : OpenLink). take 4 octets ≡ access_octets l.setup.link.fields.access) (sym one.links) (good_begins listening.link.setup (facts_in listening.link) octets listening.good)
 
-        begins : take 4 octets ≡ access_octets link.setup.link.fields.access
-        begins = subst (λ (l : OpenLink). take 4 octets ≡ access_octets l.setup.link.fields.access) (sym one.links) (good_begins listening.link.setup (facts_in listening.link) octets listening.good)
+          centrals : central_side link_sent.setup.link.role (side_of station) ≡ central_side link.setup.link.role (side_of other)
+          centrals =
+              one_central phases station link_sent.setup.link.role link.setup.link.role
+              (sender_role phases (facts station).links (facts station).turn.doing sent.handle link_sent (phased station is).phase sends_it sent.is_open)
+              (listener_role phases (facts other).links (facts other).turn.doing handle link (phased other is_too).phase listens is_open)
 
-        centrals : central_side link_sent.setup.link.role (side_of station) ≡ central_side link.setup.link.role (side_of other)
-        centrals =
-            one_central phases station link_sent.setup.link.role link.setup.link.role
-            (sender_role phases (facts station).links (facts station).turn.doing sent.handle link_sent (phased station is).phase (sends_it sent.handle link_sent sent.is_open) sent.is_open)
-            (listener_role phases (facts other).links (facts other).turn.doing handle link (phased other is_too).phase listens is_open)
+          -- the journal has one number for both of its ends
+          one_number : own_number ≡ number_at other handle history
+          one_number =
+              let numbers : Some own_number ≡ Some (number_at other handle history) =
+              sym (known.fits here history q station sent.handle link_sent octets is sent.is_open (ap (take 4) sent.packet ∙ sent_begins sent.link.setup (facts_in sent.link)))
+              ∙ ap (λ s. first_number s octets 1 (links_begun (journal_of history))) centrals
+              ∙ known.fits here history q other handle link octets is_too is_open begins in cc
 
-        -- the journal has one number for both of its ends
-        one_number : own_number ≡ number_at other handle history
-        one_number =
-            let numbers : Some own_number ≡ Some (number_at other handle history) =
-            sym (known.fits here history q station sent.handle link_sent octets is sent.is_open (ap (take 4) sent.packet ∙ sent_begins sent.link.setup (facts_in sent.link)))
-            ∙ ap (λ s. first_number s octets 1 (links_begun (journal_of history))) centrals
-            ∙ known.fits here history q other handle link octets is_too is_open begins in cc
+          begun : IsBegun history (number_at other handle history) other link.setup
+          begun = known.begun here history q other handle link is_too is_open
 
-        begun : IsBegun history (number_at other handle history) other link.setup
-        begun = known.begun here history q other handle link is_too is_open
+          connect_ind : HaveOneConnectInd link_sent.setup link.setup
+          connect_ind = one_begun history own_number (number_at other handle history) station other link_sent link one_number (known.begun here history q station sent.handle link_sent is sent.is_open) begun
 
-        connect_ind : HaveOneConnectInd link_sent.setup link.setup
-        connect_ind = one_begun history own_number (number_at other handle history) station other link_sent link one_number (known.begun here history q station sent.handle link_sent is sent.is_open) begun
+          agreed : AreInAgreement (ack_of link_sent) (ack_of link)
+          agreed =
+              let all = known.agree whole here history q station other is is_too (differs_back other station differs) in
+              let each = open_has (WithAll (facts other).links) 0 sent.handle (facts station).links link_sent all sent.is_open in
+              open_has (λ (l : OpenLink). Agree link_sent l) 0 handle (facts other).links link each is_open connect_ind
 
-        agreed : AreInAgreement (ack_of link_sent) (ack_of link)
-        agreed =
-            let all = holds.so_far.last.agree station other is is_too (differs_back other station differs) in
-            let each = open_has (WithAll (facts other).links) 0 sent.handle (facts station).links link_sent all sent.is_open in
-            open_has (λ (l : OpenLink). Agree link_sent l) 0 handle (facts other).links link each is_open connect_ind
+          before_taken : IsCounted (exchange_at (number_at other handle history) history (side_of other)) (ack_of link)
+          before_taken =
+              plain (not (is_in other done)) (packet_received other history) handle (facts other).turn link (exchange_at (number_at other handle history) history (side_of other))
+              (listener_sends handle (facts other).turn.doing listens) (λ on. silent other is_too differs) (counted other handle link is_too is_open)
 
-        before_taken : IsCounted (exchange_at (number_at other handle history) history (side_of other)) (ack_of link)
-        before_taken =
-            plain (not (is_in other done)) (packet_received other history) handle (facts other).turn link (exchange_at (number_at other handle history) history (side_of other))
-            (listener_sends handle (facts other).turn.doing listens) (λ on. silent other is_too differs) (counted other handle link is_too is_open)
+          empty_is : carries_empty (link_numbered (number_at other handle history) (journal_of history)) channel octets ≡ is_empty (pdu_sent (facts_in sent.link))
+          empty_is =
+              ap (λ may. carries_empty may channel octets) begun.is_link
+              ∙ sent_empty whole sent.link.setup (facts_in sent.link) begun.link channel octets (past_pdu_short sent.link.setup sent.link.past)
+              (begun.fields ∙ sym connect_ind.fields) sent.channel_is sent.packet
 
-        empty_is : carries_empty (link_numbered (number_at other handle history) (journal_of history)) channel octets ≡ is_empty (pdu_sent (facts_in sent.link))
-        empty_is =
-            ap (λ may. carries_empty may channel octets) begun.is_link
-            ∙ sent_empty whole sent.link.setup (facts_in sent.link) begun.link channel octets (past_pdu_short sent.link.setup sent.link.past)
-            (begun.fields ∙ sym connect_ind.fields) sent.channel_is sent.packet
+          abbrev taken : Bool → OpenLink
+          taken room = link_after (PacketReceived (facts other).turn.slot octets room) link
 
-        abbrev taken : Bool → OpenLink
-        taken room = link_after (PacketReceived (facts other).turn.slot octets room) link
+          -- what it tells the other end, with room for data or with none
+          tells : IsTold (ack_of link_sent) (ack_of link) (pdu_sent (facts_in sent.link)) (ack_of (taken true)) (ack_of (taken false))
+          tells =
+              let fits = open_has TakesShort 0 handle (facts other).links link (holds.so_far.last.each other is_too).short is_open in
+              told whole (facts other).turn.slot sent.slot link sent.link octets fits connect_ind.fields sent.packet
+              (sym sent.channel_is ∙ listening.channel_is ∙ ap (λ (l : OpenLink). (facts_in l).event.channel) (sym one.links)) agreed
 
-        -- what it tells the other end, with room for data or with none
-        tells : IsTold (ack_of link_sent) (ack_of link) (pdu_sent (facts_in sent.link)) (ack_of (taken true)) (ack_of (taken false))
-        tells =
-            let fits = open_has TakesShort 0 handle (facts other).links link (holds.so_far.last.each other is_too).short is_open in
-            told whole (facts other).turn.slot sent.slot link sent.link octets fits connect_ind.fields sent.packet
-            (sym sent.channel_is ∙ listening.channel_is ∙ ap (λ (l : OpenLink). (facts_in l).event.channel) (sym one.links)) agreed
+          sent_as : IsCounted (with_sent (exchange_at (number_at other handle history) history (side_of station))) (ack_of link_sent)
+          sent_as = subst (λ n. IsCounted (with_sent (exchange_at n history (side_of station))) (ack_of link_sent)) one_number sender_counted
 
-        sent_as : IsCounted (with_sent (exchange_at (number_at other handle history) history (side_of station))) (ack_of link_sent)
-        sent_as = subst (λ n. IsCounted (with_sent (exchange_at n history (side_of station))) (ack_of link_sent)) one_number sender_counted
+          taken_counted : IsEndCounted (not (is_in other done)) (Some octets) handle (facts other).turn link (exchange_at (number_at other handle history) after (side_of other))
+          taken_counted =
+              let number = number_at other handle history in
+              let before = exchange_at number history in
+              let empty = is_empty (pdu_sent (facts_in sent.link)) in
+              let next = hears_counted (before (side_of other)) (with_sent (before (side_of station))) (ack_of link) (ack_of link_sent) (ack_of (taken true)) (ack_of (taken false))
+              (pdu_sent (facts_in sent.link)) before_taken sent_as tells in
+              subst (λ e. IsEndCounted (not (is_in other done)) (Some octets) handle (facts other).turn link e)
+              (sym (exchanged number one_number (side_of other)
+              ∙ other_after (is_good hearing.verdict) (carries_empty (link_numbered number (journal_of history)) channel octets) station before
+              ∙ ap (λ b. if b then with_heard (carries_empty (link_numbered number (journal_of history)) channel octets) (with_sent (before (side_of station))) (before (side_of other)) else before (side_of other)) good
+              ∙ ap (λ b. with_heard b (with_sent (before (side_of station))) (before (side_of other))) empty_is))
+              (takes (not (is_in other done)) octets handle (facts other).turn link (with_heard empty (with_sent (before (side_of station))) (before (side_of other))) listens
+              (listener_sends handle (facts other).turn.doing listens) next)
 
-        taken_counted : IsEndCounted (not (is_in other done)) (Some octets) handle (facts other).turn link (exchange_at (number_at other handle history) after (side_of other))
-        taken_counted =
+          -- it is to take as many PDUs as the other one sent
+          is_to_take : (exchange_at (number_at other handle history) after (other_side (side_of other))).sent ≡ length (ack_of (taken true)).accepted
+          is_to_take =
+              let number = number_at other handle history in
+              ap (λ s. (exchange_at number after s).sent) (ap other_side (side_other station) ∙ central_back (side_of station))
+              ∙ ap (λ (e : Exchanged). e.sent) (exchanged number one_number (side_of station)
+              ∙ own_after (is_good hearing.verdict) (carries_empty (link_numbered number (journal_of history)) channel octets) station (exchange_at number history))
+              ∙ sent_as.sent ∙ sym tells.accepted
+
+        -- a link on which it does not listen
+        other_kept : (handle : ℕ) (link : OpenLink) → link_at handle (facts other).links ≡ Some link → listens_under handle (facts other).turn.doing ≡ false
+            → IsEndCounted (not (is_in other done)) (Some octets) handle (facts other).turn link (exchange_at (number_at other handle history) after (side_of other))
+        other_kept handle link is_open none =
             let number = number_at other handle history in
-            let before = exchange_at number history in
-            let empty = is_empty (pdu_sent (facts_in sent.link)) in
-            let next = hears_counted (before (side_of other)) (with_sent (before (side_of station))) (ack_of link) (ack_of link_sent) (ack_of (taken true)) (ack_of (taken false))
-            (pdu_sent (facts_in sent.link)) before_taken sent_as tells in
-            subst (λ e. IsEndCounted (not (is_in other done)) (Some octets) handle (facts other).turn link e)
-            (sym (exchanged number one_number (side_of other)
-            ∙ other_after (is_good hearing.verdict) (carries_empty (link_numbered number (journal_of history)) channel octets) station before
-            ∙ ap (λ b. if b then with_heard (carries_empty (link_numbered number (journal_of history)) channel octets) (with_sent (before (side_of station))) (before (side_of other)) else before (side_of other)) good
-            ∙ ap (λ b. with_heard b (with_sent (before (side_of station))) (before (side_of other))) empty_is))
-            (takes (not (is_in other done)) octets handle (facts other).turn link (with_heard empty (with_sent (before (side_of station))) (before (side_of other))) listens
-            (listener_sends handle (facts other).turn.doing listens) next)
+            let differs_too : (listening.handle == handle) ≡ false = false_from_ne_true (listening.handle == handle) (λ same.
+            let h : true ≡ false = sym listening.on ∙ ap (λ n. listens_under n (facts other).turn.doing) (eqb-true listening.handle handle same) ∙ none in absurd cc) in
+            let apart : (own_number == number) ≡ false =
+            ap (λ n. n == number) (one_number listening.handle listening.link listening.is_open listening.on)
+            ∙ apart_numbers given Q known here history q other listening.handle handle listening.link link is_too listening.is_open is_open differs_too in
+            subst (λ e. IsEndCounted (not (is_in other done)) (Some octets) handle (facts other).turn link e) (sym (unexchanged number apart (side_of other)))
+            (any_taking (not (is_in other done)) (packet_received other history) (Some octets) handle (facts other).turn link (exchange_at number history (side_of other)) none
+            (counted other handle link is_too is_open))
 
-        -- it is to take as many PDUs as the other one sent
-        is_to_take : (exchange_at (number_at other handle history) after (other_side (side_of other))).sent ≡ length (ack_of (taken true)).accepted
-        is_to_take =
-            let number = number_at other handle history in
-            ap (λ s. (exchange_at number after s).sent) (ap other_side (side_other station) ∙ central_back (side_of station))
-            ∙ ap (λ (e : Exchanged). e.sent) (exchanged number one_number (side_of station)
-            ∙ own_after (is_good hearing.verdict) (carries_empty (link_numbered number (journal_of history)) channel octets) station (exchange_at number history))
-            ∙ sent_as.sent ∙ sym tells.accepted
+        good_counted : (handle : ℕ) (link : OpenLink) → link_at handle (facts other).links ≡ Some link → (listens : Bool) → listens_under handle (facts other).turn.doing ≡ listens
+            → IsEndCounted (not (is_in other done)) (Some octets) handle (facts other).turn link (exchange_at (number_at other handle history) after (side_of other))
+        good_counted handle link is_open true on = taken_counted handle link is_open on
+        good_counted handle link is_open false none = other_kept handle link is_open none
 
       other_sent : (received : Bool) → is_good hearing.verdict ≡ received → (handle : ℕ) (link : OpenLink) → link_at handle (facts other).links ≡ Some link
           → IsEndCounted (not (is_in other done)) (if received then Some octets else packet_received other history) handle (facts other).turn link
           (exchange_at (number_at other handle history) after (side_of other))
-      other_sent true good handle link is_open = taken_counted good handle link is_open
+      other_sent true good handle link is_open = good_counted good handle link is_open (listens_under handle (facts other).turn.doing) refl
       other_sent false bad handle link is_open = deaf_counted bad handle link is_open
 
   -- ---- both
@@ -473,7 +489,7 @@ module _ (whole : IsHeardWhole) (given : Given) (Q : Place → List Event → Ty
   heard_to_take false off is_too differs seen silent got handle link is_open = λ heard listens same.
       let equal : octets ≡ heard = cc in
       let good = sym (heard_it off is_too differs seen silent) ∙ got in
-      is_to_take off is_too differs seen silent good handle link is_open
+      is_to_take off is_too differs seen silent good handle link is_open listens
       ∙ ap (λ xs. length (ack_of (link_after (PacketReceived (facts other).turn.slot xs true) link)).accepted) equal
 
   other_to_take : (received : Bool) → has_received other hearings ≡ received → is_in other given.stations ≡ true → (other == station) ≡ false → unseen_in octets hearings ≡ None
@@ -527,7 +543,7 @@ module _ (whole : IsHeardWhole) (given : Given) (Q : Place → List Event → Ty
     far_handle = (sent off).handle;
     far = link_sent off;
     is_open = (sent off).is_open;
-    same = one_number off is_too differs seen silent (sym (heard_it off is_too differs seen silent) ∙ got) handle link is_open;
+    same = one_number off is_too differs seen silent (sym (heard_it off is_too differs seen silent) ∙ got) handle link is_open listens;
   }
 
   pub packet_far : is_in other given.stations ≡ true → (other == station) ≡ false → unseen_in octets hearings ≡ None

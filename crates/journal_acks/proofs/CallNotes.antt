@@ -172,7 +172,7 @@ module _ (P : Note → Type 0) (of : IsOfStarts P) where
   applied_noted handle event None = All-nil P
   applied_noted handle event (Some number) = All-cons P _ [] (of.applied handle number event) (All-nil P)
 
-  entry_noted : (anchor : Bool) (slot : ℕ) (link : OpenLink) → All P (notes_if anchor slot link)
+  pub entry_noted : (anchor : Bool) (slot : ℕ) (link : OpenLink) → All P (notes_if anchor slot link)
   entry_noted false slot link = All-nil P
   entry_noted true slot link =
       All-append P (applied_notes link.setup.link.handle _ (next_number (facts_in link).parameters)) _

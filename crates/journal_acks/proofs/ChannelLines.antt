@@ -1,7 +1,7 @@
 -- The channel that the lines of a journal say an end has entered last is that of its last event.
-use Rattle.std.proofs.Common.{◌≡◌, ℕ, ◌≤◌, ◌==◌, ◌&&◌, Bool, true, false, Option, Some, None, List, [], ◌∷◌, ◌++◌, length, map, refl, sym, ap, ◌∙◌, append-nil, append_assoc, arith}
+use Rattle.std.proofs.Common.{◌≡◌, ℕ, ◌+◌, ◌≤◌, ◌==◌, ◌&&◌, Bool, true, false, Option, Some, None, List, [], ◌∷◌, ◌++◌, map, refl, sym, ap, subst, ◌∙◌, append-nil, append_assoc, arith}
 use Rattle.std.specs.Prelude.{All, fold, if◌then◌else◌}
-use Rattle.std.proofs.lemmas.Bool.{eq-eqb}
+use Rattle.std.proofs.lemmas.Bool.{eqb-true, eq-eqb, ne_eqb}
 use Rattle.std.proofs.lemmas.List.Elements.{All-cons, All-nil}
 use Rattle.std.proofs.lemmas.List.Sums.{fold-append}
 use Rattle.ble_base.specs.declared.roles.Side.{Side}
@@ -14,8 +14,9 @@ use Rattle.link_model.specs.Events.{channel_after as channel_of_event, entries_i
 use Rattle.link_model.specs.Facts.{Facts as EndFacts}
 use Rattle.link_model.specs.Step.{EventEntered}
 use Rattle.link_model.proofs.InEvents.{past_in}
-use Rattle.open_links.specs.OpenLinks.{Links, OpenLink, facts_in, link_after, link_at}
+use Rattle.open_links.specs.OpenLinks.{Links, OpenLink, facts_in, link_after, link_at, link_from}
 use Rattle.open_links.specs.Turns.{is_anchor, links_staying, notes_entering, notes_if}
+use Rattle.open_links.proofs.Handles.{here, later}
 use Rattle.controller_model.specs.Step.{Step, TurnBegins}
 use Rattle.controller_model.specs.Facts.{Facts}
 use Rattle.controller_model.specs.Links.{facts_ending, notes_ending}
@@ -29,9 +30,11 @@ use Rattle.run_model.specs.Links.{links_of}
 use Rattle.run_model.specs.Run.{Given, after_call, facts_at, setup_at}
 use Rattle.run_model.proofs.Parts.{journal_event}
 use Rattle.run_laws.proofs.Agreed.{step_facts}
+use Rattle.run_laws.proofs.OpenSteps.{AtOpen, EachOpen}
+use Rattle.run_laws.proofs.TwoEnds.{each_under, from_first}
 use Rattle.journal_packets.specs.Belonging.{is_side}
 use Rattle.journal_acks.specs.Carried.{channel_after, channel_entered}
-use Rattle.journal_acks.proofs.CallNotes.{IsOfFeeds, doing_noted, ending_noted}
+use Rattle.journal_acks.proofs.CallNotes.{IsOfFeeds, doing_noted, ending_noted, entry_noted}
 use Rattle.journal_acks.proofs.Exchanging.{OpensNone, any_note, call_keeps, event_number, map_both, notes_keep, number_at, number_quiet, opening_none, opens_none}
 use Rattle.journal_acks.proofs.TwoStations.{side_same}
 
@@ -126,14 +129,13 @@ applied_none : (P : Note → Type 0) → ((handle number event : ℕ) → P (App
 applied_none P applied handle event None = All-nil P
 applied_none P applied handle event (Some number) = All-cons P _ [] (applied handle number event) (All-nil P)
 
-one_place : (links : Links) (handle : ℕ) (link : OpenLink) → length links ≤ 1 → link_at handle links ≡ Some link → links ≡ Some link ∷ []
-one_place [] handle link few is = absurd cc
-one_place (place ∷ []) handle link few is = at (0 == handle) is
-  where
-    at : (test : Bool) → (if test then place else None) ≡ Some link → place ∷ [] ≡ Some link ∷ []
-    at true found = ap (λ p. p ∷ []) found
-    at false found = absurd cc
-one_place (place ∷ second ∷ links) handle link few is = absurd (omega (arith, few))
+both_off : (one other : Bool) → other ≡ false → (one && other) ≡ false
+both_off true other off = off
+both_off false other off = refl
+
+both_on : (one other : Bool) → other ≡ true → (one && other) ≡ one
+both_on true other on = on
+both_on false other on = refl
 
 module _ (given : Given) (station slot : ℕ) (history : List Event) where
   abbrev facts : Facts
@@ -161,37 +163,133 @@ module _ (given : Given) (station slot : ℕ) (history : List Event) where
       number_kept handle (called on) (notes_ending slot facts) (ending_noted (OpensNone handle) (opening_none handle).starts.feeds slot facts)
       ∙ number_quiet station handle history (Called station (TurnBegins slot on)) (λ links. refl)
 
-  -- the one link that stays enters its event, or does not
-  entering_channel : (on : Bool) (anchor : Bool) (link : OpenLink) (number : ℕ) → number_at station link.setup.link.handle history ≡ number
-      → channel_at number station (ended on ++ map (Noted station) (notes_if anchor slot link))
-      ≡ (if anchor then Some (facts_entered link.setup slot (facts_in link)).event.channel else channel_at number station history)
-  entering_channel on false link number same = ap (channel_at number station) (append-nil (ended on)) ∙ ended_channel on number
-  entering_channel on true link number same =
+  -- a link enters its event, or does not
+  entry_channel : (front : List Event) (anchor : Bool) (link : OpenLink) (number own : ℕ) → number_at station link.setup.link.handle front ≡ own
+      → channel_at number station (front ++ map (Noted station) (notes_if anchor slot link))
+      ≡ (if anchor && (own == number) then Some (facts_entered link.setup slot (facts_in link)).event.channel else channel_at number station front)
+  entry_channel front false link number own is = ap (channel_at number station) (append-nil front)
+  entry_channel front true link number own is =
       let handle = link.setup.link.handle in
       let next = facts_entered link.setup slot (facts_in link) in
       let applied = applied_notes handle next.event.number (next_number (facts_in link).parameters) in
       let note = Enter handle (record { 0 = next.event.number }) next.event.channel in
-      let before = ended on ++ map (Noted station) applied in
-      let has = number_kept handle (ended on) applied (applied_none (OpensNone handle) (λ other count event. refl) handle next.event.number (next_number (facts_in link).parameters))
-      ∙ ended_number on handle ∙ same in
-      ap (channel_at number station) (ap (λ xs. ended on ++ xs) (map_both station applied (note ∷ [])) ∙ sym (append_assoc (ended on) (map (Noted station) applied) (Noted station note ∷ [])))
+      let before = front ++ map (Noted station) applied in
+      let has = number_kept handle front applied (applied_none (OpensNone handle) (λ other count event. refl) handle next.event.number (next_number (facts_in link).parameters)) ∙ is in
+      let kept = notes_keep (Option ℕ) (channel_at number station) EntersNone station (λ earlier one. quiet_note number station earlier one) applied front
+      (applied_none EntersNone (λ other count event. refl) handle next.event.number (next_number (facts_in link).parameters)) in
+      ap (channel_at number station) (ap (λ xs. front ++ xs) (map_both station applied (note ∷ [])) ∙ sym (append_assoc front (map (Noted station) applied) (Noted station note ∷ [])))
       ∙ event_more number station before (Noted station note)
       ∙ ap (λ b. if b && number_at station handle before == number then Some next.event.channel else channel_at number station before) (side_same station)
-      ∙ ap (λ b. if b then Some next.event.channel else channel_at number station before) (eq-eqb (number_at station handle before) number has)
+      ∙ (λ i. if has i == number then Some next.event.channel else kept i)
 
-  pub begins_channel : (on : Bool) (handle : ℕ) (link : OpenLink) → length (links_staying slot facts.links) ≤ 1 → link_at handle (links_staying slot facts.links) ≡ Some link
-      → link.setup.link.handle ≡ handle
+  -- one of another number
+  other_entry : (front : List Event) (link : OpenLink) (number own : ℕ) → number_at station link.setup.link.handle front ≡ own → (own == number) ≡ false
+      → channel_at number station (front ++ map (Noted station) (notes_if (is_anchor slot link) slot link)) ≡ channel_at number station front
+  other_entry front link number own is apart =
+      entry_channel front (is_anchor slot link) link number own is
+      ∙ ap (λ b. if b then Some (facts_entered link.setup slot (facts_in link)).event.channel else channel_at number station front) (both_off (is_anchor slot link) (own == number) apart)
+
+  own_entry : (front : List Event) (link : OpenLink) (number own : ℕ) → number_at station link.setup.link.handle front ≡ own → own ≡ number
+      → channel_at number station (front ++ map (Noted station) (notes_if (is_anchor slot link) slot link))
+      ≡ (if is_anchor slot link then Some (facts_entered link.setup slot (facts_in link)).event.channel else channel_at number station front)
+  own_entry front link number own is same =
+      entry_channel front (is_anchor slot link) link number own is
+      ∙ ap (λ b. if b then Some (facts_entered link.setup slot (facts_in link)).event.channel else channel_at number station front)
+      (both_on (is_anchor slot link) (own == number) (eq-eqb own number same))
+
+  -- the notes of one link, and those of the links after it
+  entry_first : (front : List Event) (link : OpenLink) (links : Links) (number : ℕ)
+      → channel_at number station (front ++ map (Noted station) (notes_entering slot (Some link ∷ links)))
+      ≡ channel_at number station ((front ++ map (Noted station) (notes_if (is_anchor slot link) slot link)) ++ map (Noted station) (notes_entering slot links))
+  entry_first front link links number =
+      let notes = notes_if (is_anchor slot link) slot link in
+      ap (channel_at number station) (ap (λ xs. front ++ xs) (map_both station notes (notes_entering slot links))
+      ∙ sym (append_assoc front (map (Noted station) notes) (map (Noted station) (notes_entering slot links))))
+
+  -- so far no link was opened since this history
+  abbrev HasNumbers : List Event → Type 0
+  HasNumbers front = (handle : ℕ) → number_at station handle front ≡ number_at station handle history
+
+  entry_numbers : (front : List Event) (link : OpenLink) → HasNumbers front → HasNumbers (front ++ map (Noted station) (notes_if (is_anchor slot link) slot link))
+  entry_numbers front link has = λ handle.
+      number_kept handle front (notes_if (is_anchor slot link) slot link) (entry_noted (OpensNone handle) (opening_none handle).starts (is_anchor slot link) slot link) ∙ has handle
+
+  abbrev HasOther : ℕ → OpenLink → Type 0
+  HasOther number link = (number_at station link.setup.link.handle history == number) ≡ false
+
+  others_channel : (number : ℕ) (links : Links) (front : List Event) → HasNumbers front → EachOpen (HasOther number) links
+      → channel_at number station (front ++ map (Noted station) (notes_entering slot links)) ≡ channel_at number station front
+  others_channel number [] front has apart = ap (channel_at number station) (append-nil front)
+  others_channel number (None ∷ links) front has apart = others_channel number links front has apart.1
+  others_channel number (Some link ∷ links) front has apart =
+      let next = front ++ map (Noted station) (notes_if (is_anchor slot link) slot link) in
+      entry_first front link links number ∙ others_channel number links next (entry_numbers front link has) apart.1
+      ∙ other_entry front link number (number_at station link.setup.link.handle history) (has link.setup.link.handle) apart.0
+
+  abbrev EntersOn : ℕ → OpenLink → Links → List Event → Type 0
+  EntersOn number link links front =
+      channel_at number station (front ++ map (Noted station) (notes_entering slot links))
+      ≡ (if is_anchor slot link then Some (facts_entered link.setup slot (facts_in link)).event.channel else channel_at number station front)
+
+  -- the link under a handle is the first, or a later one
+  enters_here : (number : ℕ) (link : OpenLink) (place : Option OpenLink) (links : Links) (front : List Event) → HasNumbers front → place ≡ Some link
+      → number_at station link.setup.link.handle history ≡ number → EachOpen (HasOther number) links → EntersOn number link (place ∷ links) front
+  enters_here number link place links front has is own apart =
+      let next = front ++ map (Noted station) (notes_if (is_anchor slot link) slot link) in
+      subst (λ one. EntersOn number link (one ∷ links) front) (sym is)
+      (entry_first front link links number ∙ others_channel number links next (entry_numbers front link has) apart
+      ∙ own_entry front link number (number_at station link.setup.link.handle history) (has link.setup.link.handle) own)
+
+  enters_later : (number : ℕ) (link : OpenLink) (place : Option OpenLink) (links : Links) (front : List Event) → HasNumbers front → AtOpen (HasOther number) place
+      → ((next : List Event) → HasNumbers next → EntersOn number link links next) → EntersOn number link (place ∷ links) front
+  enters_later number link None links front has apart rest = rest front has
+  enters_later number link (Some other) links front has apart rest =
+      let next = front ++ map (Noted station) (notes_if (is_anchor slot other) slot other) in
+      entry_first front other links number ∙ rest next (entry_numbers front other has)
+      ∙ ap (λ may. if is_anchor slot link then Some (facts_entered link.setup slot (facts_in link)).event.channel else may)
+      (other_entry front other number (number_at station other.setup.link.handle history) (has other.setup.link.handle) apart)
+
+  entering_channel : (number first handle : ℕ) (link : OpenLink) (links : Links) (front : List Event) → HasNumbers front → link_from first handle links ≡ Some link
+      → number_at station link.setup.link.handle history ≡ number
+      → ((other : ℕ) (two : OpenLink) → link_from first other links ≡ Some two → (other == handle) ≡ false → HasOther number two) → EntersOn number link links front
+  entering_channel number first handle link [] front has found own others = absurd cc
+  entering_channel number first handle link (place ∷ links) front has found own others =
+      at (first == handle) refl found (λ more next has_next. entering_channel number (first + 1) handle link links next has_next more own rest_apart)
+    where
+      past : (other : ℕ) (two : OpenLink) → link_from (first + 1) other links ≡ Some two → first + 1 ≤ other
+      past other two is = from_first (first + 1) other links two is
+
+      rest_apart : (other : ℕ) (two : OpenLink) → link_from (first + 1) other links ≡ Some two → (other == handle) ≡ false
+          → (number_at station two.setup.link.handle history == number) ≡ false
+      rest_apart other two is differs = let from = past other two is in others other two (later first other place links (omega (arith, from)) ∙ is) differs
+
+      place_apart : (one : Option OpenLink) → place ≡ one → (first == handle) ≡ false → AtOpen (λ two. (number_at station two.setup.link.handle history == number) ≡ false) one
+      place_apart None is differs = tt
+      place_apart (Some two) is differs = others first two (here first place links ∙ is) differs
+
+      at : (test : Bool) → (first == handle) ≡ test → (if test then place else link_from (first + 1) handle links) ≡ Some link
+          → (link_from (first + 1) handle links ≡ Some link → (next : List Event) → HasNumbers next → EntersOn number link links next)
+          → EntersOn number link (place ∷ links) front
+      at true same is rest =
+          let equal = eqb-true first handle same in
+          enters_here number link place links front has is own
+          (each_under (HasOther number) (first + 1) links (λ other two at_other.
+          let from = past other two at_other in rest_apart other two at_other (ne_eqb other handle (λ again. omega (arith, from, equal, again)))))
+      at false differs is rest = enters_later number link place links front has (place_apart place refl differs) (rest is)
+
+  pub begins_channel : (on : Bool) (handle : ℕ) (link : OpenLink) → link_at handle (links_staying slot facts.links) ≡ Some link → link.setup.link.handle ≡ handle
+      → ((other : ℕ) (two : OpenLink) → link_at other (links_staying slot facts.links) ≡ Some two → (other == handle) ≡ false
+      → (number_at station two.setup.link.handle history == number_at station handle history) ≡ false)
       → channel_at (number_at station handle history) station (after_call given station (TurnBegins slot on) history)
       ≡ (if is_anchor slot link then Some (facts_entered link.setup slot (facts_in link)).event.channel else channel_at (number_at station handle history) station history)
-  begins_channel on handle link few stayed own =
+  begins_channel on handle link stayed own others =
       let number = number_at station handle history in
-      let links : (facts_ending slot facts).links ≡ Some link ∷ [] = ap (λ (f : Facts). f.links) (ending_is slot facts) ∙ one_place (links_staying slot facts.links) handle link few stayed in
-      let notes = notes_if (is_anchor slot link) slot link in
-      let all : notes_entering slot (facts_ending slot facts).links ≡ notes = ap (notes_entering slot) links ∙ append-nil notes in
+      let links = (facts_ending slot facts).links in
+      let stays : links ≡ links_staying slot facts.links = ap (λ (f : Facts). f.links) (ending_is slot facts) in
+      let notes = notes_entering slot links in
       let doing = notes_doing (outcome_begun slot on facts).next (outcome_begun slot on facts).facts in
       ap (channel_at number station)
-      (ap (λ xs. history ++ Called station (TurnBegins slot on) ∷ map (Noted station) (notes_ending slot facts ++ xs ++ doing)) all
-      ∙ ap (λ xs. history ++ Called station (TurnBegins slot on) ∷ xs) (map_both station (notes_ending slot facts ++ notes) doing
+      (ap (λ xs. history ++ Called station (TurnBegins slot on) ∷ xs) (map_both station (notes_ending slot facts ++ notes) doing
       ∙ ap (λ xs. xs ++ map (Noted station) doing) (map_both station (notes_ending slot facts) notes))
       ∙ sym (append_assoc history (Called station (TurnBegins slot on) ∷ []) ((map (Noted station) (notes_ending slot facts) ++ map (Noted station) notes) ++ map (Noted station) doing))
       ∙ sym (append_assoc (called on) (map (Noted station) (notes_ending slot facts) ++ map (Noted station) notes) (map (Noted station) doing))
@@ -199,7 +297,9 @@ module _ (given : Given) (station slot : ℕ) (history : List Event) where
       ∙ notes_keep (Option ℕ) (channel_at number station) EntersNone station (λ before note. quiet_note number station before note) doing
       (ended on ++ map (Noted station) notes)
       (doing_noted EntersNone (λ other count llid octets. refl) (outcome_begun slot on facts).next (outcome_begun slot on facts).facts)
-      ∙ entering_channel on (is_anchor slot link) link number (ap (λ n. number_at station n history) own)
+      ∙ entering_channel number 0 handle link links (ended on) (ended_number on) (ap (link_at handle) stays ∙ stayed) (ap (λ n. number_at station n history) own)
+      (λ other two is differs. others other two (ap (link_at other) (sym stays) ∙ is) differs)
+      ∙ ap (λ may. if is_anchor slot link then Some (facts_entered link.setup slot (facts_in link)).event.channel else may) (ended_channel on number)
 
 -- the channel of the event that is entered then
 pub entered_channel : (slot : ℕ) (link : OpenLink)

@@ -5,6 +5,7 @@ use Rattle.ble_base.specs.declared.roles.Side.{Side}
 use Rattle.air_frame.specs.Packet.{access_octets}
 use Rattle.link_model.specs.Setup.{Setup as EndSetup}
 use Rattle.link_model.specs.Step.{PacketReceived}
+use Rattle.link_model.proofs.Received.{IsHeardWhole}
 use Rattle.open_links.specs.OpenLinks.{OpenLink, link_after, link_at}
 use Rattle.controller_model.specs.declared.doing.Turn.{Turn}
 use Rattle.controller_model.specs.Step.{Step}
@@ -15,8 +16,10 @@ use Rattle.run_model.specs.Links.{is_advertising}
 use Rattle.run_model.specs.Run.{Given, after_call, facts_at, setup_at, use_at}
 use Rattle.run_model.proofs.Stations.{is_in}
 use Rattle.run_model.proofs.Walk.{Place, AtPackets, IsKept}
+use Rattle.run_laws.specs.Ends.{HaveOneConnectInd}
 use Rattle.run_laws.proofs.Agreed.{ack_of}
 use Rattle.run_laws.proofs.Hearings.{other_facts}
+use Rattle.run_laws.proofs.InAgreement.{AllAgree}
 use Rattle.run_laws.proofs.TurnPlaces.{event_past}
 use Rattle.journal_links.specs.Opened.{central_side}
 use Rattle.journal_links.specs.Begun.{LinkBegun, link_numbered, links_begun}
@@ -27,7 +30,7 @@ use Rattle.journal_acks.specs.Exchange.{Exchanged, with_sent}
 use Rattle.journal_acks.proofs.Exchanging.{exchange_at, exchange_other, exchange_same, number_at, number_other}
 use Rattle.journal_acks.proofs.LinkUses.{listens_under, sends_under}
 use Rattle.journal_acks.proofs.TwoStations.{IsOfTwo, other_apart}
-use Rattle.std.proofs.lemmas.Bool.{eqb-true}
+use Rattle.std.proofs.lemmas.Bool.{eqb-true, eqb-false, false_from_ne_true}
 use Rattle.controller_model.specs.Side.{facts_of}
 
 -- ---- what is known of the links of a journal
@@ -50,6 +53,37 @@ pub record AreKnown (given : Given) (Q : Place → List Event → Type 0) : Type
   pub sends : (phases : ℕ) (done left : List ℕ) (station : ℕ) (history : List Event) → given.stations ≡ done ++ station ∷ left
       → Q (AtPackets phases done (station ∷ left)) history → (channel : ℕ) (octets : List ℕ) → use_at given station history ≡ Sends channel octets
       → is_advertising channel ≡ false → IsOfSendersLink given history station channel octets
+  -- no two open links of a station were opened in one slot
+  pub alone : (place : Place) (history : List Event) → Q place history → (station one other : ℕ) (a b : OpenLink) → is_in station given.stations ≡ true
+      → link_at one (facts_at given station history).links ≡ Some a → link_at other (facts_at given station history).links ≡ Some b → a.setup.opened ≡ b.setup.opened → one ≡ other
+  -- both open ends of a link are in agreement
+  pub agree : IsHeardWhole → (place : Place) (history : List Event) → Q place history → (one other : ℕ) → is_in one given.stations ≡ true → is_in other given.stations ≡ true
+      → (one == other) ≡ false → AllAgree (facts_at given one history).links (facts_at given other history).links
+
+-- two ends with one number have one CONNECT_IND
+pub one_begun : (history : List Event) (number other station station_too : ℕ) (one two : OpenLink) → number ≡ other → IsBegun history number station one.setup
+    → IsBegun history other station_too two.setup → HaveOneConnectInd one.setup two.setup
+one_begun history number other station station_too one two same begun begun_too =
+    let links : Some begun.link ≡ Some begun_too.link = sym begun.is_link ∙ ap (λ n. link_numbered n (journal_of history)) same ∙ begun_too.is_link in
+    let equal : begun.link ≡ begun_too.link = cc in record {
+      fields = sym begun.fields ∙ ap (λ (l : LinkBegun). l.fields) equal ∙ begun_too.fields;
+      opened = sym begun.slot ∙ ap (λ (l : LinkBegun). l.slot) equal ∙ begun_too.slot;
+    }
+
+-- the open links of a station have numbers of their own
+pub apart_numbers : (given : Given) (Q : Place → List Event → Type 0) → AreKnown given Q → (place : Place) (history : List Event) → Q place history
+    → (station one other : ℕ) (a b : OpenLink) → is_in station given.stations ≡ true → link_at one (facts_at given station history).links ≡ Some a
+    → link_at other (facts_at given station history).links ≡ Some b → (one == other) ≡ false → (number_at station one history == number_at station other history) ≡ false
+apart_numbers given Q known place history q station one other a b in_it is is_too differs =
+    false_from_ne_true (number_at station one history == number_at station other history) (λ same.
+    let both = one_begun history (number_at station one history) (number_at station other history) station station a b (eqb-true (number_at station one history) (number_at station other history) same)
+    (known.begun place history q station one a in_it is) (known.begun place history q station other b in_it is_too) in
+    eqb-false one other differs (known.alone place history q station one other a b in_it is is_too both.opened))
+
+-- so it is at a station after a history
+abbrev pub HaveOwnNumbers : Given → ℕ → List Event → Type 0
+HaveOwnNumbers given station history = (one other : ℕ) (a b : OpenLink) → link_at one (facts_at given station history).links ≡ Some a
+    → link_at other (facts_at given station history).links ≡ Some b → (one == other) ≡ false → (number_at station one history == number_at station other history) ≡ false
 
 -- ---- one end
 

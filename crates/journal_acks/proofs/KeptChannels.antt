@@ -1,5 +1,5 @@
 -- Each step of a run of a pair keeps the channels that its journal says its links are on.
-use Rattle.std.proofs.Common.{◌≡◌, ℕ, suc, ◌≤◌, ◌==◌, ◌⊎◌, inl, inr, Bool, true, false, Option, Some, None, List, [], ◌∷◌, ◌++◌, length, refl, sym, ap, subst, ◌∙◌}
+use Rattle.std.proofs.Common.{◌≡◌, ℕ, suc, ◌==◌, ◌⊎◌, inl, inr, Bool, true, false, Option, Some, None, List, [], ◌∷◌, ◌++◌, refl, sym, ap, subst, ◌∙◌}
 use Rattle.std.specs.Prelude.{All, map, take, if◌then◌else◌}
 use Rattle.std.proofs.lemmas.Bool.{eqb-true}
 use Rattle.link_model.proofs.Received.{IsHeardWhole}
@@ -8,14 +8,13 @@ use Rattle.link_model.specs.Events.{channel_after as channel_of_event, entries_i
 use Rattle.link_model.specs.Setup.{Setup as EndSetup}
 use Rattle.link_model.specs.Step.{PacketReceived}
 use Rattle.open_links.specs.OpenLinks.{OpenLink, facts_in, link_after, link_at, new_link}
-use Rattle.open_links.specs.Turns.{entered_if, is_anchor, links_staying}
+use Rattle.open_links.specs.Turns.{entered_if, is_anchor}
 use Rattle.open_links.proofs.Handles.{handle_is}
 use Rattle.controller_model.specs.Step.{Step, HostOctet, TurnBegins, TurnEnds}
 use Rattle.controller_model.specs.Facts.{Facts}
 use Rattle.controller_model.specs.Heard.{has_room}
 use Rattle.controller_model.specs.Outcome.{notes_passed}
 use Rattle.controller_model.specs.Side.{facts_after, notes_after}
-use Rattle.controller_model.proofs.Handles.{staying_opens}
 use Rattle.controller_model.proofs.LinkNotes.{IsOfOthers, phase_too}
 use Rattle.controller_model.proofs.Phases.{heard_is, unheard_is}
 use Rattle.run_model.specs.Feeding.{AreDistinct}
@@ -24,14 +23,14 @@ use Rattle.run_model.specs.Journal.{side_of}
 use Rattle.run_model.specs.LinkEnds.{HaveAddresses}
 use Rattle.run_model.specs.Run.{Given, after_call, after_feed, after_octets, facts_at, hearings_of, octets_left, setup_at, step_of}
 use Rattle.run_model.proofs.Stations.{is_in, among, not_before}
-use Rattle.run_model.proofs.Walk.{Place, AtListening, IsKept}
+use Rattle.run_model.proofs.Walk.{Place, AtBegins, AtListening, IsKept}
 use Rattle.run_laws.proofs.Hearings.{other_facts}
-use Rattle.run_laws.proofs.InAgreement.{IsPair, IsStation, differs_back, few_links}
+use Rattle.run_laws.proofs.InAgreement.{IsStation, differs_back}
 use Rattle.run_laws.proofs.TurnPlaces.{Within, at_stage}
 use Rattle.journal_packets.specs.Belonging.{is_side}
 use Rattle.journal_acks.proofs.CallNotes.{begin_noted, end_noted, octet_noted}
 use Rattle.journal_acks.proofs.ChannelLines.{EntersNone, air_channel, begins_channel, channel_at, channel_called, channel_other, entered_channel, feed_channel, feeds_none, turn_channel}
-use Rattle.journal_acks.proofs.Counting.{AreKnown, facts_event}
+use Rattle.journal_acks.proofs.Counting.{AreKnown, HaveOwnNumbers, apart_numbers, facts_event}
 use Rattle.journal_acks.proofs.EnteredLinks.{entries_fixed, entries_received, entries_sent}
 use Rattle.journal_acks.proofs.Exchanging.{OpensNone, number_at, number_called, number_other, number_quiet, number_sent, opening_none}
 use Rattle.journal_acks.proofs.KeptCounts.{AreCountedAt, counts_kept, own_at}
@@ -39,7 +38,7 @@ use Rattle.journal_acks.proofs.LinkCalls.{HasPassed, IsNew, IsOpenedNow, Stays, 
 use Rattle.journal_acks.proofs.LinkUses.{sends_under}
 use Rattle.journal_acks.proofs.Standing.{PhasedBy, phased_at}
 use Rattle.journal_acks.proofs.TwoStations.{IsOfTwo, other_is, side_differs}
-use Rattle.journal_acks.proofs.UnderHandles.{end_under, octet_under, sent_if}
+use Rattle.journal_acks.proofs.UnderHandles.{end_under, octet_under, sent_if, staying_under}
 
 -- an end with this setup and this number of events is on the channel of the last of them
 pub data IsOnChannel (end : EndSetup) (entries : ℕ) (may : Option ℕ) : Type 0 where
@@ -138,12 +137,12 @@ begun_on : (anchor : Bool) (slot : ℕ) (link : OpenLink) (may : Option ℕ) →
 begun_on true slot link may is = OnChannel (ap Some (entered_channel slot link))
 begun_on false slot link may is = is
 
-begin_own : (given : Given) → IsPair given → (station slot : ℕ) (on : Bool) (history : List Event) → is_in station given.stations ≡ true
-    → IsStation (setup_at given station) (facts_at given station history) → AreOnChannels given history
+begin_own : (given : Given) → (station slot : ℕ) (on : Bool) (history : List Event) → is_in station given.stations ≡ true
+    → IsStation (setup_at given station) (facts_at given station history) → HaveOwnNumbers given station history → AreOnChannels given history
     → (handle : ℕ) (link : OpenLink) → link_at handle (facts_at given station (after_call given station (TurnBegins slot on) history)).links ≡ Some link
     → IsOnChannel link.setup (entries_in link.past)
     (channel_at (number_at station handle (after_call given station (TurnBegins slot on) history)) station (after_call given station (TurnBegins slot on) history))
-begin_own given pair station slot on history is is_station are handle link at =
+begin_own given station slot on history is is_station apart are handle link at =
     let setup = setup_at given station in
     let facts = facts_at given station history in
     let step = TurnBegins slot on in
@@ -151,8 +150,6 @@ begin_own given pair station slot on history is is_station are handle link at =
     let begun = begins_under setup facts slot on handle link (own_at given station step history handle link at) in
     let base = begun.link in
     let anchor = is_anchor slot base in
-    let few : length (links_staying slot facts.links) ≤ 1 =
-    subst (λ n. n ≤ 1) (sym (staying_opens slot facts.links).many) (few_links given pair station facts is_station) in
     let own = handle_is 0 handle facts.links base is_station.own.handles begun.was in
     let number = number_called given station step history handle (begin_noted (OpensNone handle) (opening_none handle) setup slot on facts) in
     moved base.setup link.setup (entries_in (entered_if anchor slot base).past) (entries_in link.past) _ _
@@ -160,7 +157,11 @@ begin_own given pair station slot on history is is_station are handle link at =
     ∙ fixed_setup begun.fixes begun.entered ∙ begun.setup_is)
     (ap (λ (l : OpenLink). entries_in l.past) begun.is ∙ entries_sent (sends_under handle next.turn.doing) slot begun.base ∙ ap (λ (l : OpenLink). entries_in l.past) begun.base_is
     ∙ entries_fixed begun.fixes begun.entered ∙ ap entries_in begun.past_is)
-    (ap (λ n. channel_at n station (after_call given station step history)) number ∙ begins_channel given station slot history on handle base few begun.stayed own)
+    (ap (λ n. channel_at n station (after_call given station step history)) number ∙ begins_channel given station slot history on handle base begun.stayed own
+    (λ other two at_other differs.
+    let was = (staying_under slot other facts.links two at_other).was in
+    ap (λ n. number_at station n history == number_at station handle history) (handle_is 0 other facts.links two is_station.own.handles was)
+    ∙ apart other handle two base was begun.was differs))
     (begun_on anchor slot base (channel_at (number_at station handle history) station history) (are station handle base is begun.was))
 
 -- ---- a phase passes
@@ -240,9 +241,9 @@ pub record AreChannelledAt (given : Given) (Q : Place → List Event → Type 0)
   pub is : AreCountedAt given Q place history
   pub channels : AreOnChannels given history
 
-pub channels_kept : IsHeardWhole → (given : Given) (Q : Place → List Event → Type 0) → AreKnown given Q → IsOfTwo given → IsPair given → HaveAddresses given → AreDistinct given.stations
+pub channels_kept : IsHeardWhole → (given : Given) (Q : Place → List Event → Type 0) → AreKnown given Q → IsOfTwo given → HaveAddresses given → AreDistinct given.stations
     → IsKept given (AreChannelledAt given Q)
-channels_kept whole given Q known are_two pair six distinct = let kept = counts_kept whole given Q known are_two pair six distinct in record {
+channels_kept whole given Q known are_two six distinct = let kept = counts_kept whole given Q known are_two six distinct in record {
   on_turn = λ slot plan history begun at has.
       let event = TurnBegan slot (map plan.radio_of given.stations) in record {
         is = kept.on_turn slot plan history begun at has.is;
@@ -259,7 +260,9 @@ channels_kept whole given Q known are_two pair six distinct = let kept = counts_
       let in_it = among given.stations done left station are in record {
         is = kept.on_begin slot plan done left station history are due has.is;
         channels = channels_call given are_two station (TurnBegins slot on) history in_it
-            (begin_own given pair station slot on history in_it (has.is.holds.so_far.last.each station in_it) has.channels) has.channels;
+            (begin_own given station slot on history in_it (has.is.holds.so_far.last.each station in_it)
+            (λ one other a b at at_other differs. apart_numbers given Q known (AtBegins done (station ∷ left)) history has.is.known station one other a b in_it at at_other differs)
+            has.channels) has.channels;
       };
   on_begun = λ history has. record { is = kept.on_begun history has.is; channels = has.channels };
   on_phase = λ phases history few has. record { is = kept.on_phase phases history few has.is; channels = has.channels };

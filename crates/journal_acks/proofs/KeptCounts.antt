@@ -1,7 +1,7 @@
 -- Each step of a run of a pair keeps what the counts of its journal are, end by end.
-use Rattle.std.proofs.Common.{◌≡◌, ℕ, suc, ◌+◌, ◌-◌, ◌<◌, ◌≤◌, ◌==◌, ◌⊎◌, inl, inr, Bool, true, false, not, Option, Some, None, List, [], ◌∷◌, ◌++◌, length, refl, sym, ap, subst, ◌∙◌, arith}
+use Rattle.std.proofs.Common.{◌≡◌, ℕ, suc, ◌+◌, ◌-◌, ◌<◌, ◌==◌, ◌⊎◌, inl, inr, Bool, true, false, not, Option, Some, None, List, [], ◌∷◌, ◌++◌, length, refl, sym, ap, subst, ◌∙◌, arith}
 use Rattle.std.specs.Prelude.{All, map, take, if◌then◌else◌}
-use Rattle.std.proofs.lemmas.Bool.{eqb-true}
+use Rattle.std.proofs.lemmas.Bool.{eqb-true, false_from_ne_true}
 use Rattle.std.proofs.lemmas.List.Elements.{All-nil}
 use Rattle.ble_base.specs.Side.{other_side}
 use Rattle.ble_base.specs.declared.notes.Note.{Note}
@@ -35,7 +35,7 @@ use Rattle.run_laws.proofs.Agreed.{ack_of}
 use Rattle.run_laws.proofs.ByCalls.{Holds, holds_kept}
 use Rattle.run_laws.proofs.Hearings.{own_facts, use_sent_at, wanted_is}
 use Rattle.run_laws.proofs.Entering.{IsInTurn}
-use Rattle.run_laws.proofs.InAgreement.{AreStations, IsPair, IsStation, OpenedBefore, agreement_kept, differs_back, few_links}
+use Rattle.run_laws.proofs.InAgreement.{AreStations, IsStation, OpenedBefore, differs_back, stations_kept}
 use Rattle.run_laws.proofs.LinkPasses.{is_on_link}
 use Rattle.run_laws.proofs.OpenSteps.{open_has}
 use Rattle.run_laws.proofs.SentPackets.{IsUseSent}
@@ -47,7 +47,7 @@ use Rattle.journal_acks.specs.Exchange.{Exchanged, after_taking, with_taken}
 use Rattle.journal_acks.proofs.Acks.{link_sends}
 use Rattle.journal_acks.proofs.AirCounts.{advertises, any_sending, first_aired, packet_counted, packet_to_take}
 use Rattle.journal_acks.proofs.CallNotes.{HasNoData, TakesNone, all_more, begin_noted, doing_noted, end_noted, no_data, none_taken, octet_noted}
-use Rattle.journal_acks.proofs.Counting.{AreCountedSo, AreKnown, AreToTake, IsEndCounted, ahead_if, alike_counted, counted_call, counted_event, counted_same, from_plain, from_sent, moved, none_to_take, plain, take_call, taking_if}
+use Rattle.journal_acks.proofs.Counting.{AreCountedSo, AreKnown, AreToTake, IsEndCounted, ahead_if, alike_counted, apart_numbers, counted_call, counted_event, counted_same, from_plain, from_sent, moved, none_to_take, plain, take_call, taking_if}
 use Rattle.journal_acks.proofs.DataCalls.{begin_call, on_link_notes, phase_call, unfound}
 use Rattle.journal_acks.proofs.Exchanging.{OpensNone, exchange_at, exchange_called, exchange_took, feed_quiet, number_at, number_called, number_quiet, opening_none, turn_quiet}
 use Rattle.journal_acks.proofs.FirstCounts.{AreFirst, IsCallOf, IsFirst, OfNone, first_called, first_event, first_event_at, first_of}
@@ -55,7 +55,7 @@ use Rattle.journal_acks.proofs.LinkCalls.{HasPassed, IsNew, IsOpenedNow, Stays, 
 use Rattle.journal_acks.proofs.LinkUses.{listens_under, sends_under}
 use Rattle.journal_acks.proofs.PhaseNotes.{IsOnLink, IsPhaseOf, IsPlainPhase, IsTakenSo, Noted, Unnoted, phase_of, same_but, taken_so}
 use Rattle.journal_acks.proofs.SentLines.{air_line, feed_line, turn_line}
-use Rattle.journal_acks.proofs.Standing.{PhasedBy, fresh_counted, last_phase, one_link, phased_at, sending_on_link, silent_sends}
+use Rattle.journal_acks.proofs.Standing.{PhasedBy, fresh_counted, last_phase, phased_at, sending_on_link, silent_sends}
 use Rattle.journal_acks.proofs.TwoStations.{IsOfTwo, air_quiet, hearing_of, one_hearing, other_is, own_differs, own_received, side_same}
 use Rattle.journal_acks.proofs.UnderHandles.{end_under, octet_under, sent_if}
 
@@ -190,20 +190,29 @@ module _ (given : Given) (station : ℕ) (step : Step) (history : List Event) (h
   pub own_at : link_at handle (facts_after (setup_at given station) (facts_at given station history) step).links ≡ Some link
   own_at = ap (λ (f : Facts). link_at handle f.links) (sym (own_facts given station step history)) ∙ at
 
-  -- its counts, by those of the journal before, where no PDU is taken
-  pub own_moved : (received : Option (List ℕ)) → All TakesNone (notes_after (setup_at given station) (facts_at given station history) step)
+  -- its counts, by those of the journal before, where the call leaves those
+  pub own_moved : (received : Option (List ℕ))
+      → exchange_at (number_at station handle history) (after_call given station step history) (side_of station) ≡ exchange_at (number_at station handle history) history (side_of station)
       → number_at station handle (after_call given station step history) ≡ number_at station handle history
       → IsEndCounted true received handle (facts_after (setup_at given station) (facts_at given station history) step).turn link (exchange_at (number_at station handle history) history (side_of station))
       → IsEndCounted true received handle (facts_at given station (after_call given station step history)).turn link
       (exchange_at (number_at station handle (after_call given station step history)) (after_call given station step history) (side_of station))
-  own_moved received none number is =
+  own_moved received exchange number is =
       let after = after_call given station step history in
       moved handle link true true received received (facts_after (setup_at given station) (facts_at given station history) step).turn
       (facts_at given station after).turn (exchange_at (number_at station handle history) history (side_of station))
       (exchange_at (number_at station handle after) after (side_of station)) refl refl
       (ap (λ (f : Facts). f.turn) (own_facts given station step history))
-      (ap (λ n. exchange_at n after (side_of station)) number
-      ∙ ap (λ (ends : Side → Exchanged). ends (side_of station)) (exchange_called given (number_at station handle history) station step history none)) is
+      (ap (λ n. exchange_at n after (side_of station)) number ∙ exchange) is
+
+  -- where no PDU is taken
+  pub own_quiet : (received : Option (List ℕ)) → All TakesNone (notes_after (setup_at given station) (facts_at given station history) step)
+      → number_at station handle (after_call given station step history) ≡ number_at station handle history
+      → IsEndCounted true received handle (facts_after (setup_at given station) (facts_at given station history) step).turn link (exchange_at (number_at station handle history) history (side_of station))
+      → IsEndCounted true received handle (facts_at given station (after_call given station step history)).turn link
+      (exchange_at (number_at station handle (after_call given station step history)) (after_call given station step history) (side_of station))
+  own_quiet received none number is =
+      own_moved received (ap (λ (ends : Side → Exchanged). ends (side_of station)) (exchange_called given (number_at station handle history) station step history none)) number is
 
 begin_own : (given : Given) (station slot : ℕ) (on : Bool) (history : List Event) → is_in station given.stations ≡ true → (facts_at given station history).turn.doing ≡ Rests
     → (received : Option (List ℕ)) → AreCountedSo given history (λ one. true) (λ one. packet_received one history)
@@ -220,7 +229,7 @@ begin_own given station slot on history is rests received counted handle link at
     (λ listens. absurd (let h : true ≡ false = sym listens ∙ ap (listens_under handle) rests in absurd cc)) (counted station handle begun.link is begun.was) in
     let base = subst (IsCounted end) (sym (base_ack facts slot on handle next.turn.doing link begun)) before in
     let sends = sends_under handle next.turn.doing in
-    own_moved given station (TurnBegins slot on) history handle link at received (begin_noted TakesNone none_taken setup slot on facts)
+    own_quiet given station (TurnBegins slot on) history handle link at received (begin_noted TakesNone none_taken setup slot on facts)
     (number_called given station (TurnBegins slot on) history handle (begin_noted (OpensNone handle) (opening_none handle) setup slot on facts))
     (from_sent sends received handle next.turn link end refl (λ listens. none)
     (subst (λ l. IsCounted (ahead_if sends end) (ack_of l)) (sym begun.is) (sent_counted sends slot begun.base end base)))
@@ -238,12 +247,12 @@ end_own given station history is silent received heard none counted handle link 
     let end = exchange_at (number_at station handle history) history (side_of station) in
     let was = end_under setup facts handle link (own_at given station TurnEnds history handle link at) in
     let before = plain true (packet_received station history) handle facts.turn was.link end (silent handle) (λ listens. heard) (counted station handle was.link is was.was) in
-    own_moved given station TurnEnds history handle link at received (end_noted TakesNone none_taken.starts.feeds setup facts)
+    own_quiet given station TurnEnds history handle link at received (end_noted TakesNone none_taken.starts.feeds setup facts)
     (number_called given station TurnEnds history handle (end_noted (OpensNone handle) (opening_none handle).starts.feeds setup facts))
     (from_plain true received handle next.turn link end refl (λ listens. none) (subst (IsCounted end) (sym was.ack) before))
 
 -- a phase passes, at the station whose call it is
-module _ (given : Given) (Q : Place → List Event → Type 0) (known : AreKnown given Q) (pair : IsPair given) (distinct : AreDistinct given.stations) (phases : ℕ) (done left : List ℕ) (station : ℕ) (history : List Event)
+module _ (given : Given) (Q : Place → List Event → Type 0) (known : AreKnown given Q) (distinct : AreDistinct given.stations) (phases : ℕ) (done left : List ℕ) (station : ℕ) (history : List Event)
     (are : given.stations ≡ done ++ station ∷ left) (is : AreCountedAt given Q (AtListening phases done (station ∷ left)) history)
     (q : Q (AtListening phases (done ++ station ∷ []) left) (after_call given station (step_of (packet_received station history)) history))
     (holds : Holds given (AreStations given) (AtListening phases (done ++ station ∷ []) left) (after_call given station (step_of (packet_received station history)) history)) where
@@ -275,9 +284,6 @@ module _ (given : Given) (Q : Place → List Event → Type 0) (known : AreKnown
 
   pub station_is : IsStation setup facts
   station_is = is.holds.so_far.last.each station in_it
-
-  pub few : length facts.links ≤ 1
-  few = few_links given pair station facts station_is
 
   none_after : packet_received station after ≡ None
   none_after = received_by given station station (step_of received) history true (same_station station)
@@ -312,23 +318,40 @@ module _ (given : Given) (Q : Place → List Event → Type 0) (known : AreKnown
       subst (λ b. IsEndCounted b received handle facts.turn link (exchange_at (number_at station handle history) history (side_of station)))
       (not_before given.stations done left station distinct are) (is.counted station handle link in_it at)
 
-  -- what a link receives on which nothing was received is of no other
-  none_taken_by : (handle : ℕ) (link : OpenLink) → link_at handle facts.links ≡ Some link → (listens_under handle facts.turn.doing ≡ true → received ≡ None)
-      → IsPhaseOf setup facts received → All TakesNone notes
-  none_taken_by handle link at nothing (IsPlainPhase none plain) = all_more HasNoData TakesNone (λ note has. has.takes) notes plain
-  none_taken_by handle link at nothing (IsOnLink other octets some listens heard_is) = by (link_at other facts.links) refl
-    where
-      are_notes : notes_after (setup_at given station) (facts_at given station history) (step_of (packet_received station history))
-          ≡ notes_passed (link_heard (setup_at given station) other octets (facts_at given station history))
-      are_notes = on_link_notes (setup_at given station) (facts_at given station history) (packet_received station history) other octets some (ap notes_passed heard_is)
+  -- what is taken on another link
+  other_taken : (number other : ℕ) (two : OpenLink) (octets : List ℕ) → link_at other facts.links ≡ Some two → (number_at station other history == number) ≡ false → (rest : List Note)
+      → notes ≡ notes_taken facts.turn.slot (has_room setup facts) (Some two) octets ++ rest → All TakesNone rest → IsTakenSo facts.turn.slot octets (has_room setup facts) two
+      → exchange_at number after ≡ exchange_at number history
+  other_taken number other two octets found apart rest are_notes none (Unnoted nothing same) =
+      exchange_called given number station (step_of received) history (subst (All TakesNone) (sym (are_notes ∙ ap (λ xs. xs ++ rest) nothing)) none)
+  other_taken number other two octets found apart rest are_notes none (Noted count llid body noted same) =
+      let own = handle_is 0 other facts.links two station_is.own.handles found in
+      exchange_took given number station (step_of received) history two.setup.link.handle count llid body rest (are_notes ∙ ap (λ xs. xs ++ rest) noted) none
+      ∙ ap (λ b. if b then after_taking (side_of station) (exchange_at number history) else exchange_at number history) (ap (λ n. number_at station n history == number) own ∙ apart)
 
-      by : (found : Option OpenLink) → link_at other (facts_at given station history).links ≡ found
-          → All TakesNone (notes_after (setup_at given station) (facts_at given station history) (step_of (packet_received station history)))
-      by None absent = subst (All TakesNone) (sym (are_notes ∙ unfound (setup_at given station) (facts_at given station history) other octets absent)) (All-nil TakesNone)
-      by (Some two) found =
-          let one = one_link facts.links other handle two link few found at in
-          let on = listens handle ∙ ap (λ n. n == handle) one.handles ∙ same_station handle in
-          absurd (let h : Some octets ≡ None = sym some ∙ nothing on in absurd cc)
+  other_heard : (handle : ℕ) (link : OpenLink) → link_at handle facts.links ≡ Some link → (other : ℕ) (octets : List ℕ) → (other == handle) ≡ false
+      → notes ≡ notes_passed (link_heard setup other octets facts) → (found : Option OpenLink) → link_at other facts.links ≡ found
+      → exchange_at (number_at station handle history) after ≡ exchange_at (number_at station handle history) history
+  other_heard handle link at other octets differs are_notes None absent =
+      exchange_called given (number_at station handle history) station (step_of received) history
+      (subst (All TakesNone) (sym (are_notes ∙ unfound setup facts other octets absent)) (All-nil TakesNone))
+  other_heard handle link at other octets differs are_notes (Some two) found =
+      let reply = reply_if (replies_in (link_at other facts.links) octets) other in
+      let after_it = link_received other (has_room setup facts) octets facts in
+      let apart = apart_numbers given Q known (AtListening phases done (station ∷ left)) history is.known station other handle two link in_it found at differs in
+      other_taken (number_at station handle history) other two octets found apart (notes_doing reply after_it)
+      (are_notes ∙ ap (λ may. notes_taken facts.turn.slot (has_room setup facts) may octets ++ notes_doing reply after_it) found)
+      (doing_noted TakesNone (λ one number llid body. refl) reply after_it) (taken_so facts.turn.slot octets (has_room setup facts) two)
+
+  -- the counts of a link on which nothing was received stay
+  unmoved : (handle : ℕ) (link : OpenLink) → link_at handle facts.links ≡ Some link → (listens_under handle facts.turn.doing ≡ true → received ≡ None)
+      → IsPhaseOf setup facts received → exchange_at (number_at station handle history) after ≡ exchange_at (number_at station handle history) history
+  unmoved handle link at nothing (IsPlainPhase none plain) =
+      exchange_called given (number_at station handle history) station (step_of received) history (all_more HasNoData TakesNone (λ note has. has.takes) notes plain)
+  unmoved handle link at nothing (IsOnLink other octets some listens heard_is) =
+      let differs : (other == handle) ≡ false = false_from_ne_true (other == handle) (λ same.
+      let h : Some octets ≡ None = sym some ∙ nothing (listens handle ∙ same) in absurd cc) in
+      other_heard handle link at other octets differs (on_link_notes setup facts received other octets some (ap notes_passed heard_is)) (link_at other facts.links) refl
 
   -- what it takes, it takes as it is noted
   abbrev room : Bool
@@ -380,7 +403,8 @@ module _ (given : Given) (Q : Place → List Event → Type 0) (known : AreKnown
   passed handle link at number (IsNew end made opened off) = fresh handle link at (ap (λ (l : OpenLink). l.setup.opened) made ∙ opened)
   passed handle link at number (Stays was none nothing listened) =
       let end = exchange_at (number_at station handle history) history (side_of station) in
-      own_moved given station (step_of received) history handle link at (packet_received station after) (none_taken_by handle link was nothing (phase_of setup facts received)) number
+      own_moved given station (step_of received) history handle link at (packet_received station after)
+      (ap (λ (ends : Side → Exchanged). ends (side_of station)) (unmoved handle link was nothing (phase_of setup facts received))) number
       (from_plain true (packet_received station after) handle next.turn link end none (λ listens. none_after)
       (was_plain received handle facts.turn link end nothing (before_call handle link was)))
   passed handle link at number (Takes base octets was some on same) =
@@ -417,7 +441,7 @@ later_sender one done station out false is = refl
 
 -- ---- each step
 
-module _ (whole : IsHeardWhole) (given : Given) (Q : Place → List Event → Type 0) (known : AreKnown given Q) (are_two : IsOfTwo given) (pair : IsPair given) (six : HaveAddresses given)
+module _ (whole : IsHeardWhole) (given : Given) (Q : Place → List Event → Type 0) (known : AreKnown given Q) (are_two : IsOfTwo given) (six : HaveAddresses given)
     (distinct : AreDistinct given.stations) where
   P : Place → List Event → Type 0
   P place history = AreCountedAt given Q place history
@@ -514,7 +538,7 @@ module _ (whole : IsHeardWhole) (given : Given) (Q : Place → List Event → Ty
       record { link = begun.link; is_link = begun.is_link; before = omega (arith, before, now, slot) }) slot on
 
   pub counts_kept : IsKept given (AreCountedAt given Q)
-  counts_kept = let kept = holds_kept given (AreStations given) (agreement_kept whole given pair) six distinct in record {
+  counts_kept = let kept = holds_kept given (AreStations given) (stations_kept given) six distinct in record {
     on_turn = λ slot plan history begun at is.
         let event = TurnBegan slot (map plan.radio_of given.stations) in record {
           known = known.kept.on_turn slot plan history begun at is.known;
@@ -592,9 +616,9 @@ module _ (whole : IsHeardWhole) (given : Given) (Q : Place → List Event → Ty
           holds = kept.on_packet phases plan done left station channel octets history are some due is.holds;
           first = packet_first phases done left station channel octets plan.fates history are due.is_wanted is;
           silent = packet_silent phases done left station channel octets plan.fates history in_it is.silent;
-          to_take = packet_to_take whole given Q known are_two pair six distinct phases done left station channel octets plan.fates history are due.is_wanted is.known is.holds is.counted
+          to_take = packet_to_take whole given Q known are_two six distinct phases done left station channel octets plan.fates history are due.is_wanted is.known is.holds is.counted
               due.is_seen (λ other is_other differs. is.silent other station is_other in_it differs out);
-          counted = packet_counted whole given Q known are_two pair six distinct phases done left station channel octets plan.fates history are due.is_wanted is.known is.holds is.counted
+          counted = packet_counted whole given Q known are_two six distinct phases done left station channel octets plan.fates history are due.is_wanted is.known is.holds is.counted
               due.is_seen (λ other is_other differs. is.silent other station is_other in_it differs out);
         };
     on_air = λ phases history is. record {
@@ -615,14 +639,14 @@ module _ (whole : IsHeardWhole) (given : Given) (Q : Place → List Event → Ty
         let after = after_call given station step history in record {
           known = q;
           holds = holds;
-          first = first_called given station step history (call_is given Q known pair distinct phases done left station history are is q holds) is.first;
+          first = first_called given station step history (call_is given Q known distinct phases done left station history are is q holds) is.first;
           silent = tt;
           to_take = take_call given station step history (received_by given station station step history true (same_station station))
               (λ other differs. received_by given other station step history false differs) is.to_take;
           counted = counted_call given are_two station step history (λ one. is_in one done) (λ one. is_in one (done ++ station ∷ [])) (λ one. packet_received one history) (λ one. packet_received one after) in_it
               (λ handle link at. subst (λ b. IsEndCounted b (packet_received station after) handle (facts_at given station after).turn link (exchange_at (number_at station handle after) after (side_of station)))
               (sym (in_more_same station station done (same_station station)))
-              (passes_own given Q known pair distinct phases done left station history are is q holds handle link at))
+              (passes_own given Q known distinct phases done left station history are is q holds handle link at))
               (λ other is_too differs. in_more_other other station done differs) (λ other is_too differs. received_by given other station step history false differs) is.counted;
         };
     on_heard = λ phases history is. record {

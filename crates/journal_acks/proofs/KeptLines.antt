@@ -1,7 +1,7 @@
 -- Each step of a run of a pair keeps which PDU the lines of new PDUs say that an end has sent last.
-use Rattle.std.proofs.Common.{◌≡◌, ℕ, ◌+◌, ◌-◌, ◌<◌, ◌≤◌, ◌==◌, ◌&&◌, ◌⊎◌, inl, inr, not, Bool, true, false, Option, Some, None, List, [], ◌∷◌, ◌++◌, length, refl, sym, ap, subst, ◌∙◌, append-nil, arith}
+use Rattle.std.proofs.Common.{◌≡◌, ℕ, ◌+◌, ◌-◌, ◌<◌, ◌==◌, ◌&&◌, ◌⊎◌, inl, inr, not, Bool, true, false, Option, Some, None, List, [], ◌∷◌, ◌++◌, length, refl, sym, ap, subst, ◌∙◌, append-nil, arith}
 use Rattle.std.specs.Prelude.{All, map, take, if◌then◌else◌}
-use Rattle.std.proofs.lemmas.Bool.{eqb-true, eq-eqb, ne_eqb}
+use Rattle.std.proofs.lemmas.Bool.{eqb-true, eq-eqb, false_from_ne_true, ne_eqb}
 use Rattle.std.proofs.lemmas.List.{length_push}
 use Rattle.std.proofs.lemmas.List.Elements.{All-nil}
 use Rattle.ble_base.specs.declared.notes.Note.{Note}
@@ -13,7 +13,6 @@ use Rattle.link_model.specs.Step.{PacketReceived}
 use Rattle.link_model.proofs.Received.{IsHeardWhole}
 use Rattle.open_links.specs.OpenLinks.{OpenLink, facts_in, link_after, link_at}
 use Rattle.open_links.specs.Turns.{notes_entering}
-use Rattle.open_links.proofs.Counts.{count_changing}
 use Rattle.open_links.proofs.Handles.{handle_is}
 use Rattle.controller_model.specs.declared.doing.Doing.{Doing}
 use Rattle.controller_model.specs.declared.doing.Doing.TheVariants.{Rests}
@@ -22,6 +21,7 @@ use Rattle.controller_model.specs.Facts.{Setup, Facts}
 use Rattle.controller_model.specs.Heard.{has_room, link_heard, link_received, notes_taken, replies_in, reply_if}
 use Rattle.controller_model.specs.Links.{facts_ending, notes_ending}
 use Rattle.controller_model.specs.Outcome.{Outcome, notes_passed}
+use Rattle.controller_model.specs.Packets.{notes_doing}
 use Rattle.controller_model.specs.Radio.{outcome_begun}
 use Rattle.controller_model.specs.Side.{facts_after, notes_after}
 use Rattle.run_model.specs.Feeding.{AreDistinct}
@@ -35,26 +35,26 @@ use Rattle.run_model.proofs.Walk.{Place, AtBegins, AtListening, IsKept}
 use Rattle.run_laws.proofs.Agreed.{ack_of, ack_sent, sent_ack}
 use Rattle.run_laws.proofs.ByCalls.{Holds}
 use Rattle.run_laws.proofs.Hearings.{other_facts, own_facts}
-use Rattle.run_laws.proofs.InAgreement.{AreStations, IsFresh, IsPair, IsStation, differs_back}
+use Rattle.run_laws.proofs.InAgreement.{AreStations, IsFresh, IsStation, differs_back}
 use Rattle.run_laws.proofs.OpenSteps.{open_has}
 use Rattle.run_laws.proofs.TurnPlaces.{Between, Within, at_stage}
 use Rattle.run_laws.proofs.TurnSteps.{phase_turn}
 use Rattle.journal_packets.specs.Belonging.{is_side}
 use Rattle.journal_acks.specs.Carried.{SentLine, pdu_carried}
 use Rattle.journal_acks.proofs.CallNotes.{HasNoData, SendsNone, all_more, begin_noted, end_noted, no_data, octet_noted, start_noted}
-use Rattle.journal_acks.proofs.Counting.{AreCountedSo, AreKnown, facts_event, plain}
+use Rattle.journal_acks.proofs.Counting.{AreCountedSo, AreKnown, HaveOwnNumbers, apart_numbers, facts_event, plain}
 use Rattle.journal_acks.proofs.DataCalls.{on_link_notes, own_begun, received_at, unfound}
 use Rattle.journal_acks.proofs.Exchanging.{OpensNone, exchange_at, number_at, number_called, number_other, number_quiet, number_sent, opening_none}
 use Rattle.journal_acks.proofs.FirstCounts.{first_called, first_of}
 use Rattle.journal_acks.proofs.FixedPdus.{fixed_empty}
 use Rattle.journal_acks.proofs.KeptChannels.{AreChannelledAt, channels_kept}
-use Rattle.journal_acks.proofs.KeptCounts.{AreCountedAt, before_call, call_is, few, own_at, phased, station_is, was_taking}
-use Rattle.journal_acks.proofs.LinkCalls.{HasPassed, IsNew, IsOpenedNow, Stays, Takes, base_ack, begins_under, passes_under, phase_quiet, taken_noted}
+use Rattle.journal_acks.proofs.KeptCounts.{AreCountedAt, before_call, call_is, own_at, phased, station_is, was_taking}
+use Rattle.journal_acks.proofs.LinkCalls.{HasBegun, HasPassed, IsNew, IsOpenedNow, Stays, Takes, base_ack, begins_under, begun_before, passes_under, phase_quiet, taken_noted}
 use Rattle.journal_acks.proofs.LinkUses.{listens_under, sends_under}
-use Rattle.journal_acks.proofs.PhaseNotes.{IsOnLink, IsPhaseOf, IsPlainPhase, HasSentSame, doing_notes, notes_when, phase_of, same_but, sent_same}
+use Rattle.journal_acks.proofs.PhaseNotes.{IsOnLink, IsPhaseOf, IsPlainPhase, HasSentSame, SendsFrom, SendsNothing, SendsOne, doing_notes, notes_when, phase_of, same_but, sends_from, sent_same}
 use Rattle.journal_acks.proofs.SentLines.{air_line, feed_line, line_called, line_other, line_sent, sent_line_at, turn_line}
-use Rattle.journal_acks.proofs.Standing.{PhasedBy, one_link, phased_at}
-use Rattle.journal_acks.proofs.TwoStations.{IsOfTwo, other_is, same_number, side_differs}
+use Rattle.journal_acks.proofs.Standing.{PhasedBy, phased_at, reply_under, sends_once}
+use Rattle.journal_acks.proofs.TwoStations.{IsOfTwo, other_is, side_differs}
 use Rattle.journal_acks.proofs.UnderHandles.{end_under, octet_under, sent_if}
 
 -- the PDU that an end has sent last is that of the line, if no other was sent since, and else an empty one
@@ -192,6 +192,31 @@ module _ (given : Given) where
         lined_ack line _ (ack_of base) (ack_of after)
         (line_called given number station step history (side_of station) (subst (All SendsNone) (sym (are ∙ append-nil earlier)) none)) (ap ack_of is) lined
 
+  -- a call in which another link may send one
+  module _ (station : ℕ) (step : Step) (history : List Event) (number : ℕ) (earlier : List Note) (none : All SendsNone earlier) (opens : (handle : ℕ) → All (OpensNone handle) earlier) where
+    other_sent : (noted : Bool) (link : OpenLink) → (number_at station link.setup.link.handle history == number) ≡ false
+        → notes_after (setup_at given station) (facts_at given station history) step ≡ earlier ++ sent_notes_if noted link.setup.link.handle (facts_in link)
+        → sent_line_at number (after_call given station step history) (side_of station) ≡ sent_line_at number history (side_of station)
+    other_sent true link apart are =
+        line_sent given number station step history link.setup.link.handle _ _ _ earlier are none (opens link.setup.link.handle)
+        ∙ ap (λ (b : Bool). if b then line_next true (facts_in link) (exchange_at number history (side_of station)).acked (sent_line_at number history (side_of station))
+        else sent_line_at number history (side_of station)) apart
+    other_sent false link apart are = line_called given number station step history (side_of station) (subst (All SendsNone) (sym (are ∙ append-nil earlier)) none)
+
+    pub others_send : (doing : Doing) (then_on : Facts)
+        → ((other : ℕ) (link : OpenLink) → sends_under other doing ≡ true → link_at other then_on.links ≡ Some link → (number_at station link.setup.link.handle history == number) ≡ false)
+        → notes_after (setup_at given station) (facts_at given station history) step ≡ earlier ++ notes_doing doing then_on
+        → sent_line_at number (after_call given station step history) (side_of station) ≡ sent_line_at number history (side_of station)
+    others_send doing then_on apart are = by (sends_from doing then_on)
+      where
+        by : SendsFrom doing then_on
+            → sent_line_at number (after_call given station step history) (side_of station) ≡ sent_line_at number history (side_of station)
+        by (SendsNothing nothing) =
+            line_called given number station step history (side_of station)
+            (subst (All SendsNone) (sym (are ∙ ap (λ xs. earlier ++ xs) nothing ∙ append-nil earlier)) none)
+        by (SendsOne other link at on notes_are) =
+            other_sent (is_acked (facts_in link).acknowledgement && not (is_empty (facts_in link).outgoing.fixed)) link (apart other link on at) (are ∙ ap (λ xs. earlier ++ xs) notes_are)
+
   octet_lines : IsOfTwo given → (station octet : ℕ) (history : List Event) → is_in station given.stations ≡ true → AreLined given history
       → AreLined given (after_call given station (HostOctet octet) history)
   octet_lines are_two station octet history is are = lines_call are_two station (HostOctet octet) history is (λ handle link at.
@@ -219,47 +244,81 @@ module _ (given : Given) where
 
 -- ---- a turn begins
 
-few_own : (given : Given) → IsPair given → (station : ℕ) (facts : Facts) → length facts.links ≡ (setup_at given station).links → length facts.links ≤ 1
-few_own given pair station facts many = let few = pair.links station in omega (arith, many, few)
-
 pub rests_none : (handle : ℕ) (doing : Doing) → doing ≡ Rests → sends_under handle doing ≡ false
 rests_none handle doing is = ap (sends_under handle) is
 
 pub rests_deaf : (handle : ℕ) (doing : Doing) (received : Option (List ℕ)) → doing ≡ Rests → listens_under handle doing ≡ true → received ≡ None
 rests_deaf handle doing received is listens = absurd (let h : true ≡ false = sym listens ∙ ap (listens_under handle) is in absurd cc)
 
-begin_own : (given : Given) → IsPair given → (station slot : ℕ) (on : Bool) (history : List Event) → is_in station given.stations ≡ true
-    → (facts_at given station history).turn.doing ≡ Rests → IsStation (setup_at given station) (facts_at given station history)
-    → AreCountedSo given history (λ one. true) (λ one. packet_received one history) → AreLined given history
-    → (handle : ℕ) (link : OpenLink) → link_at handle (facts_at given station (after_call given station (TurnBegins slot on) history)).links ≡ Some link
-    → IsLined (sent_line_at (number_at station handle (after_call given station (TurnBegins slot on) history)) (after_call given station (TurnBegins slot on) history) (side_of station)) (ack_of link)
-begin_own given pair station slot on history is rests station_is counted lines handle link at =
-    let setup = setup_at given station in
-    let facts = facts_at given station history in
-    let step = TurnBegins slot on in
-    let next = facts_after setup facts step in
-    let outcome = outcome_begun slot on facts in
-    let start = notes_ending slot facts ++ notes_entering slot (facts_ending slot facts).links in
-    let begun = begins_under setup facts slot on handle link (own_at given station step history handle link at) in
-    let number = number_at station handle history in
-    let own = own_begun setup slot on facts station_is.own in
-    let before = plain true (packet_received station history) handle facts.turn begun.link (exchange_at number history (side_of station)) (rests_none handle facts.turn.doing rests)
-    (rests_deaf handle facts.turn.doing (packet_received station history) rests) (counted station handle begun.link is begun.was) in
-    let same = base_ack facts slot on handle next.turn.doing link begun in
-    subst (λ n. IsLined (sent_line_at n (after_call given station step history) (side_of station)) (ack_of link))
-    (sym (number_called given station step history handle (begin_noted (OpensNone handle) (opening_none handle) setup slot on facts)))
-    (sends_own given station step history handle begun.base start
-    (all_more HasNoData SendsNone (λ note has. has.sends) start (start_noted HasNoData no_data slot facts))
-    (start_noted (OpensNone handle) (opening_none handle).starts slot facts)
-    (handle_is 0 handle outcome.facts.links begun.base own.handles begun.found)
-    (subst (IsLined (sent_line_at number history (side_of station))) (sym same) (lines station handle begun.link is begun.was))
-    (before.acked ∙ ap (λ (a : Acknowledgement). a.acked) (sym same))
-    (sends_under handle next.turn.doing) slot link begun.is
-    (ap (λ xs. start ++ xs) (doing_notes outcome.next outcome.facts handle begun.base (few_own given pair station outcome.facts own.many) begun.found)))
+module _ (given : Given) (station slot : ℕ) (on : Bool) (history : List Event) (is : is_in station given.stations ≡ true)
+    (rests : (facts_at given station history).turn.doing ≡ Rests) (station_is : IsStation (setup_at given station) (facts_at given station history))
+    (apart : HaveOwnNumbers given station history) (counted : AreCountedSo given history (λ one. true) (λ one. packet_received one history)) (lines : AreLined given history)
+    (handle : ℕ) (link : OpenLink) (at : link_at handle (facts_at given station (after_call given station (TurnBegins slot on) history)).links ≡ Some link) where
+  abbrev setup_of : Setup
+  setup_of = setup_at given station
+
+  abbrev facts_before : Facts
+  facts_before = facts_at given station history
+
+  abbrev step : Step
+  step = TurnBegins slot on
+
+  abbrev outcome : Outcome
+  outcome = outcome_begun slot on facts_before
+
+  abbrev start : List Note
+  start = notes_ending slot facts_before ++ notes_entering slot (facts_ending slot facts_before).links
+
+  begun : HasBegun facts_before slot on handle (facts_after setup_of facts_before step).turn.doing link
+  begun = begins_under setup_of facts_before slot on handle link (own_at given station step history handle link at)
+
+  start_none : All SendsNone start
+  start_none = all_more HasNoData SendsNone (λ note has. has.sends) start (start_noted HasNoData no_data slot facts_before)
+
+  number_now : number_at station handle (after_call given station step history) ≡ number_at station handle history
+  number_now = number_called given station step history handle (begin_noted (OpensNone handle) (opening_none handle) setup_of slot on facts_before)
+
+  own_handle : (other : ℕ) (two : OpenLink) → link_at other outcome.facts.links ≡ Some two → two.setup.link.handle ≡ other
+  own_handle other two at_other = handle_is 0 other outcome.facts.links two (own_begun setup_of slot on facts_before station_is.own).handles at_other
+
+  base_lined : IsLined (sent_line_at (number_at station handle history) history (side_of station)) (ack_of begun.base)
+  base_lined =
+      subst (IsLined (sent_line_at (number_at station handle history) history (side_of station))) (sym (base_ack facts_before slot on handle outcome.next link begun))
+      (lines station handle begun.link is begun.was)
+
+  -- it is to send on this link, or on another, or on none
+  begins_by : (sends : Bool) → sends_under handle outcome.next ≡ sends
+      → IsLined (sent_line_at (number_at station handle history) (after_call given station step history) (side_of station)) (ack_of link)
+  begins_by true on_it =
+      let number = number_at station handle history in
+      let before = plain true (packet_received station history) handle facts_before.turn begun.link (exchange_at number history (side_of station)) (rests_none handle facts_before.turn.doing rests)
+      (rests_deaf handle facts_before.turn.doing (packet_received station history) rests) (counted station handle begun.link is begun.was) in
+      sends_own given station step history handle begun.base start start_none (start_noted (OpensNone handle) (opening_none handle).starts slot facts_before)
+      (own_handle handle begun.base begun.found) base_lined
+      (before.acked ∙ ap (λ (a : Acknowledgement). a.acked) (sym (base_ack facts_before slot on handle outcome.next link begun)))
+      true slot link (begun.is ∙ ap (λ b. sent_if b slot begun.base) on_it)
+      (ap (λ xs. start ++ xs) (doing_notes outcome.next outcome.facts handle begun.base (λ other two on_other at_other. sends_once other handle outcome.next on_other on_it) begun.found
+      ∙ ap (λ b. notes_when b begun.base) on_it))
+  begins_by false off_it =
+      lined_ack (sent_line_at (number_at station handle history) history (side_of station)) _ (ack_of begun.base) (ack_of link)
+      (others_send given station step history (number_at station handle history) start start_none (λ one. start_noted (OpensNone one) (opening_none one).starts slot facts_before)
+      outcome.next outcome.facts
+      (λ other two on_other at_other.
+      let was = begun_before facts_before slot on other two at_other in
+      let differs : (other == handle) ≡ false = false_from_ne_true (other == handle) (λ same.
+      let h : true ≡ false = sym on_other ∙ ap (λ n. sends_under n outcome.next) (eqb-true other handle same) ∙ off_it in absurd cc) in
+      ap (λ n. number_at station n history == number_at station handle history) (own_handle other two at_other) ∙ apart other handle was.link begun.link was.was begun.was differs)
+      refl)
+      (ap ack_of begun.is ∙ ap (λ b. ack_of (sent_if b slot begun.base)) off_it) base_lined
+
+  pub begin_own : IsLined (sent_line_at (number_at station handle (after_call given station step history)) (after_call given station step history) (side_of station)) (ack_of link)
+  begin_own =
+      subst (λ n. IsLined (sent_line_at n (after_call given station step history) (side_of station)) (ack_of link)) (sym number_now)
+      (begins_by (sends_under handle outcome.next) refl)
 
 -- ---- a phase passes
 
-module _ (given : Given) (Q : Place → List Event → Type 0) (known : AreKnown given Q) (pair : IsPair given) (distinct : AreDistinct given.stations) (phases : ℕ) (done left : List ℕ) (station : ℕ) (history : List Event)
+module _ (given : Given) (Q : Place → List Event → Type 0) (known : AreKnown given Q) (distinct : AreDistinct given.stations) (phases : ℕ) (done left : List ℕ) (station : ℕ) (history : List Event)
     (are : given.stations ≡ done ++ station ∷ left) (is : AreCountedAt given Q (AtListening phases done (station ∷ left)) history) (lines : AreLined given history)
     (q : Q (AtListening phases (done ++ station ∷ []) left) (after_call given station (step_of (packet_received station history)) history))
     (holds : Holds given (AreStations given) (AtListening phases (done ++ station ∷ []) left) (after_call given station (step_of (packet_received station history)) history)) where
@@ -291,31 +350,51 @@ module _ (given : Given) (Q : Place → List Event → Type 0) (known : AreKnown
       let number = number_at station handle after in
       let begun = known.begun (AtListening phases (done ++ station ∷ []) left) after q station handle link in_it at in
       let turns : turns_begun after ≡ turns_begun history = turns_called station (step_of received) notes history in
-      let now = ap (λ n. n + 1) opened ∙ (phased given Q known pair distinct phases done left station history are is q holds).uses.in_turn.slot_is ∙ sym turns in
+      let now = ap (λ n. n + 1) opened ∙ (phased given Q known distinct phases done left station history are is q holds).uses.in_turn.slot_is ∙ sym turns in
       let first = first_of after number station link.setup
-      (first_called given station (step_of received) history (call_is given Q known pair distinct phases done left station history are is q holds) is.first number) begun now in
+      (first_called given station (step_of received) history (call_is given Q known distinct phases done left station history are is q holds) is.first number) begun now in
       let slot = ap (λ (f : Facts). f.turn.slot) (own_facts given station (step_of received) history) ∙ (phase_turn setup facts received).slot in
       let ack = open_has (IsFresh (facts_at given station after).turn.slot) 0 handle (facts_at given station after).links link
       (holds.so_far.last.each station in_it).fresh at (opened ∙ sym slot) in
       lined_ack None _ first_acknowledgement (ack_of link) (first.lines (side_of station)) ack first_lined
 
-  -- nothing is sent on a link on which nothing was received
-  none_sent : (handle : ℕ) (link : OpenLink) → link_at handle facts.links ≡ Some link → (listens_under handle facts.turn.doing ≡ true → received ≡ None)
-      → IsPhaseOf setup facts received → All SendsNone notes
-  none_sent handle link at nothing (IsPlainPhase none plain_too) = all_more HasNoData SendsNone (λ note has. has.sends) notes plain_too
-  none_sent handle link at nothing (IsOnLink other octets some listens heard_is) = by (link_at other facts.links) refl
-    where
-      are_notes : notes_after (setup_at given station) (facts_at given station history) (step_of (packet_received station history))
-          ≡ notes_passed (link_heard (setup_at given station) other octets (facts_at given station history))
-      are_notes = on_link_notes (setup_at given station) (facts_at given station history) (packet_received station history) other octets some (ap notes_passed heard_is)
+  -- what another link is to send, where it received a packet
+  other_line : (handle : ℕ) (link : OpenLink) → link_at handle facts.links ≡ Some link → (other : ℕ) (octets : List ℕ) → (other == handle) ≡ false
+      → notes ≡ notes_passed (link_heard setup other octets facts) → (found : Option OpenLink) → link_at other facts.links ≡ found
+      → sent_line_at (number_at station handle history) after (side_of station) ≡ sent_line_at (number_at station handle history) history (side_of station)
+  other_line handle link at other octets differs are_notes None absent =
+      line_called given (number_at station handle history) station (step_of received) history (side_of station)
+      (subst (All SendsNone) (sym (are_notes ∙ unfound setup facts other octets absent)) (All-nil SendsNone))
+  other_line handle link at other octets differs are_notes (Some two) found =
+      let reply = reply_if (replies_in (link_at other facts.links) octets) other in
+      let after_it = link_received other (has_room setup facts) octets facts in
+      let taken = link_after (PacketReceived facts.turn.slot octets (has_room setup facts)) two in
+      let earlier = notes_taken facts.turn.slot (has_room setup facts) (link_at other facts.links) octets in
+      let own = handle_is 0 other facts.links two (station_is given Q known distinct phases done left station history are is q holds).own.handles found in
+      let now = received_at facts.turn.slot other octets (has_room setup facts) facts.links two found in
+      let apart = apart_numbers given Q known (AtListening phases done (station ∷ left)) history is.known station other handle two link in_it found at differs in
+      others_send given station (step_of received) history (number_at station handle history) earlier
+      (taken_noted SendsNone (λ one count llid body. refl) facts.turn.slot (has_room setup facts) (link_at other facts.links) octets)
+      (λ one. taken_noted (OpensNone one) (λ third count llid body. refl) facts.turn.slot (has_room setup facts) (link_at other facts.links) octets)
+      reply after_it
+      (λ third three on_third at_third.
+      let same = reply_under (replies_in (link_at other facts.links) octets) other third on_third in
+      let equal : Some taken ≡ Some three = sym now ∙ ap (λ n. link_at n after_it.links) (sym same) ∙ at_third in
+      let one : taken ≡ three = cc in
+      ap (λ (l : OpenLink). number_at station l.setup.link.handle history == number_at station handle history) (sym one)
+      ∙ ap (λ n. number_at station n history == number_at station handle history) own ∙ apart)
+      are_notes
 
-      by : (found : Option OpenLink) → link_at other (facts_at given station history).links ≡ found
-          → All SendsNone (notes_after (setup_at given station) (facts_at given station history) (step_of (packet_received station history)))
-      by None absent = subst (All SendsNone) (sym (are_notes ∙ unfound (setup_at given station) (facts_at given station history) other octets absent)) (All-nil SendsNone)
-      by (Some two) found =
-          let one = one_link facts.links other handle two link (few given Q known pair distinct phases done left station history are is q holds) found at in
-          let on = listens handle ∙ ap (λ n. n == handle) one.handles ∙ same_number handle in
-          absurd (let h : Some octets ≡ None = sym some ∙ nothing on in absurd cc)
+  -- the line of a link on which nothing was received stays
+  line_stays : (handle : ℕ) (link : OpenLink) → link_at handle facts.links ≡ Some link → (listens_under handle facts.turn.doing ≡ true → received ≡ None)
+      → IsPhaseOf setup facts received
+      → sent_line_at (number_at station handle history) after (side_of station) ≡ sent_line_at (number_at station handle history) history (side_of station)
+  line_stays handle link at nothing (IsPlainPhase none plain_too) =
+      line_called given (number_at station handle history) station (step_of received) history (side_of station) (all_more HasNoData SendsNone (λ note has. has.sends) notes plain_too)
+  line_stays handle link at nothing (IsOnLink other octets some listens heard_is) =
+      let differs : (other == handle) ≡ false = false_from_ne_true (other == handle) (λ same.
+      let h : Some octets ≡ None = sym some ∙ nothing (listens handle ∙ same) in absurd cc) in
+      other_line handle link at other octets differs (on_link_notes setup facts received other octets some (ap notes_passed heard_is)) (link_at other facts.links) refl
 
   abbrev room : Bool
   room = has_room setup facts
@@ -332,17 +411,14 @@ module _ (given : Given) (Q : Place → List Event → Type 0) (known : AreKnown
       let reply = reply_if (replies_in (link_at other facts.links) heard) other in
       let after_it = link_received other room heard facts in
       let taken = link_after (PacketReceived facts.turn.slot octets room) base in
-      let is_station = station_is given Q known pair distinct phases done left station history are is q holds in
-      let few_now = few given Q known pair distinct phases done left station history are is q holds in
+      let is_station = station_is given Q known distinct phases done left station history are is q holds in
       let earlier = notes_taken facts.turn.slot room (link_at other facts.links) heard in
       let now : link_at handle after_it.links ≡ Some taken =
       ap (λ n. link_at handle (link_received n room heard facts).links) equal ∙ ap (λ xs. link_at handle (link_received handle room xs facts).links) octets_are
       ∙ received_at facts.turn.slot handle octets room facts.links base was in
-      let few_after : length after_it.links ≤ 1 =
-      subst (λ n. n ≤ 1) (sym (count_changing other (link_after (PacketReceived facts.turn.slot heard room)) facts.links)) few_now in
       let doing : next.turn.doing ≡ reply = ap (λ may. (facts_after setup facts (step_of may)).turn.doing) some_too ∙ ap (λ (o : Outcome). o.next) heard_is in
       let counts = was_taking received octets handle facts.turn base (exchange_at (number_at station handle history) history (side_of station)) on some
-      (before_call given Q known pair distinct phases done left station history are is q holds handle base was) in
+      (before_call given Q known distinct phases done left station history are is q holds handle base was) in
       subst (λ n. IsLined (sent_line_at n after (side_of station)) (ack_of link)) (sym number)
       (sends_own given station (step_of received) history handle taken earlier
       (taken_noted SendsNone (λ one count llid body. refl) facts.turn.slot room (link_at other facts.links) heard)
@@ -353,14 +429,15 @@ module _ (given : Given) (Q : Place → List Event → Type 0) (known : AreKnown
       (counts.acked ∙ (same_but facts.turn.slot octets false room base).acked)
       (sends_under handle next.turn.doing) facts.turn.slot link same
       (on_link_notes setup facts received other heard some_too (ap notes_passed heard_is)
-      ∙ ap (λ xs. earlier ++ xs) (doing_notes reply after_it handle taken few_after now ∙ ap (λ d. notes_when (sends_under handle d) taken) (sym doing))))
+      ∙ ap (λ xs. earlier ++ xs) (doing_notes reply after_it handle taken (λ third three on_third at_third. reply_under (replies_in (link_at other facts.links) heard) other third on_third ∙ equal) now ∙ ap (λ d. notes_when (sends_under handle d) taken) (sym doing))))
 
   passed : (handle : ℕ) (link : OpenLink) → link_at handle (facts_at given station after).links ≡ Some link → number_at station handle after ≡ number_at station handle history
       → HasPassed facts room received handle next.turn.doing link
       → IsLined (sent_line_at (number_at station handle after) after (side_of station)) (ack_of link)
   passed handle link at number (IsNew end made opened off) = fresh handle link at (ap (λ (l : OpenLink). l.setup.opened) made ∙ opened)
   passed handle link at number (Stays was none nothing listened) =
-      quiet_own given station (step_of received) history handle link link (none_sent handle link was nothing (phase_of setup facts received)) number refl (lines station handle link in_it was)
+      subst (λ n. IsLined (sent_line_at n after (side_of station)) (ack_of link)) (sym number)
+      (subst (λ line. IsLined line (ack_of link)) (sym (line_stays handle link was nothing (phase_of setup facts received))) (lines station handle link in_it was))
   passed handle link at number (Takes base octets was some on same) = takes handle link base octets number was some on same (phase_of setup facts received)
 
   passes_own : (handle : ℕ) (link : OpenLink) → link_at handle (facts_at given station after).links ≡ Some link
@@ -374,7 +451,7 @@ module _ (given : Given) (Q : Place → List Event → Type 0) (known : AreKnown
       by (inl quiet) =
           passed handle link at (number_called given station (step_of received) history handle quiet)
           (passes_under (setup_at given station) facts received handle link
-          (phased given Q known pair distinct phases done left station history are is q holds).uses.in_turn.listens (own_at given station (step_of received) history handle link at))
+          (phased given Q known distinct phases done left station history are is q holds).uses.in_turn.listens (own_at given station (step_of received) history handle link at))
       by (inr new) = fresh handle link at (new link (own_at given station (step_of received) history handle link at)).opened
 
 -- ---- each step
@@ -383,9 +460,9 @@ pub record AreLinedAt (given : Given) (Q : Place → List Event → Type 0) (pla
   pub channelled : AreChannelledAt given Q place history
   pub lines : AreLined given history
 
-pub lines_kept : IsHeardWhole → (given : Given) (Q : Place → List Event → Type 0) → AreKnown given Q → IsOfTwo given → IsPair given → HaveAddresses given → AreDistinct given.stations
+pub lines_kept : IsHeardWhole → (given : Given) (Q : Place → List Event → Type 0) → AreKnown given Q → IsOfTwo given → HaveAddresses given → AreDistinct given.stations
     → IsKept given (AreLinedAt given Q)
-lines_kept whole given Q known are_two pair six distinct = let kept = channels_kept whole given Q known are_two pair six distinct in record {
+lines_kept whole given Q known are_two six distinct = let kept = channels_kept whole given Q known are_two six distinct in record {
   on_turn = λ slot plan history begun at has.
       let event = TurnBegan slot (map plan.radio_of given.stations) in record {
         channelled = kept.on_turn slot plan history begun at has.channelled;
@@ -404,7 +481,9 @@ lines_kept whole given Q known are_two pair six distinct = let kept = channels_k
       (not_before given.stations done left station distinct are) (phased_at given (AtBegins done (station ∷ left)) history has.channelled.is.holds.hearing.stand station in_it) in record {
         channelled = kept.on_begin slot plan done left station history are due has.channelled;
         lines = lines_call given are_two station (TurnBegins slot on) history in_it
-            (begin_own given pair station slot on history in_it phased.phase (has.channelled.is.holds.so_far.last.each station in_it) has.channelled.is.counted has.lines) has.lines;
+            (begin_own given station slot on history in_it phased.phase (has.channelled.is.holds.so_far.last.each station in_it)
+            (λ one other a b at at_other differs. apart_numbers given Q known (AtBegins done (station ∷ left)) history has.channelled.is.known station one other a b in_it at at_other differs)
+            has.channelled.is.counted has.lines) has.lines;
       };
   on_begun = λ history has. record { channelled = kept.on_begun history has.channelled; lines = has.lines };
   on_phase = λ phases history few has. record { channelled = kept.on_phase phases history few has.channelled; lines = has.lines };
@@ -421,7 +500,7 @@ lines_kept whole given Q known are_two pair six distinct = let kept = channels_k
       let in_it = among given.stations done left station are in record {
         channelled = next;
         lines = lines_call given are_two station (step_of (packet_received station history)) history in_it
-            (passes_own given Q known pair distinct phases done left station history are has.channelled.is has.lines next.is.known next.is.holds) has.lines;
+            (passes_own given Q known distinct phases done left station history are has.channelled.is has.lines next.is.known next.is.holds) has.lines;
       };
   on_heard = λ phases history has. record { channelled = kept.on_heard phases history has.channelled; lines = has.lines };
   on_phases = λ history has. record { channelled = kept.on_phases history has.channelled; lines = has.lines };

@@ -12,17 +12,21 @@ use Rattle.run_model.specs.LinkEnds.{ConnectInd, HaveAddresses, IsAtEnd}
 use Rattle.run_model.specs.Links.{links_of}
 use Rattle.run_model.specs.Numbers.{HasNumber}
 use Rattle.run_model.specs.Run.{Given, setup_at}
+use Rattle.run_model.proofs.Fronts.{front_at}
 use Rattle.run_model.proofs.LinkEnds.{AreTaken, IsUnderstood}
 use Rattle.run_model.proofs.Places.{each_at}
 use Rattle.run_laws.specs.Access.{connects_sent}
 use Rattle.run_laws.proofs.ConnectInds.{TakenInOrder}
 use Rattle.run_laws.proofs.DistinctAccess.{AreApart}
+use Rattle.run_laws.proofs.OpenedOnce.{opened_once}
+use Rattle.run_laws.proofs.TwoEnds.{all_agree}
+use Rattle.run_laws.proofs.TwoStations.{are_two as of_both}
 use Rattle.journal_links.specs.Begun.{LinkBegun, links_begun, with_number}
 use Rattle.journal_links.specs.Opened.{central_side}
 use Rattle.journal_links.proofs.Numbered.{other_of}
 use Rattle.journal_packets.specs.Belonging.{first_number}
 use Rattle.journal_packets.proofs.AccessOrder.{AreNth, first_is, sent_ordered}
-use Rattle.journal_packets.proofs.AskedSoFar.{of_two_stations}
+use Rattle.journal_packets.proofs.AskedSoFar.{are_distinct, of_two_stations}
 use Rattle.journal_packets.proofs.SentLinks.{IsOfTwo, begun_are_sent, link_begun, links_sent, sent_at}
 use Rattle.journal_packets.proofs.SoFar.{IsBelongingSoFar, belonging_kept, sends_on_its_link}
 use Rattle.journal_acks.proofs.Counting.{AreKnown, IsBegun}
@@ -81,4 +85,10 @@ known_of understood taken nth apart given are_two six = record {
       fits_first history _ station link.setup q.asked.sent (q.numbered.numbered station handle link is_open) nth apart given q.asked.counted.each octets
       (of_two_stations given are_two station in_it) begins;
   sends = λ phases done left station history are q channel octets wanted off. sends_on_its_link nth apart given are_two six phases done left station history are q channel octets wanted off;
+  alone = λ at history q station one other a b in_it is_open is_open_too same.
+      let front = front_at given at history q.front in
+      opened_once given history front.rest station one other a b (are_distinct given are_two) in_it front.at is_open is_open_too same;
+  agree = λ whole at history q one other in_it in_too differs.
+      let front = front_at given at history q.front in
+      all_agree whole understood taken apart given six (are_distinct given are_two) (of_both given 0 1 are_two) history front.rest front.at one other in_it in_too differs;
 }

@@ -131,6 +131,22 @@ begins_under setup facts slot on handle after is =
       is = sent.is ∙ ap (λ (n : ℕ). sent_if (sends_under handle outcome.next) n sent.link) (begins_slot setup slot on facts);
     }
 
+-- a link that is open as a turn has begun was open before it
+pub record WasLinked (handle : ℕ) (links : Links) : Type 0 where
+  pub link : OpenLink
+  pub was : link_at handle links ≡ Some link
+
+pub begun_before : (facts : Facts) (slot : ℕ) (on : Bool) (handle : ℕ) (base : OpenLink) → link_at handle (outcome_begun slot on facts).facts.links ≡ Some base
+    → WasLinked handle facts.links
+begun_before facts slot on handle base is =
+    let begun = turn_begins slot (facts_ending slot facts) in
+    let before = served on slot (winner_of (plan_in slot begun) slot) (facts_entering slot begun) in
+    let fixed = fixing_under handle before.next before.facts.links base is in
+    let got = served_under on slot handle (winner_of (plan_in slot begun) slot) (facts_entering slot begun) fixed.link fixed.was in
+    let entered = entered_under slot handle begun.links got.link got.was in
+    let here : link_at handle (links_staying slot facts.links) ≡ Some entered.link = ap (λ (ended : Facts). link_at handle ended.links) (sym (ending_is slot facts)) ∙ entered.was in
+    record { link = entered.link; was = (staying_under slot handle facts.links entered.link here).was }
+
 fixed_ack : (fixes : Bool) (link : OpenLink) → ack_of (fixed_if fixes link) ≡ ack_of link
 fixed_ack true link = ack_fixed link
 fixed_ack false link = refl

@@ -26,7 +26,6 @@ use Rattle.run_model.proofs.Stations.{among}
 use Rattle.run_model.proofs.Walk.{Place, NoTurn, AtPackets}
 use Rattle.run_laws.proofs.Agreed.{ack_of, ack_sent}
 use Rattle.run_laws.proofs.DistinctAccess.{AreApart}
-use Rattle.run_laws.proofs.InAgreement.{IsPair}
 use Rattle.run_laws.proofs.OpenSteps.{none_open, open_has}
 use Rattle.run_laws.proofs.TurnPlaces.{Within, turned}
 use Rattle.journal_packets.specs.Senders.{IsOfSendersLink}
@@ -71,7 +70,7 @@ pub record IsPacketOf (given : Given) (history : List Event) (station channel : 
   pub number_is : packet.number ≡ number_at station from.handle history
   pub more_is : packet.md ≡ more_sent (facts_in from.link)
 
-module _ (whole : IsHeardWhole) (given : Given) (Q : Place → List Event → Type 0) (known : AreKnown given Q) (are_two : IsOfTwo given) (pair : IsPair given) (six : HaveAddresses given)
+module _ (whole : IsHeardWhole) (given : Given) (Q : Place → List Event → Type 0) (known : AreKnown given Q) (are_two : IsOfTwo given) (six : HaveAddresses given)
     (distinct : AreDistinct given.stations) where
   pub link_packet : (phases : ℕ) (done left : List ℕ) (station channel : ℕ) (octets : List ℕ) (history : List Event) (are : given.stations ≡ done ++ station ∷ left)
       (wanted : use_at given station history ≡ Sends channel octets) (lined : AreLinedAt given Q (AtPackets phases done (station ∷ left)) history)
@@ -83,12 +82,12 @@ module _ (whole : IsHeardWhole) (given : Given) (Q : Place → List Event → Ty
       let in_it = among given.stations done left station are in
       let setup = setup_at given station in
       let from = known.sends phases done left station history are has.is.known channel octets wanted off in
-      let sender = link_sent whole given Q known are_two pair six distinct phases done left station channel octets [] history are wanted has.is.known has.is.holds has.is.counted off in
-      let number = own_number whole given Q known are_two pair six distinct phases done left station channel octets [] history are wanted has.is.known has.is.holds has.is.counted off in
+      let sender = link_sent whole given Q known are_two six distinct phases done left station channel octets [] history are wanted has.is.known has.is.holds has.is.counted off in
+      let number = own_number whole given Q known are_two six distinct phases done left station channel octets [] history are wanted has.is.known has.is.holds has.is.counted off in
       let end = exchange_at number history (side_of station) in
       let counted : IsCounted (with_sent end) (ack_of sender) =
-      sender_counted whole given Q known are_two pair six distinct phases done left station channel octets [] history are wanted has.is.known has.is.holds has.is.counted off in
-      let on = sends_it whole given Q known are_two pair six distinct phases done left station channel octets [] history are wanted has.is.known has.is.holds has.is.counted off from.handle sender from.is_open in
+      sender_counted whole given Q known are_two six distinct phases done left station channel octets [] history are wanted has.is.known has.is.holds has.is.counted off in
+      let on = sends_it whole given Q known are_two six distinct phases done left station channel octets [] history are wanted has.is.known has.is.holds has.is.counted off in
       let begun = known.begun place history has.is.known station from.handle sender in_it from.is_open in
       let entered = turned setup (AreEntered setup) (entered_kept setup) (past_of station history) (record { stage = Within phases; begun = turns_begun history }) (entered_first setup)
       (has.is.holds.hearing.stand station in_it) in
@@ -131,16 +130,16 @@ none_lined given = λ station handle link in_it at.
 pub lines_first : (given : Given) → AreLinedAt given (IsBelongingSoFar given) NoTurn []
 lines_first given = record { channelled = record { is = counts_first given; channels = none_on given }; lines = none_lined given }
 
-pub packet_of_line : IsHeardWhole → IsUnderstood → AreTaken → AreNth → AreApart → (given : Given) → IsOfTwo given → IsPair given → HaveAddresses given → AreDistinct given.stations
+pub packet_of_line : IsHeardWhole → IsUnderstood → AreTaken → AreNth → AreApart → (given : Given) → IsOfTwo given → HaveAddresses given → AreDistinct given.stations
     → (front : List Entry) (side : Side) (channel : ℕ) (octets : List ℕ) (fate : Mark) (verdict : Verdict) → IsAired given front side channel octets fate verdict
     → is_advertising channel ≡ false → IsLinkPacket front side channel octets
-packet_of_line whole understood taken nth apart given are_two pair six distinct front side channel octets fate verdict aired off =
+packet_of_line whole understood taken nth apart given are_two six distinct front side channel octets fate verdict aired off =
     let Q = IsBelongingSoFar given in
     let known = known_of understood taken nth apart given are_two six in
-    let seen = seen_packet given (AreLinedAt given Q) (lines_kept whole given Q known are_two pair six distinct) (λ history. Unit {0}) AreLinkPackets
+    let seen = seen_packet given (AreLinedAt given Q) (lines_kept whole given Q known are_two six distinct) (λ history. Unit {0}) AreLinkPackets
     (record {
       turn = λ history has. tt;
       packet = λ phases done left station sent_on sent_octets history are wanted has off.
-          (link_packet whole given Q known are_two pair six distinct phases done left station sent_on sent_octets history are wanted has off).packet;
+          (link_packet whole given Q known are_two six distinct phases done left station sent_on sent_octets history are wanted has off).packet;
     }) (lines_first given) aired.before aired.after aired.station channel octets (aired.hearing ∷ aired.others) aired.is_at off in
     subst (λ xs. IsLinkPacket xs side channel octets) (sym aired.front_is) (subst (λ s. IsLinkPacket (journal_of aired.before) s channel octets) (sym aired.side_is) seen)

@@ -36,7 +36,7 @@ use Rattle.run_model.proofs.Walk.{Place, AtBegins, AtListening}
 use Rattle.run_laws.proofs.Agreed.{ack_of}
 use Rattle.run_laws.proofs.ByCalls.{Holds}
 use Rattle.run_laws.proofs.DistinctAccess.{AreApart}
-use Rattle.run_laws.proofs.InAgreement.{AreStations, IsPair}
+use Rattle.run_laws.proofs.InAgreement.{AreStations}
 use Rattle.run_laws.proofs.TurnPlaces.{Between, Within, at_stage}
 use Rattle.journal_packets.proofs.AccessOrder.{AreNth}
 use Rattle.journal_packets.proofs.SoFar.{IsBelongingSoFar}
@@ -172,7 +172,7 @@ begin_new given Q distinct done left station slot on history are is =
         (before.acked ∙ ap (λ a. a.acked) (sym same) ∙ ap (λ (l : OpenLink). (ack_of l).acked) base_is)
         (before.sent ∙ ap (λ a. length a.sent) (sym same) ∙ ap (λ (l : OpenLink). length (ack_of l).sent) base_is))
 
-module _ (given : Given) (Q : Place → List Event → Type 0) (known : AreKnown given Q) (pair : IsPair given) (distinct : AreDistinct given.stations) (phases : ℕ) (done left : List ℕ) (station : ℕ) (history : List Event)
+module _ (given : Given) (Q : Place → List Event → Type 0) (known : AreKnown given Q) (distinct : AreDistinct given.stations) (phases : ℕ) (done left : List ℕ) (station : ℕ) (history : List Event)
     (are : given.stations ≡ done ++ station ∷ left) (is : AreCountedAt given Q (AtListening phases done (station ∷ left)) history)
     (q : Q (AtListening phases (done ++ station ∷ []) left) (after_call given station (step_of (packet_received station history)) history))
     (holds : Holds given (AreStations given) (AtListening phases (done ++ station ∷ []) left) (after_call given station (step_of (packet_received station history)) history)) where
@@ -191,11 +191,11 @@ module _ (given : Given) (Q : Place → List Event → Type 0) (known : AreKnown
   reply_new other octets base true was some on =
       let taken = link_after (PacketReceived facts.turn.slot octets room) base in
       let end = exchange_at (number_at station other history) history (side_of station) in
-      let counts = was_taking received octets other facts.turn base end on some (before_call given Q known pair distinct phases done left station history are is q holds other base was) in
+      let counts = was_taking received octets other facts.turn base end on some (before_call given Q known distinct phases done left station history are is q holds other base was) in
       let but = same_but facts.turn.slot octets false room base in
       subst (All (IsNewNote history station)) (sym (ap (notes_sent facts.turn.slot) (received_at facts.turn.slot other octets room facts.links base was)))
       (new_sent history station other taken
-      (handle_is 0 other facts.links base (station_is given Q known pair distinct phases done left station history are is q holds).own.handles was)
+      (handle_is 0 other facts.links base (station_is given Q known distinct phases done left station history are is q holds).own.handles was)
       (counts.acked ∙ but.acked) (counts.sent ∙ ap length but.sent))
 
   phase_new : AreNew given history station (step_of received)
@@ -218,19 +218,19 @@ module _ (given : Given) (Q : Place → List Event → Type 0) (known : AreKnown
 
 -- ---- at each place of a run
 
-module _ (whole : IsHeardWhole) (given : Given) (Q : Place → List Event → Type 0) (known : AreKnown given Q) (are_two : IsOfTwo given) (pair : IsPair given) (six : HaveAddresses given)
+module _ (whole : IsHeardWhole) (given : Given) (Q : Place → List Event → Type 0) (known : AreKnown given Q) (are_two : IsOfTwo given) (six : HaveAddresses given)
     (distinct : AreDistinct given.stations) where
   have_new : HaveCalls given (IsNewCall given) (AreCountedAt given Q)
   have_new = record {
     feeds = λ station octet history. octet_new given history station octet;
     begins = λ plan slot done left station history are is next. record {
       new = begin_new given Q distinct done left station slot (plan.radio_of station) history are is;
-      of = begun_call whole given Q known are_two pair six distinct done left station slot (plan.radio_of station) history are
+      of = begun_call whole given Q known are_two six distinct done left station slot (plan.radio_of station) history are
           (between_turns given Q distinct done left station history are is).uses.in_turn is;
     };
     passes = λ phases done left station history are is next. record {
-      new = phase_new given Q known pair distinct phases done left station history are is next.known next.holds;
-      of = call_is given Q known pair distinct phases done left station history are is next.known next.holds;
+      new = phase_new given Q known distinct phases done left station history are is next.known next.holds;
+      of = call_is given Q known distinct phases done left station history are is next.known next.holds;
     };
     ends = λ station history. end_new given history station;
   }
@@ -275,15 +275,15 @@ new_after given station step base before earlier later handle count llid body ar
       not_empty = new.not_empty;
     }))
 
-pub sent_line_is_new : IsHeardWhole → IsUnderstood → AreTaken → AreNth → AreApart → (given : Given) → IsOfTwo given → IsPair given → HaveAddresses given → AreDistinct given.stations
+pub sent_line_is_new : IsHeardWhole → IsUnderstood → AreTaken → AreNth → AreApart → (given : Given) → IsOfTwo given → HaveAddresses given → AreDistinct given.stations
     → (front rest : List Entry) (side : Side) (number count llid : ℕ) (body : List ℕ) → journal_of (history_of (run_of given)) ≡ front ++ Sent side number count llid body ∷ rest
     → IsNewPdu number front side (record { llid = llid; body = body })
-sent_line_is_new whole understood taken nth apart given are_two pair six distinct front rest side number count llid body is =
+sent_line_is_new whole understood taken nth apart given are_two six distinct front rest side number count llid body is =
     let Q = IsBelongingSoFar given in
     let known = known_of understood taken nth apart given are_two six in
     let call = sent_in_call given front rest side number count llid body is in
     to_line (λ link entries one. IsNewPdu link entries one (record { llid = llid; body = body })) given front side number count llid body call
     (new_after given call.station call.step call.base call.before call.earlier call.later call.handle count llid body call.notes_are call.before_is
     (each_at (OfCall given (IsNewCall given)) (history_of (run_of given)) call.base call.after (Called call.station call.step)
-    (run_calls given (IsNewCall given) (AreCountedAt given Q) (counts_kept whole given Q known are_two pair six distinct) (have_new whole given Q known are_two pair six distinct) (counts_first given))
+    (run_calls given (IsNewCall given) (AreCountedAt given Q) (counts_kept whole given Q known are_two six distinct) (have_new whole given Q known are_two six distinct) (counts_first given))
     call.called))

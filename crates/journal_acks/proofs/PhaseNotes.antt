@@ -1,5 +1,5 @@
 -- What a phase notes of PDUs: nothing, or those of the link on which a packet is received.
-use Rattle.std.proofs.Common.{◌≡◌, ℕ, ◌≤◌, ◌==◌, ◌&&◌, ◌||◌, not, Bool, true, false, Option, Some, None, List, [], ◌∷◌, length, refl, sym, ap, subst, ◌∙◌}
+use Rattle.std.proofs.Common.{◌≡◌, ℕ, ◌==◌, ◌&&◌, ◌||◌, not, Bool, true, false, Option, Some, None, List, [], ◌∷◌, refl, sym, ap, subst, ◌∙◌}
 use Rattle.std.specs.Prelude.{All}
 use Rattle.std.proofs.lemmas.Bool.{eqb-true, eqb-false}
 use Rattle.std.proofs.lemmas.List.Elements.{All-append, All-cons, All-nil}
@@ -37,7 +37,6 @@ use Rattle.run_laws.proofs.Agreed.{ack_of, step_facts}
 use Rattle.journal_acks.proofs.Acks.{empty_is_no_data}
 use Rattle.journal_acks.proofs.CallNotes.{HasNoData, events_noted, no_data}
 use Rattle.journal_acks.proofs.LinkUses.{listens_under, sends_under}
-use Rattle.journal_acks.proofs.Standing.{one_link}
 use Rattle.journal_acks.proofs.TwoStations.{same_number}
 
 -- ---- what is noted of a PDU that a link receives
@@ -141,22 +140,24 @@ abbrev pub notes_when : Bool → OpenLink → List Note
 notes_when true link = sent_notes link.setup (facts_in link)
 notes_when false link = []
 
-sent_when : (same : Bool) (facts : Facts) (handle other : ℕ) (link : OpenLink) → length facts.links ≤ 1 → link_at handle facts.links ≡ Some link → (other == handle) ≡ same
-    → notes_sent facts.turn.slot (link_at other facts.links) ≡ notes_when same link
-sent_when true facts handle other link few is same =
+sent_when : (same : Bool) (facts : Facts) (handle other : ℕ) (link : OpenLink) → ((two : OpenLink) → link_at other facts.links ≡ Some two → other ≡ handle)
+    → link_at handle facts.links ≡ Some link → (other == handle) ≡ same → notes_sent facts.turn.slot (link_at other facts.links) ≡ notes_when same link
+sent_when true facts handle other link only is same =
     ap (notes_sent facts.turn.slot) (ap (λ n. link_at n facts.links) (eqb-true other handle same) ∙ is)
-sent_when false facts handle other link few is differs = by (link_at other facts.links) refl
+sent_when false facts handle other link only is differs = by (link_at other facts.links) refl
   where
     by : (found : Option OpenLink) → link_at other facts.links ≡ found → notes_sent facts.turn.slot found ≡ []
     by None none = refl
-    by (Some two) some = absurd (eqb-false other handle differs (one_link facts.links other handle two link few some is).handles)
+    by (Some two) some = absurd (eqb-false other handle differs (only two some))
 
-pub doing_notes : (doing : Doing) (facts : Facts) (handle : ℕ) (link : OpenLink) → length facts.links ≤ 1 → link_at handle facts.links ≡ Some link
+-- where no other open link is to send
+pub doing_notes : (doing : Doing) (facts : Facts) (handle : ℕ) (link : OpenLink)
+    → ((other : ℕ) (two : OpenLink) → sends_under other doing ≡ true → link_at other facts.links ≡ Some two → other ≡ handle) → link_at handle facts.links ≡ Some link
     → notes_doing doing facts ≡ notes_when (sends_under handle doing) link
-doing_notes (CentralSends other) facts handle link few is = sent_when (other == handle) facts handle other link few is refl
-doing_notes (PeripheralSends other) facts handle link few is = sent_when (other == handle) facts handle other link few is refl
-doing_notes (Advertises channel) facts handle link few is = refl
-doing_notes other facts handle link few is = refl
+doing_notes (CentralSends other) facts handle link only is = sent_when (other == handle) facts handle other link (λ two at. only other two (same_number other) at) is refl
+doing_notes (PeripheralSends other) facts handle link only is = sent_when (other == handle) facts handle other link (λ two at. only other two (same_number other) at) is refl
+doing_notes (Advertises channel) facts handle link only is = refl
+doing_notes other facts handle link only is = refl
 
 -- a new PDU is noted on one link, or on none
 pub data SendsFrom (doing : Doing) (facts : Facts) : Type 0 where

@@ -14,7 +14,7 @@ use Rattle.run_model.proofs.Walk.{Place, NoTurn, IsKept}
 use Rattle.run_laws.proofs.Agreed.{ack_of}
 use Rattle.run_laws.proofs.ByCalls.{all_facts, first_hears}
 use Rattle.run_laws.proofs.DistinctAccess.{AreApart}
-use Rattle.run_laws.proofs.InAgreement.{AreStations, IsPair, WithAll, first_station}
+use Rattle.run_laws.proofs.InAgreement.{AreStations, first_station}
 use Rattle.run_laws.proofs.OpenSteps.{none_open, open_has}
 use Rattle.run_laws.proofs.TurnPlaces.{stands_first}
 use Rattle.journal_packets.proofs.AccessOrder.{AreNth}
@@ -38,10 +38,7 @@ AreCounted given history = (station handle : ℕ) (link : OpenLink) → is_in st
 -- as a run begins no link is open
 first_stations : (given : Given) → AreStations given (all_facts given [])
 unfolding facts_of
-first_stations given = record {
-  each = λ station in_it. first_station (setup_at given station);
-  agree = λ one other in_it in_too differs. none_open (WithAll (replicate (setup_at given other).links None)) (setup_at given one).links;
-}
+first_stations given = record { each = λ station in_it. first_station (setup_at given station) }
 
 none_counted : (given : Given) → AreCountedSo given [] (λ station. true) (λ station. packet_received station [])
 unfolding facts_of
@@ -69,10 +66,10 @@ between_turns given Q history is = λ station handle link in_it at.
     plain true (packet_received station history) handle turn link (exchange_at (number_at station handle history) history (side_of station)) (ap (sends_under handle) rests)
     (λ listens. is.holds.hearing.hears station in_it) (is.counted station handle link in_it at)
 
-module _ (whole : IsHeardWhole) (understood : IsUnderstood) (taken : AreTaken) (nth : AreNth) (apart : AreApart) (given : Given) (are_two : IsOfTwo given) (pair : IsPair given)
+module _ (whole : IsHeardWhole) (understood : IsUnderstood) (taken : AreTaken) (nth : AreNth) (apart : AreApart) (given : Given) (are_two : IsOfTwo given)
     (six : HaveAddresses given) (distinct : AreDistinct given.stations) where
   pub run_counts_kept : IsKept given (AreCountedAt given (IsBelongingSoFar given))
-  run_counts_kept = counts_kept whole given (IsBelongingSoFar given) (known_of understood taken nth apart given are_two six) are_two pair six distinct
+  run_counts_kept = counts_kept whole given (IsBelongingSoFar given) (known_of understood taken nth apart given are_two six) are_two six distinct
 
   sees : IsSeen given (AreCountedAt given (IsBelongingSoFar given)) (AreCounted given) (λ history station channel octets. Unit {0})
   sees = record {

@@ -1,7 +1,7 @@
--- What the facts of a station say of its one link at each place of a run of a pair.
+-- What the facts of a station say of one of its links at each place of a run of a pair.
 use Rattle.std.proofs.Common.{◌≡◌, ℕ, ◌<◌, ◌≤◌, ◌==◌, ◌⊎◌, inl, inr, Bool, true, false, Option, Some, None, List, [], ◌∷◌, length, refl, sym, ap, subst, ◌∙◌, arith}
 use Rattle.std.specs.Prelude.{if◌then◌else◌}
-use Rattle.std.proofs.lemmas.Bool.{eqb-true, false_from_ne_true}
+use Rattle.std.proofs.lemmas.Bool.{eqb-true, eqb-false, false_from_ne_true}
 use Rattle.ble_base.specs.declared.roles.Role.{Role}
 use Rattle.ble_base.specs.declared.roles.Role.TheVariants.{Central, Peripheral}
 use Rattle.link_model.specs.Packets.{packet_sent}
@@ -9,6 +9,7 @@ use Rattle.open_links.specs.OpenLinks.{Links, OpenLink, facts_in, link_at}
 use Rattle.controller_model.specs.declared.doing.Doing.{Doing}
 use Rattle.controller_model.specs.declared.doing.Doing.TheVariants.{Advertises, CentralSends, CentralListens, PeripheralListens, PeripheralSends}
 use Rattle.controller_model.specs.Facts.{Setup, Facts, Sends, Listens}
+use Rattle.controller_model.specs.Heard.{reply_if}
 use Rattle.controller_model.specs.Packets.{listens_on}
 use Rattle.controller_model.specs.Sent.{SendsOn}
 use Rattle.controller_model.proofs.DataChannels.{link_channel}
@@ -43,12 +44,41 @@ phased_at given place history stand station is =
     let setup = setup_at given station in
     turned setup (IsPhased setup) (phased_kept setup) (past_of station history) (stands_at place station (turns_begun history)) (phased_first setup) (stand station is)
 
--- ---- a station with one link
+-- ---- the link on which a station sends or listens
 
 pub record AreOne (handle other : ℕ) (one two : OpenLink) : Type 0 where
   pub handles : handle ≡ other
   pub links : one ≡ two
 
+listens_once : (handle other : ℕ) (doing : Doing) → listens_under handle doing ≡ true → listens_under other doing ≡ true → handle ≡ other
+listens_once handle other (CentralListens one) on on_too = sym (eqb-true one handle on) ∙ eqb-true one other on_too
+listens_once handle other (PeripheralListens one) on on_too = sym (eqb-true one handle on) ∙ eqb-true one other on_too
+listens_once handle other (Advertises channel) on on_too = absurd cc
+listens_once handle other doing on on_too = absurd cc
+
+pub one_listened : (links : Links) (doing : Doing) (handle other : ℕ) (one two : OpenLink) → listens_under handle doing ≡ true → listens_under other doing ≡ true
+    → link_at handle links ≡ Some one → link_at other links ≡ Some two → AreOne handle other one two
+one_listened links doing handle other one two on on_too is is_too =
+    let same = listens_once handle other doing on on_too in
+    let equal : Some one ≡ Some two = sym is ∙ ap (λ n. link_at n links) same ∙ is_too in
+    record { handles = same; links = cc }
+
+pub sends_once : (handle other : ℕ) (doing : Doing) → sends_under handle doing ≡ true → sends_under other doing ≡ true → handle ≡ other
+sends_once handle other (CentralSends one) on on_too = sym (eqb-true one handle on) ∙ eqb-true one other on_too
+sends_once handle other (PeripheralSends one) on on_too = sym (eqb-true one handle on) ∙ eqb-true one other on_too
+sends_once handle other (Advertises channel) on on_too = absurd cc
+sends_once handle other doing on on_too = absurd cc
+
+-- a reply is sent on the link that received a packet
+pub reply_under : (replies : Bool) (handle other : ℕ) → sends_under other (reply_if replies handle) ≡ true → other ≡ handle
+reply_under true handle other on = sym (eqb-true handle other on)
+reply_under false handle other on = absurd cc
+
+-- it sends on no other
+pub sends_other : (handle other : ℕ) (doing : Doing) → sends_under handle doing ≡ true → (handle == other) ≡ false → sends_under other doing ≡ false
+sends_other handle other doing on differs = false_from_ne_true (sends_under other doing) (λ on_too. eqb-false handle other differs (sends_once handle other doing on on_too))
+
+-- the handle of a station that can have one link
 pub first_handle : (links : Links) (handle : ℕ) (link : OpenLink) → length links ≤ 1 → link_at handle links ≡ Some link → handle ≡ 0
 first_handle [] handle link few is = absurd cc
 first_handle (place ∷ []) handle link few is = at (0 == handle) refl is
@@ -57,12 +87,6 @@ first_handle (place ∷ []) handle link few is = at (0 == handle) refl is
     at true same found = sym (eqb-true 0 handle same)
     at false differs found = absurd cc
 first_handle (place ∷ second ∷ links) handle link few is = absurd (omega (arith, few))
-
-pub one_link : (links : Links) (handle other : ℕ) (one two : OpenLink) → length links ≤ 1 → link_at handle links ≡ Some one → link_at other links ≡ Some two → AreOne handle other one two
-one_link links handle other one two few is is_too =
-    let same = first_handle links handle one few is ∙ sym (first_handle links other two few is_too) in
-    let equal : Some one ≡ Some two = sym is ∙ ap (λ n. link_at n links) same ∙ is_too in
-    record { handles = same; links = cc }
 
 -- ---- what a link sends or listens for is wanted, on a data channel
 

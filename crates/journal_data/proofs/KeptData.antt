@@ -160,7 +160,7 @@ module _ (law : OnlyOpenHaveNotes) (whole : IsHeardWhole) (given : Given) (Q : P
         mine = mine station is;
         begun = λ link at. known.begun place after counted.known station 0 link is at;
         far_begun = λ link at. known.begun place after counted.known other 0 link far at;
-        agree = counted.holds.so_far.last.agree station other is far (own_differs station);
+        agree = known.agree whole place after counted.known station other is far (own_differs station);
         moved = moved;
         aged = aged;
         few = few (are.well station is).few;
@@ -211,7 +211,7 @@ module _ (law : OnlyOpenHaveNotes) (whole : IsHeardWhole) (given : Given) (Q : P
           (feed_arrives law given pair.links eight station octets history (are.well station is) between (lines_at other history) (end_at given other history) (are.arriving station is)))
 
   pub data_kept : IsKept given (IsDataAt given Q)
-  data_kept = let kept = counts_kept whole given Q known are_two pair six distinct in record {
+  data_kept = let kept = counts_kept whole given Q known are_two six distinct in record {
     on_turn = λ slot plan history begun at is.
         let radios = map plan.radio_of given.stations in
         let after = history ++ TurnBegan slot radios ∷ [] in

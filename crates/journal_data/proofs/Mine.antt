@@ -121,7 +121,7 @@ module _ (whole : IsHeardWhole) (given : Given) (Q : Place → List Event → Ty
   heard_far true got is_too differs mine taking =
       let here : link_at 0 (facts_at given other history).links ≡ Some taking.link = ap (λ (f : Facts). link_at 0 f.links) (sym (facts_same other)) ∙ taking.is_open in
       let listens : listens_under 0 (facts_at given other history).turn.doing ≡ true = ap (λ (f : Facts). listens_under 0 f.turn.doing) (sym (facts_same other)) ∙ taking.listens in
-      let far = packet_far whole given Q known are_two pair six distinct phases done left station channel octets fates history are wanted q holds counted
+      let far = packet_far whole given Q known are_two six distinct phases done left station channel octets fates history are wanted q holds counted
       is_too differs seen silent got 0 taking.link here listens in
       let none = first_handle (facts_at given station history).links far.far_handle far.far
       (few_links given pair station (facts_at given station history) (holds.so_far.last.each station is)) far.is_open in

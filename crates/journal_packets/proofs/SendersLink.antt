@@ -137,6 +137,7 @@ module _ (nth : AreNth) (apart : AreApart) (given : Given) (are_two : given.stat
         link = sent.link;
         is_open = sent.is_open;
         packet = sent.packet;
+        sends = sent.sends;
         channel_is = sent.channel_is;
         belongs = belongs sent.handle after sending sender (ap (take 4) sent.packet ∙ sent_begins sent.link.setup (facts_in sent.link)) has;
       }

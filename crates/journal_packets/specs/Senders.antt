@@ -3,6 +3,7 @@ use Rattle.std.specs.Prelude.{◌≡◌, ℕ, List, Some}
 use Rattle.link_model.specs.Packets.{packet_sent}
 use Rattle.link_model.specs.Step.{PacketSent}
 use Rattle.open_links.specs.OpenLinks.{OpenLink, facts_in, link_after, link_at}
+use Rattle.controller_model.specs.Sent.{SendsOn}
 use Rattle.run_model.specs.History.{Event}
 use Rattle.run_model.specs.Journal.{journal_of, side_of}
 use Rattle.run_model.specs.Links.{links_of}
@@ -18,6 +19,7 @@ pub record IsOfSendersLink (given : Given) (history : List Event) (station chann
   pub link : OpenLink
   pub is_open : link_at handle (facts_at given station history).links ≡ Some (link_after (PacketSent slot) link)
   pub packet : octets ≡ packet_sent link.setup (facts_in link)
+  pub sends : SendsOn handle (facts_at given station history).turn.doing
   pub channel_is : channel ≡ (facts_in link).event.channel
   pub belongs : link_of_packet (journal_of history) (side_of station) octets
       ≡ Some ((links_of history).link_of station handle)

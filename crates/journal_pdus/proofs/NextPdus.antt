@@ -366,7 +366,7 @@ module _ (whole : IsHeardWhole) (given : Given) (Q : Place → List Event → Ty
         let few = few_links given pair station (facts_at given station history) (is.counted.holds.so_far.last.each station in_it) in record {
           last = begin_last given pair eight station history in_it (is.are.well station in_it) few slot on
               (own_fixed (AtBegins (done ++ station ∷ []) left) station (TurnBegins slot on) history in_it next);
-          of = begun_call whole given Q known are_two pair six distinct done left station slot on history are
+          of = begun_call whole given Q known are_two six distinct done left station slot on history are
               (between_turns given Q distinct done left station history are is.counted).uses.in_turn is.counted;
         };
     passes = λ phases done left station history are is next.
@@ -375,7 +375,7 @@ module _ (whole : IsHeardWhole) (given : Given) (Q : Place → List Event → Ty
         let few = few_links given pair station (facts_at given station history) (is.counted.holds.so_far.last.each station in_it) in record {
           last = phase_last given pair eight station history in_it (is.are.well station in_it) few received
               (own_fixed (AtListening phases (done ++ station ∷ []) left) station (step_of received) history in_it next);
-          of = call_is given Q known pair distinct phases done left station history are is.counted next.counted.known next.counted.holds;
+          of = call_is given Q known distinct phases done left station history are is.counted next.counted.known next.counted.holds;
         };
     ends = λ station history. end_next given history station;
   }

@@ -68,12 +68,14 @@ module _ (whole : IsHeardWhole) (given : Given) (Q : Place → List Event → Ty
   at_first = subst (λ n. link_at n sender.links ≡ Some sent_end) first from.is_open
 
   pub sends_first : sends_under 0 sender.turn.doing ≡ true
-  sends_first = sends_it whole given Q known are_two pair six distinct phases done left station channel octets [] history are wanted counted.known counted.holds counted.counted off 0 sent_end at_first
+  sends_first =
+      ap (λ n. sends_under n sender.turn.doing) (sym first)
+      ∙ sends_it whole given Q known are_two six distinct phases done left station channel octets [] history are wanted counted.known counted.holds counted.counted off
 
   pub acked_is : end.acked ≡ (ack_of from.link).acked
   acked_is =
       (subst (λ h. IsCounted (with_sent (exchange_at (number_at station h history) history (side_of station))) (ack_of sent_end)) first
-      (sender_counted whole given Q known are_two pair six distinct phases done left station channel octets [] history are wanted counted.known counted.holds counted.counted off)).acked
+      (sender_counted whole given Q known are_two six distinct phases done left station channel octets [] history are wanted counted.known counted.holds counted.counted off)).acked
       ∙ ap (λ (a : Acknowledgement). a.acked) (ack_sent from.slot from.link)
 
   -- the packet carries what it sent last

@@ -237,7 +237,7 @@ module _ (whole : IsHeardWhole) (given : Given) (Q : Place → List Event → Ty
 
     far : IsFar given history station other listening.handle
     far =
-        packet_far whole given Q known are_two pair six distinct phases done left station channel octets fates history are wanted counted.known counted.holds counted.counted
+        packet_far whole given Q known are_two six distinct phases done left station channel octets fates history are wanted counted.known counted.holds counted.counted
         is_too differs seen silent (heard_is ∙ good) listening.handle link listening.is_open listening.on
 
     sender_handle : sent.handle ≡ 0
@@ -263,7 +263,7 @@ module _ (whole : IsHeardWhole) (given : Given) (Q : Place → List Event → Ty
 
     agreed : AreInAgreement (sent_ack (facts_in sent.link)) (ack_of link)
     agreed =
-        let all = counted.holds.so_far.last.agree station other in_it is_too (own_differs station) in
+        let all = known.agree whole here history counted.known station other in_it is_too (own_differs station) in
         let each = open_has (WithAll (facts other).links) 0 sent.handle (facts station).links sender all sent.is_open in
         subst (λ a. AreInAgreement a (ack_of link)) (ack_sent sent.slot sent.link)
         (open_has (λ (l : OpenLink). Agree sender l) 0 listening.handle (facts other).links link each listening.is_open connect_ind)
@@ -288,7 +288,7 @@ module _ (whole : IsHeardWhole) (given : Given) (Q : Place → List Event → Ty
     carried_is =
         let end = exchange_at number history (side_of station) in
         let counts : IsCounted (with_sent end) (ack_of sender) =
-        sender_counted whole given Q known are_two pair six distinct phases done left station channel octets fates history are wanted counted.known counted.holds counted.counted off in
+        sender_counted whole given Q known are_two six distinct phases done left station channel octets fates history are wanted counted.known counted.holds counted.counted off in
         let acked = counts.acked ∙ ap (λ (a : Acknowledgement). a.acked) (ack_sent sent.slot sent.link) in
         let last = (is.lined.lines station sent.handle sender in_it sent.is_open).last end.acked
         (ap (λ n. n + 1) acked ∙ sent_out sent.link ∙ ap (λ (a : Acknowledgement). length a.sent) (sym (ack_sent sent.slot sent.link))) in

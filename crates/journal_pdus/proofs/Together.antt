@@ -27,7 +27,7 @@ module _ (whole : IsHeardWhole) (given : Given) (Q : Place → List Event → Ty
   pub known_kept : IsKept given (IsKnownAt given Q)
   known_kept =
       let one = data_kept only_open whole given Q known are_two pair six distinct eight in
-      let two = lines_kept whole given Q known are_two pair six distinct in record {
+      let two = lines_kept whole given Q known are_two six distinct in record {
         on_turn = λ slot plan history begun at is. record { data_is = one.on_turn slot plan history begun at is.data_is; lined = two.on_turn slot plan history begun at is.lined };
         on_feed = λ plan done left station history are some now is.
             record { data_is = one.on_feed plan done left station history are some now is.data_is; lined = two.on_feed plan done left station history are some now is.lined };

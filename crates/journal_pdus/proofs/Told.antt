@@ -56,7 +56,7 @@ use Rattle.journal_acks.proofs.Standing.{first_handle}
 use Rattle.journal_acks.proofs.TwoStations.{IsOfTwo, other_apart}
 use Rattle.journal_acks.proofs.UnderHandles.{change_if, change_under, sending_under}
 use Rattle.journal_data.specs.Lines.{PduLine}
-use Rattle.journal_pdus.specs.Announced.{announced_pdu, is_first_sent, pdu_line_if}
+use Rattle.journal_pdus.specs.Announced.{is_first_sent, pdu_line_if}
 use Rattle.journal_pdus.proofs.ToldLines.{air_other_told, called_none, called_other, called_sent, fed_other_told, told_at, turn_told}
 
 -- ---- a new PDU, over plain variables
@@ -312,7 +312,7 @@ module _ (given : Given) (station : ℕ) (step : Step) (history : List Event) (o
         sent = (exchange_same given (number_at station 0 after) station step history (side_of station)).sent
             ∙ ap (λ n. (exchange_at n history (side_of station)).sent) number_same ∙ sent base at on;
         told_is = told_if base at (is_acked (ack_of base) && not (is_empty (facts_in base).outgoing.fixed))
-            (doing_notes outcome.next outcome.facts 0 base few at ∙ ap (λ b. notes_when b base) on)
+            (doing_notes outcome.next outcome.facts 0 base (λ other two sends is. first_handle outcome.facts.links other two few is) at ∙ ap (λ b. notes_when b base) on)
             ∙ ap (λ n. line_to_send n (facts_in base)) (sym number_same);
       })
 
@@ -391,7 +391,7 @@ module _ (given : Given) (Q : Place → List Event → Type 0) (known : AreKnown
   room = has_room setup facts
 
   station_has : IsStation setup facts
-  station_has = station_is given Q known pair distinct phases done left station history are is q holds
+  station_has = station_is given Q known distinct phases done left station history are is q holds
 
   plain_tells : ((handle : ℕ) → listens_under handle facts.turn.doing ≡ true → received ≡ None) → All HasNoData (notes_after setup facts (step_of received))
       → IsTold given true station heard_after
@@ -400,7 +400,7 @@ module _ (given : Given) (Q : Place → List Event → Type 0) (known : AreKnown
       (called_none given station (step_of received) history before (all_more HasNoData SendsNone (λ note has. has.sends) _ plain_too))
       (λ on link at.
       passed_off facts room received (facts_after setup facts (step_of received)).turn.doing link none
-      (passes_under setup facts received 0 link (phased given Q known pair distinct phases done left station history are is q holds).uses.in_turn.listens
+      (passes_under setup facts received 0 link (phased given Q known distinct phases done left station history are is q holds).uses.in_turn.listens
       (own_at given station (step_of received) history 0 link at))
       (ap (λ (f : Facts). sends_under 0 f.turn.doing) (sym (own_facts given station (step_of received) history)) ∙ on))
 
@@ -421,7 +421,7 @@ module _ (given : Given) (Q : Place → List Event → Type 0) (known : AreKnown
         let was = change_under other 0 taking facts.links base at in
         let base_is : base ≡ taking was.link = was.is ∙ ap (λ b. change_if b taking was.link) one in
         let counts = was_taking received octets 0 facts.turn was.link (exchange_at (number_at station 0 history) history (side_of station)) (listens 0 ∙ one) some
-        (before_call given Q known pair distinct phases done left station history are is q holds 0 was.link was.was) in
+        (before_call given Q known distinct phases done left station history are is q holds 0 was.link was.was) in
         counts.sent ∙ ap length (same_but facts.turn.slot octets false room was.link).sent ∙ ap (λ (l : OpenLink). length (ack_of l).sent) (sym base_is)
 
     link_tells : heard setup facts.turn.doing octets facts ≡ link_heard setup other octets facts → IsTold given true station heard_after

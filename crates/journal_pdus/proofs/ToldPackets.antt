@@ -32,7 +32,7 @@ use Rattle.journal_acks.proofs.Standing.{other_sends, phased_at}
 use Rattle.journal_acks.proofs.TwoStations.{IsOfTwo}
 use Rattle.journal_data.specs.Lines.{PduLine}
 use Rattle.journal_data.proofs.Arriving.{lines_length}
-use Rattle.journal_pdus.specs.Announced.{announced_pdu, last_number_sent, new_pdu_of}
+use Rattle.journal_pdus.specs.Announced.{last_number_sent, new_pdu_of}
 use Rattle.journal_pdus.proofs.Together.{IsKnownAt}
 use Rattle.journal_pdus.proofs.ToldLines.{told_at}
 use Rattle.journal_pdus.proofs.FixedNow.{same_base}

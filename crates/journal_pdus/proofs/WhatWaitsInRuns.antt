@@ -113,7 +113,7 @@ module _ (whole : IsHeardWhole) (given : Given) (Q : Place → List Event → Ty
       }
 
   pub tells_what_waits : TellsWhatWaits (journal_of history) (side_of station) channel octets
-  tells_what_waits = tells (link_packet whole given Q known are_two pair six distinct phases done left station channel octets history are wanted has.lined off)
+  tells_what_waits = tells (link_packet whole given Q known are_two six distinct phases done left station channel octets history are wanted has.lined off)
 
 -- ---- in a run
 

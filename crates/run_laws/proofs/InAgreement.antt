@@ -1,33 +1,30 @@
--- What each call keeps of the links of two stations: that both ends of one link are in agreement.
-use Rattle.std.proofs.Common.{◌≡◌, ℕ, zero, suc, ◌+◌, ◌<◌, ◌≤◌, ◌==◌, inl, inr, Bool, true, false, Option, Some, None, List, [], ◌∷◌, length, refl, sym, ap, subst, ◌∙◌, arith}
+-- What each call keeps of the links of one station, and how a call on one of two stations keeps what relates their links.
+use Rattle.std.proofs.Common.{◌≡◌, ℕ, zero, suc, ◌+◌, ◌<◌, ◌≤◌, ◌==◌, Bool, true, false, Option, Some, None, List, [], ◌∷◌, length, refl, sym, subst, ◌∙◌, arith}
 use Rattle.std.specs.Prelude.{if◌then◌else◌}
 use Rattle.std.specs.Option.{option_map}
-use Rattle.std.proofs.lemmas.Bool.{eqb-true, eqb-false}
+use Rattle.std.proofs.lemmas.Bool.{eqb-true}
 use Rattle.link_model.specs.Setup.{Setup as EndSetup}
 use Rattle.link_model.specs.Acknowledgement.{first_acknowledgement}
 use Rattle.link_model.specs.Step.{DataGiven, PduFixed, PacketSent, PacketReceived, DataReported}
-use Rattle.link_model.proofs.Received.{IsHeardWhole}
-use Rattle.open_links.specs.OpenLinks.{Links, OpenLink, facts_in, link_after, link_at, link_from, link_served, new_link, with_change, with_change_from}
+use Rattle.open_links.specs.OpenLinks.{Links, OpenLink, link_after, link_at, link_from, link_served, new_link, with_change, with_change_from}
 use Rattle.open_links.specs.Turns.{is_anchor, link_entered}
 use Rattle.open_links.proofs.Ends.{entered_setup}
 use Rattle.controller_model.specs.declared.doing.Turn.{Turn}
 use Rattle.controller_model.specs.Step.{Step, HostOctet, TurnBegins, TurnEnds}
-use Rattle.controller_model.specs.Facts.{Setup, Facts, Use, Listens, first_facts}
+use Rattle.controller_model.specs.Facts.{Setup, Facts, first_facts}
 use Rattle.controller_model.specs.Heard.{reply_if}
 use Rattle.controller_model.specs.Packets.{links_sending, listens_on}
 use Rattle.controller_model.specs.Side.{facts_after, facts_of}
 use Rattle.controller_model.proofs.Always.{holds_step}
-use Rattle.controller_model.proofs.DataChannels.{link_channel}
 use Rattle.controller_model.proofs.Handles.{HaveOwnHandles, handles_kept, own_handles}
 use Rattle.run_model.specs.Run.{Given, setup_at, step_of}
 use Rattle.run_model.proofs.Stations.{is_in}
 use Rattle.run_laws.specs.Ends.{link_listened}
-use Rattle.run_laws.proofs.Agreed.{Agree, ack_given, ack_of, ack_reported, agree_entered, agree_fixed, agree_given, agree_new, agree_received, agree_reported, agree_sent, agree_served, first_ack, other_way}
+use Rattle.run_laws.proofs.Agreed.{Agree, ack_given, ack_of, ack_reported, agree_entered, agree_fixed, agree_given, agree_new, agree_reported, agree_sent, agree_served, first_ack}
 use Rattle.run_laws.proofs.ByCalls.{IsCalled, IsKeptByCalls}
 use Rattle.run_laws.proofs.Entering.{IsInTurn}
-use Rattle.run_laws.proofs.Hearings.{IsOnAir}
-use Rattle.run_laws.proofs.LinkPasses.{IsPassing, IsPassingOn, Leaves, LeavesAll, Opens, OpensOne, Receives, ReceivesOn, is_on_link, phase_passes, phase_passes_on}
-use Rattle.run_laws.proofs.OpenSteps.{AtOpen, EachOpen, IsKeptByHosts, IsKeptOpen, IsKeptServed, MayOpen, begin_open, changed, end_open, none_open, octet_open, phase_open, open_has, open_more, opened, sends}
+use Rattle.run_laws.proofs.LinkPasses.{IsPassing, IsPassingOn, Leaves, LeavesAll, Opens, OpensOne, Receives, ReceivesOn, is_on_link, phase_passes}
+use Rattle.run_laws.proofs.OpenSteps.{AtOpen, EachOpen, IsKeptByHosts, IsKeptOpen, IsKeptServed, MayOpen, begin_open, changed, end_open, none_open, octet_open, phase_open, open_more, opened, sends}
 use Rattle.run_laws.proofs.TurnPlaces.{Within}
 use Rattle.run_laws.proofs.TurnSteps.{MakesWell, begins_begun, begins_slot, octet_turn, phase_turn}
 use Rattle.run_laws.proofs.TwoStations.{AreTwo, are_two, differs_back as apart_back}
@@ -271,42 +268,6 @@ changed_at P first handle change (place ∷ links) more each = at (first == hand
     at true is own rest = (here place own each.0, each.1)
     at false is own rest = (each.0, rest own each.1)
 
--- a station with one link
-one_open : (P : OpenLink → Type 0) (handle : ℕ) (links : Links) (link : OpenLink) → length links ≤ 1 → link_at handle links ≡ Some link → P link → EachOpen P links
-one_open P handle [] link few is holds = absurd cc
-one_open P handle (place ∷ []) link few is holds = (at (0 == handle) is, tt)
-  where
-    here : (one : Option OpenLink) → one ≡ Some link → AtOpen P one
-    here None same = absurd cc
-    here (Some other) same = let equal : link ≡ other = cc in subst P equal holds
-
-    at : (test : Bool) → (if test then place else None) ≡ Some link → AtOpen P place
-    at true same = here place same
-    at false same = absurd cc
-one_open P handle (place ∷ second ∷ links) link few is holds = absurd (omega (arith, few))
-
-listens_where : (found : Option OpenLink) (link : OpenLink) (channel : ℕ) (wanted : Use) → wanted ≡ listens_on found → found ≡ Some link → wanted ≡ Listens channel
-    → channel ≡ (facts_in link).event.channel
-listens_where None link channel wanted is at listens = absurd cc
-listens_where (Some other) link channel wanted is at listens =
-    let same : other ≡ link = cc in
-    let one : Listens channel ≡ Listens (facts_in other).event.channel = sym listens ∙ is in
-    let equal : channel ≡ (facts_in other).event.channel = cc in
-    equal ∙ ap (λ (l : OpenLink). (facts_in l).event.channel) same
-
--- what it receives on a link is what the other station sent on its own
-heard_agree : IsHeardWhole → (phases slot : ℕ) (room : Bool) (octets : List ℕ) (one : OpenLink) (facts : Facts) (channel : ℕ) → length facts.links ≤ 1
-    → TakesShort one → channel ≡ (facts_in one).event.channel → IsOnAir phases facts channel octets → WithAll facts.links one
-    → WithAll facts.links (link_after (PacketReceived slot octets room) one)
-heard_agree whole phases slot room octets one facts channel few fits is (inl sent) all =
-    let below : channel < 37 = subst (λ (n : ℕ). n < 37) (sym is) (link_channel one) in
-    let from = sent.on_channel.0 in absurd (omega (arith, below, from))
-heard_agree whole phases slot room octets one facts channel few fits is (inr sent) all =
-    let from = link_after (PacketSent sent.slot) sent.link in
-    one_open (λ other. Agree (link_after (PacketReceived slot octets room) one) other) sent.handle facts.links from few sent.is_open
-    (agree_received whole slot sent.slot room one sent.link octets fits sent.packet (sym sent.channel_is ∙ is)
-    (open_has (λ other. Agree one other) 0 sent.handle facts.links from all sent.is_open))
-
 -- a phase of the first station keeps a relation that a new link has, and one that receives keeps
 pub passing_keeps : (R : OpenLink → OpenLink → Type 0) → IsKeptByFirst R → (others : Links) (facts after : Facts) (received : Option (List ℕ))
     → ((end : EndSetup) → end.opened ≡ facts.turn.slot → EachOpen (R (new_link end)) others)
@@ -333,45 +294,18 @@ new_agree slot others fresh end now =
 
 pub record AreStations (given : Given) (facts : ℕ → Facts) : Type 0 where
   pub each : (station : ℕ) → is_in station given.stations ≡ true → IsStation (setup_at given station) (facts station)
-  pub agree : (one other : ℕ) → is_in one given.stations ≡ true → is_in other given.stations ≡ true → (one == other) ≡ false
-      → AllAgree (facts one).links (facts other).links
 
 pub differs_back : (one other : ℕ) → (one == other) ≡ false → (other == one) ≡ false
 differs_back one other differs = apart_back one other differs
 
 stations_called : (given : Given) (station : ℕ) (step : Step) (before after : ℕ → Facts) → IsCalled given station step before after
-    → IsStation (setup_at given station) (facts_after (setup_at given station) (before station) step)
-    → ((other : ℕ) → is_in other given.stations ≡ true → (station == other) ≡ false
-    → AllAgree (facts_after (setup_at given station) (before station) step).links (before other).links)
-    → AreStations given before → AreStations given after
-stations_called given station step before after called next agrees are = record {
-  each = λ other is. each_by other is (other == station) refl;
-  agree = λ one other is is_too differs. agree_by one other is is_too differs (one == station) (other == station) refl refl;
-}
+    → IsStation (setup_at given station) (facts_after (setup_at given station) (before station) step) → AreStations given before → AreStations given after
+stations_called given station step before after called next are = record { each = λ other is. by other is (other == station) refl }
   where
-    each_by : (other : ℕ) → is_in other given.stations ≡ true → (same : Bool) → (other == station) ≡ same → IsStation (setup_at given other) (after other)
-    each_by other is true one =
+    by : (other : ℕ) → is_in other given.stations ≡ true → (same : Bool) → (other == station) ≡ same → IsStation (setup_at given other) (after other)
+    by other is true one =
         subst (λ n. IsStation (setup_at given n) (after n)) (sym (eqb-true other station one)) (subst (IsStation (setup_at given station)) (sym called.own) next)
-    each_by other is false differs = subst (IsStation (setup_at given other)) (sym (called.others other differs)) (are.each other is)
-
-    called_agrees : (other : ℕ) → is_in other given.stations ≡ true → (other == station) ≡ false → AllAgree (after station).links (after other).links
-    called_agrees other is differs =
-        subst (λ (f : Facts). AllAgree f.links (after other).links) (sym called.own)
-        (subst (λ (f : Facts). AllAgree (facts_after (setup_at given station) (before station) step).links f.links) (sym (called.others other differs))
-        (agrees other is (differs_back other station differs)))
-
-    agree_by : (one other : ℕ) → is_in one given.stations ≡ true → is_in other given.stations ≡ true → (one == other) ≡ false → (same same_too : Bool)
-        → (one == station) ≡ same → (other == station) ≡ same_too → AllAgree (after one).links (after other).links
-    agree_by one other is is_too differs true true here here_too =
-        absurd (eqb-false one other differs (eqb-true one station here ∙ sym (eqb-true other station here_too)))
-    agree_by one other is is_too differs true false here there =
-        subst (λ n. AllAgree (after n).links (after other).links) (sym (eqb-true one station here)) (called_agrees other is_too there)
-    agree_by one other is is_too differs false true there here =
-        subst (λ n. AllAgree (after one).links (after n).links) (sym (eqb-true other station here))
-        (pairs_back Agree Agree other_way (after station).links (after one).links (called_agrees one is there))
-    agree_by one other is is_too differs false false there there_too =
-        subst (λ (f : Facts). AllAgree f.links (after other).links) (sym (called.others one there))
-        (subst (λ (f : Facts). AllAgree (before one).links f.links) (sym (called.others other there_too)) (are.agree one other is is_too differs))
+    by other is false differs = subst (IsStation (setup_at given other)) (sym (called.others other differs)) (are.each other is)
 
 pub few_links : (given : Given) → IsPair given → (station : ℕ) (facts : Facts) → IsStation (setup_at given station) facts → length facts.links ≤ 1
 few_links given pair station facts is = let many = is.own.many in let few = pair.links station in omega (arith, many, few)
@@ -379,40 +313,18 @@ few_links given pair station facts is = let many = is.own.many in let few = pair
 pub one_slot : (one other turns : ℕ) → one + 1 ≡ turns → other + 1 ≡ turns → one ≡ other
 one_slot one other turns is is_too = omega (arith, is, is_too)
 
-pub agreement_kept : IsHeardWhole → (given : Given) → IsPair given → IsKeptByCalls given (AreStations given)
-agreement_kept whole given pair = record {
+pub stations_kept : (given : Given) → IsKeptByCalls given (AreStations given)
+stations_kept given = record {
   feeds = λ station octet before after called are.
-      let setup = setup_at given station in
-      let is = called.is_one in
-      stations_called given station (HostOctet octet) before after called (station_fed setup (before station) octet (are.each station is))
-      (λ other is_too differs. octet_open (WithAll (before other).links) (all_hosts Agree agree_kept (before other).links) setup (before station) octet (are.agree station other is is_too differs)) are;
+      stations_called given station (HostOctet octet) before after called (station_fed (setup_at given station) (before station) octet (are.each station called.is_one)) are;
   begins = λ station slot on before after called in_turn are.
-      let setup = setup_at given station in
-      let is = called.is_one in
-      stations_called given station (TurnBegins slot on) before after called (station_begins setup (before station) slot on in_turn.begun_is (are.each station is))
-      (λ other is_too differs. begin_open (WithAll (before other).links) (WithAll (before other).links) (all_served Agree agree_kept (before other).links) setup slot on (before station)
-      (all_entered Agree agree_kept (before other).links slot) (are.agree station other is is_too differs)) are;
+      stations_called given station (TurnBegins slot on) before after called
+      (station_begins (setup_at given station) (before station) slot on in_turn.begun_is (are.each station called.is_one)) are;
   passes = λ station phases turns received before after called in_turn slots sent are.
-      let setup = setup_at given station in
-      let is = called.is_one in
-      stations_called given station (step_of received) before after called (station_passes setup (before station) phases turns received in_turn (are.each station is))
-      (λ other is_too differs.
-      let far = are.each other is_too in
-      passing_keeps Agree agree_kept (before other).links (before station) _ received
-      (λ end now. new_agree (before other).turn.slot (before other).links far.fresh end (now ∙ one_slot _ _ turns in_turn.slot_is (slots other is_too)))
-      (λ handle octets room one was listens wanted at each.
-      let heard = sent octets was in
-      let channel = listens_where (link_at handle (before station).links) one heard.channel (before station).wanted wanted at heard.listens in
-      heard_agree whole phases (before station).turn.slot room octets one (before other) heard.channel (few_links given pair other (before other) far)
-      (open_has TakesShort 0 handle (before station).links one (are.each station is).short at) channel
-      (subst (λ n. IsOnAir phases (before n) heard.channel octets) (pair.two.only station other heard.sender is is_too heard.is_one differs heard.differs) heard.sent) each)
-      (phase_passes_on setup (before station) received in_turn.listens) (are.agree station other is is_too differs)) are;
+      stations_called given station (step_of received) before after called
+      (station_passes (setup_at given station) (before station) phases turns received in_turn (are.each station called.is_one)) are;
   ends = λ station before after called are.
-      let setup = setup_at given station in
-      let is = called.is_one in
-      stations_called given station TurnEnds before after called (station_ends setup (before station) (are.each station is))
-      (λ other is_too differs. end_open (WithAll (before other).links) (all_hosts Agree agree_kept (before other).links) setup (before station)
-      (are.agree station other is is_too differs)) are;
+      stations_called given station TurnEnds before after called (station_ends (setup_at given station) (before station) (are.each station called.is_one)) are;
 }
 
 -- ---- the run

@@ -23,17 +23,20 @@ use Rattle.run_model.specs.Feeding.{AreDistinct}
 use Rattle.run_model.specs.History.{Event, Called}
 use Rattle.run_model.specs.LinkEnds.{HaveAddresses}
 use Rattle.run_model.specs.Run.{Given, facts_at, history_of, run_of, setup_at, step_of}
+use Rattle.run_model.proofs.LinkEnds.{AreTaken, IsUnderstood}
 use Rattle.run_model.proofs.Stations.{is_in}
 use Rattle.run_laws.specs.Ends.{AreEnds, HasSent, HaveOneConnectInd, HearEachOther, HearsItsLink, IsOpen, OpenEnd, ReceivesGood}
 use Rattle.run_laws.proofs.Agreed.{Agree, ack_of, agree_by, agree_received, exchange, step_facts}
 use Rattle.run_laws.proofs.ByCalls.{all_facts}
 use Rattle.run_laws.proofs.EachCall.{IsCallOf, IsPhase, call_at, facts_called, facts_others, kept_along}
-use Rattle.run_laws.proofs.InAgreement.{AllPairs, IsKeptByFirst, IsStation, TakesShort, agree_kept, all_entered, all_hosts, all_served, first_station, new_agree, one_slot, pairs_back, passing_keeps, station_begins, station_ends, station_fed, station_passes}
+use Rattle.run_laws.proofs.DistinctAccess.{AreApart}
+use Rattle.run_laws.proofs.InAgreement.{AllAgree, AllPairs, IsKeptByFirst, IsStation, TakesShort, WithAll, agree_kept, all_entered, all_hosts, all_served, first_station, new_agree, one_slot, pairs_back, passing_keeps, station_begins, station_ends, station_fed, station_passes}
 use Rattle.run_laws.proofs.LinkPasses.{phase_passes_on}
 use Rattle.run_laws.proofs.OpenSteps.{AtOpen, EachOpen, begin_open, end_open, none_open, octet_open, open_has, open_more}
 use Rattle.run_laws.proofs.OpenedOnce.{opened_once}
+use Rattle.run_laws.proofs.OwnLinks.{hear_each_other}
 use Rattle.run_laws.proofs.SameEvent.{apart_ends, one_connect_ind}
-use Rattle.run_laws.proofs.TwoStations.{differs_back}
+use Rattle.run_laws.proofs.TwoStations.{AreTwo, differs_back}
 
 -- ---- what is known of two links
 
@@ -89,7 +92,7 @@ good_or_kept slot room octets link = got (of (heard_of link.setup (facts_in link
     got (inr kept) = inr (ap (λ (f : EndFacts). f.acknowledgement) (step_facts link (PacketReceived slot octets room)) ∙ kept)
 
 -- a link is under a handle from the first on
-from_first : (first handle : ℕ) (links : Links) (link : OpenLink) → link_from first handle links ≡ Some link → first ≤ handle
+pub from_first : (first handle : ℕ) (links : Links) (link : OpenLink) → link_from first handle links ≡ Some link → first ≤ handle
 from_first first handle [] link is = absurd cc
 from_first first handle (place ∷ links) link is = at (first == handle) refl is (from_first (first + 1) handle links link)
   where
@@ -98,7 +101,7 @@ from_first first handle (place ∷ links) link is = at (first == handle) refl is
     at true same found rest = let equal = eqb-true first handle same in omega (arith, equal)
     at false other found rest = let more = rest found in omega (arith, more)
 
-each_under : (P : OpenLink → Type 0) (first : ℕ) (links : Links) → ((handle : ℕ) (link : OpenLink) → link_from first handle links ≡ Some link → P link) → EachOpen P links
+pub each_under : (P : OpenLink → Type 0) (first : ℕ) (links : Links) → ((handle : ℕ) (link : OpenLink) → link_from first handle links ≡ Some link → P link) → EachOpen P links
 each_under P first [] has = tt
 each_under P first (place ∷ links) has = (
   at place refl,
@@ -325,3 +328,19 @@ stays_in_agreement whole given before rest central peripheral distinct six is is
     let end = central.link.setup in
     let each = open_has (λ link. EachOpen (AgreeOn end link) others) 0 central.handle (facts_at given central.station before).links central.link are.agree is_open in
     open_has (AgreeOn end central.link) 0 peripheral.handle others peripheral.link each is_open_too (record { fields = refl; opened = refl }) same
+
+-- and so do all open links of two stations
+pub all_agree : IsHeardWhole → IsUnderstood → AreTaken → AreApart → (given : Given) → HaveAddresses given → AreDistinct given.stations → AreTwo given
+    → (before rest : List Event) → history_of (run_of given) ≡ before ++ rest → (one other : ℕ) → is_in one given.stations ≡ true → is_in other given.stations ≡ true
+    → (one == other) ≡ false → AllAgree (facts_at given one before).links (facts_at given other before).links
+all_agree whole understood taken apart given six distinct two before rest at one other in_it in_too differs =
+    let links = (facts_at given one before).links in
+    let others = (facts_at given other before).links in
+    each_under (WithAll others) 0 links (λ handle link is_open.
+    each_under (Agree link) 0 others (λ far_handle far is_too same.
+    let end : OpenEnd = record { station = one; handle = handle; link = link } in
+    let far_end : OpenEnd = record { station = other; handle = far_handle; link = far } in
+    let hear = hear_each_other understood taken apart given six distinct two before rest at end far_end in_it in_too differs same in
+    let are = agreeing whole given six distinct end far_end same in_it in_too differs before rest at hear in
+    let each = open_has (λ l. EachOpen (AgreeOn link.setup l) others) 0 handle links link are.agree is_open in
+    open_has (AgreeOn link.setup link) 0 far_handle others far each is_too (record { fields = refl; opened = refl }) same))

@@ -3,6 +3,7 @@ pub mod Calls
 pub mod Places
 pub mod Stations
 pub mod Walk
+pub mod Fronts
 pub mod Dues
 pub mod Notes
 pub mod Feeds

@@ -280,7 +280,7 @@ pub record IsWhole (given : Given) (P : Place → List Event → Type 0) (histor
   pub begun : turns_begun history ≡ length given.plans
   pub is : P NoTurn history
 
-plan_after : (before after : List Plan) (plan : Plan) → slice_get (before ++ plan ∷ after) (length before) ≡ Some plan
+pub plan_after : (before after : List Plan) (plan : Plan) → slice_get (before ++ plan ∷ after) (length before) ≡ Some plan
 plan_after [] after plan = refl
 plan_after (first ∷ before) after plan = plan_after before after plan
 
