@@ -1,4 +1,4 @@
--- In every journal of a run of a pair each line is the one that is due, and nothing waits between turns.
+-- In every journal of a run of a pair each line is the one that is due, and nothing is under way or waits between turns.
 use Rattle.std.proofs.Common.{◌≡◌, ℕ, List, length, refl}
 use Rattle.link_model.proofs.Received.{IsHeardWhole}
 use Rattle.radio_replay.specs.Script.{Script}
@@ -12,9 +12,10 @@ use Rattle.run_laws.proofs.DistinctAccess.{AreApart}
 use Rattle.run_laws.proofs.InAgreement.{is_pair}
 use Rattle.journal_packets.proofs.AccessOrder.{AreNth}
 use Rattle.journal_data.proofs.Law.{eight_of}
-use Rattle.journal_pdus.specs.Exchanged.{AllAreNew, PdusAreDue}
+use Rattle.journal_pdus.specs.Exchanged.{AllAreNew, IsAtRest, PdusAreDue}
 use Rattle.journal_pdus.specs.Settled.{AreSettled}
 use Rattle.journal_pdus.proofs.NextPdus.{next_of_lines}
+use Rattle.journal_pdus.proofs.Resting.{resting_last, resting_lines}
 use Rattle.journal_pdus.proofs.SettledRuns.{settled_last, settled_lines}
 use Rattle.journal_pdus.proofs.TakenInRuns.{some_air, taken_lines}
 use Rattle.journal_pdus.proofs.ToldInRuns.{told_lines}
@@ -35,9 +36,15 @@ module _ (whole : IsHeardWhole) (understood : IsUnderstood) (taken : AreTaken) (
         tell_what_waits = waits_of_lines whole understood taken nth apart given refl pair addresses distinct eight aired;
         go_out_at_once = told_lines whole understood taken nth apart given refl pair addresses distinct eight;
         taken_at_once = taken_lines whole understood taken nth apart given refl pair addresses distinct eight (some_air a b script);
+        at_rest = resting_lines whole understood taken nth apart given refl pair addresses distinct eight (some_air a b script);
         settled = settled_lines whole understood taken nth apart given refl pair addresses distinct eight;
       }
 
   pub journal_settled : (history : List Event) → run_of (given_of a b script) ≡ GoesOn history → AreSettled (journal_of history)
   journal_settled =
       settled_last whole understood taken nth apart (given_of a b script) refl (is_pair a b script) (pair_addresses a b script six six_too) (pair_distinct a b script) (eight_of a b script)
+
+  pub journal_at_rest : (history : List Event) → run_of (given_of a b script) ≡ GoesOn history → IsAtRest (journal_of history)
+  journal_at_rest =
+      resting_last whole understood taken nth apart (given_of a b script) refl (is_pair a b script) (pair_addresses a b script six six_too) (pair_distinct a b script) (eight_of a b script)
+      (some_air a b script)

@@ -12,6 +12,7 @@ mod ToldLines
 mod Told
 mod ToldPackets
 mod ToldInRuns
+mod Resting
 mod NextPdus
 mod WhatWaits
 mod WhatWaitsInRuns

@@ -64,7 +64,7 @@ open_in number (Some link) (first ∷ second ∷ before) after one are = absurd 
 -- ---- between two turns
 
 -- each side is that of a station
-by_side : (given : Given) → IsOfTwo given → (T : Side → Type 0) → ((station : ℕ) → is_in station given.stations ≡ true → T (side_of station)) → (side : Side) → T side
+pub by_side : (given : Given) → IsOfTwo given → (T : Side → Type 0) → ((station : ℕ) → is_in station given.stations ≡ true → T (side_of station)) → (side : Side) → T side
 by_side given are_two T all A = all 0 (ap (is_in 0) are_two)
 by_side given are_two T all B = all 1 (ap (is_in 1) are_two)
 
@@ -103,17 +103,17 @@ module _ (given : Given) (Q : Place → List Event → Type 0) (are_two : IsOfTw
 
 -- ---- the event of a line
 
-record IsTurnEvent (event : Event) : Type 0 where
-  slot : ℕ
-  radios : List Bool
-  is : event ≡ TurnBegan slot radios
+pub record IsTurnEvent (event : Event) : Type 0 where
+  pub slot : ℕ
+  pub radios : List Bool
+  pub is : event ≡ TurnBegan slot radios
 
 no_note : (side : Side) (link_of : ℕ → ℕ) (last : ℕ) (note : Note) (slot : ℕ) (a_on : Bool) (b_on : Option Bool) (X : Type 0)
     → entry_of side link_of last note ∷ [] ≡ Turn slot a_on b_on ∷ [] → X
 no_note side link_of last (UpNote packet) slot a_on b_on X is = absurd cc
 no_note side link_of last note slot a_on b_on X is = absurd cc
 
-turn_event : (links : Links) (event : Event) (slot : ℕ) (a_on : Bool) (b_on : Option Bool) → entries_of links event ≡ Turn slot a_on b_on ∷ [] → IsTurnEvent event
+pub turn_event : (links : Links) (event : Event) (slot : ℕ) (a_on : Bool) (b_on : Option Bool) → entries_of links event ≡ Turn slot a_on b_on ∷ [] → IsTurnEvent event
 turn_event links (TurnBegan now radios) slot a_on b_on is = record { slot = now; radios = radios; is = refl }
 turn_event links (HostFed station octets) slot a_on b_on is = absurd cc
 turn_event links (Called station step) slot a_on b_on is = absurd cc

@@ -337,7 +337,7 @@ module _ (whole : IsHeardWhole) (given : Given) (Q : Place → List Event → Ty
 -- ---- at each place of a run
 
 -- what is pending for each station: after the packets of a phase, what its call is to take; and else nothing
-abbrev IsPendingAt : Given → Place → List Event → Type 0
+abbrev pub IsPendingAt : Given → Place → List Event → Type 0
 IsPendingAt given (AtPackets phases done left) history = (station : ℕ) → is_in station given.stations ≡ true → pending_at station history ≡ to_take given station history
 IsPendingAt given (AtListening phases done left) history =
     (station : ℕ) → is_in station given.stations ≡ true → pending_at station history ≡ (if is_in station done then None else to_take given station history)
@@ -347,9 +347,9 @@ IsPendingAt given (AtBegins done left) history = (station : ℕ) → is_in stati
 IsPendingAt given (AfterPhases phases) history = (station : ℕ) → is_in station given.stations ≡ true → pending_at station history ≡ None
 IsPendingAt given (AtEnds done left) history = (station : ℕ) → is_in station given.stations ≡ true → pending_at station history ≡ None
 
-record IsTakenAt (given : Given) (Q : Place → List Event → Type 0) (place : Place) (history : List Event) : Type 0 where
+pub record IsTakenAt (given : Given) (Q : Place → List Event → Type 0) (place : Place) (history : List Event) : Type 0 where
   is : IsKnownAt given Q place history
-  pending_pdu : IsPendingAt given place history
+  pub pending_pdu : IsPendingAt given place history
   each : Each IsTakenEvent [] history
 
 -- nothing is pending
@@ -428,7 +428,7 @@ module _ (given : Given) (are_two : IsOfTwo given) where
 module _ (whole : IsHeardWhole) (given : Given) (Q : Place → List Event → Type 0) (known : AreKnown given Q) (are_two : IsOfTwo given) (pair : IsPair given)
     (six : HaveAddresses given) (distinct : AreDistinct given.stations) (eight : (station : ℕ) → (setup_at given station).host_buffers ≡ 8)
     (some : (station : ℕ) → 0 < (setup_at given station).air_buffers) where
-  taken_kept : IsKept given (IsTakenAt given Q)
+  pub taken_kept : IsKept given (IsTakenAt given Q)
   taken_kept = let kept = known_kept whole given Q known are_two pair six distinct eight in record {
     on_turn = λ slot plan history begun at has.
         let radios = map plan.radio_of given.stations in record {
@@ -501,13 +501,17 @@ nothing_first : (station : ℕ) → pending_at station [] ≡ None
 unfolding pending_pdu journal_of
 nothing_first station = refl
 
+-- as a run begins
+pub taken_first : (given : Given) → IsTakenAt given (IsBelongingSoFar given) NoTurn []
+taken_first given = record { is = known_first given; pending_pdu = λ station in_it. nothing_first station; each = tt }
+
 run_taken : IsHeardWhole → IsUnderstood → AreTaken → AreNth → AreApart → (given : Given) → IsOfTwo given → IsPair given → HaveAddresses given → AreDistinct given.stations
     → ((station : ℕ) → (setup_at given station).host_buffers ≡ 8) → ((station : ℕ) → 0 < (setup_at given station).air_buffers) → Each IsTakenEvent [] (history_of (run_of given))
 run_taken whole understood taken nth separate given are_two pair six distinct eight some =
     let Q = IsBelongingSoFar given in
     ends_with (run_of given) (IsWhole given (IsTakenAt given Q)) (IsStopped given (IsTakenAt given Q)) (Each IsTakenEvent [])
     (run_kept given (IsTakenAt given Q) (taken_kept whole given Q (known_of understood taken nth separate given are_two six) are_two pair six distinct eight some)
-    (record { is = known_first given; pending_pdu = λ station in_it. nothing_first station; each = tt }))
+    (taken_first given))
     (λ history wholly. wholly.is.each) (λ history stop stopped. stopped.kept.each)
 
 -- ---- the lines

@@ -1,6 +1,6 @@
 -- What goes out on the links of a journal and what is taken, line by line (Core 5.2, volume 6 part B, sections 4.5.6
 -- and 4.5.9, and volume 4 part E, section 7.7.19).
-use Rattle.std.specs.Prelude.{◌≡◌, ℕ, Bool, false, List, ◌∷◌, ◌++◌, Option, Some}
+use Rattle.std.specs.Prelude.{◌≡◌, ℕ, Bool, false, List, ◌∷◌, ◌++◌, Option, Some, None}
 use Rattle.ble_base.specs.declared.roles.Side.{Side}
 use Rattle.ble_base.specs.declared.verdicts.Verdict.{Verdict}
 use Rattle.journal.specs.declared.entries.Entry.{Entry}
@@ -47,10 +47,20 @@ abbrev pub AllAreSettled : List Entry → Type 0
 AllAreSettled journal = (front rest : List Entry) (slot : ℕ) (a_on : Bool) (b_on : Option Bool)
     → journal ≡ front ++ Turn slot a_on b_on ∷ rest → AreSettled front
 
+-- between two turns nothing is under way: the packet of each line of a new PDU was on the air, and each side took what
+-- reached it
+abbrev pub IsAtRest : List Entry → Type 0
+IsAtRest front = (side : Side) → (announced_pdu side front ≡ None) × (pending_pdu side front ≡ None)
+
+abbrev pub AllAreAtRest : List Entry → Type 0
+AllAreAtRest journal = (front rest : List Entry) (slot : ℕ) (a_on : Bool) (b_on : Option Bool)
+    → journal ≡ front ++ Turn slot a_on b_on ∷ rest → IsAtRest front
+
 pub record PdusAreDue (journal : List Entry) : Type 0 where
   pub new : AllAreNew journal
   pub next : AllAreNext journal
   pub tell_what_waits : AllTellWhatWaits journal
   pub go_out_at_once : AllGoOutAtOnce journal
   pub taken_at_once : AllAreTakenAtOnce journal
+  pub at_rest : AllAreAtRest journal
   pub settled : AllAreSettled journal

@@ -11,7 +11,7 @@ use Rattle.journal_packets.specs.Addresses.{AllAddressesAreNext}
 use Rattle.journal_data.specs.Delivered.{AllDataArrives}
 use Rattle.journal_turns.specs.Follows.{FollowsSchedule}
 use Rattle.journal_turns.specs.Scheduled.{AreAllTurns}
-use Rattle.journal_pdus.specs.Exchanged.{PdusAreDue}
+use Rattle.journal_pdus.specs.Exchanged.{IsAtRest, PdusAreDue}
 use Rattle.journal_pdus.specs.Settled.{AreSettled}
 
 -- each line of a link that a side holds from there on is in the turn of the CONNECT_IND of that link
@@ -37,7 +37,9 @@ pub record IsLawful (a b : List ℕ) (script : Script) (journal : List Entry) : 
   -- data arrives in order, and is credited only as it is accepted
   pub arrives : AllDataArrives journal
 
--- the journal of a whole run: all turns of the script begin, and at the end nothing waits for a host
+-- the journal of a whole run: all turns of the script begin, and at the end nothing is under way, and nothing waits for
+-- a host
 pub record IsWhole (script : Script) (journal : List Entry) : Type 0 where
   pub turns : AreAllTurns script journal
+  pub at_rest : IsAtRest journal
   pub settled : AreSettled journal

@@ -24,7 +24,8 @@ ghost use Rattle.journal_pdus.specs.Lawful.{IsLawful, IsWhole};
 /// - the line of a new PDU is the last of its side before the packet that the PDU first goes out
 ///   in;
 /// - the next line of a side after the first good packet that brings a PDU is that it takes it;
-/// - before each turn, and at the end of a whole run, the host of each side has received all data
+/// - before each turn, and at the end of a whole run, the packet of each line of a new PDU was on
+///   the air, and what reached a side was taken; and the host of each side has received all data
 ///   that its side took, and each of its packets that the other side acknowledged whole is reported
 ///   to it.
 pub fn each_journal_is_lawful()

@@ -52,7 +52,15 @@ taken_though_lost = announced ++ Air B 25 data_packet Lost Missed ∷ Took A 1 1
 abbrev pub taken_otherwise : List Entry
 taken_otherwise = heard ++ Took A 1 1 2 (0xAB ∷ []) ∷ []
 
+-- it takes the PDU in the turn after that of its packet
+abbrev pub taken_in_another_turn : List Entry
+taken_in_another_turn = heard ++ turn_entry 4 ∷ Took A 1 1 2 (0xAA ∷ []) ∷ []
+
 -- ---- what is sent
+
+-- the packet of a `sent` line comes in the turn after that line
+abbrev pub sent_in_another_turn : List Entry
+sent_in_another_turn = announced ++ turn_entry 4 ∷ Air B 25 data_packet Pass Good ∷ []
 
 -- a `sent` line of other octets than the host submitted
 abbrev pub sent_otherwise : List Entry

@@ -1,13 +1,15 @@
 //! PDUs that are sent or taken against the rules, and packets that carry what they must not.
-ghost use Rattle.journal_pdus.specs.Exchanged.{AllAreNew, AllAreNext, AllAreTakenAtOnce};
-ghost use Rattle.journal_pdus.specs.Exchanged.{AllGoOutAtOnce, AllTellWhatWaits};
+ghost use Rattle.journal_pdus.specs.Exchanged.{AllAreAtRest, AllAreNew, AllAreNext};
+ghost use Rattle.journal_pdus.specs.Exchanged.{AllAreTakenAtOnce, AllGoOutAtOnce};
+ghost use Rattle.journal_pdus.specs.Exchanged.{AllTellWhatWaits};
 ghost use Rattle.wrong_journals.specs.Exchanges.{another_channel, empty_while_data_waits};
 ghost use Rattle.wrong_journals.specs.Exchanges.{less_than_waits, more_than_waits, never_taken};
 ghost use Rattle.wrong_journals.specs.Exchanges.{number_stays, packet_otherwise};
 ghost use Rattle.wrong_journals.specs.Exchanges.{packet_without_line, sent_as_continuation};
 ghost use Rattle.wrong_journals.specs.Exchanges.{sent_from_nothing, sent_misnumbered};
-ghost use Rattle.wrong_journals.specs.Exchanges.{sent_otherwise, sent_too_early};
-ghost use Rattle.wrong_journals.specs.Exchanges.{sent_without_packet, taken_from_nothing};
+ghost use Rattle.wrong_journals.specs.Exchanges.{sent_in_another_turn, sent_otherwise};
+ghost use Rattle.wrong_journals.specs.Exchanges.{sent_too_early, sent_without_packet};
+ghost use Rattle.wrong_journals.specs.Exchanges.{taken_from_nothing, taken_in_another_turn};
 ghost use Rattle.wrong_journals.specs.Exchanges.{taken_otherwise, taken_though_lost, taken_twice};
 
 /// A side takes each PDU once, as the first good packet brings it, with its octets.
@@ -40,4 +42,11 @@ pub fn wrong_packets_are_refused()
     ensures more { AllTellWhatWaits more_than_waits → ⊥ }
     ensures less { AllTellWhatWaits less_than_waits → ⊥ }
     ensures channel { AllTellWhatWaits another_channel → ⊥ }
+{}
+
+/// The packet of a `sent` line is in the turn of that line, and a side takes a PDU in the turn of its
+/// packet.
+pub fn wrong_turns_of_exchanges_are_refused()
+    ensures sent { AllAreAtRest sent_in_another_turn → ⊥ }
+    ensures taken { AllAreAtRest taken_in_another_turn → ⊥ }
 {}

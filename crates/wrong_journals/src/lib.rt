@@ -10,6 +10,7 @@ mod turns;
 pub use crate::events::wrong_links_are_refused;
 pub use crate::exchanges::{
     wrong_packets_are_refused, wrong_sending_is_refused, wrong_taking_is_refused,
+    wrong_turns_of_exchanges_are_refused,
 };
 pub use crate::hosts::{wrong_credits_are_refused, wrong_data_is_refused};
 pub use crate::turns::{

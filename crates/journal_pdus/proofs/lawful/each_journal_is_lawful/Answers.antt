@@ -1,6 +1,6 @@
 -- Proof of `lawful::each_journal_is_lawful`.
 use Rattle.run_model.specs.Pair.{given_of}
-use Rattle.journal_pdus.proofs.Law.{journal_due, journal_settled}
+use Rattle.journal_pdus.proofs.Law.{journal_at_rest, journal_due, journal_settled}
 use Rattle.journal_pdus.proofs.lawful.each_journal_is_lawful.Goals as goal
 
 pub returns-clause-lawful : goal.returns-clause-lawful
@@ -19,6 +19,8 @@ returns-clause-lawful c = λ a b script six six_too. record {
 pub returns-clause-whole : goal.returns-clause-whole
 returns-clause-whole c = λ a b script history six six_too whole. record {
   turns = c.each_journal_follows_its_schedule.ensures.whole a b script history whole;
+  at_rest = journal_at_rest c.packet_tells_its_pdu.ensures.heard c.a_pdu_is_understood.ensures.says c.connections_are_taken.ensures.taken
+      c.searches_give_each_valid_address.ensures.valid c.searches_give_each_valid_address.ensures.distinct a b script six six_too history whole;
   settled = journal_settled c.packet_tells_its_pdu.ensures.heard c.a_pdu_is_understood.ensures.says c.connections_are_taken.ensures.taken
       c.searches_give_each_valid_address.ensures.valid c.searches_give_each_valid_address.ensures.distinct a b script six six_too history whole;
 }

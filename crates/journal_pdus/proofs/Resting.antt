@@ -1,0 +1,87 @@
+-- Before each turn of a run of a pair, and at its end, no PDU is announced whose packet did not come, and none is to be taken.
+use Rattle.std.proofs.Common.{◌≡◌, ℕ, ◌<◌, true, Bool, Option, None, List, [], ◌∷◌, ◌++◌, sym, ap, subst, ◌∙◌}
+use Rattle.ble_base.specs.declared.roles.Side.{Side}
+use Rattle.journal.specs.declared.entries.Entry.TheVariants.{Turn}
+use Rattle.link_model.proofs.Received.{IsHeardWhole}
+use Rattle.run_model.specs.Feeding.{AreDistinct}
+use Rattle.run_model.specs.History.{Event}
+use Rattle.run_model.specs.Journal.{journal_of, side_of}
+use Rattle.run_model.specs.LinkEnds.{HaveAddresses}
+use Rattle.run_model.specs.Links.{links_of}
+use Rattle.run_model.specs.Run.{Given, GoesOn, history_of, run_of, setup_at}
+use Rattle.run_model.proofs.EntryEvents.{is_of_event}
+use Rattle.run_model.proofs.LinkEnds.{AreTaken, IsUnderstood}
+use Rattle.run_model.proofs.Stations.{is_in}
+use Rattle.run_model.proofs.Walk.{IsKept, NoTurn, Place}
+use Rattle.run_laws.proofs.DistinctAccess.{AreApart}
+use Rattle.run_laws.proofs.InAgreement.{IsPair}
+use Rattle.journal_packets.proofs.AccessOrder.{AreNth}
+use Rattle.journal_packets.proofs.SoFar.{IsBelongingSoFar}
+use Rattle.journal_acks.proofs.Known.{known_of}
+use Rattle.journal_acks.proofs.LinkUses.{sends_under}
+use Rattle.journal_acks.proofs.Seen.{IsSeen, seen_last, seen_turn}
+use Rattle.journal_acks.proofs.Standing.{phased_at}
+use Rattle.journal_acks.proofs.TwoStations.{IsOfTwo}
+use Rattle.journal_pdus.specs.Announced.{announced_pdu}
+use Rattle.journal_pdus.specs.Exchanged.{AllAreAtRest, IsAtRest}
+use Rattle.journal_pdus.specs.Pending.{pending_pdu}
+use Rattle.journal_pdus.proofs.SettledRuns.{by_side, turn_event}
+use Rattle.journal_pdus.proofs.TakenInRuns.{IsTakenAt, taken_first, taken_kept}
+use Rattle.journal_pdus.proofs.Told.{off_told}
+use Rattle.journal_pdus.proofs.ToldInRuns.{IsToldAt, told_first, told_kept}
+
+module _ (whole : IsHeardWhole) (understood : IsUnderstood) (taken : AreTaken) (nth : AreNth) (apart : AreApart) (given : Given) (are_two : IsOfTwo given) (pair : IsPair given)
+    (six : HaveAddresses given) (distinct : AreDistinct given.stations) (eight : (station : ℕ) → (setup_at given station).host_buffers ≡ 8)
+    (some : (station : ℕ) → 0 < (setup_at given station).air_buffers) where
+  abbrev Q : Place → List Event → Type 0
+  Q place history = IsBelongingSoFar given place history
+
+  -- ---- no PDU is announced
+
+  abbrev NoneAnnounced : List Event → Type 0
+  NoneAnnounced history = (side : Side) → announced_pdu side (journal_of history) ≡ None
+
+  sees_none_announced : IsSeen given (IsToldAt given Q) NoneAnnounced (λ history station channel octets. Unit {0})
+  sees_none_announced = record {
+    turn = λ history is. by_side given are_two (λ side. announced_pdu side (journal_of history) ≡ None)
+        (λ station in_it. off_told given station history (ap (sends_under 0) (phased_at given NoTurn history is.is.data_is.counted.holds.hearing.stand station in_it).phase)
+        (is.told_is station in_it));
+    packet = λ phases done left station channel octets history are wanted is. tt;
+  }
+
+  keeps_told : IsKept given (IsToldAt given Q)
+  keeps_told = told_kept given whole Q (known_of understood taken nth apart given are_two six) are_two pair six distinct eight
+
+  -- ---- none is to be taken
+
+  abbrev NonePending : List Event → Type 0
+  NonePending history = (side : Side) → pending_pdu side (journal_of history) ≡ None
+
+  sees_none_pending : IsSeen given (IsTakenAt given Q) NonePending (λ history station channel octets. Unit {0})
+  sees_none_pending = record {
+    turn = λ history is. by_side given are_two (λ side. pending_pdu side (journal_of history) ≡ None) is.pending_pdu;
+    packet = λ phases done left station channel octets history are wanted is. tt;
+  }
+
+  keeps_taken : IsKept given (IsTakenAt given Q)
+  keeps_taken = taken_kept whole given Q (known_of understood taken nth apart given are_two six) are_two pair six distinct eight some
+
+  -- ---- in a run
+
+  pub resting_lines : AllAreAtRest (journal_of (history_of (run_of given)))
+  resting_lines = λ front rest slot a_on b_on is.
+      let one = is_of_event (history_of (run_of given)) front rest (Turn slot a_on b_on) is in
+      let turn = turn_event (links_of one.before) one.event slot a_on b_on one.entry_is in
+      let at = one.is_at ∙ ap (λ event. one.before ++ event ∷ one.after) turn.is in
+      subst IsAtRest (sym one.front_is) (λ side. (
+        seen_turn given (IsToldAt given Q) keeps_told NoneAnnounced (λ history station channel octets. Unit {0}) sees_none_announced (told_first given)
+            one.before one.after turn.slot turn.radios at side,
+        seen_turn given (IsTakenAt given Q) keeps_taken NonePending (λ history station channel octets. Unit {0}) sees_none_pending (taken_first given)
+            one.before one.after turn.slot turn.radios at side,
+      ))
+
+  pub resting_last : (history : List Event) → run_of given ≡ GoesOn history → IsAtRest (journal_of history)
+  resting_last history goes = λ side. (
+    seen_last given (IsToldAt given Q) keeps_told NoneAnnounced (λ history station channel octets. Unit {0}) sees_none_announced (told_first given) history goes side,
+    seen_last given (IsTakenAt given Q) keeps_taken NonePending (λ history station channel octets. Unit {0}) sees_none_pending (taken_first given) history goes side,
+  )

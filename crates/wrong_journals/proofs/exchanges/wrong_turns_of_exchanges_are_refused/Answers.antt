@@ -1,0 +1,37 @@
+-- A PDU is under way between two turns.
+use Rattle.std.proofs.Common.{true, [], ◌∷◌, Option, Some, is_some, refl, ap}
+use Rattle.ble_base.specs.declared.roles.Side.TheVariants.{A, B}
+use Rattle.ble_base.specs.declared.verdicts.Verdict.TheVariants.{Good}
+use Rattle.journal.specs.declared.entries.Entry.TheVariants.{Air, Took}
+use Rattle.journal.specs.declared.entries.Mark.TheVariants.{Pass}
+use Rattle.adv_pdu.specs.Header.{kept_bits}
+use Rattle.adv_pdu.specs.Reading.{read_of}
+use Rattle.air_frame.specs.Hearing.{heard_in}
+use Rattle.frame_bits.specs.Crc.{crc, crc_octets, crc_of_bits, remainder}
+use Rattle.frame_bits.specs.Whitening.{mask_of, next_mask, whitening_bit, whitening_of}
+use Rattle.h4_frames.specs.Frames.{frames}
+use Rattle.controller_model.specs.Packets.{pdu_heard}
+use Rattle.wire_fields.specs.Field.{little_endian}
+use Rattle.journal_links.specs.Begun.{links_begun}
+use Rattle.journal_packets.specs.Belonging.{is_answer, link_of_packet}
+use Rattle.journal_acks.specs.Carried.{sent_line_of}
+use Rattle.journal_acks.specs.Exchange.{exchange_of}
+use Rattle.journal_acks.specs.Rows.{data_packet}
+use Rattle.journal_data.specs.Lines.{PduLine, lines_of}
+use Rattle.journal_pdus.specs.Announced.{announced_pdu}
+use Rattle.journal_pdus.specs.Pending.{pending_pdu}
+use Rattle.wrong_journals.specs.Exchanges.{announced, heard}
+use Rattle.wrong_journals.proofs.Differing.{truths_differ}
+use Rattle.wrong_journals.proofs.exchanges.wrong_turns_of_exchanges_are_refused.Goals as goal
+
+pub returns-clause-sent : goal.returns-clause-sent
+unfolding announced_pdu pending_pdu lines_of frames exchange_of sent_line_of link_of_packet is_answer links_begun pdu_heard heard_in read_of kept_bits crc crc_octets crc_of_bits remainder mask_of next_mask whitening_bit whitening_of little_endian
+returns-clause-sent c rests =
+    truths_differ (ap (λ (o : Option PduLine). is_some o)
+    (rests announced (Air B 25 data_packet Pass Good ∷ []) 4 true (Some true) refl B).0)
+
+pub returns-clause-taken : goal.returns-clause-taken
+unfolding announced_pdu pending_pdu lines_of frames exchange_of sent_line_of link_of_packet is_answer links_begun pdu_heard heard_in read_of kept_bits crc crc_octets crc_of_bits remainder mask_of next_mask whitening_bit whitening_of little_endian
+returns-clause-taken c rests =
+    truths_differ (ap (λ (o : Option PduLine). is_some o)
+    (rests heard (Took A 1 1 2 (0xAA ∷ []) ∷ []) 4 true (Some true) refl A).1)
