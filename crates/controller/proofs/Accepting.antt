@@ -5,8 +5,9 @@ use Rattle.hci_cmd.specs.declared.command.Command.{Command}
 use Rattle.hci_cmd.specs.declared.command.Command.TheVariants.{LeRand}
 use Rattle.host_view.specs.Changes.{view_after}
 use Rattle.open_links.specs.Knowing.{Knows as KnowsLinks}
-use Rattle.controller_model.specs.Commands.{advertising_after, drawn_after, facts_accepted, initiator_after, links_after, radio_after, received_after, scanning_after}
+use Rattle.controller_model.specs.Commands.{drawn_after, facts_accepted, links_after, received_after}
 use Rattle.controller_model.specs.Facts.{Setup, Facts}
+use Rattle.activities.specs.Steps.{activities_after, activities_of}
 use Rattle.controller.specs.Held.{Held}
 use Rattle.controller.specs.Knowing.{IsAt}
 use Rattle.controller.specs.Steps.{held_accepted, place_after}
@@ -23,10 +24,7 @@ accepts_is has held shut new facts command rest links is k =
     let view : shut.view ≡ facts.view = ap (λ (h : Held). h.view) rest ∙ k.view in
     let turn : shut.turn ≡ facts.turn = ap (λ (h : Held). h.turn) rest ∙ k.turn in
     let place : shut.place ≡ facts.drawn % length has.words = ap (λ (h : Held). h.place) rest ∙ k.place in
-    let radio : shut.radio ≡ facts.radio = ap (λ (h : Held). h.radio) rest ∙ k.radio in
-    let advertising : shut.advertising ≡ facts.advertising = ap (λ (h : Held). h.advertising) rest ∙ k.advertising in
-    let scanning : shut.scanning ≡ facts.scanning = ap (λ (h : Held). h.scanning) rest ∙ k.scanning in
-    let initiator : shut.initiator ≡ facts.initiator = ap (λ (h : Held). h.initiator) rest ∙ k.initiator in
+    let activities : shut.activities ≡ activities_of facts = ap (λ (h : Held). h.activities) rest ∙ k.activities in
     record {
       setup = ap (λ (h : Held). h.setup) is ∙ setup;
       view = ap (λ (h : Held). h.view) is ∙ ap (λ v. view_after v command) view;
@@ -34,12 +32,7 @@ accepts_is has held shut new facts command rest links is k =
           ∙ place_is (length has.words) facts.drawn command;
       access = ap (λ (h : Held). h.access) is ∙ ap (λ (h : Held). h.access) rest ∙ k.access;
       turn = ap (λ (h : Held). h.turn) is ∙ turn;
-      radio = ap (λ (h : Held). h.radio) is ∙ ap (radio_after command) radio;
-      advertising = ap (λ (h : Held). h.advertising) is
-          ∙ (λ i. advertising_after (setup i) (view i) (turn i).begun command (advertising i));
-      scanning = ap (λ (h : Held). h.scanning) is
-          ∙ (λ i. scanning_after (setup i) (view i) (turn i).begun command (scanning i));
-      initiator = ap (λ (h : Held). h.initiator) is
-          ∙ (λ i. initiator_after (setup i) (view i) (turn i).begun command (initiator i));
+      activities = ap (λ (h : Held). h.activities) is
+          ∙ (λ i. activities_after (setup i) (view i) (turn i).begun command (activities i));
       links = rw (ap (λ (h : Held). h.links) is) links;
     }

@@ -26,10 +26,7 @@ fixed_is has mid new outcome next k does rest fixes = record {
   place = ap (λ (h : Held). h.place) rest ∙ k.place;
   access = ap (λ (h : Held). h.access) rest ∙ k.access;
   turn = ap (λ (h : Held). h.turn) rest ∙ k.turn;
-  radio = ap (λ (h : Held). h.radio) rest ∙ k.radio;
-  advertising = ap (λ (h : Held). h.advertising) rest ∙ k.advertising;
-  scanning = ap (λ (h : Held). h.scanning) rest ∙ k.scanning;
-  initiator = ap (λ (h : Held). h.initiator) rest ∙ k.initiator;
+  activities = ap (λ (h : Held). h.activities) rest ∙ k.activities;
   links = subst (λ (doing : Doing). KnowsLinks new.links (links_fixing doing outcome.facts.links) outcome.facts.received) does
       (fixes outcome.facts.links outcome.facts.received k.links);
 }

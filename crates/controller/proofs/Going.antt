@@ -64,10 +64,7 @@ with_octet_is has held facts octet k = record {
   place = k.place;
   access = k.access;
   turn = k.turn;
-  radio = k.radio;
-  advertising = k.advertising;
-  scanning = k.scanning;
-  initiator = k.initiator;
+  activities = k.activities;
   links = k.links;
 }
 
@@ -78,10 +75,7 @@ with_framer_is has held other facts framer is k = rw is (record {
   place = k.place;
   access = k.access;
   turn = k.turn;
-  radio = k.radio;
-  advertising = k.advertising;
-  scanning = k.scanning;
-  initiator = k.initiator;
+  activities = k.activities;
   links = k.links;
 })
 
@@ -145,10 +139,7 @@ prepares_again has new heard noted next wanted facts p =
         place = k.place;
         access = k.access;
         turn = k.turn;
-        radio = k.radio;
-        advertising = k.advertising;
-        scanning = k.scanning;
-        initiator = k.initiator;
+        activities = k.activities;
         links = k.links;
       };
       notes = p.notes ∙ ap (λ (more : List Note). heard ++ more) (notes_resting facts next);

@@ -10,6 +10,7 @@ use Rattle.open_links.specs.Data.{received_ended}
 use Rattle.open_links.specs.Turns.{links_staying}
 use Rattle.controller_model.specs.Facts.{Setup, Facts}
 use Rattle.controller_model.specs.Links.{ends_in, facts_ending, facts_shut, note_shut, radio_without}
+use Rattle.activities.specs.Held.{HeldActivities}
 use Rattle.controller.specs.Held.{Held}
 use Rattle.controller.specs.Knowing.{IsAt}
 use Rattle.controller.specs.Order.{Stays}
@@ -27,10 +28,7 @@ one_shut has held facts ended received k = record {
   place = k.place;
   access = k.access;
   turn = k.turn;
-  radio = ap (radio_without ended.handle) k.radio;
-  advertising = k.advertising;
-  scanning = k.scanning;
-  initiator = k.initiator;
+  activities = ap (λ (held : HeldActivities). record held { radio = radio_without ended.handle held.radio }) k.activities;
   links = k.links;
 }
 
@@ -58,10 +56,7 @@ ending_is has held without new facts slot ended rest links are is k =
       place = ap (λ (h : Held). h.place) rest ∙ k.place;
       access = ap (λ (h : Held). h.access) rest ∙ k.access;
       turn = ap (λ (h : Held). h.turn) rest ∙ k.turn;
-      radio = ap (λ (h : Held). h.radio) rest ∙ k.radio;
-      advertising = ap (λ (h : Held). h.advertising) rest ∙ k.advertising;
-      scanning = ap (λ (h : Held). h.scanning) rest ∙ k.scanning;
-      initiator = ap (λ (h : Held). h.initiator) rest ∙ k.initiator;
+      activities = ap (λ (h : Held). h.activities) rest ∙ k.activities;
       links = links;
     } in
     rw (is, are) (subst (λ (pieces : List (ℕ × Piece)). IsAt has (fold held_shut without (ends_in slot facts)) (with_received pieces (facts_ending slot facts)))

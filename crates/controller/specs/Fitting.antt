@@ -1,9 +1,6 @@
 -- That what a controller does can be done: channels of the air, and a link that may be opened.
 use Rattle.std.specs.Prelude.{◌≡◌, ◌<◌, ◌≤◌, ◌^◌, ℕ, false, ⊤}
 use Rattle.adv_pdu.specs.Ranges.{IsInRange}
-use Rattle.adv_pdu.specs.declared.pdu.ConnectFields.{ConnectFields}
-use Rattle.advertise.specs.declared.answers.AdvAnswer.{AdvAnswer}
-use Rattle.advertise.specs.declared.answers.AdvAnswer.TheVariants.{Ignore, Respond, Connect}
 use Rattle.link_model.specs.declared.setup.LinkSetup.{LinkSetup}
 use Rattle.controller_model.specs.declared.doing.Doing.{Doing}
 use Rattle.controller_model.specs.declared.doing.Doing.TheVariants.{Advertises, AwaitsRequest, Responds, Scans, Requests, AwaitsResponse, Initiates, Connects, CentralSends, CentralListens, PeripheralListens, PeripheralSends, Rests}
@@ -22,17 +19,6 @@ pub record IsOpenable (links : ℕ) (link : LinkSetup) : Type 0 where
 pub record IsConnecting (links channel : ℕ) (link : LinkSetup) : Type 0 where
   pub on_air : channel < 40
   pub opens : IsOpenable links link
-
--- an advertiser takes a CONNECT_IND only with such fields
-pub record IsTakeable (taken : ConnectFields) : Type 0 where
-  pub range : IsInRange taken
-  pub crc_init : taken.crc_init < 2 ^ 24
-  pub sca : taken.sca < 8
-
-abbrev pub IsAnswerable : AdvAnswer → Type 0
-IsAnswerable Ignore = ⊤
-IsAnswerable Respond = ⊤
-IsAnswerable (Connect fields) = IsTakeable fields
 
 abbrev pub CanDo : ℕ → Doing → Type 0
 CanDo links (Advertises channel) = channel < 40

@@ -2,10 +2,10 @@
 use Rattle.std.specs.Prelude.{ℕ, Bool, Option}
 use Rattle.h4_frames.specs.declared.stage.Stage.{Stage}
 use Rattle.host_view.specs.View.{View}
-use Rattle.scan_init.specs.Initiating.{InitiatorFacts}
 use Rattle.open_links.specs.Knowing.{HeldLinks}
 use Rattle.controller_model.specs.declared.doing.Turn.{Turn}
-use Rattle.controller_model.specs.Facts.{Setup, Radio, Advertising, Scanning}
+use Rattle.controller_model.specs.Facts.{Setup}
+use Rattle.activities.specs.Held.{HeldActivities}
 
 pub record Held : Type 0 where
   -- what it is set up with
@@ -20,9 +20,7 @@ pub record Held : Type 0 where
   pub turn : Turn
   -- no turn began that has not ended
   pub between : Bool
-  pub radio : Radio
-  pub advertising : Advertising
-  pub scanning : Scanning
-  pub initiator : Option InitiatorFacts
+  -- the radio, and what is done on it without a link
+  pub activities : HeldActivities
   -- the open links and their data
   pub links : HeldLinks

@@ -11,6 +11,7 @@ use Rattle.controller_model.specs.Facts.{Setup, Facts, Use, Sends, Listens, Idle
 use Rattle.controller_model.specs.Outcome.{Outcome}
 use Rattle.controller_model.specs.Packets.{facts_doing}
 use Rattle.controller_model.specs.Side.{facts_of, notes_after}
+use Rattle.activities.specs.Steps.{activities_of}
 use Rattle.controller.specs.declared.intents.Intent.{Intent}
 use Rattle.controller.specs.declared.intents.Intent.TheVariants.{Send, Listen, Idle}
 use Rattle.controller.specs.Held.{Held}
@@ -22,10 +23,7 @@ pub record IsAt (has : Setup) (held : Held) (facts : Facts) : Type 0 where
   pub place : held.place ≡ facts.drawn % length has.words
   pub access : held.access ≡ nth_access has.cursor facts.connections
   pub turn : held.turn ≡ facts.turn
-  pub radio : held.radio ≡ facts.radio
-  pub advertising : held.advertising ≡ facts.advertising
-  pub scanning : held.scanning ≡ facts.scanning
-  pub initiator : held.initiator ≡ facts.initiator
+  pub activities : held.activities ≡ activities_of facts
   pub links : KnowsLinks held.links facts.links facts.received
 
 -- and the packet of its host that has begun

@@ -9,8 +9,8 @@ use Rattle.host_view.specs.Noted.{view_noted}
 use Rattle.scan_init.specs.Access.{next_access_of}
 use Rattle.open_links.specs.declared.ended.LinkEnded.{LinkEnded}
 use Rattle.open_links.specs.OpenLinks.{Links, handles_from}
-use Rattle.controller_model.specs.Commands.{advertising_after, initiator_after, radio_after, scanning_after}
 use Rattle.controller_model.specs.Links.{note_shut, radio_without}
+use Rattle.activities.specs.Steps.{activities_after}
 use Rattle.controller.specs.Held.{Held}
 
 -- the place of the random word after an accepted command, of this number of words
@@ -23,17 +23,14 @@ abbrev pub held_accepted : Held → Command → Held
 held_accepted held command = record held {
   view = view_after held.view command;
   place = place_after (length held.setup.words) command held.place;
-  radio = radio_after command held.radio;
-  advertising = advertising_after held.setup held.view held.turn.begun command held.advertising;
-  scanning = scanning_after held.setup held.view held.turn.begun command held.scanning;
-  initiator = initiator_after held.setup held.view held.turn.begun command held.initiator;
+  activities = activities_after held.setup held.view held.turn.begun command held.activities;
 }
 
 -- a link is shut
 abbrev pub held_shut : Held → LinkEnded → Held
 held_shut held ended = record held {
   view = view_noted held.view (note_shut ended.handle ended.reason.0);
-  radio = radio_without ended.handle held.radio;
+  activities = record held.activities { radio = radio_without ended.handle held.activities.radio };
 }
 
 -- the links that an accepted command shuts

@@ -8,11 +8,9 @@ ghost use Rattle.host_view.specs.Unbuilt.{status_of};
 ghost use Rattle.open_links.specs.Knowing.{Knows as KnowsLinks};
 ghost use Rattle.open_links.specs.OpenLinks.{Links};
 ghost use Rattle.controller_model.specs.Answers.{answer_with};
-ghost use Rattle.controller_model.specs.Commands.{advertising_after, events_caused, facts_accepted};
-ghost use Rattle.controller_model.specs.Commands.{facts_commanded, fields_given, initiator_after};
-ghost use Rattle.controller_model.specs.Commands.{links_after, notes_before, notes_commanded, own_address};
-ghost use Rattle.controller_model.specs.Commands.{peer_named, radio_after, received_after};
-ghost use Rattle.controller_model.specs.Commands.{scanning_after};
+ghost use Rattle.controller_model.specs.Commands.{events_caused, facts_accepted, facts_commanded};
+ghost use Rattle.controller_model.specs.Commands.{links_after, notes_before, notes_commanded};
+ghost use Rattle.controller_model.specs.Commands.{received_after};
 ghost use Rattle.controller_model.specs.Events.{notes_of_events};
 ghost use Rattle.controller_model.specs.Facts.{Setup, Facts};
 ghost use Rattle.controller_model.specs.Side.{facts_fed, notes_fed};
@@ -21,12 +19,8 @@ ghost use Rattle.controller.specs.Knowing.{IsAt};
 ghost use Rattle.controller.specs.Order.{Stays};
 ghost use Rattle.controller.specs.Steps.{held_accepted, links_notes, place_after};
 
-use crate::advertising::{Advertising, ON};
 use crate::controllers::Controller;
-use crate::scanning::Scanning;
-use adv_pdu::ConnectFields;
-use advertise::AdvParams;
-use ble_base::{Address, ErrCode, Outbox, SlotNo};
+use ble_base::{ErrCode, Outbox, SlotNo};
 use h4_frames::{Fed, HostPacket};
 use hci_cmd::{CmdRead, Command, read};
 use hci_evt::Event;
@@ -35,201 +29,11 @@ use host_notes::{
     tell_caused,
 };
 use host_view::status;
-use scan_init::{InitParams, Initiator};
-use slot_plan::Activity;
-
-/// Own_Address_Type of the random address (Core 5.2, volume 4 part E, sections 7.8.5 and 7.8.10).
-const RANDOM: u8 = 1;
-
-/// The filter policy by which only devices of the accept list count.
-const LISTED: u8 = 1;
-
-/// LE_Scan_Type of an active scanner (section 7.8.10), and the value by which duplicates are filtered
-/// (section 7.8.11).
-const ACTIVE: u8 = 1;
-
-const FILTERED: u8 = 1;
 
 /// The code of the Hardware Error that reports a loss of synchronisation (our choice).
 const LOST_SYNC: u8 = 0x01;
 
-/// The fields of the CONNECT_IND that LE Create Connection gives: the longest interval, the latency
-/// and the supervision timeout. The transmit window is one slot, without an offset (our choice).
-fn fields_given(max: u16, latency: u16, timeout: u16) -> ConnectFields
-    ensures { result ≡ fields_given max latency timeout }
-{
-    ConnectFields {
-        win_size: 1,
-        interval: max,
-        latency,
-        timeout,
-        ..ConnectFields::default()
-    }
-}
-
-/// The peer that LE Create Connection names, with policy 0.
-fn peer_named(policy: u8, kind: u8, octets: &[u8; 6]) -> Option<Address>
-    ensures { result ≡ peer_named policy kind octets.now }
-{
-    if policy == 0 {
-        Some(Address {
-            random: kind == RANDOM,
-            octets: *octets,
-        })
-    } else {
-        None
-    }
-}
-
 impl<const L: usize, const T: usize, const R: usize> Controller<L, T, R> {
-    /// Its own address of this type: the random one for type 1, where one is set, else the public
-    /// one.
-    fn own_address(&self, own: u8) -> Address
-        ensures { result ≡ own_address self.now.setup self.now.view own }
-    {
-        match self.view.random() {
-            Some(octets) if own == RANDOM => Address {
-                random: true,
-                octets,
-            },
-            _ => Address {
-                random: false,
-                octets: self.public,
-            },
-        }
-    }
-
-    /// The slot of the next turn.
-    fn next_slot(&self) -> SlotNo
-        ensures { result.0 ≡ self.now.turn.begun }
-    {
-        SlotNo(self.turn.begun)
-    }
-
-    /// What an accepted command changes of the radio: an advertiser that is turned off leaves it.
-    fn accept_radio(&mut self, command: &Command)
-        ensures { self.new
-            ≡ record self.old { radio = radio_after command.now self.old.radio } }
-    {
-        match command {
-            Command::Reset => self.free_radio(),
-            Command::LeSetAdvEnable { value }
-                if *value != ON && self.holder == Activity::Advertise => {
-                self.free_radio();
-            }
-            _ => {}
-        }
-    }
-
-    /// What an accepted command changes of advertising.
-    fn accept_advertising(&mut self, command: &Command)
-        requires { status_of self.old.view command.now ≡ 0 }
-        ensures { self.new ≡ record self.old {
-          advertising = advertising_after self.old.setup self.old.view
-              self.old.turn.begun command.now self.old.advertising;
-        } }
-    {
-        host_view::laws::accepted_parameters_are_in_range();
-        match command {
-            Command::Reset => self.advertising = Advertising::new(),
-            Command::LeSetAdvParams {
-                min,
-                kind,
-                peer_kind,
-                peer,
-                channels,
-                policy,
-                ..
-            } => self.advertising.set_parameters(AdvParams {
-                interval: *min,
-                kind: *kind,
-                own: Address::default(),
-                target: Address {
-                    random: *peer_kind == RANDOM,
-                    octets: *peer,
-                },
-                channels: *channels,
-                policy: *policy,
-            }),
-            Command::LeSetAdvData { length, octets } => self.advertising.set_data(*length, octets),
-            Command::LeSetScanResponse { length, octets } => {
-                self.advertising.set_response(*length, octets);
-            }
-            Command::LeSetAdvEnable { value } => {
-                let own = self.own_address(self.view.advertising().own);
-                let slot = self.next_slot();
-                self.advertising.enable(*value, own, slot);
-            }
-            _ => {}
-        }
-    }
-
-    /// What an accepted command changes of scanning.
-    fn accept_scanning(&mut self, command: &Command)
-        requires { status_of self.old.view command.now ≡ 0 }
-        ensures { self.new ≡ record self.old {
-          scanning = scanning_after self.old.setup self.old.view
-              self.old.turn.begun command.now self.old.scanning;
-        } }
-    {
-        host_view::laws::accepted_parameters_are_in_range();
-        match command {
-            Command::Reset => self.scanning = Scanning::new(),
-            Command::LeSetScanParams {
-                kind,
-                interval,
-                window,
-                ..
-            } => self
-                .scanning
-                .set_parameters(*kind == ACTIVE, *interval, *window),
-            Command::LeSetScanEnable { value, duplicates } => {
-                let own = self.own_address(self.view.scanning().own);
-                let listed = self.view.scanning().policy == LISTED;
-                let slot = self.next_slot();
-                self.scanning
-                    .enable(*value, own, listed, *duplicates == FILTERED, slot);
-            }
-            _ => {}
-        }
-    }
-
-    /// What an accepted command changes of initiating.
-    fn accept_initiating(&mut self, command: &Command)
-        requires { status_of self.old.view command.now ≡ 0 }
-        ensures { self.new ≡ record self.old {
-          initiator = initiator_after self.old.setup self.old.view
-              self.old.turn.begun command.now self.old.initiator;
-        } }
-    {
-        host_view::laws::accepted_parameters_are_in_range();
-        match command {
-            Command::Reset | Command::LeCreateCancel => self.initiator = None,
-            Command::LeCreateConnection {
-                scan_interval,
-                window,
-                policy,
-                peer_kind,
-                peer,
-                own,
-                max,
-                latency,
-                timeout,
-                ..
-            } => {
-                let params = InitParams {
-                    interval: *scan_interval,
-                    window: *window,
-                    own: self.own_address(*own),
-                    peer: peer_named(*policy, *peer_kind, peer),
-                    link: fields_given(*max, *latency, *timeout),
-                };
-                self.initiator = Some(Initiator::new(params, self.next_slot()));
-            }
-            _ => {}
-        }
-    }
-
     /// An accepted command may draw a random word: the words are used in order, and then again from
     /// the first.
     fn draw(&mut self, command: &Command)
@@ -258,10 +62,9 @@ impl<const L: usize, const T: usize, const R: usize> Controller<L, T, R> {
         requires { status_of self.old.view command.now ≡ 0 }
         ensures { self.new ≡ held_accepted self.old command.now }
     {
-        self.accept_radio(command);
-        self.accept_advertising(command);
-        self.accept_scanning(command);
-        self.accept_initiating(command);
+        let slot = SlotNo(self.turn.begun);
+        self.activities
+            .accept(command, &self.public, &self.view, slot);
         self.draw(command);
         self.view.command(command);
     }

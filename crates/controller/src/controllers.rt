@@ -2,7 +2,7 @@
 ghost use Rattle.std.specs.Prelude.{◌≡◌, ◌*◌, ◌+◌, ◌<◌, ◌≤◌, ◌^◌, ◌↔◌, IsTrue};
 ghost use Rattle.std.specs.Prelude.{ℕ, List, [], ◌∷◌, ◌++◌, length, IfOk};
 ghost use Rattle.ble_base.specs.declared.Config.{Config};
-ghost use Rattle.controller_model.specs.Facts.{Setup, free_radio, setup_of};
+ghost use Rattle.controller_model.specs.Facts.{Setup, setup_of};
 ghost use Rattle.controller_model.specs.Packets.{use_of, verdict_of};
 ghost use Rattle.controller_model.specs.Side.{facts_of};
 ghost use Rattle.controller_model.specs.Step.{Step, HostOctet, TurnBegins};
@@ -10,17 +10,15 @@ ghost use Rattle.controller_model.specs.Step.{PacketHeard, NothingHeard, TurnEnd
 ghost use Rattle.controller.specs.Knowing.{Goes, Knows, use_wanted};
 ghost use Rattle.controller.specs.Order.{MayBegin};
 
-use crate::advertising::Advertising;
 use crate::intents::Intent;
-use crate::scanning::Scanning;
+use activities::Activities;
 use arrayvec::ArrayVec;
 use ble_base::{Config, Outbox, RANDOM_WORDS, SlotNo, Verdict};
 use controller_model::{Doing, Turn};
 use h4_frames::Framer;
 use host_view::HostView;
 use open_links::OpenLinks;
-use scan_init::{Initiator, next_access};
-use slot_plan::{Activity, Plan};
+use scan_init::next_access;
 use std::alloc::{AllocError, Global};
 use std::marker::Model;
 
@@ -44,13 +42,7 @@ pub struct Controller<const L: usize, const T: usize, const R: usize> {
     pub(crate) turn: Turn,
     /// No turn began that has not ended.
     pub(crate) between: bool,
-    /// What wants the radio, and for which slots it is held.
-    pub(crate) plan: Plan,
-    /// What holds it.
-    pub(crate) holder: Activity,
-    pub(crate) advertising: Advertising,
-    pub(crate) scanning: Scanning,
-    pub(crate) initiator: Option<Initiator>,
+    pub(crate) activities: Activities,
     pub(crate) links: OpenLinks<L, T, R>,
 }
 
@@ -81,10 +73,7 @@ impl<const L: usize, const T: usize, const R: usize> Model for Controller<L, T, 
       access = c.next_access;
       turn = c.turn;
       between = c.between;
-      radio = record { hold = c.plan.hold; holder = c.holder };
-      advertising = c.advertising;
-      scanning = c.scanning;
-      initiator = c.initiator;
+      activities = c.activities;
       links = c.links;
     } };
 }
@@ -119,11 +108,7 @@ impl<const L: usize, const T: usize, const R: usize> Controller<L, T, R> {
                 doing: Doing::Rests,
             },
             between: true,
-            plan: Plan::new(),
-            holder: Activity::Scan,
-            advertising: Advertising::new(),
-            scanning: Scanning::new(),
-            initiator: None,
+            activities: Activities::new(),
             links,
         })
     }
@@ -226,13 +211,5 @@ impl<const L: usize, const T: usize, const R: usize> Controller<L, T, R> {
         controller_model::no_more_than_its_buffers();
         self.hand_over(out);
         self.end();
-    }
-
-    /// Nothing holds the radio.
-    pub(crate) fn free_radio(&mut self)
-        ensures { self.new ≡ record self.old { radio = free_radio } }
-    {
-        self.plan.release();
-        self.holder = Activity::Scan;
     }
 }

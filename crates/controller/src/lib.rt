@@ -8,7 +8,6 @@
 //! does is defined in `controller_model`, by the calls on it.
 #![tactic(auto)]
 
-mod advertising;
 mod answers;
 mod commands;
 mod controllers;
@@ -18,7 +17,6 @@ mod opening;
 mod packets;
 mod phases;
 mod radio;
-mod scanning;
 mod turns;
 
 pub use crate::controllers::Controller;

@@ -19,7 +19,6 @@ use ble_base::{Note, Outbox, Role, SlotNo};
 use host_notes::{note_opened, tell_ends, tell_opened};
 use link_model::LinkSetup;
 use open_links::{LinkEnded, MOST_LINKS};
-use slot_plan::Activity;
 
 impl<const L: usize, const T: usize, const R: usize> Controller<L, T, R> {
     /// Opens a link, and notes it.
@@ -37,11 +36,8 @@ impl<const L: usize, const T: usize, const R: usize> Controller<L, T, R> {
         self.view.note(&note_opened(&link));
         self.links.open(link, SlotNo(self.turn.slot));
         match link.role {
-            Role::Central => self.initiator = None,
-            Role::Peripheral => {
-                self.advertising.turn_off();
-                self.free_radio();
-            }
+            Role::Central => self.activities.stop_initiating(),
+            Role::Peripheral => self.activities.stop_advertising(),
         }
     }
 
@@ -53,9 +49,7 @@ impl<const L: usize, const T: usize, const R: usize> Controller<L, T, R> {
             handle: ended.handle,
             reason: ended.reason,
         });
-        if self.holder == Activity::Link(ended.handle) {
-            self.free_radio();
-        }
+        self.activities.release_link(ended.handle);
     }
 
     /// These links are shut.

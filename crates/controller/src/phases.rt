@@ -4,34 +4,34 @@ ghost use Rattle.std.specs.Option.{option_and_then};
 ghost use Rattle.arrayvec.specs.ArrayVec.{array_vec_len};
 ghost use Rattle.acl_banks.specs.declared.pieces.Piece.{Piece};
 ghost use Rattle.ble_base.specs.declared.notes.Note.{Note};
-ghost use Rattle.adv_pdu.specs.Pdu.{FitsBits, sender_of};
+ghost use Rattle.adv_pdu.specs.Pdu.{sender_of};
 ghost use Rattle.adv_pdu.specs.Ranges.{IsInRange};
 ghost use Rattle.scan_init.specs.Reports.{does_ask};
 ghost use Rattle.open_links.specs.Knowing.{Knows as KnowsLinks};
 ghost use Rattle.open_links.specs.OpenLinks.{Links, free_from};
 ghost use Rattle.controller_model.specs.Facts.{Setup, Facts};
 ghost use Rattle.scan_init.specs.Access.{next_access_of as next_access_from};
-ghost use Rattle.advertise.specs.Answers.{advertiser_answer};
 ghost use Rattle.controller_model.specs.Packets.{pdu_heard};
 ghost use Rattle.controller_model.specs.Heard.{advertiser_answers, advertiser_heard};
 ghost use Rattle.controller_model.specs.Heard.{answers_by_connecting, asks_if, connects, if_pdu, taken_if};
 ghost use Rattle.controller_model.specs.Heard.{fields_sent, heard, initiator_heard, is_new_between};
 ghost use Rattle.controller_model.specs.Heard.{link_heard, link_to, next_access_of};
 ghost use Rattle.controller_model.specs.Heard.{scanner_heard, taken_under, unheard};
-ghost use Rattle.controller.specs.Fitting.{CanDo, CanFollow, IsAnswerable, IsOpenable};
+ghost use Rattle.activities.specs.Fitting.{IsAnswerable};
+ghost use Rattle.controller.specs.Fitting.{CanDo, CanFollow, IsOpenable};
 ghost use Rattle.controller.specs.Knowing.{IsAt, Passes, PassesOn};
 ghost use Rattle.controller.specs.Order.{HasNotReceived, ReceivesOnce, Stays, listens_on_link};
 ghost use Rattle.controller.specs.Steps.{held_connecting};
 
 use crate::controllers::Controller;
-use crate::packets::read_pdu;
+use activities::{advertiser_answer, read_pdu};
 use adv_pdu::{AdvPdu, ConnectFields};
-use advertise::{AdvAnswer, AdvOn};
+use advertise::AdvAnswer;
 use ble_base::{Address, Outbox, Role, SlotNo};
 use controller_model::Doing;
 use host_notes::{event_reported, tell_if};
 use link_model::LinkSetup;
-use scan_init::{AcceptList, Initiator, ScanAnswer, next_access};
+use scan_init::{Initiator, ScanAnswer, next_access};
 
 /// The most octets of a payload that the ends of this controller receive (volume 6 part B, section
 /// 4.5.10).
@@ -66,16 +66,6 @@ fn access_after(cursor: u32, next: Option<(u32, u64)>) -> Option<(u32, u64)>
 {
     let (_, travelled) = next?;
     next_access(cursor, travelled)
-}
-
-/// The answer of an advertiser to a PDU.
-#[tactic(auto, using(crate::proofs::Connecting::answer_fits))]
-fn advertiser_answer(on: &AdvOn, pdu: &AdvPdu, list: &AcceptList) -> AdvAnswer
-    requires { FitsBits pdu.now }
-    ensures value { result ≡ advertiser_answer on.now.params list.now pdu.now }
-    ensures fits { IsAnswerable result }
-{
-    on.answer(pdu, list)
 }
 
 impl<const L: usize, const T: usize, const R: usize> Controller<L, T, R> {
@@ -214,7 +204,7 @@ impl<const L: usize, const T: usize, const R: usize> Controller<L, T, R> {
         let Some(pdu) = read_pdu(channel, octets) else {
             return Doing::Rests;
         };
-        let Some(on) = &self.advertising.on else {
+        let Some(on) = self.activities.advertiser() else {
             return Doing::Rests;
         };
         let own = on.params().own;
@@ -243,10 +233,9 @@ impl<const L: usize, const T: usize, const R: usize> Controller<L, T, R> {
         let Some(pdu) = read_pdu(channel, octets) else {
             return Doing::Rests;
         };
-        let Some(on) = &mut self.scanning.on else {
-            return Doing::Rests;
-        };
-        let answer = on.hears(&pdu, self.view.accept_list());
+        let answer = self
+            .activities
+            .hear_advertisement(&pdu, self.view.accept_list());
         tell_if(&self.view, &event_reported(answer, &pdu), out);
         asks_if(may_ask && does_ask(answer), channel, &pdu)
     }
@@ -351,7 +340,7 @@ impl<const L: usize, const T: usize, const R: usize> Controller<L, T, R> {
         let Some(pdu) = read_pdu(channel, octets) else {
             return Doing::Rests;
         };
-        let Some(on) = &self.initiator else {
+        let Some(on) = self.activities.initiator() else {
             return Doing::Rests;
         };
         let link = self.link_to(on, &pdu);

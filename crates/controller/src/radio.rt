@@ -1,16 +1,14 @@
 //! What a controller wants of the radio for what it does, and its verdict on what reaches it.
-ghost use Rattle.std.specs.Prelude.{◌≡◌, ◌<◌, ◌≤◌, ◌^◌, ◌++◌, ℕ, List, IfSome};
+ghost use Rattle.std.specs.Prelude.{◌≡◌, ◌<◌, ◌≤◌, ◌^◌, ◌++◌, ℕ, List};
 ghost use Rattle.arrayvec.specs.ArrayVec.{array_vec_len};
 ghost use Rattle.acl_banks.specs.declared.pieces.Piece.{Piece};
-ghost use Rattle.adv_pdu.specs.Pdu.{FitsBits};
 ghost use Rattle.open_links.specs.Knowing.{Knows as KnowsLinks};
 ghost use Rattle.open_links.specs.OpenLinks.{Links, link_after, link_at, with_change};
 ghost use Rattle.link_model.specs.Step.{PacketSent};
 ghost use Rattle.controller_model.specs.declared.doing.Doing.TheVariants.{Rests};
 ghost use Rattle.controller_model.specs.Facts.{Setup, Facts};
-ghost use Rattle.controller_model.specs.Packets.{advertisement_sent, facts_doing, links_sending, listens_on};
-ghost use Rattle.controller_model.specs.Packets.{notes_doing, notes_sent, request_sent, response_sent};
-ghost use Rattle.controller_model.specs.Packets.{sends_on, use_for};
+ghost use Rattle.controller_model.specs.Packets.{facts_doing, links_sending, listens_on};
+ghost use Rattle.controller_model.specs.Packets.{notes_doing, notes_sent, sends_on, use_for};
 ghost use Rattle.controller_model.specs.Packets.{verdict_of, verdict_of_link};
 ghost use Rattle.controller.specs.Fitting.{CanDo};
 ghost use Rattle.controller.specs.Knowing.{IsAt, use_wanted};
@@ -18,24 +16,12 @@ ghost use Rattle.controller.specs.Order.{MayBegin, ReceivesOnce, Stays};
 
 use crate::controllers::Controller;
 use crate::intents::Intent;
-use crate::packets::{connect_ind, judge, send_packet, send_pdu};
-use adv_pdu::AdvPdu;
-use ble_base::{Address, Outbox, SlotNo, Verdict};
+use crate::packets::{send_packet, send_pdu};
+use activities::{connect_ind, judge};
+use ble_base::{Outbox, SlotNo, Verdict};
 use controller_model::Doing;
 
 impl<const L: usize, const T: usize, const R: usize> Controller<L, T, R> {
-    /// The SCAN_REQ to an advertiser. None where no scanner is on.
-    fn request(&self, advertiser: Address) -> Option<AdvPdu>
-        ensures value { (has : Setup) (facts : Facts) → IsAt has self.now facts
-            → result ≡ request_sent advertiser facts }
-        ensures fits { IfSome result FitsBits }
-    {
-        Some(AdvPdu::ScanReq {
-            from: self.scanning.on.as_ref()?.params().own,
-            to: advertiser,
-        })
-    }
-
     /// Sends on the link under a handle, and notes a new PDU in that.
     fn send_on(&mut self, handle: u16, out: &mut Outbox) -> Intent
         requires { array_vec_len out.old ≤ 59 }
@@ -93,12 +79,12 @@ impl<const L: usize, const T: usize, const R: usize> Controller<L, T, R> {
             Doing::CentralListens { handle } | Doing::PeripheralListens { handle } => {
                 self.listen_on(handle)
             }
-            Doing::Advertises { channel } => { send_pdu(channel, self.advertising.advertisement()) }
-            Doing::Responds { channel } => send_pdu(channel, self.advertising.response()),
+            Doing::Advertises { channel } => send_pdu(channel, self.activities.advertisement()),
+            Doing::Responds { channel } => send_pdu(channel, self.activities.response()),
             Doing::Requests {
                 channel,
                 advertiser,
-            } => send_pdu(channel, self.request(advertiser)),
+            } => send_pdu(channel, self.activities.request(advertiser)),
             Doing::Connects { channel, link } => send_pdu(channel, connect_ind(&link)),
             Doing::Rests => Intent::Idle,
         }

@@ -1,19 +1,17 @@
 //! The beginning of a turn: which links end, what has the radio, and what is done first.
-ghost use Rattle.std.specs.Prelude.{◌≡◌, ◌≤◌, ◌<◌, ◌+◌, ◌*◌, ◌^◌, ◌++◌, ℕ, List, length, IfSome};
+ghost use Rattle.std.specs.Prelude.{◌≡◌, ◌≤◌, ◌<◌, ◌+◌, ◌^◌, ◌++◌, ℕ, List, IfSome};
 ghost use Rattle.arrayvec.specs.ArrayVec.{array_vec_len};
 ghost use Rattle.acl_banks.specs.declared.pieces.Piece.{Piece};
 ghost use Rattle.open_links.specs.Knowing.{Knows as KnowsLinks};
-ghost use Rattle.open_links.specs.OpenLinks.{Links, link_at, link_served, with_change};
-ghost use Rattle.open_links.specs.Turns.{links_entered, notes_entering, wants_from};
+ghost use Rattle.open_links.specs.OpenLinks.{Links, link_at};
+ghost use Rattle.open_links.specs.Turns.{notes_entering};
 ghost use Rattle.slot_plan.specs.Holding.{winner_of};
 ghost use Rattle.controller_model.specs.Facts.{Setup, Facts};
-ghost use Rattle.controller_model.specs.Radio.{advertises_at, doing_held, doing_won, exchange_begins};
-ghost use Rattle.controller_model.specs.Radio.{facts_entering, winner_served};
-ghost use Rattle.controller_model.specs.Radio.{facts_won, first_exchange, initiator_channel};
+ghost use Rattle.controller_model.specs.Radio.{advertises_on, doing_held, doing_won, exchange_begins};
+ghost use Rattle.controller_model.specs.Radio.{facts_entering, facts_won, first_exchange};
 ghost use Rattle.controller_model.specs.Radio.{initiates_on, links_fixing, outcome_begun, plan_in};
-ghost use Rattle.controller_model.specs.Radio.{radio_held};
-ghost use Rattle.controller_model.specs.Radio.{scanner_channel, scans_on, second_exchange, served};
-ghost use Rattle.controller_model.specs.Radio.{slots_since, turn_begins, want_if};
+ghost use Rattle.controller_model.specs.Radio.{scans_on, second_exchange, served, turn_begins};
+ghost use Rattle.controller_model.specs.Radio.{winner_served};
 ghost use Rattle.controller.specs.Fitting.{CanDo};
 ghost use Rattle.controller.specs.Knowing.{IsAt, Passes};
 ghost use Rattle.controller.specs.Order.{HasNotReceived, MayBegin, Stays};
@@ -21,12 +19,7 @@ ghost use Rattle.controller.specs.Order.{HasNotReceived, MayBegin, Stays};
 use crate::controllers::Controller;
 use ble_base::{Outbox, Role, SlotNo};
 use controller_model::Doing;
-use slot_plan::{Activity, Plan};
-
-/// The slots for which the event of a link holds the radio, and that of an advertiser.
-const LINK_SLOTS: u8 = 2;
-
-const ADVERTISING_SLOTS: u8 = 3;
+use slot_plan::Activity;
 
 /// The first part of an exchange: a central sends, and a peripheral listens.
 fn exchange_begins(role: Role, handle: u16) -> Doing
@@ -39,28 +32,43 @@ fn exchange_begins(role: Role, handle: u16) -> Doing
     }
 }
 
-/// Adds an activity to the plan, if it wants the slot.
-fn want_if(plan: &mut Plan, wants: bool, activity: Activity)
-    requires { length plan.old.wants < 16 }
-    ensures wants { plan.new.wants ≡ plan.old.wants ++ want_if wants activity }
-    ensures hold { plan.new.hold ≡ plan.old.hold }
-    ensures few { length plan.new.wants ≤ length plan.old.wants + 1 }
+/// What an advertiser does in a slot in which it has this channel, if it has one.
+fn advertises_on(channel: Option<u8>) -> Doing
+    requires channel { IfSome channel (λ channel. channel < 40) }
+    ensures value { result ≡ advertises_on channel }
+    ensures can { (links : ℕ) → CanDo links result }
 {
-    if wants {
-        plan.want(activity, SlotNo(0));
+    match channel {
+        None => Doing::Rests,
+        Some(channel) => Doing::Advertises { channel },
+    }
+}
+
+/// What a scanner does in a slot in which it has this channel, if it has one.
+fn scans_on(channel: Option<u8>) -> Doing
+    requires channel { IfSome channel (λ channel. channel < 40) }
+    ensures value { result ≡ scans_on channel }
+    ensures can { (links : ℕ) → CanDo links result }
+{
+    match channel {
+        None => Doing::Rests,
+        Some(channel) => Doing::Scans { channel },
+    }
+}
+
+/// What an initiator does in a slot in which it has this channel, if it has one.
+fn initiates_on(channel: Option<u8>) -> Doing
+    requires channel { IfSome channel (λ channel. channel < 40) }
+    ensures value { result ≡ initiates_on channel }
+    ensures can { (links : ℕ) → CanDo links result }
+{
+    match channel {
+        None => Doing::Rests,
+        Some(channel) => Doing::Initiates { channel },
     }
 }
 
 impl<const L: usize, const T: usize, const R: usize> Controller<L, T, R> {
-    /// The channel on which its initiator listens in a slot. None where there is none, or outside
-    /// its window.
-    fn initiator_channel(&self, slot: SlotNo) -> Option<u8>
-        ensures value { result ≡ initiator_channel slot.0 self.now.initiator }
-        ensures channel { IfSome result (λ channel. channel < 40) }
-    {
-        self.initiator.as_ref()?.wants(slot)
-    }
-
     /// All links enter the events whose anchors are in this slot. It gives what wins the slot.
     fn enter_events(&mut self, slot: SlotNo, out: &mut Outbox) -> Option<Activity>
         requires slot { slot.0 < 2 ^ 32 }
@@ -74,15 +82,7 @@ impl<const L: usize, const T: usize, const R: usize> Controller<L, T, R> {
         ensures few { array_vec_len out.new ≤ array_vec_len out.old + 30 }
         ensures stays { Stays self.old self.new }
     {
-        self.plan.clear();
-        self.links.enter(slot, &mut self.plan, out);
-        let advertises = self.advertising.wants(slot);
-        want_if(&mut self.plan, advertises, Activity::Advertise);
-        let scans = self.scanning.channel(slot).is_some();
-        want_if(&mut self.plan, scans, Activity::Scan);
-        let initiates = self.initiator_channel(slot).is_some();
-        want_if(&mut self.plan, initiates, Activity::Initiate);
-        self.plan.winner(slot)
+        self.activities.enter(&mut self.links, slot, out)
     }
 
     /// The first exchange of the event of the link under a handle.
@@ -111,17 +111,6 @@ impl<const L: usize, const T: usize, const R: usize> Controller<L, T, R> {
         }
     }
 
-    /// What the advertiser does in the slot with this place in its event.
-    fn advertises_at(&self, place: u64) -> Doing
-        ensures value { result ≡ advertises_at place self.now.advertising.on }
-        ensures can { CanDo L result }
-    {
-        match self.advertising.channel(place) {
-            None => Doing::Rests,
-            Some(channel) => Doing::Advertises { channel },
-        }
-    }
-
     /// What an activity that wins a slot does first.
     fn doing_won(&self, slot: SlotNo, activity: Activity) -> Doing
         ensures value { (has : Setup) (facts : Facts) → IsAt has self.now facts
@@ -130,25 +119,9 @@ impl<const L: usize, const T: usize, const R: usize> Controller<L, T, R> {
     {
         match activity {
             Activity::Link(handle) => self.first_exchange(handle),
-            Activity::Advertise => self.advertises_at(0),
-            Activity::Scan => match self.scanning.channel(slot) {
-                None => Doing::Rests,
-                Some(channel) => Doing::Scans { channel },
-            },
-            Activity::Initiate => match self.initiator_channel(slot) {
-                None => Doing::Rests,
-                Some(channel) => Doing::Initiates { channel },
-            },
-        }
-    }
-
-    /// How many slots before this one the radio is held.
-    fn slots_since(&self, slot: SlotNo) -> u64
-        ensures { result ≡ slots_since slot.0 self.now.radio.hold }
-    {
-        match self.plan.held() {
-            None => 0,
-            Some(hold) => slot.0.saturating_sub(hold.from.0),
+            Activity::Advertise => advertises_on(self.activities.advertising_channel(0)),
+            Activity::Scan => scans_on(self.activities.scanning_channel(slot)),
+            Activity::Initiate => initiates_on(self.activities.initiating_channel(slot)),
         }
     }
 
@@ -158,19 +131,14 @@ impl<const L: usize, const T: usize, const R: usize> Controller<L, T, R> {
             → result ≡ doing_held slot.0 facts.radio.holder facts }
         ensures can { CanDo L result }
     {
-        match self.holder {
+        match self.activities.holder() {
             Activity::Link(handle) => self.second_exchange(handle),
-            Activity::Advertise => self.advertises_at(self.slots_since(slot)),
+            Activity::Advertise => {
+                let place = self.activities.slots_since(slot);
+                advertises_on(self.activities.advertising_channel(place))
+            }
             Activity::Scan | Activity::Initiate => Doing::Rests,
         }
-    }
-
-    /// An activity holds the radio for this number of slots.
-    fn hold_radio(&mut self, activity: Activity, slot: SlotNo, slots: u8)
-        ensures { self.new ≡ record self.old { radio = radio_held activity slot.0 slots } }
-    {
-        self.plan.hold(slot, slots);
-        self.holder = activity;
     }
 
     /// An activity wins a slot.
@@ -183,12 +151,9 @@ impl<const L: usize, const T: usize, const R: usize> Controller<L, T, R> {
         match activity {
             Activity::Link(handle) => {
                 self.links.serve(handle, slot);
-                self.hold_radio(activity, slot, LINK_SLOTS);
+                self.activities.hold_for_link(handle, slot);
             }
-            Activity::Advertise => {
-                self.advertising.serve(slot);
-                self.hold_radio(activity, slot, ADVERTISING_SLOTS);
-            }
+            Activity::Advertise => self.activities.serve_advertiser(slot),
             Activity::Scan | Activity::Initiate => {}
         }
     }
@@ -227,7 +192,7 @@ impl<const L: usize, const T: usize, const R: usize> Controller<L, T, R> {
         if !on {
             return Doing::Rests;
         }
-        if self.plan.is_held(slot) {
+        if self.activities.is_held(slot) {
             return self.doing_held(slot);
         }
         self.serve_winner(slot, winner)

@@ -4,14 +4,17 @@ ghost use Rattle.std.specs.Option.{option_map};
 ghost use Rattle.adv_pdu.specs.Pdu.{FitsBits};
 ghost use Rattle.adv_pdu.specs.declared.pdu.AdvPdu.TheVariants.{ScanRsp};
 ghost use Rattle.advertise.specs.Advertising.{advertisement, is_supported};
+ghost use Rattle.advertise.specs.Answers.{advertiser_answer};
 ghost use Rattle.controller_model.specs.Facts.{first_advertising};
 ghost use Rattle.controller_model.specs.Commands.{advertiser_enabled, advertiser_turned_on};
 ghost use Rattle.controller_model.specs.Radio.{advertiser_wants, advertises_at, advertises_on, served_if_on};
+ghost use Rattle.activities.specs.Fitting.{IsAnswerable};
 
 use adv_pdu::AdvPdu;
-use advertise::{AdvOff, AdvOn, AdvParams};
+use advertise::{AdvAnswer, AdvOff, AdvOn, AdvParams};
 use arrayvec::ArrayVec;
 use ble_base::{Address, SlotNo};
+use scan_init::AcceptList;
 use std::marker::Model;
 use wire_fields::put_octets;
 
@@ -66,6 +69,16 @@ fn copy_of(octets: &ArrayVec<u8, MOST_DATA>) -> ArrayVec<u8, MOST_DATA>
     let mut copy = ArrayVec::new();
     put_octets(&mut copy, octets.as_slice());
     copy
+}
+
+/// The answer of an advertiser to a PDU that follows its advertisement.
+#[tactic(auto, using(crate::proofs::LinkFields::answer_fits))]
+pub fn advertiser_answer(on: &AdvOn, pdu: &AdvPdu, list: &AcceptList) -> AdvAnswer
+    requires { FitsBits pdu.now }
+    ensures value { result ≡ advertiser_answer on.now.params list.now pdu.now }
+    ensures fits { IsAnswerable result }
+{
+    on.answer(pdu, list)
 }
 
 impl Advertising {
@@ -174,7 +187,7 @@ impl Advertising {
     }
 
     /// The advertisement that it sends. None where it is off.
-    #[tactic(auto, using(crate::proofs::Connecting::advertisement_fits))]
+    #[tactic(auto, using(crate::proofs::LinkFields::advertisement_fits))]
     pub(crate) fn advertisement(&self) -> Option<AdvPdu>
         ensures value { result
             ≡ option_map (λ on. advertisement on.params self.now.data_octets) self.now.on }

@@ -1,12 +1,17 @@
 //! Scanning: what the host set, and the scanner while it is on.
 ghost use Rattle.std.specs.Prelude.{◌≡◌, ◌≤◌, ◌<◌, None, Some, IfSome, []};
+ghost use Rattle.std.specs.Option.{option_map};
+ghost use Rattle.adv_pdu.specs.Pdu.{FitsBits};
+ghost use Rattle.adv_pdu.specs.declared.pdu.AdvPdu.TheVariants.{ScanReq};
 ghost use Rattle.controller_model.specs.Commands.{scanner_enabled, scanner_turned_on};
 ghost use Rattle.controller_model.specs.Facts.{first_scanning};
 ghost use Rattle.controller_model.specs.Radio.{scanner_channel};
+ghost use Rattle.activities.specs.Steps.{answer_if_on, heard_if_on};
 
 use crate::advertising::ON;
+use adv_pdu::AdvPdu;
 use ble_base::{Address, SlotNo};
-use scan_init::{ScanParams, Scanner};
+use scan_init::{AcceptList, ScanAnswer, ScanParams, Scanner};
 use std::marker::Model;
 
 /// The scan interval and window, in units of 0.625 ms, of a host that has set none (Core 5.2,
@@ -21,7 +26,7 @@ pub(crate) struct Scanning {
     /// The interval and the window, in units of 0.625 ms.
     interval: u16,
     window: u16,
-    pub(crate) on: Option<Scanner>,
+    on: Option<Scanner>,
 }
 
 impl Model for Scanning {
@@ -101,5 +106,30 @@ impl Scanning {
         ensures channel { IfSome result (λ channel. channel < 40) }
     {
         self.on.as_ref()?.wants(slot)
+    }
+
+    /// What it does about a PDU that it hears, with this accept list: nothing where it is off.
+    pub(crate) fn hear(&mut self, pdu: &AdvPdu, list: &AcceptList) -> ScanAnswer
+        ensures answer { result ≡ answer_if_on self.old.on list.now pdu.now }
+        ensures on { self.new ≡ record self.old {
+          on = heard_if_on self.old.on list.now pdu.now;
+        } }
+    {
+        match &mut self.on {
+            None => ScanAnswer::Ignore,
+            Some(on) => on.hears(pdu, list),
+        }
+    }
+
+    /// The SCAN_REQ to an advertiser. None where it is off.
+    pub(crate) fn request(&self, advertiser: Address) -> Option<AdvPdu>
+        ensures value { result
+            ≡ option_map (λ on. ScanReq on.params.own advertiser) self.now.on }
+        ensures fits { IfSome result FitsBits }
+    {
+        Some(AdvPdu::ScanReq {
+            from: self.on.as_ref()?.params().own,
+            to: advertiser,
+        })
     }
 }
