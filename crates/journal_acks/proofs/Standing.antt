@@ -23,6 +23,7 @@ use Rattle.run_laws.proofs.Agreed.{ack_of}
 use Rattle.run_laws.proofs.ConnectInds.{no_advertising}
 use Rattle.run_laws.proofs.InAgreement.{IsFresh, IsStation, OpenedBefore}
 use Rattle.run_laws.proofs.LinkPasses.{is_on_link}
+use Rattle.run_laws.proofs.LinkPhases.{HasRole, IsInPhase}
 use Rattle.run_laws.proofs.OpenSteps.{open_has}
 use Rattle.run_laws.proofs.TurnPlaces.{AllStand, Standing, stands_at, turned}
 use Rattle.run_laws.proofs.TurnSteps.{IsListening}
@@ -31,7 +32,7 @@ use Rattle.journal_acks.specs.Exchange.{Exchanged, first_exchanged}
 use Rattle.journal_acks.proofs.Acks.{first_counted}
 use Rattle.journal_acks.proofs.Counting.{IsEndCounted, from_plain}
 use Rattle.journal_acks.proofs.LinkCalls.{off_listens, off_sends}
-use Rattle.journal_acks.proofs.LinkPhases.{HasRole, IsInPhase, IsPhased, phased_first, phased_kept}
+use Rattle.journal_acks.proofs.LinkPhases.{IsPhased, phased_first, phased_kept}
 use Rattle.journal_acks.proofs.LinkUses.{IsSendingOpen, listens_under, sends_under}
 use Rattle.journal_acks.proofs.TwoStations.{same_number}
 

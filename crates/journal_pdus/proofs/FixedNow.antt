@@ -27,7 +27,8 @@ use Rattle.run_laws.proofs.LinkPasses.{IsPassing, Leaves, Opens, Receives, is_on
 use Rattle.run_laws.proofs.TurnPlaces.{Between, IsTurned, Stage, Within}
 use Rattle.journal_packets.specs.Senders.{IsOfSendersLink}
 use Rattle.journal_acks.proofs.LinkCalls.{off_sends}
-use Rattle.journal_acks.proofs.LinkPhases.{IsInPhase, IsPhased, phased_first, phased_kept}
+use Rattle.run_laws.proofs.LinkPhases.{IsInPhase}
+use Rattle.journal_acks.proofs.LinkPhases.{IsPhased, phased_first, phased_kept}
 use Rattle.journal_acks.proofs.LinkUses.{sends_under}
 use Rattle.journal_pdus.proofs.NextPieces.{IsFixedNow, fixed_now, received_now}
 

@@ -1,5 +1,5 @@
 -- What the last line of a side tells of the packet that its station is to send.
-use Rattle.std.proofs.Common.{◌≡◌, ℕ, ◌+◌, ◌≤◌, ◌==◌, ◌&&◌, not, Bool, true, false, Option, Some, None, List, [], ◌∷◌, ◌++◌, cond, length, refl, sym, ap, subst, ◌∙◌, append-nil, arith}
+use Rattle.std.proofs.Common.{◌≡◌, ℕ, ◌+◌, ◌==◌, ◌&&◌, not, Bool, true, false, Option, Some, None, List, [], ◌∷◌, ◌++◌, cond, length, refl, sym, ap, subst, ◌∙◌, append-nil}
 use Rattle.std.specs.Prelude.{All, if◌then◌else◌}
 use Rattle.std.proofs.lemmas.Bool.{eqb-true}
 use Rattle.std.proofs.lemmas.List.{length-append}
@@ -14,18 +14,17 @@ use Rattle.link_model.specs.Data.{is_empty, numbered}
 use Rattle.link_model.specs.End.{sent_notes_if}
 use Rattle.link_model.specs.Facts.{Facts as EndFacts}
 use Rattle.link_model.specs.Step.{PacketReceived, PacketSent}
-use Rattle.open_links.specs.OpenLinks.{OpenLink, facts_in, link_after, link_at}
+use Rattle.open_links.specs.OpenLinks.{Links, OpenLink, facts_in, link_after, link_at}
 use Rattle.open_links.specs.Turns.{notes_entering}
-use Rattle.open_links.proofs.Counts.{count_changing}
 use Rattle.open_links.proofs.Handles.{handle_is}
 use Rattle.controller_model.specs.declared.doing.Doing.{Doing}
-use Rattle.controller_model.specs.declared.doing.Doing.TheVariants.{Rests}
+use Rattle.controller_model.specs.declared.doing.Doing.TheVariants.{Advertises, CentralSends, PeripheralSends, Rests}
 use Rattle.controller_model.specs.Step.{Step, HostOctet, TurnBegins}
 use Rattle.controller_model.specs.Facts.{Setup, Facts}
 use Rattle.controller_model.specs.Heard.{has_room, heard, link_heard, link_received, notes_taken, replies_in, reply_if}
 use Rattle.controller_model.specs.Links.{facts_ending, notes_ending}
 use Rattle.controller_model.specs.Outcome.{Outcome, facts_passed, notes_passed}
-use Rattle.controller_model.specs.Packets.{notes_doing}
+use Rattle.controller_model.specs.Packets.{notes_doing, notes_sent}
 use Rattle.controller_model.specs.Radio.{outcome_begun}
 use Rattle.controller_model.specs.Side.{facts_after, notes_after}
 use Rattle.run_model.specs.Feeding.{AreDistinct}
@@ -39,7 +38,7 @@ use Rattle.run_model.proofs.Walk.{Place, AtListening}
 use Rattle.run_laws.proofs.Agreed.{ack_of}
 use Rattle.run_laws.proofs.ByCalls.{Holds}
 use Rattle.run_laws.proofs.Hearings.{other_facts, own_facts}
-use Rattle.run_laws.proofs.InAgreement.{AreStations, IsPair, IsStation, differs_back, few_links}
+use Rattle.run_laws.proofs.InAgreement.{AreStations, IsStation, differs_back}
 use Rattle.journal_links.specs.Begun.{link_numbered}
 use Rattle.journal_packets.specs.Belonging.{is_side, link_of_packet}
 use Rattle.journal_acks.specs.Exchange.{Exchanged, after_packet, carries_empty, exchange_of, is_number, with_heard, with_sent}
@@ -51,9 +50,8 @@ use Rattle.journal_acks.proofs.KeptCounts.{AreCountedAt, before_call, own_at, ph
 use Rattle.journal_acks.proofs.KeptLines.{rests_deaf, rests_none}
 use Rattle.journal_acks.proofs.LinkCalls.{HasPassed, IsNew, Stays, Takes, base_ack, begins_under, off_sends, passes_under, taken_noted}
 use Rattle.journal_acks.proofs.LinkUses.{listens_under, sends_under}
-use Rattle.journal_acks.proofs.PhaseNotes.{IsOnLink, IsPhaseOf, IsPlainPhase, SendsFrom, SendsNothing, SendsOne, doing_notes, notes_when, phase_of, same_but, sends_from}
-use Rattle.journal_acks.proofs.Standing.{first_handle}
-use Rattle.journal_acks.proofs.TwoStations.{IsOfTwo, other_apart}
+use Rattle.journal_acks.proofs.PhaseNotes.{IsOnLink, IsPhaseOf, IsPlainPhase, phase_of, same_but}
+use Rattle.journal_acks.proofs.TwoStations.{IsOfTwo, other_apart, same_number}
 use Rattle.journal_acks.proofs.UnderHandles.{change_if, change_under, sending_under}
 use Rattle.journal_data.specs.Lines.{PduLine}
 use Rattle.journal_pdus.specs.Announced.{is_first_sent, pdu_line_if}
@@ -84,75 +82,117 @@ brings_line true false ack fixed carried end number count empty_is all last many
 
 -- ---- what is told of a packet that is still to come
 
+-- the handle of the link on which a controller sends
+abbrev pub handle_sent : Doing → Option ℕ
+handle_sent (CentralSends handle) = Some handle
+handle_sent (PeripheralSends handle) = Some handle
+handle_sent (Advertises channel) = None
+handle_sent other = None
+
+none_sent : (doing : Doing) → ((handle : ℕ) → sends_under handle doing ≡ false) → handle_sent doing ≡ None
+none_sent (CentralSends handle) off = let h : true ≡ false = sym (same_number handle) ∙ off handle in absurd cc
+none_sent (PeripheralSends handle) off = let h : true ≡ false = sym (same_number handle) ∙ off handle in absurd cc
+none_sent (Advertises channel) off = refl
+none_sent other off = refl
+
+pub sent_under : (handle : ℕ) (doing : Doing) → sends_under handle doing ≡ true → handle_sent doing ≡ Some handle
+sent_under handle (CentralSends other) on = ap Some (eqb-true other handle on)
+sent_under handle (PeripheralSends other) on = ap Some (eqb-true other handle on)
+sent_under handle (Advertises channel) on = absurd cc
+sent_under handle other on = absurd cc
+
 -- a link that sends: the last line of its station tells the new PDU of its packet, if that has one
-pub record Tells (station : ℕ) (history : List Event) (after : OpenLink) : Type 0 where
+pub record Tells (station handle : ℕ) (history : List Event) (after : OpenLink) : Type 0 where
   pub slot : ℕ
   pub base : OpenLink
   pub after_is : after ≡ link_after (PacketSent slot) base
-  pub sent : (exchange_at (number_at station 0 history) history (side_of station)).sent ≡ length (ack_of base).sent
-  pub told_is : told_at station history ≡ line_to_send (number_at station 0 history) (facts_in base)
+  pub sent : (exchange_at (number_at station handle history) history (side_of station)).sent ≡ length (ack_of base).sent
+  pub told_is : told_at station history ≡ line_to_send (number_at station handle history) (facts_in base)
 
-abbrev pub TellsBy : Bool → Option OpenLink → ℕ → List Event → Type 0
-TellsBy true (Some after) station history = Tells station history after
-TellsBy true None station history = told_at station history ≡ None
-TellsBy false found station history = told_at station history ≡ None
+abbrev pub TellsAt : Option OpenLink → ℕ → ℕ → List Event → Type 0
+TellsAt (Some after) handle station history = Tells station handle history after
+TellsAt None handle station history = told_at station history ≡ None
+
+abbrev pub TellsOn : Option ℕ → Links → ℕ → List Event → Type 0
+TellsOn None links station history = told_at station history ≡ None
+TellsOn (Some handle) links station history = TellsAt (link_at handle links) handle station history
 
 -- and nothing where it sends on no link, or its packet was on the air
 abbrev pub IsTold : Given → Bool → ℕ → List Event → Type 0
 IsTold given unsent station history =
-    TellsBy (unsent && sends_under 0 (facts_at given station history).turn.doing) (link_at 0 (facts_at given station history).links) station history
+    TellsOn (if unsent then handle_sent (facts_at given station history).turn.doing else None) (facts_at given station history).links station history
 
-none_tells : (sends : Bool) (found : Option OpenLink) (station : ℕ) (history : List Event) → told_at station history ≡ None
-    → (sends ≡ true → (link : OpenLink) → found ≡ Some link → ⊥) → TellsBy sends found station history
-none_tells true (Some link) station history none never = absurd (never refl link refl)
-none_tells true None station history none never = none
-none_tells false found station history none never = none
+none_at : (found : Option OpenLink) (handle station : ℕ) (history : List Event) → told_at station history ≡ None → ((link : OpenLink) → found ≡ Some link → ⊥)
+    → TellsAt found handle station history
+none_at (Some link) handle station history none never = absurd (never link refl)
+none_at None handle station history none never = none
 
-pub tells_none : (sends : Bool) (found : Option OpenLink) (station : ℕ) (history : List Event) → TellsBy sends found station history
-    → (sends ≡ true → (link : OpenLink) → found ≡ Some link → ⊥) → told_at station history ≡ None
-tells_none true (Some link) station history tells never = absurd (never refl link refl)
-tells_none true None station history tells never = tells
-tells_none false found station history tells never = tells
+at_none : (found : Option OpenLink) (handle station : ℕ) (history : List Event) → TellsAt found handle station history → ((link : OpenLink) → found ≡ Some link → ⊥)
+    → told_at station history ≡ None
+at_none (Some link) handle station history tells never = absurd (never link refl)
+at_none None handle station history tells never = tells
+
+-- no open link sends
+abbrev NoneSends : Doing → Links → Type 0
+NoneSends doing links = (handle : ℕ) (link : OpenLink) → sends_under handle doing ≡ true → link_at handle links ≡ Some link → ⊥
+
+none_tells : (doing : Doing) (links : Links) (station : ℕ) (history : List Event) → told_at station history ≡ None → NoneSends doing links
+    → TellsOn (handle_sent doing) links station history
+none_tells (CentralSends handle) links station history none never = none_at (link_at handle links) handle station history none (λ link at. never handle link (same_number handle) at)
+none_tells (PeripheralSends handle) links station history none never = none_at (link_at handle links) handle station history none (λ link at. never handle link (same_number handle) at)
+none_tells (Advertises channel) links station history none never = none
+none_tells other links station history none never = none
+
+pub tells_none : (doing : Doing) (links : Links) (station : ℕ) (history : List Event) → TellsOn (handle_sent doing) links station history
+    → ((handle : ℕ) (link : OpenLink) → sends_under handle doing ≡ true → link_at handle links ≡ Some link → ⊥) → told_at station history ≡ None
+tells_none (CentralSends handle) links station history tells never = at_none (link_at handle links) handle station history tells (λ link at. never handle link (same_number handle) at)
+tells_none (PeripheralSends handle) links station history tells never = at_none (link_at handle links) handle station history tells (λ link at. never handle link (same_number handle) at)
+tells_none (Advertises channel) links station history tells never = tells
+tells_none other links station history tells never = tells
 
 -- ---- what changes nothing for a station
 
 pub record StaysTold (given : Given) (station : ℕ) (history after : List Event) : Type 0 where
   pub told_is : told_at station after ≡ told_at station history
   pub facts : facts_at given station after ≡ facts_at given station history
-  pub number : number_at station 0 after ≡ number_at station 0 history
+  pub number : (handle : ℕ) → number_at station handle after ≡ number_at station handle history
   pub sent : (number : ℕ) → (exchange_at number after (side_of station)).sent ≡ (exchange_at number history (side_of station)).sent
 
 stays_then : (given : Given) (station : ℕ) (history mid after : List Event) → StaysTold given station history mid → StaysTold given station mid after → StaysTold given station history after
 stays_then given station history mid after one two = record {
   told_is = two.told_is ∙ one.told_is;
   facts = two.facts ∙ one.facts;
-  number = two.number ∙ one.number;
+  number = λ handle. two.number handle ∙ one.number handle;
   sent = λ number. two.sent number ∙ one.sent number;
 }
 
-still_tells : (given : Given) (station : ℕ) (history after : List Event) → StaysTold given station history after → (sends : Bool) (found : Option OpenLink)
-    → TellsBy sends found station history → TellsBy sends found station after
-still_tells given station history after stays true (Some link) tells = record {
+still_at : (given : Given) (station : ℕ) (history after : List Event) → StaysTold given station history after → (found : Option OpenLink) (handle : ℕ)
+    → TellsAt found handle station history → TellsAt found handle station after
+still_at given station history after stays (Some link) handle tells = record {
   slot = tells.slot;
   base = tells.base;
   after_is = tells.after_is;
-  sent = ap (λ n. (exchange_at n after (side_of station)).sent) stays.number ∙ stays.sent (number_at station 0 history) ∙ tells.sent;
-  told_is = stays.told_is ∙ tells.told_is ∙ ap (λ n. line_to_send n (facts_in tells.base)) (sym stays.number);
+  sent = ap (λ n. (exchange_at n after (side_of station)).sent) (stays.number handle) ∙ stays.sent (number_at station handle history) ∙ tells.sent;
+  told_is = stays.told_is ∙ tells.told_is ∙ ap (λ n. line_to_send n (facts_in tells.base)) (sym (stays.number handle));
 }
-still_tells given station history after stays true None tells = stays.told_is ∙ tells
-still_tells given station history after stays false found tells = stays.told_is ∙ tells
+still_at given station history after stays None handle tells = stays.told_is ∙ tells
+
+still_on : (given : Given) (station : ℕ) (history after : List Event) → StaysTold given station history after → (sends : Option ℕ) (links : Links)
+    → TellsOn sends links station history → TellsOn sends links station after
+still_on given station history after stays None links tells = stays.told_is ∙ tells
+still_on given station history after stays (Some handle) links tells = still_at given station history after stays (link_at handle links) handle tells
 
 pub still_told : (given : Given) (unsent : Bool) (station : ℕ) (history after : List Event) → StaysTold given station history after → IsTold given unsent station history
     → IsTold given unsent station after
 still_told given unsent station history after stays told =
-    subst (λ (f : Facts). TellsBy (unsent && sends_under 0 f.turn.doing) (link_at 0 f.links) station after) (sym stays.facts)
-    (still_tells given station history after stays (unsent && sends_under 0 (facts_at given station history).turn.doing) (link_at 0 (facts_at given station history).links) told)
+    subst (λ (f : Facts). TellsOn (if unsent then handle_sent f.turn.doing else None) f.links station after) (sym stays.facts)
+    (still_on given station history after stays (if unsent then handle_sent (facts_at given station history).turn.doing else None) (facts_at given station history).links told)
 
 pub turn_stays : (given : Given) (station : ℕ) (history : List Event) (slot : ℕ) (radios : List Bool) → StaysTold given station history (history ++ TurnBegan slot radios ∷ [])
 turn_stays given station history slot radios = record {
   told_is = turn_told station history slot radios;
   facts = facts_event given station history (TurnBegan slot radios) refl;
-  number = number_quiet station 0 history (TurnBegan slot radios) (λ links. refl);
+  number = λ handle. number_quiet station handle history (TurnBegan slot radios) (λ links. refl);
   sent = λ number. ap (λ (ends : Side → Exchanged). (ends (side_of station)).sent) (turn_quiet number history slot radios);
 }
 
@@ -181,7 +221,7 @@ pub packet_stays : (given : Given) (station sender : ℕ) (history : List Event)
 packet_stays given station sender history channel octets hearings differs back = record {
   told_is = air_other_told station sender history channel octets hearings differs;
   facts = facts_event given station history (Transmitted sender channel octets hearings) refl;
-  number = number_aired station 0 history sender channel octets hearings;
+  number = λ handle. number_aired station handle history sender channel octets hearings;
   sent = λ number.
       ap (λ xs. (exchange_of number xs (side_of station)).sent) (journal_event history (Transmitted sender channel octets hearings))
       ∙ entries_sent number (journal_of history) (side_of station) (side_of sender) channel octets hearings back;
@@ -192,13 +232,13 @@ pub call_stays : (given : Given) (station other : ℕ) (step : Step) (history : 
 call_stays given station other step history differs back apart = record {
   told_is = called_other given station other step history differs;
   facts = other_facts given other step history station apart;
-  number = number_other given other step history station 0 apart;
+  number = λ handle. number_other given other step history station handle apart;
   sent = λ number. ap (λ (e : Exchanged). e.sent) (exchange_other given number other step history (side_of station) back);
 }
 
 octets_stay : (given : Given) (station other : ℕ) (octets : List ℕ) (history : List Event) → is_side (side_of other) (side_of station) ≡ false
     → is_side (side_of station) (side_of other) ≡ false → (station == other) ≡ false → StaysTold given station history (after_octets given other octets history)
-octets_stay given station other [] history differs back apart = record { told_is = refl; facts = refl; number = refl; sent = λ number. refl }
+octets_stay given station other [] history differs back apart = record { told_is = refl; facts = refl; number = λ handle. refl; sent = λ number. refl }
 octets_stay given station other (octet ∷ octets) history differs back apart =
     let mid = after_call given other (HostOctet octet) history in
     stays_then given station history mid (after_octets given other octets mid) (call_stays given station other (HostOctet octet) history differs back apart)
@@ -206,14 +246,14 @@ octets_stay given station other (octet ∷ octets) history differs back apart =
 
 pub feed_stays : (given : Given) (station other : ℕ) (octets : List ℕ) (history : List Event) → is_side (side_of other) (side_of station) ≡ false
     → is_side (side_of station) (side_of other) ≡ false → (station == other) ≡ false → StaysTold given station history (after_feed given other octets history)
-feed_stays given station other [] history differs back apart = record { told_is = refl; facts = refl; number = refl; sent = λ number. refl }
+feed_stays given station other [] history differs back apart = record { told_is = refl; facts = refl; number = λ handle. refl; sent = λ number. refl }
 feed_stays given station other (octet ∷ octets) history differs back apart =
     let fed = HostFed other (octet ∷ octets) in
     let mid = history ++ fed ∷ [] in
     stays_then given station history mid (after_octets given other (octet ∷ octets) mid) (record {
       told_is = fed_other_told station other history (octet ∷ octets) differs;
       facts = facts_event given station history fed refl;
-      number = number_quiet station 0 history fed (λ links. refl);
+      number = λ handle. number_quiet station handle history fed (λ links. refl);
       sent = λ number. ap (λ (ends : Side → Exchanged). (ends (side_of station)).sent) (feed_quiet number history other (octet ∷ octets));
     }) (octets_stay given station other (octet ∷ octets) mid differs back apart)
 
@@ -242,113 +282,103 @@ pub same_told : (given : Given) (history : List Event) (unsent unsent_too : ℕ 
 same_told given history unsent unsent_too same are = λ station is. subst (λ b. IsTold given b station history) (sym (same station is)) (are station is)
 
 -- a station that sends on no link
-pub off_told : (given : Given) (station : ℕ) (history : List Event) → sends_under 0 (facts_at given station history).turn.doing ≡ false → IsTold given true station history
-    → told_at station history ≡ None
-off_told given station history off told = subst (λ b. TellsBy b (link_at 0 (facts_at given station history).links) station history) off told
+pub off_told : (given : Given) (station : ℕ) (history : List Event) → ((handle : ℕ) → sends_under handle (facts_at given station history).turn.doing ≡ false)
+    → IsTold given true station history → told_at station history ≡ None
+off_told given station history off told =
+    subst (λ may. TellsOn may (facts_at given station history).links station history) (none_sent (facts_at given station history).turn.doing off) told
 
-pub from_off : (given : Given) (station : ℕ) (history : List Event) → sends_under 0 (facts_at given station history).turn.doing ≡ false → told_at station history ≡ None
-    → IsTold given true station history
-from_off given station history off none = subst (λ b. TellsBy b (link_at 0 (facts_at given station history).links) station history) (sym off) none
+pub from_off : (given : Given) (station : ℕ) (history : List Event) → ((handle : ℕ) → sends_under handle (facts_at given station history).turn.doing ≡ false)
+    → told_at station history ≡ None → IsTold given true station history
+from_off given station history off none =
+    subst (λ may. TellsOn may (facts_at given station history).links station history) (sym (none_sent (facts_at given station history).turn.doing off)) none
 
 -- ---- a call after which a station may send
-
-quiet_doing : (doing : Doing) (facts : Facts) → length facts.links ≤ 1 → (sends_under 0 doing ≡ true → (base : OpenLink) → link_at 0 facts.links ≡ Some base → ⊥)
-    → notes_doing doing facts ≡ []
-quiet_doing doing facts few never = by (sends_from doing facts)
-  where
-    by : SendsFrom doing facts → notes_doing doing facts ≡ []
-    by (SendsNothing none) = none
-    by (SendsOne other link is on noted) =
-        let first = first_handle facts.links other link few is in
-        absurd (never (subst (λ n. sends_under n doing ≡ true) first on) link (subst (λ n. link_at n facts.links ≡ Some link) first is))
 
 module _ (given : Given) (station : ℕ) (step : Step) (history : List Event) (outcome : Outcome) (earlier : List Note)
     (facts_are : facts_after (setup_at given station) (facts_at given station history) step ≡ facts_passed outcome)
     (notes_are : notes_after (setup_at given station) (facts_at given station history) step ≡ earlier ++ notes_doing outcome.next outcome.facts)
-    (none : All SendsNone earlier) (opens : All (OpensNone 0) earlier) (few : length outcome.facts.links ≤ 1)
-    (own : (base : OpenLink) → link_at 0 outcome.facts.links ≡ Some base → base.setup.link.handle ≡ 0)
-    (sent : (base : OpenLink) → link_at 0 outcome.facts.links ≡ Some base → sends_under 0 outcome.next ≡ true
-    → (exchange_at (number_at station 0 history) history (side_of station)).sent ≡ length (ack_of base).sent)
+    (none : All SendsNone earlier) (opens : (handle : ℕ) → All (OpensNone handle) earlier)
+    (own : (handle : ℕ) (base : OpenLink) → link_at handle outcome.facts.links ≡ Some base → base.setup.link.handle ≡ handle)
+    (sent : (handle : ℕ) (base : OpenLink) → link_at handle outcome.facts.links ≡ Some base → sends_under handle outcome.next ≡ true
+    → (exchange_at (number_at station handle history) history (side_of station)).sent ≡ length (ack_of base).sent)
     (before : told_at station history ≡ None) where
   abbrev after : List Event
   after = after_call given station step history
 
-  number_same : number_at station 0 after ≡ number_at station 0 history
-  number_same =
-      number_called given station step history 0 (subst (All (OpensNone 0)) (sym notes_are)
-      (All-append (OpensNone 0) earlier (notes_doing outcome.next outcome.facts) opens (doing_noted (OpensNone 0) (λ handle count llid octets. refl) outcome.next outcome.facts)))
+  number_same : (handle : ℕ) → number_at station handle after ≡ number_at station handle history
+  number_same handle =
+      number_called given station step history handle (subst (All (OpensNone handle)) (sym notes_are)
+      (All-append (OpensNone handle) earlier (notes_doing outcome.next outcome.facts) (opens handle)
+      (doing_noted (OpensNone handle) (λ one count llid octets. refl) outcome.next outcome.facts)))
 
   quiet : notes_doing outcome.next outcome.facts ≡ [] → told_at station after ≡ None
   quiet nothing =
       called_none given station step history before (subst (All SendsNone) (sym (notes_are ∙ ap (λ xs. earlier ++ xs) nothing ∙ append-nil earlier)) none)
 
-  told_if : (base : OpenLink) → link_at 0 outcome.facts.links ≡ Some base → (noted : Bool)
+  told_if : (handle : ℕ) (base : OpenLink) → link_at handle outcome.facts.links ≡ Some base → (noted : Bool)
       → notes_doing outcome.next outcome.facts ≡ sent_notes_if noted base.setup.link.handle (facts_in base)
-      → told_at station after ≡ pdu_line_if noted (number_at station 0 history) (numbered (ack_of base).sent + 1) (facts_in base).outgoing.fixed
-  told_if base at false are = quiet are
-  told_if base at true are =
-      called_sent given station step history base.setup.link.handle _ _ _ earlier (notes_are ∙ ap (λ xs. earlier ++ xs) are)
-      (subst (λ h. All (OpensNone h) earlier) (sym (own base at)) opens)
-      ∙ ap (λ h. pdu_line_if true (number_at station h history) (numbered (ack_of base).sent + 1) (facts_in base).outgoing.fixed) (own base at)
+      → told_at station after ≡ pdu_line_if noted (number_at station handle history) (numbered (ack_of base).sent + 1) (facts_in base).outgoing.fixed
+  told_if handle base at false are = quiet are
+  told_if handle base at true are =
+      called_sent given station step history base.setup.link.handle _ _ _ earlier (notes_are ∙ ap (λ xs. earlier ++ xs) are) (opens base.setup.link.handle)
+      ∙ ap (λ h. pdu_line_if true (number_at station h history) (numbered (ack_of base).sent + 1) (facts_in base).outgoing.fixed) (own handle base at)
 
-  no_link : link_at 0 outcome.facts.links ≡ None → (link : OpenLink) → link_at 0 (facts_passed outcome).links ≡ Some link → ⊥
-  no_link absent link at =
-      let was = sending_under outcome.facts.turn.slot 0 outcome.next outcome.facts.links link at in
+  no_link : (handle : ℕ) → link_at handle outcome.facts.links ≡ None → (link : OpenLink) → link_at handle (facts_passed outcome).links ≡ Some link → ⊥
+  no_link handle absent link at =
+      let was = sending_under outcome.facts.turn.slot handle outcome.next outcome.facts.links link at in
       absurd (let h : None ≡ Some was.link = sym absent ∙ was.was in absurd cc)
 
-  tells_next : (sends : Bool) → sends_under 0 outcome.next ≡ sends → (found : Option OpenLink) → link_at 0 outcome.facts.links ≡ found
-      → TellsBy sends (link_at 0 (facts_passed outcome).links) station after
-  tells_next false off found at =
-      quiet (quiet_doing outcome.next outcome.facts few (λ on base is. let h : true ≡ false = sym on ∙ off in absurd cc))
-  tells_next true on None at =
-      none_tells true (link_at 0 (facts_passed outcome).links) station after
-      (quiet (quiet_doing outcome.next outcome.facts few (λ sends base is. let h : None ≡ Some base = sym at ∙ is in absurd cc)))
-      (λ sends link is. no_link at link is)
-  tells_next true on (Some base) at =
-      subst (λ place. TellsBy true place station after) (sym (sent_at outcome.facts.turn.slot 0 outcome.next outcome.facts.links base on at)) (record {
+  tells_at : (handle : ℕ) → sends_under handle outcome.next ≡ true → notes_doing outcome.next outcome.facts ≡ notes_sent outcome.facts.turn.slot (link_at handle outcome.facts.links)
+      → (found : Option OpenLink) → link_at handle outcome.facts.links ≡ found → TellsAt (link_at handle (facts_passed outcome).links) handle station after
+  tells_at handle on are None at =
+      none_at (link_at handle (facts_passed outcome).links) handle station after (quiet (are ∙ ap (notes_sent outcome.facts.turn.slot) at)) (no_link handle at)
+  tells_at handle on are (Some base) at =
+      subst (λ place. TellsAt place handle station after) (sym (sent_at outcome.facts.turn.slot handle outcome.next outcome.facts.links base on at)) (record {
         slot = outcome.facts.turn.slot;
         base = base;
         after_is = refl;
-        sent = (exchange_same given (number_at station 0 after) station step history (side_of station)).sent
-            ∙ ap (λ n. (exchange_at n history (side_of station)).sent) number_same ∙ sent base at on;
-        told_is = told_if base at (is_acked (ack_of base) && not (is_empty (facts_in base).outgoing.fixed))
-            (doing_notes outcome.next outcome.facts 0 base (λ other two sends is. first_handle outcome.facts.links other two few is) at ∙ ap (λ b. notes_when b base) on)
-            ∙ ap (λ n. line_to_send n (facts_in base)) (sym number_same);
+        sent = (exchange_same given (number_at station handle after) station step history (side_of station)).sent
+            ∙ ap (λ n. (exchange_at n history (side_of station)).sent) (number_same handle) ∙ sent handle base at on;
+        told_is = told_if handle base at (is_acked (ack_of base) && not (is_empty (facts_in base).outgoing.fixed)) (are ∙ ap (notes_sent outcome.facts.turn.slot) at)
+            ∙ ap (λ n. line_to_send n (facts_in base)) (sym (number_same handle));
       })
+
+  tells_next : (doing : Doing) → outcome.next ≡ doing → TellsOn (handle_sent doing) (facts_passed outcome).links station after
+  tells_next (CentralSends handle) is =
+      tells_at handle (ap (sends_under handle) is ∙ same_number handle) (ap (λ d. notes_doing d outcome.facts) is) (link_at handle outcome.facts.links) refl
+  tells_next (PeripheralSends handle) is =
+      tells_at handle (ap (sends_under handle) is ∙ same_number handle) (ap (λ d. notes_doing d outcome.facts) is) (link_at handle outcome.facts.links) refl
+  tells_next (Advertises channel) is = quiet (ap (λ d. notes_doing d outcome.facts) is)
+  tells_next other is = quiet (ap (λ d. notes_doing d outcome.facts) is)
 
   call_tells : IsTold given true station after
   call_tells =
-      subst (λ (f : Facts). TellsBy (sends_under 0 f.turn.doing) (link_at 0 f.links) station after) (sym (own_facts given station step history ∙ facts_are))
-      (tells_next (sends_under 0 outcome.next) refl (link_at 0 outcome.facts.links) refl)
+      subst (λ (f : Facts). TellsOn (handle_sent f.turn.doing) f.links station after) (sym (own_facts given station step history ∙ facts_are)) (tells_next outcome.next refl)
 
 -- ---- a turn begins
 
-few_own : (given : Given) → IsPair given → (station : ℕ) (facts : Facts) → length facts.links ≡ (setup_at given station).links → length facts.links ≤ 1
-few_own given pair station facts many = let few = pair.links station in omega (arith, many, few)
-
-pub begin_tells : (given : Given) (pair : IsPair given) (station slot : ℕ) (on : Bool) (history : List Event) → is_in station given.stations ≡ true
+pub begin_tells : (given : Given) (station slot : ℕ) (on : Bool) (history : List Event) → is_in station given.stations ≡ true
     → (facts_at given station history).turn.doing ≡ Rests → IsStation (setup_at given station) (facts_at given station history)
     → AreCountedSo given history (λ one. true) (λ one. packet_received one history) → told_at station history ≡ None
     → IsTold given true station (after_call given station (TurnBegins slot on) history)
-begin_tells given pair station slot on history in_it rests station_is counted before =
+begin_tells given station slot on history in_it rests station_is counted before =
     let setup = setup_at given station in
     let facts = facts_at given station history in
     let outcome = outcome_begun slot on facts in
     let start = notes_ending slot facts ++ notes_entering slot (facts_ending slot facts).links in
     let own = own_begun setup slot on facts station_is.own in
-    let end = exchange_at (number_at station 0 history) history (side_of station) in
     call_tells given station (TurnBegins slot on) history outcome start refl refl
     (all_more HasNoData SendsNone (λ note has. has.sends) start (start_noted HasNoData no_data slot facts))
-    (start_noted (OpensNone 0) (opening_none 0).starts slot facts)
-    (few_own given pair station outcome.facts own.many)
-    (λ base at. handle_is 0 0 outcome.facts.links base own.handles at)
-    (λ base at sends.
-    let sent = sent_at outcome.facts.turn.slot 0 outcome.next outcome.facts.links base sends at in
+    (λ handle. start_noted (OpensNone handle) (opening_none handle).starts slot facts)
+    (λ handle base at. handle_is 0 handle outcome.facts.links base own.handles at)
+    (λ handle base at sends.
+    let end = exchange_at (number_at station handle history) history (side_of station) in
+    let sent = sent_at outcome.facts.turn.slot handle outcome.next outcome.facts.links base sends at in
     let next = link_after (PacketSent outcome.facts.turn.slot) base in
-    let begun = begins_under setup facts slot on 0 next sent in
-    let counts = plain true (packet_received station history) 0 facts.turn begun.link end (rests_none 0 facts.turn.doing rests)
-    (rests_deaf 0 facts.turn.doing (packet_received station history) rests) (counted station 0 begun.link in_it begun.was) in
-    let same = base_ack facts slot on 0 _ next begun in
+    let begun = begins_under setup facts slot on handle next sent in
+    let counts = plain true (packet_received station history) handle facts.turn begun.link end (rests_none handle facts.turn.doing rests)
+    (rests_deaf handle facts.turn.doing (packet_received station history) rests) (counted station handle begun.link in_it begun.was) in
+    let same = base_ack facts slot on handle _ next begun in
     let base_is : begun.base ≡ base = let some : Some begun.base ≡ Some base = sym begun.found ∙ at in cc in
     counts.sent ∙ ap (λ (a : Acknowledgement). length a.sent) (sym same) ∙ ap (λ (l : OpenLink). length (ack_of l).sent) base_is)
     before
@@ -360,17 +390,17 @@ received_handle : (same : Bool) (slot : ℕ) (octets : List ℕ) (room : Bool) (
 received_handle true slot octets room link = refl
 received_handle false slot octets room link = refl
 
-reply_sends : (replies : Bool) (other : ℕ) → sends_under 0 (reply_if replies other) ≡ true → (other == 0) ≡ true
-reply_sends true other on = on
-reply_sends false other on = absurd cc
+reply_sends : (replies : Bool) (other handle : ℕ) → sends_under handle (reply_if replies other) ≡ true → (other == handle) ≡ true
+reply_sends true other handle on = on
+reply_sends false other handle on = absurd cc
 
-passed_off : (facts : Facts) (room : Bool) (received : Option (List ℕ)) (doing : Doing) (link : OpenLink)
-    → ((handle : ℕ) → listens_under handle facts.turn.doing ≡ true → received ≡ None) → HasPassed facts room received 0 doing link → sends_under 0 doing ≡ true → ⊥
-passed_off facts room received doing link none (IsNew end made opened off) on = let h : true ≡ false = sym on ∙ off_sends 0 doing off in absurd cc
-passed_off facts room received doing link none (Stays was off nothing listened) on = let h : true ≡ false = sym on ∙ off in absurd cc
-passed_off facts room received doing link none (Takes base octets was some listens same) on = let h : None ≡ Some octets = sym (none 0 listens) ∙ some in absurd cc
+passed_off : (facts : Facts) (room : Bool) (received : Option (List ℕ)) (handle : ℕ) (doing : Doing) (link : OpenLink)
+    → ((other : ℕ) → listens_under other facts.turn.doing ≡ true → received ≡ None) → HasPassed facts room received handle doing link → sends_under handle doing ≡ true → ⊥
+passed_off facts room received handle doing link none (IsNew end made opened off) on = let h : true ≡ false = sym on ∙ off_sends handle doing off in absurd cc
+passed_off facts room received handle doing link none (Stays was off nothing listened) on = let h : true ≡ false = sym on ∙ off in absurd cc
+passed_off facts room received handle doing link none (Takes base octets was some listens same) on = let h : None ≡ Some octets = sym (none handle listens) ∙ some in absurd cc
 
-module _ (given : Given) (Q : Place → List Event → Type 0) (known : AreKnown given Q) (pair : IsPair given) (distinct : AreDistinct given.stations) (phases : ℕ) (done left : List ℕ) (station : ℕ) (history : List Event)
+module _ (given : Given) (Q : Place → List Event → Type 0) (known : AreKnown given Q) (distinct : AreDistinct given.stations) (phases : ℕ) (done left : List ℕ) (station : ℕ) (history : List Event)
     (are : given.stations ≡ done ++ station ∷ left) (is : AreCountedAt given Q (AtListening phases done (station ∷ left)) history)
     (q : Q (AtListening phases (done ++ station ∷ []) left) (after_call given station (step_of (packet_received station history)) history))
     (holds : Holds given (AreStations given) (AtListening phases (done ++ station ∷ []) left) (after_call given station (step_of (packet_received station history)) history))
@@ -396,32 +426,32 @@ module _ (given : Given) (Q : Place → List Event → Type 0) (known : AreKnown
   plain_tells : ((handle : ℕ) → listens_under handle facts.turn.doing ≡ true → received ≡ None) → All HasNoData (notes_after setup facts (step_of received))
       → IsTold given true station heard_after
   plain_tells none plain_too =
-      none_tells (sends_under 0 (facts_at given station heard_after).turn.doing) (link_at 0 (facts_at given station heard_after).links) station heard_after
+      none_tells (facts_at given station heard_after).turn.doing (facts_at given station heard_after).links station heard_after
       (called_none given station (step_of received) history before (all_more HasNoData SendsNone (λ note has. has.sends) _ plain_too))
-      (λ on link at.
-      passed_off facts room received (facts_after setup facts (step_of received)).turn.doing link none
-      (passes_under setup facts received 0 link (phased given Q known distinct phases done left station history are is q holds).uses.in_turn.listens
-      (own_at given station (step_of received) history 0 link at))
-      (ap (λ (f : Facts). sends_under 0 f.turn.doing) (sym (own_facts given station (step_of received) history)) ∙ on))
+      (λ handle link on at.
+      passed_off facts room received handle (facts_after setup facts (step_of received)).turn.doing link none
+      (passes_under setup facts received handle link (phased given Q known distinct phases done left station history are is q holds).uses.in_turn.listens
+      (own_at given station (step_of received) history handle link at))
+      (ap (λ (f : Facts). sends_under handle f.turn.doing) (sym (own_facts given station (step_of received) history)) ∙ on))
 
   -- a packet is received on a link
   module _ (other : ℕ) (octets : List ℕ) (some : received ≡ Some octets) (listens : (handle : ℕ) → listens_under handle facts.turn.doing ≡ (other == handle)) where
     abbrev taking : OpenLink → OpenLink
     taking link = link_after (PacketReceived facts.turn.slot octets room) link
 
-    own_taken : (base : OpenLink) → link_at 0 (link_received other room octets facts).links ≡ Some base → base.setup.link.handle ≡ 0
-    own_taken base at =
-        let was = change_under other 0 taking facts.links base at in
-        ap (λ (l : OpenLink). l.setup.link.handle) was.is ∙ received_handle (other == 0) facts.turn.slot octets room was.link
-        ∙ handle_is 0 0 facts.links was.link station_has.own.handles was.was
+    own_taken : (handle : ℕ) (base : OpenLink) → link_at handle (link_received other room octets facts).links ≡ Some base → base.setup.link.handle ≡ handle
+    own_taken handle base at =
+        let was = change_under other handle taking facts.links base at in
+        ap (λ (l : OpenLink). l.setup.link.handle) was.is ∙ received_handle (other == handle) facts.turn.slot octets room was.link
+        ∙ handle_is 0 handle facts.links was.link station_has.own.handles was.was
 
-    sent_taken : (base : OpenLink) → link_at 0 (link_received other room octets facts).links ≡ Some base → (other == 0) ≡ true
-        → (exchange_at (number_at station 0 history) history (side_of station)).sent ≡ length (ack_of base).sent
-    sent_taken base at one =
-        let was = change_under other 0 taking facts.links base at in
+    sent_taken : (handle : ℕ) (base : OpenLink) → link_at handle (link_received other room octets facts).links ≡ Some base → (other == handle) ≡ true
+        → (exchange_at (number_at station handle history) history (side_of station)).sent ≡ length (ack_of base).sent
+    sent_taken handle base at one =
+        let was = change_under other handle taking facts.links base at in
         let base_is : base ≡ taking was.link = was.is ∙ ap (λ b. change_if b taking was.link) one in
-        let counts = was_taking received octets 0 facts.turn was.link (exchange_at (number_at station 0 history) history (side_of station)) (listens 0 ∙ one) some
-        (before_call given Q known distinct phases done left station history are is q holds 0 was.link was.was) in
+        let counts = was_taking received octets handle facts.turn was.link (exchange_at (number_at station handle history) history (side_of station)) (listens handle ∙ one) some
+        (before_call given Q known distinct phases done left station history are is q holds handle was.link was.was) in
         counts.sent ∙ ap length (same_but facts.turn.slot octets false room was.link).sent ∙ ap (λ (l : OpenLink). length (ack_of l).sent) (sym base_is)
 
     link_tells : heard setup facts.turn.doing octets facts ≡ link_heard setup other octets facts → IsTold given true station heard_after
@@ -430,9 +460,8 @@ module _ (given : Given) (Q : Place → List Event → Type 0) (known : AreKnown
         (ap (λ may. facts_after setup facts (step_of may)) some ∙ ap facts_passed heard_is)
         (on_link_notes setup facts received other octets some (ap notes_passed heard_is))
         (taken_noted SendsNone (λ handle count llid body. refl) facts.turn.slot room (link_at other facts.links) octets)
-        (taken_noted (OpensNone 0) (λ handle count llid body. refl) facts.turn.slot room (link_at other facts.links) octets)
-        (subst (λ n. n ≤ 1) (sym (count_changing other taking facts.links)) (few_links given pair station facts station_has))
-        own_taken (λ base at on. sent_taken base at (reply_sends (replies_in (link_at other facts.links) octets) other on)) before
+        (λ handle. taken_noted (OpensNone handle) (λ one count llid body. refl) facts.turn.slot room (link_at other facts.links) octets)
+        own_taken (λ handle base at on. sent_taken handle base at (reply_sends (replies_in (link_at other facts.links) octets) other handle on)) before
 
   pub phase_tells : IsTold given true station heard_after
   phase_tells = by (phase_of (setup_at given station) (facts_at given station history) (packet_received station history))

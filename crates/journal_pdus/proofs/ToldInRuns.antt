@@ -223,11 +223,11 @@ module _ (given : Given) where
           let before = phased_at given (AtFeeds done (station ∷ left)) history has.is.data_is.counted.holds.hearing.stand station in_it in
           let rests = phased_at given (AtFeeds (done ++ station ∷ []) left) after next.data_is.counted.holds.hearing.stand station in_it in
           let fed = feed_fed station octets history (record {
-            none = off_told given station history (ap (sends_under 0) before.phase) (has.told_is station in_it);
+            none = off_told given station history (λ handle. ap (sends_under handle) before.phase) (has.told_is station in_it);
             each = has.each;
           }) in record {
             is = next;
-            told_is = told_step given are_two station history after (λ one. true) (λ one. true) in_it (from_off given station after (ap (sends_under 0) rests.phase) fed.none)
+            told_is = told_step given are_two station history after (λ one. true) (λ one. true) in_it (from_off given station after (λ handle. ap (sends_under handle) rests.phase) fed.none)
                 (λ other is_other differs. refl) (λ other differs back apart. feed_stays given other station octets history differs back apart) has.told_is;
             each = fed.each;
           };
@@ -238,10 +238,10 @@ module _ (given : Given) where
           let in_it = among given.stations done left station are in
           let counted = has.is.data_is.counted in
           let rests = between_turns Q distinct done left station history are counted in
-          let none = off_told given station history (ap (sends_under 0) rests.phase) (has.told_is station in_it) in record {
+          let none = off_told given station history (λ handle. ap (sends_under handle) rests.phase) (has.told_is station in_it) in record {
             is = kept.on_begin slot plan done left station history are due has.is;
             told_is = told_step given are_two station history (after_call given station step history) (λ one. true) (λ one. true) in_it
-                (begin_tells given pair station slot on history in_it rests.phase (counted.holds.so_far.last.each station in_it) counted.counted none)
+                (begin_tells given station slot on history in_it rests.phase (counted.holds.so_far.last.each station in_it) counted.counted none)
                 (λ other is_other differs. refl) (λ other differs back apart. call_stays given other station step history differs back apart) has.told_is;
             each = each_told station step history (begin_call given station slot on history none) has.each;
           };
@@ -252,10 +252,10 @@ module _ (given : Given) where
           let facts = facts_at given station history in record {
             is = kept.on_silence phases done left station history are none has.is;
             told_is = aired_step phases done left station history history are
-                (silent_told given station history (still_unsent phases done left station history are has.told_is) (λ link at.
-                silent_sends facts 0 link (phased_at given (AtPackets phases done (station ∷ left)) history has.is.data_is.counted.holds.hearing.stand station in_it).uses.sends at
+                (silent_told given station history (still_unsent phases done left station history are has.told_is) (λ handle link at.
+                silent_sends facts handle link (phased_at given (AtPackets phases done (station ∷ left)) history has.is.data_is.counted.holds.hearing.stand station in_it).uses.sends at
                 (ap packet_in (wanted_is given station history) ∙ none)))
-                (λ other differs back apart. record { told_is = refl; facts = refl; number = refl; sent = λ number. refl }) has.told_is;
+                (λ other differs back apart. record { told_is = refl; facts = refl; number = λ handle. refl; sent = λ number. refl }) has.told_is;
             each = has.each;
           };
       on_packet = λ phases plan done left station channel octets history are some due has.
@@ -285,7 +285,7 @@ module _ (given : Given) where
             is = next;
             told_is = told_step given are_two station history (after_call given station step history) (λ one. is_in one done) (λ one. is_in one (done ++ station ∷ [])) in_it
                 (subst (λ b. IsTold given b station (after_call given station step history)) (sym (in_more_same station station done (same_number station)))
-                (phase_tells given Q known pair distinct phases done left station history are has.is.data_is.counted next.data_is.counted.known next.data_is.counted.holds none))
+                (phase_tells given Q known distinct phases done left station history are has.is.data_is.counted next.data_is.counted.known next.data_is.counted.holds none))
                 (λ other is_other differs. in_more_other other station done differs)
                 (λ other differs back apart. call_stays given other station step history differs back apart) has.told_is;
             each = each_told station step history
@@ -303,11 +303,11 @@ module _ (given : Given) where
           let in_it = among given.stations done left station are in
           let after = after_call given station TurnEnds history in
           let phase = (last_stage Q distinct done left station history are has.is.data_is.counted).phase in
-          let none = off_told given station history (last_phase facts.links facts.turn.doing 0 phase) (has.told_is station in_it) in
+          let none = off_told given station history (λ handle. last_phase facts.links facts.turn.doing handle phase) (has.told_is station in_it) in
           let notes = end_noted HasNoData no_data.feeds setup facts in record {
             is = kept.on_end done left station history are some has.is;
             told_is = told_step given are_two station history after (λ one. true) (λ one. true) in_it
-                (from_off given station after (ap (λ (f : Facts). sends_under 0 f.turn.doing) (own_facts given station TurnEnds history))
+                (from_off given station after (λ handle. ap (λ (f : Facts). sends_under handle f.turn.doing) (own_facts given station TurnEnds history))
                 (called_none given station TurnEnds history none (all_more HasNoData SendsNone (λ note has_none. has_none.sends) _ notes)))
                 (λ other is_other differs. refl) (λ other differs back apart. call_stays given other station TurnEnds history differs back apart) has.told_is;
             each = each_told station TurnEnds history (all_quiet given history station TurnEnds none notes) has.each;
@@ -329,7 +329,7 @@ none_told station = refl
 pub told_first : (given : Given) → IsToldAt given (IsBelongingSoFar given) NoTurn []
 told_first given = record {
   is = known_first given;
-  told_is = λ station in_it. from_off given station [] (ap (sends_under 0) (phased_at given NoTurn [] (counts_first given).holds.hearing.stand station in_it).phase) (none_told station);
+  told_is = λ station in_it. from_off given station [] (λ handle. ap (sends_under handle) (phased_at given NoTurn [] (counts_first given).holds.hearing.stand station in_it).phase) (none_told station);
   each = tt;
 }
 

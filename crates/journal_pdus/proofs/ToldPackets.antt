@@ -37,7 +37,7 @@ use Rattle.journal_pdus.proofs.Together.{IsKnownAt}
 use Rattle.journal_pdus.proofs.ToldLines.{told_at}
 use Rattle.journal_pdus.proofs.FixedNow.{same_base}
 use Rattle.journal_pdus.proofs.SendingEnd.{acked_is, at_first, booked_is, carried_is, first, from, sends_first}
-use Rattle.journal_pdus.proofs.Told.{IsTold, Tells, TellsBy, brings_line, line_to_send, tells_none}
+use Rattle.journal_pdus.proofs.Told.{IsTold, Tells, TellsAt, TellsOn, brings_line, line_to_send, sent_under, tells_none}
 
 -- what a packet on this channel brings
 abbrev pub brought_in : List Event → ℕ → ℕ → List ℕ → Option PduLine
@@ -46,17 +46,17 @@ brought_in history station channel octets =
 
 -- a station that transmits nothing on a link
 pub silent_told : (given : Given) (station : ℕ) (history : List Event) → IsTold given true station history
-    → ((link : OpenLink) → link_at 0 (facts_at given station history).links ≡ Some link → sends_under 0 (facts_at given station history).turn.doing ≡ false)
+    → ((handle : ℕ) (link : OpenLink) → link_at handle (facts_at given station history).links ≡ Some link → sends_under handle (facts_at given station history).turn.doing ≡ false)
     → told_at station history ≡ None
 silent_told given station history told off =
-    tells_none (sends_under 0 (facts_at given station history).turn.doing) (link_at 0 (facts_at given station history).links) station history told
-    (λ on link at. let h : true ≡ false = sym on ∙ off link at in absurd cc)
+    tells_none (facts_at given station history).turn.doing (facts_at given station history).links station history told
+    (λ handle link on at. let h : true ≡ false = sym on ∙ off handle link at in absurd cc)
 
-open_tells : (given : Given) (station : ℕ) (history : List Event) (after : OpenLink) → sends_under 0 (facts_at given station history).turn.doing ≡ true
-    → link_at 0 (facts_at given station history).links ≡ Some after → IsTold given true station history → Tells station history after
-open_tells given station history after on at told =
-    subst (λ b. TellsBy b (Some after) station history) on
-    (subst (λ place. TellsBy (sends_under 0 (facts_at given station history).turn.doing) place station history) at told)
+open_tells : (given : Given) (station handle : ℕ) (history : List Event) (after : OpenLink) → sends_under handle (facts_at given station history).turn.doing ≡ true
+    → link_at handle (facts_at given station history).links ≡ Some after → IsTold given true station history → Tells station handle history after
+open_tells given station handle history after on at told =
+    subst (λ place. TellsAt place handle station history) at
+    (subst (λ may. TellsOn may (facts_at given station history).links station history) (sent_under handle (facts_at given station history).turn.doing on) told)
 
 -- what is told of the packet of this end
 pub record TellsOf (station : ℕ) (history : List Event) (link : OpenLink) : Type 0 where
@@ -85,7 +85,7 @@ module _ (whole : IsHeardWhole) (given : Given) (Q : Place → List Event → Ty
 
     pub tells_of : TellsOf station history sending.link
     tells_of =
-        let tells = open_tells given station history sent_on (sends_first whole given Q known are_two pair six distinct eight phases done left station channel octets history are wanted is off)
+        let tells = open_tells given station 0 history sent_on (sends_first whole given Q known are_two pair six distinct eight phases done left station channel octets history are wanted is off)
         (at_first whole given Q known are_two pair six distinct eight phases done left station channel octets history are wanted is off) told_is in
         subst (TellsOf station history) (sym (same_base sending.slot tells.slot sending.link tells.base tells.after_is)) (record { sent = tells.sent; told_is = tells.told_is })
 
@@ -111,8 +111,8 @@ module _ (whole : IsHeardWhole) (given : Given) (Q : Place → List Event → Ty
       by : (on : Bool) → is_advertising channel ≡ on
           → told_at station history ≡ (if on then None else new_pdu_of (link_of_packet (journal_of history) (side_of station) octets) (journal_of history) (side_of station))
       by true on =
-          silent_told given station history told_is (λ link at.
-          other_sends (facts_at given station history) 0 channel octets link
+          silent_told given station history told_is (λ handle link at.
+          other_sends (facts_at given station history) handle channel octets link
           (phased_at given (AtPackets phases done (station ∷ left)) history is.data_is.counted.holds.hearing.stand station (among given.stations done left station are)).uses.sends at
           (wanted_is given station history ∙ wanted) on)
       by false off = link_brings off

@@ -1,10 +1,10 @@
 -- In which phase of a turn a controller sends or listens on a link, and as which end of it.
-use Rattle.std.proofs.Common.{◌≡◌, ℕ, zero, suc, ◌≤◌, Bool, true, false, Option, Some, None, List, refl, sym, subst, arith}
-use Rattle.std.specs.Prelude.{⊤, ◌&&◌, if◌then◌else◌}
+use Rattle.std.proofs.Common.{◌≡◌, ℕ, zero, suc, Bool, true, false, Option, Some, None, List, refl, sym, subst, arith, ◌+◌, ap, ◌∙◌}
+use Rattle.std.specs.Prelude.{⊤, if◌then◌else◌}
 use Rattle.std.specs.Option.{option_map}
+use Rattle.std.proofs.lemmas.Bool.{false_from_ne_true}
 use Rattle.ble_base.specs.declared.roles.Role.{Role}
 use Rattle.ble_base.specs.declared.roles.Role.TheVariants.{Central, Peripheral}
-use Rattle.adv_pdu.specs.declared.pdu.AdvPdu.{AdvPdu}
 use Rattle.advertise.specs.Advertising.{AdvertiserFacts}
 use Rattle.link_model.specs.End.{replies_by, replies_of}
 use Rattle.link_model.specs.Packets.{good_pdu}
@@ -13,7 +13,6 @@ use Rattle.link_model.specs.Step.{PduFixed, PacketSent, PacketReceived}
 use Rattle.link_model.specs.Times.{has_second_exchange}
 use Rattle.open_links.specs.OpenLinks.{Links, OpenLink, facts_in, link_after, link_at, link_served, with_change}
 use Rattle.open_links.proofs.Handles.{changed_is}
-use Rattle.scan_init.specs.Reports.{does_ask, scan_answer}
 use Rattle.slot_plan.specs.declared.Activity.{Activity}
 use Rattle.slot_plan.specs.declared.Activity.TheVariants.{Link, Advertise, Scan, Initiate}
 use Rattle.slot_plan.specs.Holding.{is_held_in, winner_of}
@@ -21,38 +20,38 @@ use Rattle.controller_model.specs.declared.doing.Doing.{Doing}
 use Rattle.controller_model.specs.declared.doing.Doing.TheVariants.{Advertises, CentralSends, CentralListens, PeripheralListens, PeripheralSends, Rests}
 use Rattle.controller_model.specs.Step.{Step, TurnBegins}
 use Rattle.controller_model.specs.Facts.{Setup, Facts}
-use Rattle.controller_model.specs.Heard.{asks_if, has_room, link_heard, link_taken, replies_in, reply_if, scanner_after, with_scanner}
+use Rattle.controller_model.specs.Heard.{has_room, link_heard, replies_in, reply_if, heard, unheard}
 use Rattle.controller_model.specs.Links.{facts_ending}
 use Rattle.controller_model.specs.Outcome.{Outcome, facts_passed}
 use Rattle.controller_model.specs.Packets.{facts_doing}
 use Rattle.controller_model.specs.Radio.{advertises_at, advertises_on, doing_held, doing_won, exchange_begins, exchange_if, facts_entering, facts_won, first_exchange, initiates_on, initiator_channel, links_fixing, outcome_begun, plan_in, radio_served, scanner_channel, scans_on, second_exchange, served, slots_since, turn_begins, winner_served}
 use Rattle.controller_model.specs.Sent.{SendsOn}
 use Rattle.controller_model.specs.Side.{facts_after, facts_of}
-use Rattle.controller_model.proofs.Always.{opening_passes}
-use Rattle.controller_model.proofs.Phases.{EachOutcome, heard_is, unheard_is}
 use Rattle.run_model.specs.Run.{step_of}
+use Rattle.run_laws.proofs.LinkPasses.{IsPassing, Leaves, Opens, Receives, is_on_link, phase_passes}
+use Rattle.run_laws.proofs.Entering.{IsInTurn, turn_first, turn_kept}
 use Rattle.run_laws.proofs.TurnPlaces.{Between, IsTurned, Stage, Within, at_stage, standing, turned}
 
 abbrev pub HasRole : Role → Option OpenLink → Type 0
 HasRole role None = ⊤
 HasRole role (Some link) = link.setup.link.role ≡ role
 
--- in the first phase a central sends and a peripheral listens; later a peripheral sends and a central listens
+-- a central sends in the first phase, and a peripheral answers in the second one
 abbrev pub IsInPhase : ℕ → Links → Doing → Type 0
 IsInPhase phases links (CentralSends handle) = (phases ≡ 0) × HasRole Central (link_at handle links)
 IsInPhase phases links (PeripheralListens handle) = (phases ≡ 0) × HasRole Peripheral (link_at handle links)
-IsInPhase phases links (CentralListens handle) = (1 ≤ phases) × HasRole Central (link_at handle links)
-IsInPhase phases links (PeripheralSends handle) = (1 ≤ phases) × HasRole Peripheral (link_at handle links)
+IsInPhase phases links (CentralListens handle) = (phases ≡ 1) × HasRole Central (link_at handle links)
+IsInPhase phases links (PeripheralSends handle) = (phases ≡ 1) × HasRole Peripheral (link_at handle links)
 IsInPhase phases links other = ⊤
+
+abbrev pub IsAtStage : Stage → Links → Doing → Type 0
+IsAtStage Between links doing = doing ≡ Rests
+IsAtStage (Within phases) links doing = IsInPhase phases links doing
 
 -- the end that sends in a phase, which comes after this number of phases
 abbrev pub SendsAs : ℕ → Role → Type 0
 SendsAs zero role = role ≡ Central
 SendsAs (suc phases) role = role ≡ Peripheral
-
-later_as : (phases : ℕ) (role : Role) → 1 ≤ phases → role ≡ Peripheral → SendsAs phases role
-later_as zero role later is = absurd (omega (arith, later))
-later_as (suc phases) role later is = is
 
 -- the role of the link on which it sends
 pub sends_as : (phases handle : ℕ) (links : Links) (doing : Doing) (link : OpenLink) → IsInPhase phases links doing → SendsOn handle doing → link_at handle links ≡ Some link
@@ -60,7 +59,7 @@ pub sends_as : (phases handle : ℕ) (links : Links) (doing : Doing) (link : Ope
 sends_as phases handle links (CentralSends other) link is same at =
     subst (λ n. SendsAs n link.setup.link.role) (sym is.0) (subst (HasRole Central) at (subst (λ n. HasRole Central (link_at n links)) same is.1))
 sends_as phases handle links (PeripheralSends other) link is same at =
-    later_as phases link.setup.link.role is.0 (subst (HasRole Peripheral) at (subst (λ n. HasRole Peripheral (link_at n links)) same is.1))
+    subst (λ n. SendsAs n link.setup.link.role) (sym is.0) (subst (HasRole Peripheral) at (subst (λ n. HasRole Peripheral (link_at n links)) same is.1))
 sends_as phases handle links (Advertises channel) link is same at = absurd same
 sends_as phases handle links other link is same at = absurd same
 
@@ -164,10 +163,10 @@ served_in : (on : Bool) (slot : ℕ) (winner : Option Activity) (facts : Facts) 
 served_in false slot winner facts = tt
 served_in true slot winner facts = radio_in (is_held_in facts.radio.hold slot) slot winner facts
 
-abbrev DoesIn : ℕ → Facts → Type 0
+abbrev pub DoesIn : ℕ → Facts → Type 0
 DoesIn phases facts = IsInPhase phases facts.links facts.turn.doing
 
-begins_in : (setup : Setup) (slot : ℕ) (on : Bool) (facts : Facts) → DoesIn 0 (facts_after setup facts (TurnBegins slot on))
+pub begins_in : (setup : Setup) (slot : ℕ) (on : Bool) (facts : Facts) → DoesIn 0 (facts_after setup facts (TurnBegins slot on))
 begins_in setup slot on facts =
     let begun = turn_begins slot (facts_ending slot facts) in
     let outcome = outcome_begun slot on facts in
@@ -177,64 +176,92 @@ begins_in setup slot on facts =
 
 -- ---- a phase passes
 
-asks_in : (phases : ℕ) (asks : Bool) (channel : ℕ) (pdu : AdvPdu) (links : Links) → IsInPhase phases links (asks_if asks channel pdu)
-asks_in phases true channel pdu links = tt
-asks_in phases false channel pdu links = tt
-
-asked_in : (phases : ℕ) (asks : Bool) (channel : ℕ) (pdu : AdvPdu) (facts : Facts) → DoesIn phases (facts_doing (asks_if asks channel pdu) facts)
-asked_in phases asks channel pdu facts = doing_in phases (asks_if asks channel pdu) facts (asks_in phases asks channel pdu facts.links)
+-- what uses no link may be done in any phase
+off_link : (phases : ℕ) (links : Links) (doing : Doing) → is_on_link doing ≡ false → IsInPhase phases links doing
+off_link phases links (CentralSends handle) off = absurd cc
+off_link phases links (CentralListens handle) off = absurd cc
+off_link phases links (PeripheralListens handle) off = absurd cc
+off_link phases links (PeripheralSends handle) off = absurd cc
+off_link phases links (Advertises channel) off = tt
+off_link phases links other off = tt
 
 -- a peripheral alone answers
-reply_in : (phases handle : ℕ) (after : Links) (octets : List ℕ) (found : Option OpenLink) → (HasRole Peripheral found → HasRole Peripheral (link_at handle after))
-    → IsInPhase (suc phases) after (reply_if (replies_in found octets) handle)
+reply_by : (role : Role) (handle : ℕ) (links : Links) (pdu : Option (List ℕ)) → HasRole role (link_at handle links)
+    → (phases : ℕ) → (role ≡ Peripheral → phases ≡ 1) → IsInPhase phases links (reply_if (replies_by role pdu) handle)
+reply_by Central handle links pdu has phases second = tt
+reply_by Peripheral handle links None has phases second = tt
+reply_by Peripheral handle links (Some octets) has phases second = (second refl, has)
+
+reply_in : (role : Role) (handle : ℕ) (links after : Links) (octets : List ℕ) (found : Option OpenLink) (phases : ℕ) → HasRole role found → HasRole role (link_at handle after)
+    → (role ≡ Peripheral → phases ≡ 1) → IsInPhase phases after (reply_if (replies_in found octets) handle)
 unfolding replies_of
-reply_in phases handle after octets None keeps = tt
-reply_in phases handle after octets (Some link) keeps = by link.setup.link.role (good_pdu link.setup (facts_in link) octets) refl
-  where
-    by : (role : Role) (pdu : Option (List ℕ)) → link.setup.link.role ≡ role → IsInPhase (suc phases) after (reply_if (replies_by role pdu) handle)
-    by Central pdu is = tt
-    by Peripheral None is = tt
-    by Peripheral (Some octets) is = (omega arith, keeps is)
+reply_in role handle links after octets None phases is has second = tt
+reply_in role handle links after octets (Some link) phases is has second =
+    subst (λ (r : Role). IsInPhase phases after (reply_if (replies_by r (good_pdu link.setup (facts_in link) octets)) handle)) (sym is)
+    (reply_by role handle after (good_pdu link.setup (facts_in link) octets) has phases second)
 
-outcomes_in : (setup : Setup) (facts : Facts) (phases : ℕ) → DoesIn phases facts → EachOutcome setup facts (λ outcome. DoesIn (suc phases) (facts_passed outcome))
-outcomes_in setup facts phases is = record {
-  rests = tt;
-  awaits_request = λ channel doing. tt;
-  awaits_response = λ channel advertiser doing. tt;
-  central_listens = λ handle doing. (omega arith, (subst (IsInPhase phases facts.links) doing is).1);
-  sent = λ channel link doing. opening_passes (DoesIn (suc phases)) link facts tt;
-  responds = λ channel on doing is_on. tt;
-  taken = λ channel octets pdu on fields handle is_on hears takes free. opening_passes (DoesIn (suc phases)) (link_taken on.params.own pdu fields handle) facts tt;
-  scanned = λ channel octets pdu on doing is_on hears.
-      asked_in (suc phases) (true && does_ask (scan_answer on.params facts.view.accepted on.recent pdu)) channel pdu (with_scanner (scanner_after on facts.view.accepted pdu) facts);
-  answered = λ channel octets pdu on doing is_on hears.
-      asked_in (suc phases) (false && does_ask (scan_answer on.params facts.view.accepted on.recent pdu)) channel pdu (with_scanner (scanner_after on facts.view.accepted pdu) facts);
-  connects = λ channel octets pdu on access handle doing is_on hears answers next free in_range. tt;
-  received = λ handle octets.
-      let outcome = link_heard setup handle octets facts in
-      doing_in (suc phases) outcome.next outcome.facts
-      (reply_in phases handle outcome.facts.links octets (link_at handle facts.links)
-      (role_changed Peripheral handle (link_after (PacketReceived facts.turn.slot octets (has_room setup facts))) facts.links (λ link. refl)));
-}
+next_phase : (phases first : ℕ) → phases ≡ first → suc phases ≡ first + 1
+next_phase phases first is = omega (arith, is)
 
-phase_in : (setup : Setup) (facts : Facts) (received : Option (List ℕ)) (phases : ℕ) → DoesIn phases facts → DoesIn (suc phases) (facts_after setup facts (step_of received))
-phase_in setup facts None phases is = unheard_is setup facts _ (outcomes_in setup facts phases is) facts.turn.doing refl
-phase_in setup facts (Some octets) phases is = heard_is setup facts _ (outcomes_in setup facts phases is) facts.turn.doing octets refl
+heard_in : (role : Role) (setup : Setup) (facts : Facts) (phases handle : ℕ) (octets : List ℕ) → HasRole role (link_at handle facts.links) → (role ≡ Peripheral → suc phases ≡ 1)
+    → IsInPhase (suc phases) (facts_passed (link_heard setup handle octets facts)).links (reply_if (replies_in (link_at handle facts.links) octets) handle)
+heard_in role setup facts phases handle octets has second =
+    let outcome = link_heard setup handle octets facts in
+    doing_in (suc phases) outcome.next outcome.facts
+    (reply_in role handle facts.links outcome.facts.links octets (link_at handle facts.links) (suc phases) has
+    (role_changed role handle (link_after (PacketReceived facts.turn.slot octets (has_room setup facts))) facts.links (λ link. refl) has) second)
+
+no_central : (phases : ℕ) → Central ≡ Peripheral → phases ≡ 1
+no_central phases same = absurd cc
+
+off_passing : (facts after : Facts) (received : Option (List ℕ)) (phases : ℕ) → is_on_link facts.turn.doing ≡ false → IsPassing facts received after → DoesIn phases after
+off_passing facts after received phases off (Leaves same on) =
+    off_link phases after.links after.turn.doing (false_from_ne_true (is_on_link after.turn.doing) (λ does. let h : true ≡ false = sym (on does) ∙ off in absurd cc))
+off_passing facts after received phases off (Opens link is none) = off_link phases after.links after.turn.doing none
+off_passing facts after received phases off (Receives handle octets is wanted on room replies links_are) = absurd (let h : true ≡ false = sym on ∙ off in absurd cc)
+
+pub passes_in : (setup : Setup) (facts : Facts) (received : Option (List ℕ)) (phases : ℕ) (doing : Doing) → facts.turn.doing ≡ doing → IsInPhase phases facts.links doing
+    → IsPassing facts received (facts_after setup facts (step_of received)) → DoesIn (suc phases) (facts_after setup facts (step_of received))
+passes_in setup facts None phases (CentralSends handle) doing is passing =
+    subst (λ (d : Doing). IsInPhase (suc phases) (facts_passed (unheard d facts)).links (unheard d facts).next) (sym doing) (next_phase phases 0 is.0, is.1)
+passes_in setup facts (Some octets) phases (CentralSends handle) doing is passing =
+    subst (λ (d : Doing). IsInPhase (suc phases) (facts_passed (heard setup d octets facts)).links (heard setup d octets facts).next) (sym doing) (next_phase phases 0 is.0, is.1)
+passes_in setup facts None phases (CentralListens handle) doing is passing =
+    subst (λ (d : Doing). IsInPhase (suc phases) (facts_passed (unheard d facts)).links (unheard d facts).next) (sym doing) tt
+passes_in setup facts (Some octets) phases (CentralListens handle) doing is passing =
+    subst (λ (d : Doing). IsInPhase (suc phases) (facts_passed (heard setup d octets facts)).links (heard setup d octets facts).next) (sym doing)
+    (heard_in Central setup facts phases handle octets is.1 (no_central (suc phases)))
+passes_in setup facts None phases (PeripheralListens handle) doing is passing =
+    subst (λ (d : Doing). IsInPhase (suc phases) (facts_passed (unheard d facts)).links (unheard d facts).next) (sym doing) tt
+passes_in setup facts (Some octets) phases (PeripheralListens handle) doing is passing =
+    subst (λ (d : Doing). IsInPhase (suc phases) (facts_passed (heard setup d octets facts)).links (heard setup d octets facts).next) (sym doing)
+    (heard_in Peripheral setup facts phases handle octets is.1 (λ same. next_phase phases 0 is.0))
+passes_in setup facts None phases (PeripheralSends handle) doing is passing =
+    subst (λ (d : Doing). IsInPhase (suc phases) (facts_passed (unheard d facts)).links (unheard d facts).next) (sym doing) tt
+passes_in setup facts (Some octets) phases (PeripheralSends handle) doing is passing =
+    subst (λ (d : Doing). IsInPhase (suc phases) (facts_passed (heard setup d octets facts)).links (heard setup d octets facts).next) (sym doing) tt
+passes_in setup facts received phases (Advertises channel) doing is passing = off_passing facts _ received (suc phases) (ap is_on_link doing) passing
+passes_in setup facts received phases other doing is passing = off_passing facts _ received (suc phases) (ap is_on_link doing) passing
 
 -- ---- at any time
 
-abbrev DoesAtStage : Stage → ℕ → Facts → Type 0
-DoesAtStage Between begun facts = ⊤
-DoesAtStage (Within phases) begun facts = DoesIn phases facts
+-- where it stands in its turn, and what it does there
+record IsPhased (setup : Setup) (stage : Stage) (begun : ℕ) (facts : Facts) : Type 0 where
+  in_turn : IsInTurn setup stage begun facts
+  phase : IsAtStage stage facts.links facts.turn.doing
 
-phases_kept : (setup : Setup) → IsTurned setup DoesAtStage
-phases_kept setup = record {
-  feeds = λ begun octet facts is. tt;
-  begins = λ begun on facts is. begins_in setup begun on facts;
-  passes = λ phases begun received facts is. phase_in setup facts received phases is;
-  ends = λ begun facts is. tt;
+phases_kept : (setup : Setup) → IsTurned setup (IsPhased setup)
+phases_kept setup = let kept = turn_kept setup in record {
+  feeds = λ begun octet facts is. let in_turn = kept.feeds begun octet facts is.in_turn in record { in_turn = in_turn; phase = in_turn.does };
+  begins = λ begun on facts is. record { in_turn = kept.begins begun on facts is.in_turn; phase = begins_in setup begun on facts };
+  passes = λ phases begun received facts is. record {
+    in_turn = kept.passes phases begun received facts is.in_turn;
+    phase = passes_in setup facts received phases facts.turn.doing refl is.phase (phase_passes setup facts received is.in_turn.listens);
+  };
+  ends = λ begun facts is. record { in_turn = kept.ends begun facts is.in_turn; phase = refl };
 }
 
 pub in_phase : (setup : Setup) (past : List Step) (phases begun : ℕ) → standing past ≡ Some (at_stage (Within phases) begun)
     → IsInPhase phases (facts_of setup past).links (facts_of setup past).turn.doing
-in_phase setup past phases begun stands = turned setup DoesAtStage (phases_kept setup) past (at_stage (Within phases) begun) tt stands
+in_phase setup past phases begun stands =
+    (turned setup (IsPhased setup) (phases_kept setup) past (at_stage (Within phases) begun) (record { in_turn = turn_first setup; phase = refl }) stands).phase

@@ -1,5 +1,5 @@
 -- What a station of two hears on a link was sent by the other one, at the far end of that link.
-use Rattle.std.proofs.Common.{◌≡◌, ◌≢◌, ℕ, zero, suc, ◌+◌, ◌-◌, ◌^◌, ◌<◌, ◌≤◌, ◌==◌, inl, inr, Bool, true, false, Some, List, [], ◌∷◌, ◌++◌, length, take, refl, sym, ap, subst, ◌∙◌, append_assoc, arith}
+use Rattle.std.proofs.Common.{◌≡◌, ◌≢◌, ℕ, zero, suc, ◌+◌, ◌-◌, ◌^◌, ◌<◌, ◌==◌, inl, inr, Bool, true, false, Some, List, [], ◌∷◌, ◌++◌, length, take, refl, sym, ap, subst, ◌∙◌, append_assoc, arith}
 use Rattle.std.specs.Prelude.{IfSome, if◌then◌else◌}
 use Rattle.std.specs.Int.{from_le_bytes, w32}
 use Rattle.std.specs.Str.{bytes_eq}
@@ -114,15 +114,11 @@ abbrev ListensAs : ℕ → Role → Type 0
 ListensAs zero role = role ≡ Peripheral
 ListensAs (suc phases) role = role ≡ Central
 
-later_central : (phases : ℕ) (role : Role) → 1 ≤ phases → role ≡ Central → ListensAs phases role
-later_central zero role later is = absurd (omega (arith, later))
-later_central (suc phases) role later is = is
-
 listens_as : (phases handle : ℕ) (links : Links) (doing : Doing) (link : OpenLink) → IsInPhase phases links doing → link_listened doing ≡ Some handle
     → link_at handle links ≡ Some link → ListensAs phases link.setup.link.role
 listens_as phases handle links (CentralListens other) link is listens at =
     let same : other ≡ handle = cc in
-    later_central phases link.setup.link.role is.0 (subst (HasRole Central) at (subst (λ n. HasRole Central (link_at n links)) same is.1))
+    subst (λ n. ListensAs n link.setup.link.role) (sym is.0) (subst (HasRole Central) at (subst (λ n. HasRole Central (link_at n links)) same is.1))
 listens_as phases handle links (PeripheralListens other) link is listens at =
     let same : other ≡ handle = cc in
     subst (λ n. ListensAs n link.setup.link.role) (sym is.0) (subst (HasRole Peripheral) at (subst (λ n. HasRole Peripheral (link_at n links)) same is.1))
