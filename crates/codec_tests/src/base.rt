@@ -38,36 +38,49 @@ fn gaps_wrap_round(rt: HostRuntime) -> Result<(), AllocError> {
     check(&rt, rt.alloc(), GAPS)
 }
 
+#[test]
+fn small_values(rt: HostRuntime) {
+    let values = (
+        EventNo(65536 * 3 + 5).counter(),
+        Side::A.other(),
+        Side::B.other(),
+        ChannelMap::default().count(),
+    );
+    assert_eq!(rt; values, (5, Side::B, Side::A, 37));
+}
+
 /// The numbers of Core 5.2, volume 1 part F, section 1.3.
 #[test]
 fn error_codes_have_their_numbers(rt: HostRuntime) {
-    for (code, number) in [
-        (ErrCode::SUCCESS, 0),
-        (ErrCode::UNKNOWN_HCI_COMMAND, 1),
-        (ErrCode::UNKNOWN_CONNECTION_IDENTIFIER, 2),
-        (ErrCode::PIN_OR_KEY_MISSING, 6),
-        (ErrCode::MEMORY_CAPACITY_EXCEEDED, 7),
-        (ErrCode::CONNECTION_TIMEOUT, 8),
-        (ErrCode::CONNECTION_LIMIT_EXCEEDED, 9),
-        (ErrCode::CONNECTION_ALREADY_EXISTS, 11),
-        (ErrCode::COMMAND_DISALLOWED, 12),
-        (ErrCode::LIMITED_RESOURCES, 13),
-        (ErrCode::UNSUPPORTED_FEATURE_OR_VALUE, 17),
-        (ErrCode::INVALID_HCI_PARAMETERS, 18),
-        (ErrCode::REMOTE_USER_TERMINATED, 19),
-        (ErrCode::TERMINATED_BY_LOCAL_HOST, 22),
-        (ErrCode::UNSUPPORTED_REMOTE_FEATURE, 26),
-        (ErrCode::INVALID_LL_PARAMETERS, 30),
-        (ErrCode::LL_RESPONSE_TIMEOUT, 34),
-        (ErrCode::LL_PROCEDURE_COLLISION, 35),
-        (ErrCode::INSTANT_PASSED, 40),
-        (ErrCode::DIFFERENT_TRANSACTION_COLLISION, 42),
-        (ErrCode::UNACCEPTABLE_PARAMETERS, 59),
-        (ErrCode::MIC_FAILURE, 61),
-        (ErrCode::CONNECTION_NOT_ESTABLISHED, 62),
-    ] {
-        assert_eq!(rt; code, ErrCode(number));
-    }
+    let numbers = [
+        ErrCode::SUCCESS.0,
+        ErrCode::UNKNOWN_HCI_COMMAND.0,
+        ErrCode::UNKNOWN_CONNECTION_IDENTIFIER.0,
+        ErrCode::PIN_OR_KEY_MISSING.0,
+        ErrCode::MEMORY_CAPACITY_EXCEEDED.0,
+        ErrCode::CONNECTION_TIMEOUT.0,
+        ErrCode::CONNECTION_LIMIT_EXCEEDED.0,
+        ErrCode::CONNECTION_ALREADY_EXISTS.0,
+        ErrCode::COMMAND_DISALLOWED.0,
+        ErrCode::LIMITED_RESOURCES.0,
+        ErrCode::UNSUPPORTED_FEATURE_OR_VALUE.0,
+        ErrCode::INVALID_HCI_PARAMETERS.0,
+        ErrCode::REMOTE_USER_TERMINATED.0,
+        ErrCode::TERMINATED_BY_LOCAL_HOST.0,
+        ErrCode::UNSUPPORTED_REMOTE_FEATURE.0,
+        ErrCode::INVALID_LL_PARAMETERS.0,
+        ErrCode::LL_RESPONSE_TIMEOUT.0,
+        ErrCode::LL_PROCEDURE_COLLISION.0,
+        ErrCode::INSTANT_PASSED.0,
+        ErrCode::DIFFERENT_TRANSACTION_COLLISION.0,
+        ErrCode::UNACCEPTABLE_PARAMETERS.0,
+        ErrCode::MIC_FAILURE.0,
+        ErrCode::CONNECTION_NOT_ESTABLISHED.0,
+    ];
+    let want = [
+        0, 1, 2, 6, 7, 8, 9, 11, 12, 13, 17, 18, 19, 22, 26, 30, 34, 35, 40, 42, 59, 61, 62,
+    ];
+    assert_eq!(rt; numbers, want);
 }
 
 fn outbox(given: [Note; 3]) -> Outbox {
@@ -96,17 +109,14 @@ fn shared_types_fit_in_vectors(rt: HostRuntime) {
         code: ErrCode(0x2A),
     };
     let notes = outbox([Note::Up(ArrayVec::new()), opened, refused]);
-    assert_eq!(rt; notes.len(), 3);
-    assert_eq!(rt;
-        Note::default(),
-        Note::Done {
-            handle: 0,
-            kind: Kind::Update
-        }
-    );
-    assert_eq!(rt; Verdict::default(), Verdict::Missed);
-    assert_eq!(rt; SlotNo::default(), SlotNo(0));
-    assert!(rt; Config::default().words.is_empty());
+    let words = Config::default().words;
+    assert_eq!(rt; (notes.len(), words.len()), (3, 0));
+    let defaults = (Note::default(), Verdict::default(), SlotNo::default());
+    let done = Note::Done {
+        handle: 0,
+        kind: Kind::Update,
+    };
+    assert_eq!(rt; defaults, (done, Verdict::Missed, SlotNo(0)));
 }
 
 #[test]

@@ -41,22 +41,21 @@ fn fields_are_taken_in_order(rt: HostRuntime) {
         0x1011_1213_1415_1617,
     ];
     assert_eq!(rt; taken, want);
+    let (length, octets) = (fields.len(), fields.octets::<2>());
+    assert_eq!(rt;
+        (length, octets, fields.is_empty()),
+        (2, [0xFF, 0xFE], true)
+    );
 }
 
 #[test]
 fn octets_are_taken_in_order(rt: HostRuntime) {
     let mut fields = Fields::new(&[0x17, 0x16, 0x15, 0x14, 0x13]);
-    let before = (fields.len(), fields.is_empty());
     let octets = fields.octets::<2>();
-    let slice = fields.slice(3);
-    let after = (fields.len(), fields.is_empty());
+    let slice = fields.slice(2);
+    let left = (fields.len(), fields.is_empty());
     assert_eq!(rt;
-        (before, octets, slice, after),
-        (
-            (5, false),
-            [0x17, 0x16],
-            [0x15, 0x14, 0x13].as_slice(),
-            (0, true)
-        )
+        (octets, slice, left),
+        ([0x17, 0x16], [0x15, 0x14].as_slice(), (1, false))
     );
 }

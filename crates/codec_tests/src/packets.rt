@@ -1,5 +1,5 @@
-//! A packet worked out by hand, and what a listener makes of it, whole and damaged; and packets by a
-//! second program.
+//! A packet worked out by hand, and what a listener makes of it, whole and damaged; and packets by
+//! a second program.
 use crate::scripts::check;
 use air_frame::laws;
 use std::alloc::AllocError;

@@ -8,7 +8,7 @@ use crate::radio_calls::{
 };
 use std::alloc::{AllocError, Global};
 use std::process::Abort;
-use test_words::{Call, call_of, octets_of, parts_of, put_decimal};
+use test_words::{Call, call_of, decimal_of, octets_of, parts_of};
 
 /// Makes each call of a script, and compares what it gives.
 pub(crate) fn check(rt: &impl Abort, alloc: Global, script: &str) -> Result<(), AllocError> {
@@ -25,13 +25,6 @@ fn told_of(alloc: Global, text: &str) -> Result<String, AllocError> {
     let mut told = String::new(alloc);
     take(call_of(text), &mut told)?;
     Ok(told)
-}
-
-/// A text with each number in decimal digits.
-fn decimal_of(alloc: Global, text: &str) -> Result<String, AllocError> {
-    let mut decimal = String::new(alloc);
-    put_decimal(&mut decimal, text)?;
-    Ok(decimal)
 }
 
 /// Makes a call whose first word has octets.

@@ -7,4 +7,4 @@ mod writing;
 pub use reading::{
     Call, call_of, hex_number, number, octet, octets_of, parts_of, side_and_call, slot,
 };
-pub use writing::{put_answer, put_decimal, put_number, put_octets, put_value};
+pub use writing::{decimal_of, put_answer, put_number, put_octets, put_value};

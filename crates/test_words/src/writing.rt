@@ -1,6 +1,6 @@
 //! What a call gives, as words.
 use crate::reading::hex_number;
-use std::alloc::AllocError;
+use std::alloc::{AllocError, Global};
 use std::fmt::Debug;
 
 /// Writes a number as a further word.
@@ -26,15 +26,16 @@ pub fn put_value<T: Debug>(told: &mut String, value: &T) -> Result<(), AllocErro
     write!(told, " {value:?}")
 }
 
-/// Writes a text with each number in decimal digits, as `Debug` does: `0x` comes before pairs of
+/// A text with each number in decimal digits, as `Debug` writes it: `0x` comes before pairs of
 /// hexadecimal digits.
-pub fn put_decimal(told: &mut String, text: &str) -> Result<(), AllocError> {
+pub fn decimal_of(alloc: Global, text: &str) -> Result<String, AllocError> {
+    let mut decimal = String::new(alloc);
     let mut pieces = text.split("0x");
-    told.push_str(pieces.next().unwrap_or(""))?;
+    decimal.push_str(pieces.next().unwrap_or(""))?;
     for piece in pieces {
-        put_piece(told, piece)?;
+        put_piece(&mut decimal, piece)?;
     }
-    Ok(())
+    Ok(decimal)
 }
 
 /// Writes a text that begins with pairs of hexadecimal digits.
