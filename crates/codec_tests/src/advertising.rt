@@ -1,283 +1,105 @@
-//! PDUs and their octets on the air.
-ghost use Rattle.adv_pdu.specs.Pdu.{FitsBits};
+//! PDUs of the advertising channels and their octets on the air.
+use crate::scripts::check;
+use std::alloc::AllocError;
 
-use adv_pdu::{AdvPdu, ConnectFields};
-use arrayvec::ArrayVec;
-use ble_base::Address;
-use std::process::Abort;
-
-const PUBLIC_A: Address = Address {
-    random: false,
-    octets: [0x0A, 0x00, 0x00, 0xEE, 0xFF, 0xC0],
-};
-
-const PUBLIC_B: Address = Address {
-    random: false,
-    octets: [0x0B, 0x00, 0x00, 0xEE, 0xFF, 0xC0],
-};
-
-const RANDOM_C: Address = Address {
-    random: true,
-    octets: [0x01, 0x02, 0x03, 0x04, 0x05, 0xC6],
-};
-
-/// These octets are written of the PDU, and the PDU is read from them.
-fn expect_octets(rt: &impl Abort, pdu: AdvPdu, octets: &[u8])
-    requires { FitsBits pdu }
-{
-    assert_eq!(rt; pdu.write().as_slice(), octets);
-    expect_read(rt, octets, Some(pdu));
-}
-
-/// What is read from octets.
-fn expect_read(rt: &impl Abort, octets: &[u8], pdu: Option<AdvPdu>) {
-    assert_eq!(rt; AdvPdu::read(octets), pdu, "at {octets:?}");
-}
-
-fn holding(rt: &impl Abort, octets: &[u8]) -> ArrayVec<u8, 31> {
-    let mut held = ArrayVec::new();
-    assert!(rt; held.try_extend_from_slice(octets).is_ok());
-    held
-}
+/// The addresses are C0FFEE00000A and C0FFEE00000B, which are public, and a random one.
+const PDUS: &str = "\
+pdu 02060a0000eeffc0 = Nonconn { from: Address { random: false, octets: [0x0a, 0x00, 0x00, 0xee, \
+    0xff, 0xc0] }, body: [] }
+pdu 60090102030405c6020106 = Ind { from: Address { random: true, octets: [0x01, 0x02, 0x03, 0x04, \
+    0x05, 0xc6] }, ch_sel: true, body: [0x02, 0x01, 0x06] }
+pdu 46060102030405c6 = ScanInd { from: Address { random: true, octets: [0x01, 0x02, 0x03, 0x04, \
+    0x05, 0xc6] }, body: [] }
+pdu 04090a0000eeffc0020a00 = ScanRsp { from: Address { random: false, octets: [0x0a, 0x00, 0x00, \
+    0xee, 0xff, 0xc0] }, body: [0x02, 0x0a, 0x00] }
+pdu a10c0a0000eeffc00102030405c6 = Direct { from: Address { random: false, octets: [0x0a, 0x00, \
+    0x00, 0xee, 0xff, 0xc0] }, to: Address { random: true, octets: [0x01, 0x02, 0x03, 0x04, 0x05, \
+    0xc6] }, ch_sel: true }
+pdu 430c0102030405c60a0000eeffc0 = ScanReq { from: Address { random: true, octets: [0x01, 0x02, \
+    0x03, 0x04, 0x05, 0xc6] }, to: Address { random: false, octets: [0x0a, 0x00, 0x00, 0xee, 0xff, \
+    0xc0] } }
+pdu 25220a0000eeffc00b0000eeffc029417671010000010000180000004800ffffffff1f05 = Connect { \
+    from: Address { random: false, octets: [0x0a, 0x00, 0x00, 0xee, 0xff, 0xc0] }, to: Address { \
+    random: false, octets: [0x0b, 0x00, 0x00, 0xee, 0xff, 0xc0] }, ch_sel: true, \
+    fields: ConnectFields { access: 0x71764129, crc_init: 1, win_size: 1, win_offset: 0, \
+    interval: 24, latency: 0, timeout: 72, map: 0x1fffffffff, hop: 5, sca: 0 } }
+pdu 85220a0000eeffc00102030405c629417671efcdab0102011800f3014800ffffffff1ff0 = Connect { \
+    from: Address { random: false, octets: [0x0a, 0x00, 0x00, 0xee, 0xff, 0xc0] }, to: Address { \
+    random: true, octets: [0x01, 0x02, 0x03, 0x04, 0x05, 0xc6] }, ch_sel: false, \
+    fields: ConnectFields { access: 0x71764129, crc_init: 0xabcdef, win_size: 1, \
+    win_offset: 0x0102, interval: 24, latency: 0x01f3, timeout: 72, map: 0x1fffffffff, hop: 16, \
+    sca: 7 } }
+";
 
 #[test]
-fn advertising_and_scanning(rt: HostRuntime) {
-    let (from, to) = (PUBLIC_A, RANDOM_C);
-    expect_octets(
-        &rt,
-        AdvPdu::Nonconn {
-            from,
-            body: ArrayVec::new(),
-        },
-        &[0x02, 6, 0x0A, 0x00, 0x00, 0xEE, 0xFF, 0xC0],
-    );
-    expect_octets(
-        &rt,
-        AdvPdu::Ind {
-            from: to,
-            ch_sel: true,
-            body: holding(&rt, &[0x02, 0x01, 0x06]),
-        },
-        &[
-            0x60, 9, 0x01, 0x02, 0x03, 0x04, 0x05, 0xC6, 0x02, 0x01, 0x06,
-        ],
-    );
-    expect_octets(
-        &rt,
-        AdvPdu::ScanInd {
-            from: to,
-            body: ArrayVec::new(),
-        },
-        &[0x46, 6, 0x01, 0x02, 0x03, 0x04, 0x05, 0xC6],
-    );
-    expect_octets(
-        &rt,
-        AdvPdu::ScanRsp {
-            from,
-            body: holding(&rt, &[0x02, 0x0A, 0x00]),
-        },
-        &[
-            0x04, 9, 0x0A, 0x00, 0x00, 0xEE, 0xFF, 0xC0, 0x02, 0x0A, 0x00,
-        ],
-    );
-    expect_octets(
-        &rt,
-        AdvPdu::Direct {
-            from,
-            to,
-            ch_sel: true,
-        },
-        &[
-            0xA1, 12, 0x0A, 0x00, 0x00, 0xEE, 0xFF, 0xC0, 0x01, 0x02, 0x03, 0x04, 0x05, 0xC6,
-        ],
-    );
-    expect_octets(
-        &rt,
-        AdvPdu::ScanReq { from: to, to: from },
-        &[
-            0x43, 12, 0x01, 0x02, 0x03, 0x04, 0x05, 0xC6, 0x0A, 0x00, 0x00, 0xEE, 0xFF, 0xC0,
-        ],
-    );
+fn pdus(rt: HostRuntime) -> Result<(), AllocError> {
+    check(&rt, rt.alloc(), PDUS)
 }
+
+/// Bits that are ignored, and are 0 in what is written.
+const IGNORED_BITS: &str = "\
+pdu 02060a0000eeffc0 = Nonconn { from: Address { random: false, octets: [0x0a, 0x00, 0x00, 0xee, \
+    0xff, 0xc0] }, body: [] }
+pdu 12060a0000eeffc0 = Nonconn { from: Address { random: false, octets: [0x0a, 0x00, 0x00, 0xee, \
+    0xff, 0xc0] }, body: [] } as 02060a0000eeffc0
+pdu 22060a0000eeffc0 = Nonconn { from: Address { random: false, octets: [0x0a, 0x00, 0x00, 0xee, \
+    0xff, 0xc0] }, body: [] } as 02060a0000eeffc0
+pdu 82060a0000eeffc0 = Nonconn { from: Address { random: false, octets: [0x0a, 0x00, 0x00, 0xee, \
+    0xff, 0xc0] }, body: [] } as 02060a0000eeffc0
+pdu b2060a0000eeffc0 = Nonconn { from: Address { random: false, octets: [0x0a, 0x00, 0x00, 0xee, \
+    0xff, 0xc0] }, body: [] } as 02060a0000eeffc0
+";
 
 #[test]
-fn connecting(rt: HostRuntime) {
-    let first = ConnectFields {
-        access: 0x7176_4129,
-        crc_init: 1,
-        win_size: 1,
-        win_offset: 0,
-        interval: 24,
-        latency: 0,
-        timeout: 72,
-        map: 0x1F_FFFF_FFFF,
-        hop: 5,
-        sca: 0,
-    };
-    expect_octets(
-        &rt,
-        AdvPdu::Connect {
-            from: PUBLIC_A,
-            to: PUBLIC_B,
-            ch_sel: true,
-            fields: first,
-        },
-        &[
-            0x25, 34, 0x0A, 0x00, 0x00, 0xEE, 0xFF, 0xC0, 0x0B, 0x00, 0x00, 0xEE, 0xFF, 0xC0, 0x29,
-            0x41, 0x76, 0x71, 0x01, 0x00, 0x00, 0x01, 0x00, 0x00, 0x18, 0x00, 0x00, 0x00, 0x48,
-            0x00, 0xFF, 0xFF, 0xFF, 0xFF, 0x1F, 0x05,
-        ],
-    );
-    let other = ConnectFields {
-        crc_init: 0xAB_CDEF,
-        win_offset: 0x0102,
-        latency: 0x01F3,
-        hop: 16,
-        sca: 7,
-        ..first
-    };
-    expect_octets(
-        &rt,
-        AdvPdu::Connect {
-            from: PUBLIC_A,
-            to: RANDOM_C,
-            ch_sel: false,
-            fields: other,
-        },
-        &[
-            0x85, 34, 0x0A, 0x00, 0x00, 0xEE, 0xFF, 0xC0, 0x01, 0x02, 0x03, 0x04, 0x05, 0xC6, 0x29,
-            0x41, 0x76, 0x71, 0xEF, 0xCD, 0xAB, 0x01, 0x02, 0x01, 0x18, 0x00, 0xF3, 0x01, 0x48,
-            0x00, 0xFF, 0xFF, 0xFF, 0xFF, 0x1F, 0xF0,
-        ],
-    );
+fn ignored_bits(rt: HostRuntime) -> Result<(), AllocError> {
+    check(&rt, rt.alloc(), IGNORED_BITS)
 }
+
+/// Lengths that a type does not have, and types of no PDU. A payload of 37 octets is the longest.
+const NO_PDUS: &str = "\
+pdu = none
+pdu 02 = none
+pdu 0200 = none
+pdu 02050102030405 = none
+pdu 02060102030405 = none
+pdu 020601020304050607 = none
+pdu 0706010203040506 = none
+pdu 0f06010203040506 = none
+pdu 0106010203040506 = none
+pdu 030d01020304050601020304050607 = none
+pdu 050c010203040506010203040506 = none
+pdu 002500000000000000000000000000000000000000000000000000000000000000000000000000 = Ind { \
+    from: Address { random: false, octets: [0, 0, 0, 0, 0, 0] }, ch_sel: false, body: [0, 0, 0, 0, \
+    0, 0, 0, 0, 0, 0, 0, 0, 0, 0, 0, 0, 0, 0, 0, 0, 0, 0, 0, 0, 0, 0, 0, 0, 0, 0, 0] }
+pdu 00260000000000000000000000000000000000000000000000000000000000000000000000000000 = none
+";
 
 #[test]
-fn bits_are_ignored(rt: HostRuntime) {
-    let from = PUBLIC_A;
-    for first in [0x02, 0x12, 0x22, 0x82, 0xB2] {
-        let octets = [first, 6, 0x0A, 0x00, 0x00, 0xEE, 0xFF, 0xC0];
-        let want = AdvPdu::Nonconn {
-            from,
-            body: ArrayVec::new(),
-        };
-        expect_read(&rt, &octets, Some(want));
-    }
+fn octets_that_are_no_pdu(rt: HostRuntime) -> Result<(), AllocError> {
+    check(&rt, rt.alloc(), NO_PDUS)
 }
 
-/// A PDU with no bit of 1 whose second octet counts these after it, of 38.
-fn zeros(count: u8) -> [u8; 40] {
-    let mut octets = [0; 40];
-    octets[1] = count;
-    octets
-}
-
-#[test]
-fn no_pdus(rt: HostRuntime) {
-    for octets in [
-        [].as_slice(),
-        &[0x02],
-        &[0x02, 0],
-        &[0x02, 5, 1, 2, 3, 4, 5],
-        &[0x02, 6, 1, 2, 3, 4, 5],
-        &[0x02, 6, 1, 2, 3, 4, 5, 6, 7],
-        &[0x07, 6, 1, 2, 3, 4, 5, 6],
-        &[0x0F, 6, 1, 2, 3, 4, 5, 6],
-        &[0x01, 6, 1, 2, 3, 4, 5, 6],
-        &[0x03, 13, 1, 2, 3, 4, 5, 6, 1, 2, 3, 4, 5, 6, 7],
-        &[0x05, 12, 1, 2, 3, 4, 5, 6, 1, 2, 3, 4, 5, 6],
-    ] {
-        expect_read(&rt, octets, None);
-    }
-    let longest = zeros(37);
-    let octets = longest.as_slice().split_last().map(|(_, front)| front);
-    assert!(rt; octets.and_then(AdvPdu::read).is_some());
-    expect_read(&rt, &zeros(38), None);
-}
+/// The fields that begin a link, of which some are outside their ranges: the window and its offset,
+/// the interval, the latency, the timeout, the channel map, the hop increment and the SCA.
+const FIELDS: &str = "\
+fields 1 6 6 0 10 0000000003 5 0 = yes
+fields 1 25 25 499 3200 1fffffffff 16 7 = yes
+fields 1 6 3200 0 801 0000000003 5 0 = yes
+fields 2 6 6 0 10 0000000003 5 0 = no
+fields 1 7 6 0 10 0000000003 5 0 = no
+fields 1 0 5 0 10 0000000003 5 0 = no
+fields 1 6 3201 0 3200 0000000003 5 0 = no
+fields 1 6 3200 0 800 0000000003 5 0 = no
+fields 1 6 6 500 3200 0000000003 5 0 = no
+fields 1 6 6 0 9 0000000003 5 0 = no
+fields 1 6 6 0 3201 0000000003 5 0 = no
+fields 1 6 6 0 10 0000000004 5 0 = no
+fields 1 6 6 0 10 2000000003 5 0 = no
+fields 1 6 6 0 10 0000000003 4 0 = no
+fields 1 6 6 0 10 0000000003 17 0 = no
+";
 
 #[test]
-fn fields_of_a_link(rt: HostRuntime) {
-    let least = ConnectFields {
-        access: 0x7176_4129,
-        crc_init: 1,
-        win_size: 1,
-        win_offset: 6,
-        interval: 6,
-        latency: 0,
-        timeout: 10,
-        map: 0b11,
-        hop: 5,
-        sca: 0,
-    };
-    let most = ConnectFields {
-        interval: 25,
-        win_offset: 25,
-        latency: 499,
-        timeout: 3200,
-        map: 0x1F_FFFF_FFFF,
-        hop: 16,
-        sca: 7,
-        ..least
-    };
-    for fields in [
-        least,
-        most,
-        ConnectFields {
-            interval: 3200,
-            timeout: 801,
-            ..least
-        },
-    ] {
-        assert!(rt; fields.is_in_range(), "of {fields:?}");
-    }
-    for fields in [
-        ConnectFields {
-            win_size: 2,
-            ..least
-        },
-        ConnectFields {
-            win_offset: 7,
-            ..least
-        },
-        ConnectFields {
-            interval: 5,
-            win_offset: 0,
-            ..least
-        },
-        ConnectFields {
-            interval: 3201,
-            timeout: 3200,
-            ..least
-        },
-        ConnectFields {
-            interval: 3200,
-            timeout: 800,
-            ..least
-        },
-        ConnectFields {
-            latency: 500,
-            timeout: 3200,
-            ..least
-        },
-        ConnectFields {
-            timeout: 9,
-            ..least
-        },
-        ConnectFields {
-            timeout: 3201,
-            ..least
-        },
-        ConnectFields {
-            map: 0b100,
-            ..least
-        },
-        ConnectFields {
-            map: 0x20_0000_0003,
-            ..least
-        },
-        ConnectFields { hop: 4, ..least },
-        ConnectFields { hop: 17, ..least },
-    ] {
-        assert!(rt; !fields.is_in_range(), "of {fields:?}");
-    }
+fn ranges_of_the_fields_of_a_link(rt: HostRuntime) -> Result<(), AllocError> {
+    check(&rt, rt.alloc(), FIELDS)
 }

@@ -1,104 +1,86 @@
-//! Tests of what no contract says.
+//! Channel maps, Instants, error codes, and the types that all crates share.
+use crate::scripts::check;
 use arrayvec::ArrayVec;
 use ble_base::{
     Address, ChannelMap, Config, ErrCode, EventNo, Kind, Note, Outbox, Role, Side, SlotNo, Verdict,
-    instant_gap,
 };
-use std::test::Fail;
+use std::alloc::AllocError;
+
+/// Of a map the channels by their places, those that it uses, and whether its bits are these.
+const MAPS: &str = "\
+map 00 = none
+map 01 = none
+map 1000000000 = none
+map 03 = 0 1 used 0 1 yes
+map 1e00e00600 = 9 10 21 22 23 33 34 35 36 used 9 10 21 22 23 33 34 35 36 yes
+map 1fffffffff = 0 1 2 3 4 5 6 7 8 9 10 11 12 13 14 15 16 17 18 19 20 21 22 23 24 25 26 27 28 29 \
+    30 31 32 33 34 35 36 used 0 1 2 3 4 5 6 7 8 9 10 11 12 13 14 15 16 17 18 19 20 21 22 23 24 25 \
+    26 27 28 29 30 31 32 33 34 35 36 yes
+map 2000000003 = none
+map 8000000000000003 = none
+";
 
 #[test]
-fn maps_are_read(rt: HostRuntime) {
-    for (bits, is_map) in [
-        (0, false),
-        (1, false),
-        (1 << 36, false),
-        (3, true),
-        (0x1F_FFFF_FFFF, true),
-        (0x20_0000_0003, false),
-        (0x8000_0000_0000_0003, false),
-    ] {
-        assert_eq!(rt; ChannelMap::new(bits).is_some(), is_map, "at {bits}");
-    }
+fn maps(rt: HostRuntime) -> Result<(), AllocError> {
+    check(&rt, rt.alloc(), MAPS)
 }
 
-/// The channels of a map by their places.
-const USED: [(u8, u8); 9] = [
-    (0, 9),
-    (1, 10),
-    (2, 21),
-    (3, 22),
-    (4, 23),
-    (5, 33),
-    (6, 34),
-    (7, 35),
-    (8, 36),
-];
+/// From the second event to the first, modulo 65536.
+const GAPS: &str = "\
+gap 7 7 = 0
+gap 6 7 = 65535
+gap 0 65535 = 1
+gap 10 4 = 6
+";
 
-/// The channel of a map at a place among the used ones, if there is one.
-fn nth(map: &ChannelMap, index: u8) -> Option<u8> {
-    if index < map.count() {
-        Some(map.nth(index))
-    } else {
-        None
-    }
+#[test]
+fn gaps_wrap_round(rt: HostRuntime) -> Result<(), AllocError> {
+    check(&rt, rt.alloc(), GAPS)
 }
 
 #[test]
-fn map_is_walked(rt: HostRuntime) -> Result<(), Fail> {
-    let map = ChannelMap::new(0x1E_00E0_0600).ok_or("no map")?;
-    assert_eq!(rt; map.bits(), 0x1E_00E0_0600);
-    assert_eq!(rt; map.count(), 9);
-    for (index, channel) in USED {
-        assert_eq!(rt; nth(&map, index), Some(channel));
-        assert!(rt; map.uses(channel), "{channel}");
-    }
-    for channel in [0, 37, 255] {
-        assert!(rt; !map.uses(channel), "{channel}");
-    }
-    assert_eq!(rt; ChannelMap::default().count(), 37);
-    Ok(())
+fn small_values(rt: HostRuntime) {
+    let values = (
+        EventNo(65536 * 3 + 5).counter(),
+        Side::A.other(),
+        Side::B.other(),
+        ChannelMap::default().count(),
+    );
+    assert_eq!(rt; values, (5, Side::B, Side::A, 37));
 }
 
 /// The numbers of Core 5.2, volume 1 part F, section 1.3.
 #[test]
 fn error_codes_have_their_numbers(rt: HostRuntime) {
-    for (code, number) in [
-        (ErrCode::SUCCESS, 0),
-        (ErrCode::UNKNOWN_HCI_COMMAND, 1),
-        (ErrCode::UNKNOWN_CONNECTION_IDENTIFIER, 2),
-        (ErrCode::PIN_OR_KEY_MISSING, 6),
-        (ErrCode::MEMORY_CAPACITY_EXCEEDED, 7),
-        (ErrCode::CONNECTION_TIMEOUT, 8),
-        (ErrCode::CONNECTION_LIMIT_EXCEEDED, 9),
-        (ErrCode::CONNECTION_ALREADY_EXISTS, 11),
-        (ErrCode::COMMAND_DISALLOWED, 12),
-        (ErrCode::LIMITED_RESOURCES, 13),
-        (ErrCode::UNSUPPORTED_FEATURE_OR_VALUE, 17),
-        (ErrCode::INVALID_HCI_PARAMETERS, 18),
-        (ErrCode::REMOTE_USER_TERMINATED, 19),
-        (ErrCode::TERMINATED_BY_LOCAL_HOST, 22),
-        (ErrCode::UNSUPPORTED_REMOTE_FEATURE, 26),
-        (ErrCode::INVALID_LL_PARAMETERS, 30),
-        (ErrCode::LL_RESPONSE_TIMEOUT, 34),
-        (ErrCode::LL_PROCEDURE_COLLISION, 35),
-        (ErrCode::INSTANT_PASSED, 40),
-        (ErrCode::DIFFERENT_TRANSACTION_COLLISION, 42),
-        (ErrCode::UNACCEPTABLE_PARAMETERS, 59),
-        (ErrCode::MIC_FAILURE, 61),
-        (ErrCode::CONNECTION_NOT_ESTABLISHED, 62),
-    ] {
-        assert_eq!(rt; code, ErrCode(number));
-    }
-}
-
-#[test]
-fn gaps_wrap_round(rt: HostRuntime) {
-    for (instant, now, gap) in [(7, 7, 0), (6, 7, 65535), (0, 65535, 1), (10, 4, 6)] {
-        assert_eq!(rt; instant_gap(instant, now), gap);
-    }
-    assert_eq!(rt; EventNo(65536 * 3 + 5).counter(), 5);
-    assert_eq!(rt; Side::A.other(), Side::B);
-    assert_eq!(rt; Side::B.other(), Side::A);
+    let numbers = [
+        ErrCode::SUCCESS.0,
+        ErrCode::UNKNOWN_HCI_COMMAND.0,
+        ErrCode::UNKNOWN_CONNECTION_IDENTIFIER.0,
+        ErrCode::PIN_OR_KEY_MISSING.0,
+        ErrCode::MEMORY_CAPACITY_EXCEEDED.0,
+        ErrCode::CONNECTION_TIMEOUT.0,
+        ErrCode::CONNECTION_LIMIT_EXCEEDED.0,
+        ErrCode::CONNECTION_ALREADY_EXISTS.0,
+        ErrCode::COMMAND_DISALLOWED.0,
+        ErrCode::LIMITED_RESOURCES.0,
+        ErrCode::UNSUPPORTED_FEATURE_OR_VALUE.0,
+        ErrCode::INVALID_HCI_PARAMETERS.0,
+        ErrCode::REMOTE_USER_TERMINATED.0,
+        ErrCode::TERMINATED_BY_LOCAL_HOST.0,
+        ErrCode::UNSUPPORTED_REMOTE_FEATURE.0,
+        ErrCode::INVALID_LL_PARAMETERS.0,
+        ErrCode::LL_RESPONSE_TIMEOUT.0,
+        ErrCode::LL_PROCEDURE_COLLISION.0,
+        ErrCode::INSTANT_PASSED.0,
+        ErrCode::DIFFERENT_TRANSACTION_COLLISION.0,
+        ErrCode::UNACCEPTABLE_PARAMETERS.0,
+        ErrCode::MIC_FAILURE.0,
+        ErrCode::CONNECTION_NOT_ESTABLISHED.0,
+    ];
+    let want = [
+        0, 1, 2, 6, 7, 8, 9, 11, 12, 13, 17, 18, 19, 22, 26, 30, 34, 35, 40, 42, 59, 61, 62,
+    ];
+    assert_eq!(rt; numbers, want);
 }
 
 fn outbox(given: [Note; 3]) -> Outbox {
@@ -127,17 +109,14 @@ fn shared_types_fit_in_vectors(rt: HostRuntime) {
         code: ErrCode(0x2A),
     };
     let notes = outbox([Note::Up(ArrayVec::new()), opened, refused]);
-    assert_eq!(rt; notes.len(), 3);
-    assert_eq!(rt;
-        Note::default(),
-        Note::Done {
-            handle: 0,
-            kind: Kind::Update
-        }
-    );
-    assert_eq!(rt; Verdict::default(), Verdict::Missed);
-    assert_eq!(rt; SlotNo::default(), SlotNo(0));
-    assert!(rt; Config::default().words.is_empty());
+    let words = Config::default().words;
+    assert_eq!(rt; (notes.len(), words.len()), (3, 0));
+    let defaults = (Note::default(), Verdict::default(), SlotNo::default());
+    let done = Note::Done {
+        handle: 0,
+        kind: Kind::Update,
+    };
+    assert_eq!(rt; defaults, (done, Verdict::Missed, SlotNo(0)));
 }
 
 #[test]

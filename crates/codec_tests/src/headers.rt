@@ -1,79 +1,34 @@
-//! Worked rows of the header.
-use data_pdu::{DataHeader, read_header, write_header};
+//! Worked rows of the header of a data channel PDU.
+use crate::scripts::check;
+use std::alloc::AllocError;
+
+/// The last one has reserved bits, which are ignored.
+const HEADERS: &str = "\
+header 0100 = DataHeader { llid: 1, nesn: false, sn: false, md: false, length: 0 } empty
+header 061b = DataHeader { llid: 2, nesn: true, sn: false, md: false, length: 27 }
+header 0b01 = DataHeader { llid: 3, nesn: false, sn: true, md: false, length: 1 }
+header 1efb = DataHeader { llid: 2, nesn: true, sn: true, md: true, length: 251 }
+header 0f05 = DataHeader { llid: 3, nesn: true, sn: true, md: false, length: 5 }
+header ef05 = DataHeader { llid: 3, nesn: true, sn: true, md: false, length: 5 } as 0f05
+";
 
 #[test]
-fn headers_are_read_and_written(rt: HostRuntime) {
-    let rows = [
-        (
-            [0x01, 0x00],
-            DataHeader {
-                llid: 1,
-                nesn: false,
-                sn: false,
-                md: false,
-                length: 0,
-            },
-        ),
-        (
-            [0x06, 0x1B],
-            DataHeader {
-                llid: 2,
-                nesn: true,
-                sn: false,
-                md: false,
-                length: 27,
-            },
-        ),
-        (
-            [0x0B, 0x01],
-            DataHeader {
-                llid: 3,
-                nesn: false,
-                sn: true,
-                md: false,
-                length: 1,
-            },
-        ),
-        (
-            [0x1E, 0xFB],
-            DataHeader {
-                llid: 2,
-                nesn: true,
-                sn: true,
-                md: true,
-                length: 251,
-            },
-        ),
-        (
-            [0x0F, 0x05],
-            DataHeader {
-                llid: 3,
-                nesn: true,
-                sn: true,
-                md: false,
-                length: 5,
-            },
-        ),
-    ];
-    for (octets, header) in rows {
-        assert_eq!(rt; read_header(octets), header);
-        assert_eq!(rt; write_header(header), octets);
-    }
-    assert_eq!(rt; read_header([0xEF, 0x05]), read_header([0x0F, 0x05]));
+fn headers(rt: HostRuntime) -> Result<(), AllocError> {
+    check(&rt, rt.alloc(), HEADERS)
 }
 
+/// A PDU with a reserved LLID or with no payload counts as empty.
+const EMPTY: &str = "\
+header 0005 = DataHeader { llid: 0, nesn: false, sn: false, md: false, length: 5 } empty
+header 0100 = DataHeader { llid: 1, nesn: false, sn: false, md: false, length: 0 } empty
+header 0101 = DataHeader { llid: 1, nesn: false, sn: false, md: false, length: 1 }
+header 0200 = DataHeader { llid: 2, nesn: false, sn: false, md: false, length: 0 } empty
+header 021b = DataHeader { llid: 2, nesn: false, sn: false, md: false, length: 27 }
+header 0300 = DataHeader { llid: 3, nesn: false, sn: false, md: false, length: 0 } empty
+header 0301 = DataHeader { llid: 3, nesn: false, sn: false, md: false, length: 1 }
+";
+
 #[test]
-fn reserved_and_bare_pdus_count_as_empty(rt: HostRuntime) {
-    let rows = [
-        ([0x00, 0x05], true),
-        ([0x01, 0x00], true),
-        ([0x01, 0x01], false),
-        ([0x02, 0x00], true),
-        ([0x02, 0x1B], false),
-        ([0x03, 0x00], true),
-        ([0x03, 0x01], false),
-    ];
-    for (octets, empty) in rows {
-        assert_eq!(rt; read_header(octets).counts_as_empty(), empty);
-    }
+fn reserved_and_bare_pdus_count_as_empty(rt: HostRuntime) -> Result<(), AllocError> {
+    check(&rt, rt.alloc(), EMPTY)
 }

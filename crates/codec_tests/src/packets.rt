@@ -1,58 +1,46 @@
-//! A packet worked out by hand, and what a listener makes of it, whole and damaged.
+//! A packet worked out by hand, and what a listener makes of it, whole and damaged; and packets by
+//! a second program.
+use crate::scripts::check;
+use air_frame::laws;
+use std::alloc::AllocError;
 
-use air_frame::{ADVERTISING_ACCESS, Heard, build, laws, unframe};
-use arrayvec::ArrayVec;
-use std::test::Fail;
-
-const PDU: [u8; 2] = [0x01, 0x00];
-
-const PACKET: [u8; 9] = [0xd6, 0xbe, 0x89, 0x8e, 0x8c, 0xd2, 0xe3, 0xf0, 0x8a];
-
-/// Packets with another access address, and two that end before its four octets.
-const OF_OTHERS: [&[u8]; 3] = [
-    &[0xd7, 0xbe, 0x89, 0x8e, 0x8c, 0xd2, 0xe3, 0xf0, 0x8a],
-    &[0xd6, 0xbe, 0x89],
-    &[],
-];
-
-/// The packet with an octet changed, too short, and too long.
-const DAMAGED: [&[u8]; 5] = [
-    &[0xd6, 0xbe, 0x89, 0x8e, 0x8c, 0xd2, 0xe3, 0xf0, 0x8b],
-    &[0xd6, 0xbe, 0x89, 0x8e, 0x8d, 0xd2, 0xe3, 0xf0, 0x8a],
-    &[0xd6, 0xbe, 0x89, 0x8e, 0x8c, 0xd2, 0xe3, 0xf0],
-    &[0xd6, 0xbe, 0x89, 0x8e, 0x8c, 0xd2, 0xe3, 0xf0, 0x8a, 0x00],
-    &[0xd6, 0xbe, 0x89, 0x8e],
-];
+/// The packet of a PDU without a payload, on channel 37 with the access address of the advertising
+/// channels, and a CRC that starts at 0.
+const PACKET: &str = "\
+build 37 8e89bed6 000000 0100 = d6be898e8cd2e3f08a
+hear 37 8e89bed6 000000 d6be898e8cd2e3f08a = Whole([1, 0])
+# Another access address, and packets that end before its four octets.
+hear 37 8e89bed6 000000 d7be898e8cd2e3f08a = NotOurs
+hear 37 8e89bed6 000000 d6be89 = NotOurs
+hear 37 8e89bed6 000000 = NotOurs
+# An octet is changed, and packets that are too short or too long.
+hear 37 8e89bed6 000000 d6be898e8cd2e3f08b = Broken
+hear 37 8e89bed6 000000 d6be898e8dd2e3f08a = Broken
+hear 37 8e89bed6 000000 d6be898e8cd2e3f0 = Broken
+hear 37 8e89bed6 000000 d6be898e8cd2e3f08a00 = Broken
+hear 37 8e89bed6 000000 d6be898e = Broken
+";
 
 #[test]
-fn builds_as_worked_out(rt: HostRuntime) {
-    assert_eq!(rt;
-        build(37, ADVERTISING_ACCESS, 0, &PDU).as_slice(),
-        PACKET.as_slice()
-    );
+fn packet_worked_out_by_hand(rt: HostRuntime) -> Result<(), AllocError> {
+    check(&rt, rt.alloc(), PACKET)
 }
 
+/// The first rows have the access address and the start of the CRC of the advertising channels.
+const PLAIN: &str = "\
+plain 37 8e89bed6 555555 02060a0000eeffc0 = yes yes yes
+plain 38 8e89bed6 555555 44090102030405c6020106 = yes yes yes
+plain 39 8e89bed6 555555 60070900000000ff00 = yes yes yes
+plain 39 8e89bed6 000000 0000 = yes yes yes
+plain 0 71764129 123456 0100 = yes yes yes
+plain 12 50655d5a abcdef 0e0480017ffe = yes yes yes
+plain 12 00000000 ffffff ff01a5 = yes yes yes
+plain 37 ffffffff 000001 030a09080706050403020100 = yes yes yes
+";
+
 #[test]
-fn hears_as_worked_out(rt: HostRuntime) -> Result<(), Fail> {
-    assert_eq!(rt;
-        unframe(37, ADVERTISING_ACCESS, 0, &PACKET),
-        Heard::Whole(ArrayVec::try_from(PDU.as_slice())?)
-    );
-    for octets in OF_OTHERS {
-        assert_eq!(rt;
-            unframe(37, ADVERTISING_ACCESS, 0, octets),
-            Heard::NotOurs,
-            "{octets:?}"
-        );
-    }
-    for octets in DAMAGED {
-        assert_eq!(rt;
-            unframe(37, ADVERTISING_ACCESS, 0, octets),
-            Heard::Broken,
-            "{octets:?}"
-        );
-    }
-    Ok(())
+fn packets_are_as_the_plain_rules_say(rt: HostRuntime) -> Result<(), AllocError> {
+    check(&rt, rt.alloc(), PLAIN)
 }
 
 #[test]

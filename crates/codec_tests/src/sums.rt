@@ -1,25 +1,23 @@
 //! Worked values, and a register that is shifted bit by bit as the standard draws it.
-
+use crate::scripts::check;
 use frame_bits::laws::*;
-use frame_bits::{crc_octets, crc24, whiten};
+use frame_bits::{crc24, whiten};
+use std::alloc::AllocError;
 
-/// Initial CRC, octets, CRC, and the octets that are sent.
-const SUMS: [(u32, &[u8], u32, [u8; 3]); 5] = [
-    (0, &[0x01], 0x032d80, [0xc0, 0xb4, 0x01]),
-    (0, &[0x01, 0x00], 0x2d8aed, [0xb4, 0x51, 0xb7]),
-    (0x555555, &[], 0x555555, [0xaa, 0xaa, 0xaa]),
-    (0xfedcba, &[], 0xfedcba, [0x7f, 0x3b, 0x5d]),
-    (0, &[0x00, 0x00, 0x00], 0, [0x00, 0x00, 0x00]),
-];
+/// The start of a CRC and octets; the CRC, after an octet of 0, and the octets in which it is sent.
+/// The last line has octets that are whitened on channel 37.
+const SUMS: &str = "\
+crc 000000 01 = 00032d80 c0b401
+crc 000000 0100 = 002d8aed b451b7
+crc 555555 = 00555555 aaaaaa
+crc fedcba = 00fedcba 7f3b5d
+crc 000000 000000 = 00000000 000000
+whiten 37 0000000000 = 8dd257a13d
+";
 
 #[test]
-fn sums_as_worked_out(rt: HostRuntime) {
-    for (init, octets, sum, sent) in SUMS {
-        assert!(rt; init < 0x100_0000);
-        let crc = crc24(init, octets);
-        assert_eq!(rt; crc, sum, "of {octets:?} from {init:06x}");
-        assert_eq!(rt; crc_octets(crc), sent, "of {sum:06x}");
-    }
+fn sums_as_worked_out(rt: HostRuntime) -> Result<(), AllocError> {
+    check(&rt, rt.alloc(), SUMS)
 }
 
 /// The register of the CRC after one more bit: the sum of that bit and of position 23 is fed back.
@@ -48,56 +46,74 @@ fn whitening_start(channel: u8) -> u8 {
     register
 }
 
-#[test]
-fn whitens_as_worked_out(rt: HostRuntime) {
-    let mut octets = [0; 5];
-    whiten(37, &mut octets);
-    assert_eq!(rt; octets, [0x8d, 0xd2, 0x57, 0xa1, 0x3d]);
-}
-
-#[test]
-fn sums_as_the_register_does(rt: HostRuntime) {
+/// Octets with no pattern.
+fn scattered() -> [u8; 260] {
     let mut octets = [0u8; 260];
     let mut next = 1u8;
     for octet in octets.iter_mut() {
         next = next.wrapping_mul(77).wrapping_add(41);
         *octet = next;
     }
-    for init in [0, 0x555555, 0xabcdef] {
-        let mut register = init;
-        for (done, octet) in octets.iter().enumerate() {
-            assert_eq!(rt;
-                crc24(init, &octets[..done]),
-                register,
-                "{done} octets from {init:06x}"
-            );
-            for bit in 0..8u8 {
-                register = crc_one_bit_on(register, u32::from(*octet >> bit));
-            }
+    octets
+}
+
+/// The least number of first octets whose CRC is not what the register has after them.
+fn first_other_sum(init: u32, octets: &[u8; 260]) -> Option<usize> {
+    let mut register = init;
+    for (done, octet) in octets.iter().enumerate() {
+        if !is_sum(init, &octets[..done], register) {
+            return Some(done);
         }
-        assert_eq!(rt;
-            crc24(init, &octets),
-            register,
-            "all octets from {init:06x}"
-        );
+        for bit in 0..8u8 {
+            register = crc_one_bit_on(register, u32::from(*octet >> bit));
+        }
     }
+    if is_sum(init, octets, register) {
+        None
+    } else {
+        Some(260)
+    }
+}
+
+/// Whether this is the CRC of octets.
+fn is_sum(init: u32, octets: &[u8], sum: u32) -> bool {
+    init < 0x100_0000 && crc24(init, octets) == sum
+}
+
+#[test]
+fn sums_as_the_register_does(rt: HostRuntime) {
+    let octets = scattered();
+    for init in [0, 0x555555, 0xabcdef] {
+        assert_eq!(rt; first_other_sum(init, &octets), None, "from {init:06x}");
+    }
+}
+
+/// Octets that are whitened as the register does.
+fn whitened(channel: u8) -> [u8; 260] {
+    let mut octets = [0x5au8; 260];
+    let mut register = whitening_start(channel);
+    for octet in octets.iter_mut() {
+        for bit in 0..8u8 {
+            *octet ^= ((register >> 6) & 1) << bit;
+            register = whitening_one_step_on(register);
+        }
+    }
+    octets
+}
+
+/// Whether octets are whitened on a channel as the register does.
+fn is_whitened_so(channel: u8) -> bool {
+    let mut octets = [0x5au8; 260];
+    if channel < 40 {
+        whiten(channel, &mut octets);
+    }
+    octets == whitened(channel)
 }
 
 #[test]
 fn whitens_as_the_register_does(rt: HostRuntime) {
     for channel in [0u8, 1, 8, 23, 36, 37, 38, 39] {
-        assert!(rt; channel < 40);
-        let mut octets = [0x5au8; 260];
-        whiten(channel, &mut octets);
-        let mut register = whitening_start(channel);
-        for octet in octets {
-            let mut whitened = 0x5au8;
-            for bit in 0..8u8 {
-                whitened ^= ((register >> 6) & 1) << bit;
-                register = whitening_one_step_on(register);
-            }
-            assert_eq!(rt; octet, whitened, "channel {channel}");
-        }
+        assert!(rt; is_whitened_so(channel), "channel {channel}");
     }
 }
 

@@ -1,0 +1,10 @@
+//! Scripts of tests: each line has a call, and after " =" what it gives, as words.
+#![tactic(auto)]
+
+mod reading;
+mod writing;
+
+pub use reading::{
+    Call, call_of, hex_number, number, octet, octets_of, parts_of, side_and_call, slot,
+};
+pub use writing::{decimal_of, put_answer, put_number, put_octets, put_value};
