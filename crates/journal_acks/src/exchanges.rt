@@ -12,6 +12,8 @@ ghost use Rattle.run_model.specs.Run.{GoesOn, facts_at, history_of, run_of};
 ghost use Rattle.journal_acks.specs.Counted.{IsCounted};
 ghost use Rattle.journal_acks.specs.Exchange.{exchange_of};
 
+use crate::stations::links_of_two_stations_keep_to_the_journal;
+
 /// Before each turn of a run of a pair, and at the end of a whole run, each open end of a link has
 /// sent and accepted as many PDUs as the packets and verdicts of the journal and its `Took` lines
 /// say, and as many of its own are acknowledged to it (Core 5.2, volume 6 part B, section 4.5.9).
@@ -33,8 +35,5 @@ pub fn each_end_counts_as_the_journal_says()
         → IsCounted (exchange_of ((links_of history).link_of station handle) (journal_of history)
         (side_of station)) (facts_in link).acknowledgement }
 {
-    controller_model::a_pdu_is_understood();
-    advertise::laws::connections_are_taken();
-    scan_init::laws::searches_give_each_valid_address();
-    air_frame::laws::packet_tells_its_pdu();
+    links_of_two_stations_keep_to_the_journal();
 }

@@ -13,6 +13,8 @@ ghost use Rattle.run_model.specs.Pair.{given_of};
 ghost use Rattle.run_model.specs.Run.{history_of, run_of};
 ghost use Rattle.journal_acks.specs.Carried.{IsLinkPacket, IsNewPdu};
 
+use crate::stations::links_of_two_stations_keep_to_the_journal;
+
 /// In the journal of a run of a pair, each packet off the advertising channels is one of a link
 /// whose CONNECT_IND comes before it, on the channel that its side entered last on that link, with
 /// the access address and CRCInit of that CONNECT_IND. It carries the PDU of the last `Sent` line
@@ -28,11 +30,7 @@ pub fn each_link_packet_carries_what_the_journal_says()
         ≡ front ++ Air side channel octets fate verdict ∷ rest
         → is_advertising channel ≡ false → IsLinkPacket front side channel octets }
 {
-    controller_model::a_pdu_is_understood();
-    advertise::laws::connections_are_taken();
-    scan_init::laws::searches_give_each_valid_address();
-    air_frame::laws::packet_tells_its_pdu();
-    run_model::each_packet_on_the_air_is_due();
+    links_of_two_stations_keep_to_the_journal();
 }
 
 /// In the journal of a run of a pair, each `Sent` line comes where all PDUs that its side sent on
@@ -46,8 +44,5 @@ pub fn each_sent_line_is_of_a_new_pdu()
         ≡ front ++ Sent side number count llid body ∷ rest
         → IsNewPdu number front side (record { llid = llid; body = body }) }
 {
-    controller_model::a_pdu_is_understood();
-    advertise::laws::connections_are_taken();
-    scan_init::laws::searches_give_each_valid_address();
-    air_frame::laws::packet_tells_its_pdu();
+    links_of_two_stations_keep_to_the_journal();
 }

@@ -27,13 +27,12 @@ use Rattle.run_laws.proofs.LinkPasses.{IsPassing, IsPassingOn, Leaves, LeavesAll
 use Rattle.run_laws.proofs.OpenSteps.{AtOpen, EachOpen, IsKeptByHosts, IsKeptOpen, IsKeptServed, MayOpen, begin_open, changed, end_open, none_open, octet_open, phase_open, open_more, opened, sends}
 use Rattle.run_laws.proofs.TurnPlaces.{Within}
 use Rattle.run_laws.proofs.TurnSteps.{MakesWell, begins_begun, begins_slot, octet_turn, phase_turn}
-use Rattle.run_laws.proofs.TwoStations.{AreTwo, are_two, differs_back as apart_back}
+use Rattle.run_laws.proofs.TwoStations.{differs_back as apart_back}
 use Rattle.radio_replay.specs.Script.{Script}
 use Rattle.run_model.specs.Pair.{given_of}
 
--- there are two stations, and each has one link at most, which laws of journals need
+-- each station holds one link at most, which the laws of data over journals need
 pub record IsPair (given : Given) : Type 0 where
-  pub two : AreTwo given
   pub links : (station : ℕ) → (setup_at given station).links ≤ 1
 
 -- ---- the links of one station
@@ -342,10 +341,7 @@ first_station setup = record {
 -- ---- a pair
 
 pub is_pair : (a b : List ℕ) (script : Script) → IsPair (given_of a b script)
-is_pair a b script = record {
-  two = are_two (given_of a b script) 0 1 refl;
-  links = links_of;
-}
+is_pair a b script = record { links = links_of }
   where
     links_of : (station : ℕ) → (setup_at (given_of a b script) station).links ≤ 1
     links_of zero = omega arith
