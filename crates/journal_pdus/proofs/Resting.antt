@@ -44,7 +44,8 @@ module _ (whole : IsHeardWhole) (understood : IsUnderstood) (taken : AreTaken) (
   sees_none_announced : IsSeen given (IsToldAt given Q) NoneAnnounced (λ history station channel octets. Unit {0})
   sees_none_announced = record {
     turn = λ history is. by_side given are_two (λ side. announced_pdu side (journal_of history) ≡ None)
-        (λ station in_it. off_told given station history (ap (sends_under 0) (phased_at given NoTurn history is.is.data_is.counted.holds.hearing.stand station in_it).phase)
+        (λ station in_it. off_told given station history
+        (λ handle. ap (sends_under handle) (phased_at given NoTurn history is.is.data_is.counted.holds.hearing.stand station in_it).phase)
         (is.told_is station in_it));
     packet = λ phases done left station channel octets history are wanted is. tt;
   }
