@@ -12,6 +12,7 @@ use ble_base::PAYLOAD_OCTETS;
 use hci_cmd::Command;
 use host_notes::{Fields, put_longest};
 use host_view::ACCEPT_LIST_SIZE;
+use open_links::OpenLinks;
 use wire_fields::{put_octets, put_u16, put_u40, put_u64};
 
 /// What Read Local Version Information returns (section 7.4.1): version 5.2 and revision 1 of HCI,
@@ -29,6 +30,22 @@ static LE_FEATURES: [u8; 8] = [0x2F, 0x40, 0x00, 0x00, 0x00, 0x00, 0x00, 0x00];
 /// The code of LE 1M (volume 4 part E, section 7.8.47).
 const LE_1M: u8 = 1;
 
+/// The channel map of the link under a handle, 0 where it is not open.
+fn map_in_use<const L: usize, const T: usize, const R: usize>(
+    links: &OpenLinks<L, T, R>,
+    handle: u16,
+) -> u64
+    ensures value { (known : Links) (received : List (ℕ × Piece))
+        → KnowsLinks links.now known received
+        → result ≡ map_of (link_at handle known) }
+    ensures fits { result < 2 ^ 40 }
+{
+    match links.params(handle) {
+        None => 0,
+        Some(params) => params.map.bits(),
+    }
+}
+
 impl<const L: usize, const T: usize, const R: usize> Controller<L, T, R> {
     /// The random word that is drawn next.
     pub(crate) fn random_word(&self) -> u64
@@ -36,19 +53,6 @@ impl<const L: usize, const T: usize, const R: usize> Controller<L, T, R> {
             → result ≡ next_word has facts.drawn }
     {
         self.words[self.next_word]
-    }
-
-    /// The channel map of the link under a handle, 0 where it is not open.
-    fn map_in_use(&self, handle: u16) -> u64
-        ensures value { (links : Links) (received : List (ℕ × Piece))
-            → KnowsLinks self.now.links links received
-            → result ≡ map_of (link_at handle links) }
-        ensures fits { result < 2 ^ 40 }
-    {
-        match self.links.params(handle) {
-            None => 0,
-            Some(params) => params.map.bits(),
-        }
     }
 
     /// Appends what an accepted command returns after its status (sections 7.3, 7.4 and 7.8).
@@ -74,7 +78,7 @@ impl<const L: usize, const T: usize, const R: usize> Controller<L, T, R> {
             }
             Command::LeReadChannelMap { handle } => {
                 put_u16(fields, *handle);
-                put_u40(fields, self.map_in_use(*handle));
+                put_u40(fields, map_in_use(&self.links, *handle));
             }
             Command::LeReadPhy { handle } => {
                 put_u16(fields, *handle);

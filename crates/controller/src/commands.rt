@@ -1,5 +1,5 @@
 //! Commands of the host: their answers, and what they change.
-ghost use Rattle.std.specs.Prelude.{◌≡◌, ◌≤◌, ◌<◌, ◌+◌, ◌%◌, ◌++◌, ℕ, List, length, [], ◌∷◌};
+ghost use Rattle.std.specs.Prelude.{◌≡◌, ◌≤◌, ◌<◌, ◌+◌, ◌%◌, ◌++◌, ℕ, List, [], ◌∷◌};
 ghost use Rattle.arrayvec.specs.ArrayVec.{array_vec_len};
 ghost use Rattle.acl_banks.specs.declared.pieces.Piece.{Piece};
 ghost use Rattle.hci_cmd.specs.Command.{command_of};
@@ -33,30 +33,29 @@ use host_view::status;
 /// The code of the Hardware Error that reports a loss of synchronisation (our choice).
 const LOST_SYNC: u8 = 0x01;
 
+/// The place of the random word after this one: the words are used in order, and then again from the
+/// first.
+pub(crate) fn next_place(count: usize, place: usize) -> usize
+    requires { place < count }
+    ensures value { result ≡ (place + 1) % count }
+    ensures within { result < count }
+{
+    (place + 1) % count
+}
+
+/// The place of the random word that is drawn next after an accepted command, which may draw one.
+fn place_after(count: usize, command: &Command, place: usize) -> usize
+    requires { place < count }
+    ensures value { result ≡ place_after count command.now place }
+    ensures within { result < count }
+{
+    match command {
+        Command::LeRand => next_place(count, place),
+        _ => place,
+    }
+}
+
 impl<const L: usize, const T: usize, const R: usize> Controller<L, T, R> {
-    /// An accepted command may draw a random word: the words are used in order, and then again from
-    /// the first.
-    fn draw(&mut self, command: &Command)
-        ensures { self.new ≡ record self.old {
-          place = place_after (length self.old.setup.words) command.now self.old.place;
-        } }
-    {
-        match command {
-            Command::LeRand => self.draw_word(),
-            _ => {}
-        }
-    }
-
-    /// A random word is drawn.
-    pub(crate) fn draw_word(&mut self)
-        ensures { self.new ≡ record self.old {
-          place = (self.old.place + 1) % length self.old.setup.words;
-        } }
-    {
-        let count = self.words.len();
-        self.next_word = (self.next_word + 1) % count;
-    }
-
     /// Carries out an accepted command, but for its links.
     fn accept(&mut self, command: &Command)
         requires { status_of self.old.view command.now ≡ 0 }
@@ -65,7 +64,7 @@ impl<const L: usize, const T: usize, const R: usize> Controller<L, T, R> {
         let slot = SlotNo(self.turn.begun);
         self.activities
             .accept(command, &self.public, &self.view, slot);
-        self.draw(command);
+        self.next_word = place_after(self.words.len(), command, self.next_word);
         self.view.command(command);
     }
 

@@ -3,7 +3,7 @@ use arrayvec::ArrayVec;
 use ble_base::AIR_PACKET_OCTETS;
 
 /// What a controller does in a phase of a turn.
-#[derive(Debug, PartialEq, Eq, Drop)]
+#[derive(Drop)]
 pub enum Intent {
     /// It sends these octets on this channel, 0 to 39: the access address, the PDU and the CRC, in
     /// the order of the air, without preamble (Core 5.2, volume 6 part B, section 2.1).
@@ -20,7 +20,7 @@ pub enum Intent {
 }
 
 /// What a controller does in a phase of a turn, without the octets that it sends.
-#[derive(Clone, Copy, Debug)]
+#[derive(Clone, Copy)]
 pub enum Action {
     /// It transmits a packet on this channel, 0 to 39.
     Transmit { channel: u8 },

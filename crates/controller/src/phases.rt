@@ -14,8 +14,8 @@ ghost use Rattle.scan_init.specs.Access.{next_access_of as next_access_from};
 ghost use Rattle.controller_model.specs.Packets.{pdu_heard};
 ghost use Rattle.controller_model.specs.Heard.{advertiser_answers, advertiser_heard};
 ghost use Rattle.controller_model.specs.Heard.{answers_by_connecting, asks_if, connects, if_pdu, taken_if};
-ghost use Rattle.controller_model.specs.Heard.{fields_sent, heard, initiator_heard, is_new_between};
-ghost use Rattle.controller_model.specs.Heard.{link_heard, link_to, next_access_of};
+ghost use Rattle.controller_model.specs.Heard.{access_found, fields_sent, heard, initiator_heard};
+ghost use Rattle.controller_model.specs.Heard.{is_new_between, link_heard, link_to};
 ghost use Rattle.controller_model.specs.Heard.{scanner_heard, taken_under, unheard};
 ghost use Rattle.activities.specs.Fitting.{IsAnswerable};
 ghost use Rattle.controller.specs.Fitting.{CanDo, CanFollow, IsOpenable};
@@ -23,6 +23,7 @@ ghost use Rattle.controller.specs.Knowing.{IsAt, Passes, PassesOn};
 ghost use Rattle.controller.specs.Order.{HasNotReceived, ReceivesOnce, Stays, listens_on_link};
 ghost use Rattle.controller.specs.Steps.{held_connecting};
 
+use crate::commands::next_place;
 use crate::controllers::Controller;
 use activities::{advertiser_answer, read_pdu};
 use adv_pdu::{AdvPdu, ConnectFields};
@@ -66,6 +67,14 @@ fn access_after(cursor: u32, next: Option<(u32, u64)>) -> Option<(u32, u64)>
 {
     let (_, travelled) = next?;
     next_access(cursor, travelled)
+}
+
+/// The access address of the next new link, if there is one.
+fn access_found(next: Option<(u32, u64)>) -> Option<u32>
+    ensures { result ≡ access_found next }
+{
+    let (access, _) = next?;
+    Some(access)
 }
 
 impl<const L: usize, const T: usize, const R: usize> Controller<L, T, R> {
@@ -263,17 +272,6 @@ impl<const L: usize, const T: usize, const R: usize> Controller<L, T, R> {
         }
     }
 
-    /// The access address of the next new link.
-    fn access(&self) -> Option<u32>
-        ensures { (has : Setup) (facts : Facts) → IsAt has self.now facts
-            → result ≡ next_access_of has facts }
-    {
-        match self.next_access {
-            None => None,
-            Some((access, _)) => Some(access),
-        }
-    }
-
     /// The link that an initiator makes with the sender of a PDU. None where it does not answer.
     fn link_to(&self, on: &Initiator, pdu: &AdvPdu) -> Option<LinkSetup>
         ensures value { (has : Setup) (facts : Facts) → IsAt has self.now facts
@@ -283,7 +281,7 @@ impl<const L: usize, const T: usize, const R: usize> Controller<L, T, R> {
         if !self.answers_by_connecting(on, pdu) {
             return None;
         }
-        let access = self.access()?;
+        let access = access_found(self.next_access)?;
         let handle = self.links.free_handle()?;
         let fields = self.fields_sent(on, access);
         if !fields.is_in_range() {
@@ -304,7 +302,7 @@ impl<const L: usize, const T: usize, const R: usize> Controller<L, T, R> {
     fn take_access(&mut self)
         ensures { self.new ≡ held_connecting self.old }
     {
-        self.draw_word();
+        self.next_word = next_place(self.words.len(), self.next_word);
         self.next_access = access_after(self.cursor, self.next_access);
         self.view.address_left(self.next_access.is_some());
     }

@@ -20,6 +20,38 @@ use crate::packets::{send_packet, send_pdu};
 use activities::{connect_ind, judge};
 use ble_base::{Outbox, SlotNo, Verdict};
 use controller_model::Doing;
+use open_links::OpenLinks;
+
+/// Listens on the link under a handle.
+fn listen_on<const L: usize, const T: usize, const R: usize>(
+    links: &OpenLinks<L, T, R>,
+    handle: u16,
+) -> Intent
+    ensures { (known : Links) (received : List (ℕ × Piece))
+        → KnowsLinks links.now known received
+        → use_wanted result ≡ listens_on (link_at handle known) }
+{
+    match links.channel(handle) {
+        None => Intent::Idle,
+        Some(channel) => Intent::Listen { channel },
+    }
+}
+
+/// What the link under a handle makes of octets.
+fn judge_on_link<const L: usize, const T: usize, const R: usize>(
+    links: &OpenLinks<L, T, R>,
+    handle: u16,
+    octets: &[u8],
+) -> Verdict
+    ensures { (known : Links) (received : List (ℕ × Piece))
+        → KnowsLinks links.now known received
+        → result ≡ verdict_of_link (link_at handle known) octets.now }
+{
+    match links.judge(handle, octets) {
+        None => Verdict::Missed,
+        Some(verdict) => verdict,
+    }
+}
 
 impl<const L: usize, const T: usize, const R: usize> Controller<L, T, R> {
     /// Sends on the link under a handle, and notes a new PDU in that.
@@ -40,18 +72,6 @@ impl<const L: usize, const T: usize, const R: usize> Controller<L, T, R> {
         let channel = self.links.channel(handle);
         let packet = self.links.to_send(handle, SlotNo(self.turn.slot), out);
         send_packet(channel, packet)
-    }
-
-    /// Listens on the link under a handle.
-    fn listen_on(&self, handle: u16) -> Intent
-        ensures { (links : Links) (received : List (ℕ × Piece))
-            → KnowsLinks self.now.links links received
-            → use_wanted result ≡ listens_on (link_at handle links) }
-    {
-        match self.links.channel(handle) {
-            None => Intent::Idle,
-            Some(channel) => Intent::Listen { channel },
-        }
     }
 
     /// What it wants of the radio, for what it does. A new PDU that it is to send is noted.
@@ -77,7 +97,7 @@ impl<const L: usize, const T: usize, const R: usize> Controller<L, T, R> {
                 self.send_on(handle, out)
             }
             Doing::CentralListens { handle } | Doing::PeripheralListens { handle } => {
-                self.listen_on(handle)
+                listen_on(&self.links, handle)
             }
             Doing::Advertises { channel } => send_pdu(channel, self.activities.advertisement()),
             Doing::Responds { channel } => send_pdu(channel, self.activities.response()),
@@ -161,18 +181,6 @@ impl<const L: usize, const T: usize, const R: usize> Controller<L, T, R> {
         intent
     }
 
-    /// What the link under a handle makes of octets.
-    fn judge_on_link(&self, handle: u16, octets: &[u8]) -> Verdict
-        ensures { (links : Links) (received : List (ℕ × Piece))
-            → KnowsLinks self.now.links links received
-            → result ≡ verdict_of_link (link_at handle links) octets.now }
-    {
-        match self.links.judge(handle, octets) {
-            None => Verdict::Missed,
-            Some(verdict) => verdict,
-        }
-    }
-
     /// What it makes of octets that reach it in the phase that comes next.
     #[tactic(auto, unfolding(controller_model::specs::Packets::verdict_of))]
     pub(crate) fn verdict(&self, octets: &[u8]) -> Verdict
@@ -185,7 +193,7 @@ impl<const L: usize, const T: usize, const R: usize> Controller<L, T, R> {
             | Doing::AwaitsResponse { channel }
             | Doing::Initiates { channel } => judge(channel, octets),
             Doing::CentralListens { handle } | Doing::PeripheralListens { handle } => {
-                self.judge_on_link(handle, octets)
+                judge_on_link(&self.links, handle, octets)
             }
             Doing::Advertises { .. }
             | Doing::Responds { .. }

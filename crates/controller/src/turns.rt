@@ -19,6 +19,7 @@ ghost use Rattle.controller.specs.Order.{HasNotReceived, MayBegin, Stays};
 use crate::controllers::Controller;
 use ble_base::{Outbox, Role, SlotNo};
 use controller_model::Doing;
+use open_links::OpenLinks;
 use slot_plan::Activity;
 
 /// The first part of an exchange: a central sends, and a peripheral listens.
@@ -29,6 +30,38 @@ fn exchange_begins(role: Role, handle: u16) -> Doing
     match role {
         Role::Central => Doing::CentralSends { handle },
         Role::Peripheral => Doing::PeripheralListens { handle },
+    }
+}
+
+/// The first exchange of the event of the link under a handle.
+fn first_exchange<const L: usize, const T: usize, const R: usize>(
+    links: &OpenLinks<L, T, R>,
+    handle: u16,
+) -> Doing
+    ensures value { (known : Links) (received : List (ℕ × Piece))
+        → KnowsLinks links.now known received
+        → result ≡ first_exchange handle (link_at handle known) }
+    ensures can { CanDo L result }
+{
+    match links.setup(handle) {
+        None => Doing::Rests,
+        Some(setup) => exchange_begins(setup.role, handle),
+    }
+}
+
+/// The second exchange of the event of the link under a handle, if it has one.
+fn second_exchange<const L: usize, const T: usize, const R: usize>(
+    links: &OpenLinks<L, T, R>,
+    handle: u16,
+) -> Doing
+    ensures value { (known : Links) (received : List (ℕ × Piece))
+        → KnowsLinks links.now known received
+        → result ≡ second_exchange handle (link_at handle known) }
+    ensures can { CanDo L result }
+{
+    match links.again(handle) {
+        Some(true) => first_exchange(links, handle),
+        _ => Doing::Rests,
     }
 }
 
@@ -85,32 +118,6 @@ impl<const L: usize, const T: usize, const R: usize> Controller<L, T, R> {
         self.activities.enter(&mut self.links, slot, out)
     }
 
-    /// The first exchange of the event of the link under a handle.
-    fn first_exchange(&self, handle: u16) -> Doing
-        ensures value { (links : Links) (received : List (ℕ × Piece))
-            → KnowsLinks self.now.links links received
-            → result ≡ first_exchange handle (link_at handle links) }
-        ensures can { CanDo L result }
-    {
-        match self.links.setup(handle) {
-            None => Doing::Rests,
-            Some(setup) => exchange_begins(setup.role, handle),
-        }
-    }
-
-    /// The second exchange of the event of the link under a handle, if it has one.
-    fn second_exchange(&self, handle: u16) -> Doing
-        ensures value { (links : Links) (received : List (ℕ × Piece))
-            → KnowsLinks self.now.links links received
-            → result ≡ second_exchange handle (link_at handle links) }
-        ensures can { CanDo L result }
-    {
-        match self.links.again(handle) {
-            Some(true) => self.first_exchange(handle),
-            _ => Doing::Rests,
-        }
-    }
-
     /// What an activity that wins a slot does first.
     fn doing_won(&self, slot: SlotNo, activity: Activity) -> Doing
         ensures value { (has : Setup) (facts : Facts) → IsAt has self.now facts
@@ -118,7 +125,7 @@ impl<const L: usize, const T: usize, const R: usize> Controller<L, T, R> {
         ensures can { CanDo L result }
     {
         match activity {
-            Activity::Link(handle) => self.first_exchange(handle),
+            Activity::Link(handle) => first_exchange(&self.links, handle),
             Activity::Advertise => advertises_on(self.activities.advertising_channel(0)),
             Activity::Scan => scans_on(self.activities.scanning_channel(slot)),
             Activity::Initiate => initiates_on(self.activities.initiating_channel(slot)),
@@ -132,7 +139,7 @@ impl<const L: usize, const T: usize, const R: usize> Controller<L, T, R> {
         ensures can { CanDo L result }
     {
         match self.activities.holder() {
-            Activity::Link(handle) => self.second_exchange(handle),
+            Activity::Link(handle) => second_exchange(&self.links, handle),
             Activity::Advertise => {
                 let place = self.activities.slots_since(slot);
                 advertises_on(self.activities.advertising_channel(place))
