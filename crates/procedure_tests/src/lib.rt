@@ -2,10 +2,14 @@
 #![tactic(auto)]
 
 #[cfg(test)]
+mod calls;
+#[cfg(test)]
 mod plain;
 #[cfg(test)]
 mod plain_taking;
 #[cfg(test)]
 mod plain_tests;
+#[cfg(test)]
+mod scripts;
 #[cfg(test)]
 mod worked_runs;

@@ -7,7 +7,7 @@ use data_pdu::Ctrl;
 use procedures::Ask;
 
 /// How a PDU came into the queue.
-#[derive(Clone, Copy, Debug, PartialEq, Eq)]
+#[derive(Clone, Copy, PartialEq, Eq)]
 pub(crate) enum Source {
     Rejection,
     Disconnect,
@@ -17,7 +17,7 @@ pub(crate) enum Source {
 }
 
 /// How far the own procedure is after its first PDU.
-#[derive(Clone, Copy, Debug, PartialEq, Eq)]
+#[derive(Clone, Copy, PartialEq, Eq)]
 pub(crate) enum OwnStage {
     /// No further than that.
     First,
@@ -32,7 +32,7 @@ pub(crate) enum OwnStage {
 }
 
 /// How far the procedure of the peer that excludes others is.
-#[derive(Clone, Copy, Debug, PartialEq, Eq)]
+#[derive(Clone, Copy, PartialEq, Eq)]
 pub(crate) enum PeerStage {
     /// The host of a central was asked.
     Asked,
@@ -43,7 +43,7 @@ pub(crate) enum PeerStage {
 }
 
 /// A PDU that waits, without its Instant or reference.
-#[derive(Clone, Copy, Debug, PartialEq, Eq)]
+#[derive(Clone, Copy)]
 pub(crate) struct Item {
     pub(crate) source: Source,
     pub(crate) ctrl: Ctrl,

@@ -1,5 +1,7 @@
 //! The table against a second, plain writing of the same rules, over random calls.
 ghost use Rattle.std.specs.Prelude.{◌≡◌, ◌≤◌, ◌<◌, ◌^◌, IsTrue};
+ghost use Rattle.data_pdu.specs.Ranges.{IsInRange};
+ghost use Rattle.data_pdu.specs.Reading.{IfKnown};
 ghost use Rattle.procedures.specs.Going.{is_update};
 ghost use Rattle.procedures.specs.Wants.{IsAsk};
 
@@ -7,8 +9,6 @@ use crate::plain::{PeerStage, Plain, Source, param_req, update_ind};
 use ble_base::{ChannelMap, ErrCode, EventNo, Kind, Role, SlotNo};
 use data_pdu::{Ctrl, CtrlRead};
 use procedures::{Ask, ProcTable};
-use std::process::Abort;
-use std::test::Fail;
 
 /// The next number below a limit, of a fixed generator.
 fn draw(state: &mut u64, limit: u64) -> u64
@@ -202,16 +202,41 @@ fn update_ask(interval: u16) -> Ask
     }
 }
 
-/// The peer sends something.
-fn takes(rt: &impl Abort, both: &mut Both, read: CtrlRead, quiet: bool) {
-    if let CtrlRead::Known(ctrl) = read {
-        if !ctrl.is_in_range() {
-            return;
-        }
+/// The peer sends something, if it is in range.
+fn takes(both: &mut Both, read: CtrlRead, quiet: bool) -> bool {
+    match read {
+        CtrlRead::Known(ctrl) if !ctrl.is_in_range() => true,
+        _ => takes_alike(both, &read, quiet),
+    }
+}
+
+/// Whether both writings do the same with a PDU of the peer.
+fn takes_alike(both: &mut Both, read: &CtrlRead, quiet: bool) -> bool
+    requires { IfKnown read.now IsInRange }
+{
+    let slot = both.slot;
+    let step = both.table.took(read, SlotNo(slot), quiet);
+    step == both.plain.took(read, slot, quiet)
+}
+
+/// Whether both writings begin the same, if there is room.
+fn begins(both: &mut Both, quiet: bool) -> bool {
+    if both.table.waiting() >= 24 {
+        return true;
     }
     let slot = both.slot;
-    let step = both.table.took(&read, SlotNo(slot), quiet);
-    assert_eq!(rt; step, both.plain.took(&read, slot, quiet));
+    let begun = both.table.begin(SlotNo(slot), quiet);
+    begun == both.plain.begin(slot, quiet)
+}
+
+/// Whether the same is completed as what was sent last is acknowledged.
+fn is_acked(both: &mut Both) -> bool {
+    !both.table.is_out() || both.table.acked() == both.plain.acked()
+}
+
+/// Whether the same is completed as an event is entered.
+fn enters(both: &mut Both, applied: bool) -> bool {
+    both.table.entered(applied) == both.plain.entered(applied)
 }
 
 /// The number of an event.
@@ -221,15 +246,15 @@ fn event_no(event: u32) -> EventNo
     EventNo(u64::from(event))
 }
 
-/// This end sends what is next.
-fn sends(rt: &impl Abort, both: &mut Both, latency: u16, quiet: bool) {
+/// This end sends what is next. Whether something is out then, if anything was next.
+fn sends(both: &mut Both, latency: u16, quiet: bool) -> bool {
     let event = event_no(both.event);
     if both.table.next_ctrl(event, latency, quiet).is_none() {
-        return;
+        return true;
     }
     both.table.went(event, latency, quiet, SlotNo(both.slot));
     both.plain.went(both.event, latency, quiet, both.slot);
-    assert!(rt; both.table.is_out());
+    both.table.is_out()
 }
 
 /// The host of a central that was asked answers.
@@ -276,43 +301,28 @@ fn disconnects(both: &mut Both) {
     both.plain.closed = true;
 }
 
-/// One random call.
-fn steps(rt: &impl Abort, both: &mut Both, state: &mut u64) {
+/// One random call. Whether both writings give the same.
+fn steps(both: &mut Both, state: &mut u64) -> bool {
     let quiet = draw(state, 4) != 0;
-    let slot = both.slot;
     match draw(state, 32) {
-        0..=2 => {
-            let ask = random_ask(state, both.plain.central);
-            asks(both, ask);
+        3..=6 => begins(both, quiet),
+        7..=15 => takes(both, random_read(state), quiet),
+        16..=21 => sends(both, draw(state, 3) as u16, quiet),
+        22..=25 => is_acked(both),
+        26..=27 => enters(both, draw(state, 2) == 0),
+        other => {
+            changes(both, state, other);
+            true
         }
-        3..=6 => {
-            if both.table.waiting() < 24 {
-                let begun = both.table.begin(SlotNo(slot), quiet);
-                assert_eq!(rt; begun, both.plain.begin(slot, quiet));
-            }
-        }
-        7..=15 => {
-            let read = random_read(state);
-            takes(rt, both, read, quiet);
-        }
-        16..=21 => {
-            let latency = draw(state, 3) as u16;
-            sends(rt, both, latency, quiet);
-        }
-        22..=25 => {
-            if both.table.is_out() {
-                assert_eq!(rt; both.table.acked(), both.plain.acked());
-            }
-        }
-        26..=27 => {
-            let applied = draw(state, 2) == 0;
-            assert_eq!(rt; both.table.entered(applied), both.plain.entered(applied));
-        }
+    }
+}
+
+/// One random call that gives nothing.
+fn changes(both: &mut Both, state: &mut u64, call: u64) {
+    match call {
+        0..=2 => asks(both, random_ask(state, both.plain.central)),
         28 => answers(both, draw(state, 2) == 0),
-        29 => {
-            let ctrl = random_encryption(state);
-            is_given(both, ctrl);
-        }
+        29 => is_given(both, random_encryption(state)),
         30 => is_given(both, reject_start()),
         _ => ends_seldom(both, draw(state, 20)),
     }
@@ -333,22 +343,22 @@ fn ends_seldom(both: &mut Both, chance: u64) {
     }
 }
 
-/// The two writings send the same next.
-fn sends_alike(rt: &impl Abort, both: &Both, quiet: bool) {
+/// Whether the two writings send the same next.
+fn sends_alike(both: &Both, quiet: bool) -> bool {
     let next = both.table.next_ctrl(event_no(both.event), 1, quiet);
-    assert_eq!(rt; next, both.plain.next_ctrl(both.event, 1, quiet));
+    next == both.plain.next_ctrl(both.event, 1, quiet)
 }
 
-/// The two writings give the same answers.
-fn agree(rt: &impl Abort, both: &Both) {
+/// Whether the two writings give the same answers.
+fn agree(both: &Both) -> bool {
     let (table, plain) = (&both.table, &both.plain);
-    assert_eq!(rt; table.waiting(), plain.queue.len());
-    assert_eq!(rt; table.busy(), plain.busy());
-    assert_eq!(rt; table.lengths(), plain.lengths());
-    assert_eq!(rt; table.tick(SlotNo(both.slot)), plain.tick(both.slot));
-    assert_eq!(rt; table.may_ask(Kind::Version), plain.may_ask(Kind::Version));
-    sends_alike(rt, both, true);
-    sends_alike(rt, both, false);
+    table.waiting() == plain.queue.len()
+        && table.busy() == plain.busy()
+        && table.lengths() == plain.lengths()
+        && table.tick(SlotNo(both.slot)) == plain.tick(both.slot)
+        && table.may_ask(Kind::Version) == plain.may_ask(Kind::Version)
+        && sends_alike(both, true)
+        && sends_alike(both, false)
 }
 
 /// How many slots later the next call is.
@@ -363,27 +373,30 @@ fn slots_on(state: &mut u64) -> u64
     }
 }
 
-/// Some random calls from the beginning of a link.
-fn runs(rt: &impl Abort, role: Role, state: &mut u64) {
+/// The first of some random calls from the beginning of a link after which the writings differ.
+fn first_difference(role: Role, state: &mut u64) -> Option<u32> {
     let mut both = Both {
         table: ProcTable::new(role, 251),
         plain: Plain::new(role == Role::Central),
         event: 0,
         slot: 2,
     };
-    for _ in 0..100 {
-        steps(rt, &mut both, state);
-        agree(rt, &both);
+    for call in 0..100 {
+        if !steps(&mut both, state) || !agree(&both) {
+            return Some(call);
+        }
         both.event = both.event.wrapping_add(draw(state, 2) as u32) % 1_000_000;
         both.slot = both.slot.wrapping_add(slots_on(state)) % 1_000_000_000;
     }
+    None
 }
 
 #[test]
 fn table_is_as_plainly_written(rt: HostRuntime) {
     let mut state = 2026;
-    for _ in 0..60 {
-        runs(&rt, Role::Central, &mut state);
-        runs(&rt, Role::Peripheral, &mut state);
+    for run in 0..60 {
+        let central = first_difference(Role::Central, &mut state);
+        let peripheral = first_difference(Role::Peripheral, &mut state);
+        assert_eq!(rt; (central, peripheral), (None, None), "in run {run}");
     }
 }
