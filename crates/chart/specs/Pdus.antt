@@ -1,9 +1,14 @@
--- What a packet on the air says of its PDU (Core 5.2, volume 6 part B, sections 2.3, 2.4 and 3.2).
-use Rattle.std.specs.Prelude.{ℕ, ◌%◌, ◌==◌, nat_lt, List, [], ◌∷◌, ◌++◌, slice_index, codes, decimal}
+-- What a PDU is called (Core 5.2, volume 6 part B, sections 2.3, 2.4 and 3.2).
+use Rattle.std.specs.Prelude.{ℕ, ◌%◌, ◌==◌, nat_lt, List, [], ◌∷◌, ◌++◌, length, slice_index, codes, decimal}
 use Rattle.std.specs.Prelude.{Option, Some, None, if◌then◌else◌}
 use Rattle.frame_bits.specs.Whitening.{whitening_of}
+use Rattle.data_pdu.specs.declared.ctrl.Ctrl.{Ctrl}
+use Rattle.data_pdu.specs.declared.ctrl.Ctrl.TheVariants.{ConnectionUpdateInd, ChannelMapInd, TerminateInd, EncReq, EncRsp, StartEncReq, StartEncRsp, UnknownRsp, FeatureReq, FeatureRsp, PauseEncReq, PauseEncRsp, VersionInd, RejectInd, PeripheralFeatureReq, ConnectionParamReq, ConnectionParamRsp, RejectExtInd, LengthReq, LengthRsp, PhyReq, PhyRsp, PhyUpdateInd}
+use Rattle.data_pdu.specs.declared.ctrl.CtrlRead.{CtrlRead}
+use Rattle.data_pdu.specs.declared.ctrl.CtrlRead.TheVariants.{Known}
 use Rattle.data_pdu.specs.declared.header.DataHeader.{DataHeader}
 use Rattle.data_pdu.specs.Header.{bit_of, header_in}
+use Rattle.data_pdu.specs.Reading.{ctrl_of}
 
 -- parts, one after the other
 abbrev pub joined : List (List ℕ) → List ℕ
@@ -38,6 +43,47 @@ llid_name llid length =
     else if llid == 0 then codes "reserved"
     else if length == 0 then codes "empty"
     else codes "continuation"
+
+-- the name of a control PDU (sections 2.4.2.1 to 2.4.2.23)
+abbrev pub ctrl_name : Ctrl → List ℕ
+ctrl_name (ConnectionUpdateInd win_size win_offset interval latency timeout instant) = codes "LL_CONNECTION_UPDATE_IND"
+ctrl_name (ChannelMapInd map instant) = codes "LL_CHANNEL_MAP_IND"
+ctrl_name (TerminateInd code) = codes "LL_TERMINATE_IND"
+ctrl_name (EncReq rand ediv skd_m iv_m) = codes "LL_ENC_REQ"
+ctrl_name (EncRsp skd_s iv_s) = codes "LL_ENC_RSP"
+ctrl_name StartEncReq = codes "LL_START_ENC_REQ"
+ctrl_name StartEncRsp = codes "LL_START_ENC_RSP"
+ctrl_name (UnknownRsp opcode) = codes "LL_UNKNOWN_RSP"
+ctrl_name (FeatureReq features) = codes "LL_FEATURE_REQ"
+ctrl_name (FeatureRsp features) = codes "LL_FEATURE_RSP"
+ctrl_name PauseEncReq = codes "LL_PAUSE_ENC_REQ"
+ctrl_name PauseEncRsp = codes "LL_PAUSE_ENC_RSP"
+ctrl_name (VersionInd version company sub) = codes "LL_VERSION_IND"
+ctrl_name (RejectInd code) = codes "LL_REJECT_IND"
+ctrl_name (PeripheralFeatureReq features) = codes "LL_PERIPHERAL_FEATURE_REQ"
+ctrl_name (ConnectionParamReq interval_min interval_max latency timeout periodicity reference offsets) =
+    codes "LL_CONNECTION_PARAM_REQ"
+ctrl_name (ConnectionParamRsp interval_min interval_max latency timeout periodicity reference offsets) =
+    codes "LL_CONNECTION_PARAM_RSP"
+ctrl_name (RejectExtInd opcode code) = codes "LL_REJECT_EXT_IND"
+ctrl_name (LengthReq max_rx_octets max_rx_time max_tx_octets max_tx_time) = codes "LL_LENGTH_REQ"
+ctrl_name (LengthRsp max_rx_octets max_rx_time max_tx_octets max_tx_time) = codes "LL_LENGTH_RSP"
+ctrl_name (PhyReq tx rx) = codes "LL_PHY_REQ"
+ctrl_name (PhyRsp tx rx) = codes "LL_PHY_RSP"
+ctrl_name (PhyUpdateInd to_peripheral to_central instant) = codes "LL_PHY_UPDATE_IND"
+
+-- a payload by its kind and its length
+abbrev pub kind_words : ℕ → ℕ → List ℕ
+kind_words llid length = joined (llid_name llid length ∷ codes ", " ∷ decimal length ∷ codes " octets" ∷ [])
+
+-- a control PDU by its name, which says its length too; by its kind and its length, if the octets are not one
+abbrev pub control_words : CtrlRead → ℕ → List ℕ
+control_words (Known ctrl) length = ctrl_name ctrl
+control_words other length = kind_words 3 length
+
+-- a payload
+abbrev pub body_words : ℕ → List ℕ → List ℕ
+body_words llid body = if llid == 3 then control_words (ctrl_of body) (length body) else kind_words llid (length body)
 
 -- the three bits of acknowledgement and more data
 abbrev pub bit_words : DataHeader → List ℕ

@@ -11,7 +11,7 @@ use Rattle.journal.specs.declared.entries.Mark.{Mark}
 use Rattle.journal.specs.declared.entries.Mark.TheVariants.{Pass, Lost, Damage}
 use Rattle.journal.specs.Words.{role_name, kind_name, verdict_name}
 use Rattle.chart.specs.declared.layout.TheConstants.{SHOWN}
-use Rattle.chart.specs.Pdus.{joined, llid_name, pdu_words}
+use Rattle.chart.specs.Pdus.{body_words, joined, pdu_words}
 
 -- octets in hexadecimal, the first ten of them
 abbrev pub shown_octets : List ℕ → List ℕ
@@ -26,8 +26,7 @@ host_words name octets =
 -- a PDU with a payload
 abbrev pub payload_words : List ℕ → ℕ → ℕ → ℕ → List ℕ → List ℕ
 payload_words name link number llid body = joined
-    (name ∷ codes ": link " ∷ decimal link ∷ codes ", PDU " ∷ decimal number ∷ codes ", " ∷ llid_name llid (length body)
-    ∷ codes ", " ∷ decimal (length body) ∷ codes " octets" ∷ [])
+    (name ∷ codes ": link " ∷ decimal link ∷ codes ", PDU " ∷ decimal number ∷ codes ", " ∷ body_words llid body ∷ [])
 
 -- a control procedure
 abbrev pub procedure_words : List ℕ → ℕ → Kind → List ℕ

@@ -7,7 +7,7 @@ ghost use Rattle.chart.specs.Words.{opened_words, packet_words, payload_words, p
 ghost use Rattle.chart.specs.Words.{refused_words, shown_octets, shut_words, words_of};
 
 use crate::layout::SHOWN;
-use crate::pdus::{llid_name, pdu_words};
+use crate::pdus::{body_words, pdu_words};
 use ble_base::{ErrCode, Kind, Role, Verdict};
 use journal::{Entry, Mark};
 use std::alloc::{AllocError, Global};
@@ -95,9 +95,8 @@ fn payload_words(
     ensures { IfOk result (λ words.
         string_bytes words ≡ payload_words name.now link number llid body.now) }
 {
-    let length = body.len();
-    let kind = llid_name(llid, length);
-    format!(in alloc; "{name}: link {link}, PDU {number}, {kind}, {length} octets")
+    let words = body_words(alloc, llid, body)?;
+    format!(in alloc; "{name}: link {link}, PDU {number}, {words}")
 }
 
 /// A control procedure.

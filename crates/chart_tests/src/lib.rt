@@ -2,4 +2,6 @@
 #![tactic(auto)]
 
 #[cfg(test)]
+mod control;
+#[cfg(test)]
 mod rows;
