@@ -11,37 +11,51 @@ const LONG: [u8; 252] = [7; 252];
 /// Three controllers, and the packet that was sent last.
 #[derive(Drop)]
 struct Scene {
-    a: Side,
-    b: Side,
-    c: Side,
+    sides: Vec<Side>,
     air: Vec<u8>,
 }
 
 /// Each line has a call, and after " =" what it gives. No link is open before the first line.
 pub(crate) fn check(rt: &impl Abort, alloc: Global, script: &str) -> Result<(), AllocError> {
-    let mut scene = Scene {
-        a: Side::start(alloc)?,
-        b: Side::start(alloc)?,
-        c: Side::start(alloc)?,
-        air: Vec::new(alloc),
-    };
-    for line in script.lines() {
-        let mut told = String::new(alloc);
-        let mut parts = line.split(" =");
-        let call = parts.next().unwrap_or("");
-        scene.take(call_of(call), &mut told)?;
-        assert_eq!(rt; told.as_str(), parts.next().unwrap_or(""), "{line}");
-    }
-    Ok(())
+    let mut scene = Scene::start(alloc)?;
+    scene.run(rt, alloc, script)
 }
 
 impl Scene {
+    /// No link is open.
+    fn start(alloc: Global) -> Result<Self, AllocError> {
+        let mut sides = Vec::new(alloc);
+        for _ in 0..3 {
+            sides.push(Side::start(alloc)?)?;
+        }
+        Ok(Scene {
+            sides,
+            air: Vec::new(alloc),
+        })
+    }
+
+    /// Makes each call of a script, and compares what it gives.
+    fn run(&mut self, rt: &impl Abort, alloc: Global, script: &str) -> Result<(), AllocError> {
+        for line in script.lines() {
+            let mut told = String::new(alloc);
+            let mut parts = line.split(" =");
+            let call = parts.next().unwrap_or("");
+            self.take(call_of(call), &mut told)?;
+            assert_eq!(rt; told.as_str(), parts.next().unwrap_or(""), "{line}");
+        }
+        Ok(())
+    }
+
     /// Makes a call, and writes what it gives.
     fn take(&mut self, call: Call<'_>, told: &mut String) -> Result<(), AllocError> {
-        match call.side {
-            "a" => self.a.on_air(call, &mut self.air, told),
-            "b" => self.b.on_air(call, &mut self.air, told),
-            _ => self.c.on_air(call, &mut self.air, told),
+        let place = match call.side {
+            "a" => 0,
+            "b" => 1,
+            _ => 2,
+        };
+        match self.sides.as_mut_slice().get_mut(place) {
+            Some(side) => side.on_air(call, &mut self.air, told),
+            None => told.push_str(" which controller?"),
         }
     }
 }
