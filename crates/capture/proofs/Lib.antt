@@ -2,4 +2,5 @@
 pub mod HostSteps
 pub mod Known
 pub mod Loops
+pub mod Parts
 pub mod Short

@@ -55,6 +55,10 @@ packets_after past (entry ∷ entries) = packets_of past entry ++ packets_after 
 abbrev pub octets_of : Packet → List ℕ
 octets_of packet = packet_block packet.interface packet.time packet.octets
 
+-- the blocks of those packets
+abbrev pub blocks_after : List Entry → List Entry → List ℕ
+blocks_after past entries = flat_map octets_of (packets_after past entries)
+
 -- the blocks before all packets
 abbrev pub file_header : List ℕ
 file_header =
@@ -62,4 +66,4 @@ file_header =
 
 -- the octets of the capture
 abbrev pub capture : List Entry → List ℕ
-capture entries = file_header ++ flat_map octets_of (packets_after [] entries)
+capture entries = file_header ++ blocks_after [] entries

@@ -1,19 +1,15 @@
-//! The capture of a journal, as octets.
+//! The octets of a capture before its packets.
 ghost use Rattle.std.specs.Prelude.{◌≡◌, IfOk};
-ghost use Rattle.capture.specs.Capture.{capture};
+ghost use Rattle.capture.specs.Capture.{file_header};
 
 use crate::blocks::put_header;
-use crate::recorder::Recorder;
-use journal::Entry;
 use std::alloc::{AllocError, Global};
 
-/// The capture of a journal with these entries. The error is out of memory.
-pub fn capture(alloc: Global, entries: &[Entry]) -> Result<Vec<u8>, AllocError>
-    ensures { IfOk result (λ made. made.items ≡ capture entries.now) }
+/// The octets of a capture before its packets. The error is out of memory.
+pub fn capture_start(alloc: Global) -> Result<Vec<u8>, AllocError>
+    ensures { IfOk result (λ made. made.items ≡ file_header) }
 {
     let mut out = Vec::new(alloc);
-    let mut recorder = Recorder::new(alloc);
     put_header(alloc, &mut out)?;
-    recorder.put_entries(alloc, &mut out, entries)?;
     Ok(out)
 }

@@ -7,6 +7,9 @@ mod captures;
 mod centrals;
 mod clock;
 mod hosts;
+mod laws;
 mod recorder;
 
-pub use crate::captures::capture;
+pub use crate::captures::capture_start;
+pub use crate::laws::a_capture_is_its_parts;
+pub use crate::recorder::Recorder;

@@ -1,8 +1,9 @@
 //! From the entries of a journal to the packets of a capture.
-ghost use Rattle.std.specs.Prelude.{◌≡◌, ◌++◌, ◌∷◌, [], List, ℕ, flat_map, OnOk};
+ghost use Rattle.std.specs.Prelude.{◌≡◌, ◌++◌, ◌∷◌, [], List, ℕ, flat_map, IfOk, OnOk};
 ghost use Rattle.h4_frames.specs.Frames.{rest};
 ghost use Rattle.journal.specs.declared.entries.Entry.{Entry};
-ghost use Rattle.capture.specs.Capture.{host_interface, host_packet, octets_of, packets_after, packets_of};
+ghost use Rattle.capture.specs.Capture.{blocks_after, host_interface, host_packet, octets_of};
+ghost use Rattle.capture.specs.Capture.{packets_of};
 ghost use Rattle.capture.specs.Centrals.{direction_of};
 ghost use Rattle.capture.specs.Hosts.{fed_in, packet_at, packets_ended};
 ghost use Rattle.capture.specs.Knowing.{Knows, KnowsCentrals, KnowsHost};
@@ -125,7 +126,10 @@ fn put_own(
     }
 }
 
-/// Writes the packets of a capture, entry by entry.
+/// Makes the packets of a capture, entry by entry.
+///
+/// Contracts speak of the entries that were recorded so far (`Knows`). After an `Err`, which is out
+/// of memory, nothing is known of it.
 #[derive(Drop)]
 pub struct Recorder {
     clock: Clock,
@@ -135,7 +139,7 @@ pub struct Recorder {
 }
 
 impl Recorder {
-    /// Nothing has happened.
+    /// No entry was recorded.
     pub fn new(alloc: Global) -> Recorder
         ensures { Knows result [] }
     {
@@ -184,14 +188,14 @@ impl Recorder {
     }
 
     /// Writes the packets of entries.
-    pub fn put_entries(
+    fn put_entries(
         &mut self,
         alloc: Global,
         out: &mut Vec<u8>,
         entries: &[Entry],
     ) -> Result<(), AllocError>
         ensures packets { (past : List Entry) → Knows self.old past → OnOk result (out.new.items
-            ≡ out.old.items ++ flat_map octets_of (packets_after past entries.now)) }
+            ≡ out.old.items ++ blocks_after past entries.now) }
         ensures knows { (past : List Entry) → Knows self.old past
             → OnOk result (Knows self.new (past ++ entries.now)) }
     {
@@ -201,5 +205,17 @@ impl Recorder {
             left = later;
         }
         Ok(())
+    }
+
+    /// The octets of the packets of the next entries.
+    pub fn record(&mut self, alloc: Global, entries: &[Entry]) -> Result<Vec<u8>, AllocError>
+        ensures packets { (past : List Entry) → Knows self.old past
+            → IfOk result (λ made. made.items ≡ blocks_after past entries.now) }
+        ensures knows { (past : List Entry) → Knows self.old past
+            → OnOk result (Knows self.new (past ++ entries.now)) }
+    {
+        let mut out = Vec::new(alloc);
+        self.put_entries(alloc, &mut out, entries)?;
+        Ok(out)
     }
 }

@@ -1,7 +1,7 @@
 //! Tests of what a capture is: octets that another program wrote.
 ghost use Rattle.std.specs.Prelude.{◌<◌, ◌^◌, length};
 
-use capture::capture;
+use capture::{Recorder, capture_start};
 use journal::{Journal, JournalFault};
 use std::alloc::Global;
 use std::test::Fail;
@@ -105,12 +105,17 @@ const RADIO: &[u8] = b"\
 \x00\x00\x0a\x00\x00\x00\x01\x00\x00\x00\x00\x00\x00\x00\x01\x0c\x00\x00\x2c\x00\x00\
 \x00";
 
-/// The capture of the journal with this text.
+/// The capture of the journal with this text, recorded in two parts.
 fn capture_of(alloc: Global, text: &[u8]) -> Result<Vec<u8>, Fail>
     requires { length text.now < 2 ^ 32 }
 {
     let journal = Journal::read(alloc, text)?;
-    Ok(capture(alloc, journal.as_slice())?)
+    let (front, back) = journal.as_slice().split_at(journal.len() / 2);
+    let mut recorder = Recorder::new(alloc);
+    let mut octets = capture_start(alloc)?;
+    octets.extend_from_slice(&recorder.record(alloc, front)?)?;
+    octets.extend_from_slice(&recorder.record(alloc, back)?)?;
+    Ok(octets)
 }
 
 #[test]

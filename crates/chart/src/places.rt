@@ -62,7 +62,7 @@ impl Place {
 
     /// The place after some lines.
     #[tactic(auto, using(crate::proofs::RowCounts::one_more_at_most))]
-    pub(crate) fn after_all(self, entries: &[Entry]) -> Place
+    pub fn after_all(self, entries: &[Entry]) -> Place
         requires { self.row + self.waiting + length entries.now < 2 ^ 32 }
         ensures { result ≡ place_after_all self entries.now }
     {
