@@ -39,12 +39,12 @@ use Rattle.run_laws.proofs.ConnectInds.{on_channel}
 use Rattle.run_laws.proofs.Hearings.{wanted_is}
 use Rattle.run_laws.proofs.InAgreement.{AreStations, TakesShort, WithAll, differs_back}
 use Rattle.run_laws.proofs.OpenSteps.{open_has}
+use Rattle.run_laws.proofs.OwnLinks.{sent_begins}
 use Rattle.run_laws.proofs.TurnPlaces.{Within}
 use Rattle.journal_links.specs.Opened.{central_side}
 use Rattle.journal_links.specs.Begun.{LinkBegun, link_numbered, links_begun}
 use Rattle.journal_packets.specs.Belonging.{first_number, link_of_packet}
 use Rattle.journal_packets.specs.Senders.{IsOfSendersLink}
-use Rattle.journal_packets.proofs.Replies.{sent_begins}
 use Rattle.journal_acks.specs.Counted.{IsCounted}
 use Rattle.journal_acks.specs.Exchange.{Exchanged, after_packet, carries_empty, with_heard, with_sent}
 use Rattle.journal_acks.proofs.Acks.{IsTold, hears_counted, told}

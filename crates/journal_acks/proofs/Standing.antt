@@ -1,6 +1,5 @@
 -- What the facts of a station say of one of its links at each place of a run of a pair.
-use Rattle.std.proofs.Common.{◌≡◌, ℕ, ◌<◌, ◌≤◌, ◌==◌, ◌⊎◌, inl, inr, Bool, true, false, Option, Some, None, List, [], ◌∷◌, length, refl, sym, ap, subst, ◌∙◌, arith}
-use Rattle.std.specs.Prelude.{if◌then◌else◌}
+use Rattle.std.proofs.Common.{◌≡◌, ℕ, ◌<◌, ◌==◌, ◌⊎◌, inl, inr, Bool, true, false, Option, Some, List, [], ◌∷◌, refl, sym, ap, subst, ◌∙◌, arith}
 use Rattle.std.proofs.lemmas.Bool.{eqb-true, eqb-false, false_from_ne_true}
 use Rattle.ble_base.specs.declared.roles.Role.{Role}
 use Rattle.ble_base.specs.declared.roles.Role.TheVariants.{Central, Peripheral}
@@ -78,16 +77,6 @@ reply_under false handle other on = absurd cc
 -- it sends on no other
 pub sends_other : (handle other : ℕ) (doing : Doing) → sends_under handle doing ≡ true → (handle == other) ≡ false → sends_under other doing ≡ false
 sends_other handle other doing on differs = false_from_ne_true (sends_under other doing) (λ on_too. eqb-false handle other differs (sends_once handle other doing on on_too))
-
--- the handle of a station that can have one link
-pub first_handle : (links : Links) (handle : ℕ) (link : OpenLink) → length links ≤ 1 → link_at handle links ≡ Some link → handle ≡ 0
-first_handle [] handle link few is = absurd cc
-first_handle (place ∷ []) handle link few is = at (0 == handle) refl is
-  where
-    at : (test : Bool) → (0 == handle) ≡ test → (if test then place else None) ≡ Some link → handle ≡ 0
-    at true same found = sym (eqb-true 0 handle same)
-    at false differs found = absurd cc
-first_handle (place ∷ second ∷ links) handle link few is = absurd (omega (arith, few))
 
 -- ---- what a link sends or listens for is wanted, on a data channel
 

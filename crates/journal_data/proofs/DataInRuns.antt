@@ -12,7 +12,6 @@ use Rattle.run_model.specs.LinkEnds.{HaveAddresses}
 use Rattle.run_model.specs.Run.{Given, after_call, after_feed, facts_at, hearings_of, octets_left, setup_at, step_of}
 use Rattle.run_model.proofs.Stations.{is_in, among}
 use Rattle.run_model.proofs.Walk.{Place, IsKept}
-use Rattle.run_laws.proofs.InAgreement.{IsPair}
 use Rattle.run_laws.proofs.TurnPlaces.{Between, at_stage}
 use Rattle.journal_acks.proofs.Counting.{AreKnown}
 use Rattle.journal_acks.proofs.TwoStations.{IsOfTwo, other_is, other_of}
@@ -26,6 +25,7 @@ use Rattle.journal_data.proofs.Fronts.{AreAlways, HasMore, always_event, always_
 use Rattle.journal_data.proofs.KeptData.{AreWell, IsBetween, IsDataAt, data_kept, far_side, other_in, pass_in_turn}
 use Rattle.journal_data.proofs.Middle.{from_fed, from_middle, to_fed, to_middle}
 use Rattle.journal_data.proofs.Mine.{other_back}
+use Rattle.journal_data.proofs.OneLink.{HaveOneLink}
 use Rattle.journal_data.proofs.StationLines.{OnlyOpenHaveNotes}
 use Rattle.journal_data.proofs.Submitting.{AreInStep}
 
@@ -146,7 +146,7 @@ pub record IsDataSoFar (given : Given) (Q : Place → List Event → Type 0) (pl
   pub is : IsDataAt given Q place history
   pub always : AreAlways (AllArrive given) history
 
-module _ (law : OnlyOpenHaveNotes) (whole : IsHeardWhole) (given : Given) (Q : Place → List Event → Type 0) (known : AreKnown given Q) (are_two : IsOfTwo given) (pair : IsPair given)
+module _ (law : OnlyOpenHaveNotes) (whole : IsHeardWhole) (given : Given) (Q : Place → List Event → Type 0) (known : AreKnown given Q) (are_two : IsOfTwo given) (pair : HaveOneLink given)
     (six : HaveAddresses given) (distinct : AreDistinct given.stations) (eight : (station : ℕ) → (setup_at given station).host_buffers ≡ 8) where
   pub so_far_kept : IsKept given (IsDataSoFar given Q)
   so_far_kept = let kept = data_kept law whole given Q known are_two pair six distinct eight in record {

@@ -19,7 +19,7 @@ use Rattle.run_model.proofs.Journals.{two}
 use Rattle.run_model.proofs.Stations.{is_in, among, in_more_same, not_before}
 use Rattle.run_model.proofs.Walk.{Place, AtFeeds, AtBegins, AtListening, AtEnds, IsKept}
 use Rattle.run_laws.proofs.Hearings.{own_facts}
-use Rattle.run_laws.proofs.InAgreement.{IsPair, IsStation, OpenedBefore, differs_back}
+use Rattle.run_laws.proofs.InAgreement.{IsStation, OpenedBefore, differs_back}
 use Rattle.run_laws.proofs.OpenSteps.{open_has}
 use Rattle.run_laws.proofs.TurnPlaces.{Between, Within, at_stage}
 use Rattle.journal_packets.specs.Belonging.{is_side}
@@ -37,6 +37,7 @@ use Rattle.journal_data.proofs.Mine.{AreMine, other_back, packet_mine}
 use Rattle.journal_data.proofs.MineKept.{heard_none_mine, hearing_mine}
 use Rattle.journal_data.proofs.Moves.{alike_aged, begin_moves, end_moves, phase_moves, station_aged}
 use Rattle.journal_data.proofs.OneCall.{HasMoved, IsAged, IsCallMade, arriving_after, used_after, well_after}
+use Rattle.journal_data.proofs.OneLink.{HaveOneLink}
 use Rattle.journal_data.proofs.SameView.{SeesSame, same_end, same_used, same_well, sees_other_call, sees_other_feed, sees_packet, sees_turn}
 use Rattle.journal_data.proofs.Sides.{AreArriving}
 use Rattle.journal_data.proofs.StationLines.{OnlyOpenHaveNotes}
@@ -134,7 +135,7 @@ pass_in_turn (Some octets) = tt
 
 -- ---- each step
 
-module _ (law : OnlyOpenHaveNotes) (whole : IsHeardWhole) (given : Given) (Q : Place → List Event → Type 0) (known : AreKnown given Q) (are_two : IsOfTwo given) (pair : IsPair given)
+module _ (law : OnlyOpenHaveNotes) (whole : IsHeardWhole) (given : Given) (Q : Place → List Event → Type 0) (known : AreKnown given Q) (are_two : IsOfTwo given) (pair : HaveOneLink given)
     (six : HaveAddresses given) (distinct : AreDistinct given.stations) (eight : (station : ℕ) → (setup_at given station).host_buffers ≡ 8) where
   abbrev P : Place → List Event → Type 0
   P place history = IsDataAt given Q place history

@@ -21,7 +21,6 @@ use Rattle.run_model.proofs.Ordered.{pair_distinct}
 use Rattle.run_model.proofs.Stations.{is_in}
 use Rattle.run_model.proofs.Walk.{NoTurn, IsStopped, IsWhole, ends_with, run_kept}
 use Rattle.run_laws.proofs.DistinctAccess.{AreApart}
-use Rattle.run_laws.proofs.InAgreement.{IsPair, is_pair}
 use Rattle.journal_packets.proofs.AccessOrder.{AreNth}
 use Rattle.journal_packets.proofs.SoFar.{IsBelongingSoFar}
 use Rattle.journal_acks.proofs.Known.{known_of}
@@ -36,6 +35,7 @@ use Rattle.journal_data.proofs.Ends.{IsWell, end_at, end_of}
 use Rattle.journal_data.proofs.Fronts.{AreAlways, always_first}
 use Rattle.journal_data.proofs.KeptData.{AreWell}
 use Rattle.journal_data.proofs.MineKept.{heard_none_mine}
+use Rattle.journal_data.proofs.OneLink.{HaveOneLink, pair_links}
 use Rattle.journal_data.proofs.Sides.{AreArriving}
 use Rattle.journal_data.proofs.StationLines.{OnlyOpenHaveNotes, first_booked}
 use Rattle.journal_data.proofs.Submitting.{HasFed}
@@ -112,7 +112,7 @@ first_data given = let counted = counts_first given in record {
 
 -- ---- in a whole run
 
-module _ (whole : IsHeardWhole) (understood : IsUnderstood) (taken : AreTaken) (nth : AreNth) (apart : AreApart) (given : Given) (are_two : IsOfTwo given) (pair : IsPair given)
+module _ (whole : IsHeardWhole) (understood : IsUnderstood) (taken : AreTaken) (nth : AreNth) (apart : AreApart) (given : Given) (are_two : IsOfTwo given) (pair : HaveOneLink given)
     (six : HaveAddresses given) (distinct : AreDistinct given.stations) (eight : (station : ℕ) → (setup_at given station).host_buffers ≡ 8) where
   run_arrives : AreAlways (AllArrive given) (history_of (run_of given))
   run_arrives =
@@ -143,7 +143,7 @@ pub data_arrives : IsHeardWhole → IsUnderstood → AreTaken → AreNth → Are
     → ArrivesInOrder link (lines_of 8 side front) (lines_of 8 (other_side side) front)
 data_arrives whole understood taken nth apart a b script front rest side link six six_too is =
     let given = given_of a b script in
-    let at = front_arrives whole understood taken nth apart given refl (is_pair a b script) (pair_addresses a b script six six_too) (pair_distinct a b script) (eight_of a b script) front rest is in
+    let at = front_arrives whole understood taken nth apart given refl (pair_links a b script) (pair_addresses a b script six six_too) (pair_distinct a b script) (eight_of a b script) front rest is in
     by side (at 0 refl link) (at 1 refl link)
   where
     by : (side : Side) → ArrivesInOrder link (lines_of 8 A front) (lines_of 8 B front) → ArrivesInOrder link (lines_of 8 B front) (lines_of 8 A front)

@@ -1,4 +1,5 @@
 -- The lemmas of this crate.
+pub mod OneLink
 pub mod EachLine
 pub mod Booked
 pub mod Arriving

@@ -14,14 +14,14 @@ use Rattle.run_model.proofs.LinkEnds.{received_event}
 use Rattle.run_model.proofs.Stations.{is_in, among}
 use Rattle.run_model.proofs.Walk.{Place, AtPackets}
 use Rattle.run_laws.proofs.ByCalls.{Holds}
-use Rattle.run_laws.proofs.InAgreement.{AreStations, IsPair, few_links}
+use Rattle.run_laws.proofs.InAgreement.{AreStations}
 use Rattle.run_model.proofs.Journals.{two}
 use Rattle.journal_acks.proofs.AirCounts.{packet_far}
 use Rattle.journal_acks.proofs.Counting.{AreCountedSo, AreKnown, facts_event}
 use Rattle.journal_acks.proofs.Exchanging.{number_sent}
 use Rattle.journal_acks.proofs.LinkUses.{listens_under}
-use Rattle.journal_acks.proofs.Standing.{first_handle}
 use Rattle.journal_acks.proofs.TwoStations.{IsOfTwo, hearing_of, one_hearing, other_is, other_of, own_differs, own_received}
+use Rattle.journal_data.proofs.OneLink.{HaveOneLink, few_links, first_handle}
 
 abbrev number : ℕ → List Event → ℕ
 number station history = (links_of history).link_of station 0
@@ -57,7 +57,7 @@ other_back given are_two station is = by (two station (ap (is_in station) (sym a
 
 -- ---- a packet is on the air
 
-module _ (whole : IsHeardWhole) (given : Given) (Q : Place → List Event → Type 0) (known : AreKnown given Q) (are_two : IsOfTwo given) (pair : IsPair given) (six : HaveAddresses given)
+module _ (whole : IsHeardWhole) (given : Given) (Q : Place → List Event → Type 0) (known : AreKnown given Q) (are_two : IsOfTwo given) (pair : HaveOneLink given) (six : HaveAddresses given)
     (distinct : AreDistinct given.stations) (phases : ℕ) (done left : List ℕ) (station channel : ℕ) (octets : List ℕ) (fates : List Fate) (history : List Event)
     (are : given.stations ≡ done ++ station ∷ left) (wanted : use_at given station history ≡ Sends channel octets)
     (q : Q (AtPackets phases done (station ∷ left)) history) (holds : Holds given (AreStations given) (AtPackets phases done (station ∷ left)) history)

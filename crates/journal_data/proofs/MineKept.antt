@@ -23,11 +23,11 @@ use Rattle.run_model.proofs.LinkEnds.{received_by}
 use Rattle.run_model.proofs.OpenedNotes.{is_opened}
 use Rattle.run_model.proofs.Stations.{is_in}
 use Rattle.run_laws.proofs.Hearings.{other_facts, own_facts}
-use Rattle.run_laws.proofs.InAgreement.{IsPair}
 use Rattle.journal_acks.proofs.Exchanging.{number_other}
 use Rattle.journal_acks.proofs.LinkUses.{listens_under}
 use Rattle.journal_acks.proofs.TwoStations.{IsOfTwo, other_is, other_of}
 use Rattle.journal_data.proofs.Mine.{AreMine, HasFarEnd, IsTaking, none_mine, other_back}
+use Rattle.journal_data.proofs.OneLink.{HaveOneLink}
 use Rattle.journal_data.proofs.Openness.{AreNot, is_open, opens_where_free, same_open}
 use Rattle.journal_data.proofs.StationAdds.{call_number}
 use Rattle.journal_data.proofs.EachLine.{number_of}
@@ -99,7 +99,7 @@ linked_by : (place : Option OpenLink) → is_some place ≡ true → IsLinked pl
 linked_by None linked = absurd (let h : false ≡ true = linked in absurd cc)
 linked_by (Some link) linked = record { link = link; is = refl }
 
-module _ (given : Given) (are_two : IsOfTwo given) (pair : IsPair given) (station : ℕ) (history : List Event) (is : is_in station given.stations ≡ true) where
+module _ (given : Given) (are_two : IsOfTwo given) (pair : HaveOneLink given) (station : ℕ) (history : List Event) (is : is_in station given.stations ≡ true) where
   abbrev received : Option (List ℕ)
   received = packet_received station history
 

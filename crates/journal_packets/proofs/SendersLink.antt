@@ -1,9 +1,7 @@
 -- In every run of two stations, the journal names the link on which a packet was sent.
-use Rattle.std.proofs.Common.{◌≡◌, ◌≢◌, ℕ, zero, suc, ◌+◌, ◌⊎◌, inl, inr, true, false, Some, None, List, [], ◌∷◌, ◌++◌, take, refl, sym, ap, subst, ◌∙◌, arith}
+use Rattle.std.proofs.Common.{◌≡◌, ℕ, zero, suc, ◌+◌, ◌⊎◌, inl, inr, true, false, Some, None, List, [], ◌∷◌, ◌++◌, take, refl, sym, ap, subst, ◌∙◌, arith}
 use Rattle.std.specs.Prelude.{if◌then◌else◌, slice_get}
 use Rattle.ble_base.specs.Side.{other_side}
-use Rattle.ble_base.specs.declared.roles.Role.{Role}
-use Rattle.ble_base.specs.declared.roles.Role.TheVariants.{Central, Peripheral}
 use Rattle.ble_base.specs.declared.roles.Side.{Side}
 use Rattle.ble_base.specs.declared.roles.Side.TheVariants.{A, B}
 use Rattle.air_frame.specs.Packet.{access_octets}
@@ -15,7 +13,7 @@ use Rattle.controller_model.specs.Facts.{Sends}
 use Rattle.run_model.specs.Due.{Each}
 use Rattle.run_model.specs.History.{Event, Transmitted, packet_received, turns_begun}
 use Rattle.run_model.specs.Journal.{journal_of, side_of}
-use Rattle.run_model.specs.LinkEnds.{ConnectInd, HaveAddresses, IsAtEnd}
+use Rattle.run_model.specs.LinkEnds.{HaveAddresses}
 use Rattle.run_model.specs.Links.{is_advertising, links_of}
 use Rattle.run_model.specs.Numbers.{AreNumbered, HasNumber}
 use Rattle.run_model.specs.Run.{Given, facts_at, setup_at, use_at}
@@ -26,6 +24,7 @@ use Rattle.run_laws.specs.Access.{connects_sent}
 use Rattle.run_laws.proofs.ConnectInds.{TakenInOrder, on_channel}
 use Rattle.run_laws.proofs.DistinctAccess.{AreApart}
 use Rattle.run_laws.proofs.Hearings.{sends_deaf, use_sent_at}
+use Rattle.run_laws.proofs.OwnLinks.{at_central, at_peripheral, sent_begins}
 use Rattle.run_laws.proofs.SentPackets.{IsUseSent}
 use Rattle.run_laws.proofs.TurnPlaces.{Within}
 use Rattle.journal_links.specs.Begun.{links_begun}
@@ -34,7 +33,7 @@ use Rattle.journal_packets.specs.Belonging.{first_number, is_side, link_of_packe
 use Rattle.journal_packets.specs.Senders.{IsOfSendersLink}
 use Rattle.journal_packets.proofs.AccessOrder.{AreNth, first_is, sent_ordered}
 use Rattle.journal_packets.proofs.AskedSoFar.{AreAsked, IsUnasked, OnlyAsked, of_two_stations}
-use Rattle.journal_packets.proofs.Replies.{AsCentral, AsPeripheral, IsFirst, IsSender, IsSending, sender_is, sending_at, sent_begins}
+use Rattle.journal_packets.proofs.Replies.{AsCentral, AsPeripheral, IsFirst, IsSender, IsSending, sender_is, sending_at}
 use Rattle.journal_packets.proofs.SentLinks.{IsOfTwo, begun_are_sent, link_begun, links_sent, sent_at}
 
 -- ---- the side of the central
@@ -42,14 +41,6 @@ use Rattle.journal_packets.proofs.SentLinks.{IsOfTwo, begun_are_sent, link_begun
 own_side : (side : Side) → is_side side side ≡ true
 own_side A = refl
 own_side B = refl
-
-at_central : (role : Role) (station : ℕ) (end : EndSetup) (sent : ConnectInd) → role ≡ Central → IsAtEnd role station end sent → sent.sender ≡ station
-at_central Central station end sent is at = at.0
-at_central Peripheral station end sent is at = absurd cc
-
-at_peripheral : (role : Role) (station : ℕ) (end : EndSetup) (sent : ConnectInd) → role ≡ Peripheral → IsAtEnd role station end sent → sent.sender ≢ station
-at_peripheral Central station end sent is at = absurd cc
-at_peripheral Peripheral station end sent is at = at.0
 
 -- ---- the link of an end
 

@@ -9,9 +9,9 @@ use Rattle.run_model.specs.Run.{GoesOn, history_of, run_of}
 use Rattle.run_model.proofs.LinkEnds.{AreTaken, IsUnderstood, pair_addresses}
 use Rattle.run_model.proofs.Ordered.{pair_distinct}
 use Rattle.run_laws.proofs.DistinctAccess.{AreApart}
-use Rattle.run_laws.proofs.InAgreement.{is_pair}
 use Rattle.journal_packets.proofs.AccessOrder.{AreNth}
 use Rattle.journal_data.proofs.Law.{eight_of}
+use Rattle.journal_data.proofs.OneLink.{pair_links}
 use Rattle.journal_pdus.specs.Exchanged.{AllAreNew, IsAtRest, PdusAreDue}
 use Rattle.journal_pdus.specs.Settled.{AreSettled}
 use Rattle.journal_pdus.proofs.NextPdus.{next_of_lines}
@@ -27,7 +27,7 @@ module _ (whole : IsHeardWhole) (understood : IsUnderstood) (taken : AreTaken) (
       → PdusAreDue (journal_of (history_of (run_of (given_of a b script))))
   journal_due new aired =
       let given = given_of a b script in
-      let pair = is_pair a b script in
+      let pair = pair_links a b script in
       let addresses = pair_addresses a b script six six_too in
       let distinct = pair_distinct a b script in
       let eight = eight_of a b script in record {
@@ -42,9 +42,9 @@ module _ (whole : IsHeardWhole) (understood : IsUnderstood) (taken : AreTaken) (
 
   pub journal_settled : (history : List Event) → run_of (given_of a b script) ≡ GoesOn history → AreSettled (journal_of history)
   journal_settled =
-      settled_last whole understood taken nth apart (given_of a b script) refl (is_pair a b script) (pair_addresses a b script six six_too) (pair_distinct a b script) (eight_of a b script)
+      settled_last whole understood taken nth apart (given_of a b script) refl (pair_links a b script) (pair_addresses a b script six six_too) (pair_distinct a b script) (eight_of a b script)
 
   pub journal_at_rest : (history : List Event) → run_of (given_of a b script) ≡ GoesOn history → IsAtRest (journal_of history)
   journal_at_rest =
-      resting_last whole understood taken nth apart (given_of a b script) refl (is_pair a b script) (pair_addresses a b script six six_too) (pair_distinct a b script) (eight_of a b script)
+      resting_last whole understood taken nth apart (given_of a b script) refl (pair_links a b script) (pair_addresses a b script six six_too) (pair_distinct a b script) (eight_of a b script)
       (some_air a b script)

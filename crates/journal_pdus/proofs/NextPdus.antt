@@ -38,7 +38,6 @@ use Rattle.run_model.proofs.Walk.{Place, AtBegins, AtListening}
 use Rattle.run_laws.proofs.Agreed.{ack_of}
 use Rattle.run_laws.proofs.DistinctAccess.{AreApart}
 use Rattle.run_laws.proofs.Hearings.{own_facts}
-use Rattle.run_laws.proofs.InAgreement.{IsPair, few_links}
 use Rattle.run_laws.proofs.TurnPlaces.{AllStand, stands_at, turned}
 use Rattle.journal_packets.proofs.AccessOrder.{AreNth}
 use Rattle.journal_packets.proofs.SoFar.{IsBelongingSoFar}
@@ -54,7 +53,6 @@ use Rattle.journal_acks.proofs.LinkCalls.{base_ack, begins_under, taken_noted}
 use Rattle.journal_acks.proofs.LinkUses.{sends_under}
 use Rattle.journal_acks.proofs.NewPdus.{between_turns, none_opened as none_opened_before}
 use Rattle.journal_acks.proofs.PhaseNotes.{IsOnLink, IsPhaseOf, IsPlainPhase, SendsFrom, SendsNothing, SendsOne, phase_of, sends_from, sent_same}
-use Rattle.journal_acks.proofs.Standing.{first_handle}
 use Rattle.journal_acks.proofs.SentInCalls.{sent_in_call, to_line}
 use Rattle.journal_acks.proofs.TwoStations.{IsOfTwo, same_number}
 use Rattle.journal_data.specs.Lines.{Lines, PduLine, data_on, line_after, pdus_on}
@@ -64,6 +62,7 @@ use Rattle.journal_data.proofs.EachLine.{lines_at, number_of}
 use Rattle.journal_data.proofs.Ends.{IsWell, sound}
 use Rattle.journal_data.proofs.KeptData.{IsDataAt, data_kept, pass_in_turn}
 use Rattle.journal_data.proofs.Law.{first_data, only_open}
+use Rattle.journal_data.proofs.OneLink.{HaveOneLink, few_links, first_handle}
 use Rattle.journal_data.proofs.Openness.{AreNot, opens_where_free}
 use Rattle.journal_data.proofs.SameGiven.{WasGiven, after_sent, given_in, turn_given}
 use Rattle.journal_data.proofs.Submitting.{call_submits}
@@ -246,7 +245,7 @@ under_first : (history : List Event) (station own count : ℕ) (pdu : Pdu) → o
     → IsNextNote history station own count pdu
 under_first history station own count pdu zero is = subst (λ n. IsNextNote history station n count pdu) (sym zero) is
 
-module _ (given : Given) (pair : IsPair given) (eight : (station : ℕ) → (setup_at given station).host_buffers ≡ 8) (station : ℕ) (history : List Event)
+module _ (given : Given) (pair : HaveOneLink given) (eight : (station : ℕ) → (setup_at given station).host_buffers ≡ 8) (station : ℕ) (history : List Event)
     (in_it : is_in station given.stations ≡ true) (well : IsWell given station history) (few : length (facts_at given station history).links ≤ 1) where
   abbrev facts : Facts
   facts = facts_at given station history
@@ -348,7 +347,7 @@ module _ (given : Given) (pair : IsPair given) (eight : (station : ℕ) → (set
 
 -- ---- at each place of a run
 
-module _ (whole : IsHeardWhole) (given : Given) (Q : Place → List Event → Type 0) (known : AreKnown given Q) (are_two : IsOfTwo given) (pair : IsPair given) (six : HaveAddresses given)
+module _ (whole : IsHeardWhole) (given : Given) (Q : Place → List Event → Type 0) (known : AreKnown given Q) (are_two : IsOfTwo given) (pair : HaveOneLink given) (six : HaveAddresses given)
     (distinct : AreDistinct given.stations) (eight : (station : ℕ) → (setup_at given station).host_buffers ≡ 8) where
   -- what a station sends after a call
   own_fixed : (place : Place) (station : ℕ) (step : Step) (history : List Event) → is_in station given.stations ≡ true → IsDataAt given Q place (after_call given station step history)
@@ -415,7 +414,7 @@ next_before given station step base before earlier later handle count llid body 
     (same_next (number_at station handle base) station count pdu base mid (call_submits station step earlier base)
     (call_leaves is_sending (λ lines. lines.sent) sending_leaves station step earlier base found.none) found.is))
 
-pub next_of_lines : IsHeardWhole → IsUnderstood → AreTaken → AreNth → AreApart → (given : Given) → IsOfTwo given → IsPair given → HaveAddresses given → AreDistinct given.stations
+pub next_of_lines : IsHeardWhole → IsUnderstood → AreTaken → AreNth → AreApart → (given : Given) → IsOfTwo given → HaveOneLink given → HaveAddresses given → AreDistinct given.stations
     → ((station : ℕ) → (setup_at given station).host_buffers ≡ 8) → AllAreNext (journal_of (history_of (run_of given)))
 next_of_lines whole understood taken nth apart given are_two pair six distinct eight front rest side link count llid body is =
     let Q = IsBelongingSoFar given in

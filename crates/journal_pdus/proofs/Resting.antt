@@ -14,7 +14,6 @@ use Rattle.run_model.proofs.LinkEnds.{AreTaken, IsUnderstood}
 use Rattle.run_model.proofs.Stations.{is_in}
 use Rattle.run_model.proofs.Walk.{IsKept, NoTurn, Place}
 use Rattle.run_laws.proofs.DistinctAccess.{AreApart}
-use Rattle.run_laws.proofs.InAgreement.{IsPair}
 use Rattle.journal_packets.proofs.AccessOrder.{AreNth}
 use Rattle.journal_packets.proofs.SoFar.{IsBelongingSoFar}
 use Rattle.journal_acks.proofs.Known.{known_of}
@@ -22,6 +21,7 @@ use Rattle.journal_acks.proofs.LinkUses.{sends_under}
 use Rattle.journal_acks.proofs.Seen.{IsSeen, seen_last, seen_turn}
 use Rattle.journal_acks.proofs.Standing.{phased_at}
 use Rattle.journal_acks.proofs.TwoStations.{IsOfTwo}
+use Rattle.journal_data.proofs.OneLink.{HaveOneLink}
 use Rattle.journal_pdus.specs.Announced.{announced_pdu}
 use Rattle.journal_pdus.specs.Exchanged.{AllAreAtRest, IsAtRest}
 use Rattle.journal_pdus.specs.Pending.{pending_pdu}
@@ -30,7 +30,7 @@ use Rattle.journal_pdus.proofs.TakenInRuns.{IsTakenAt, taken_first, taken_kept}
 use Rattle.journal_pdus.proofs.Told.{off_told}
 use Rattle.journal_pdus.proofs.ToldInRuns.{IsToldAt, told_first, told_kept}
 
-module _ (whole : IsHeardWhole) (understood : IsUnderstood) (taken : AreTaken) (nth : AreNth) (apart : AreApart) (given : Given) (are_two : IsOfTwo given) (pair : IsPair given)
+module _ (whole : IsHeardWhole) (understood : IsUnderstood) (taken : AreTaken) (nth : AreNth) (apart : AreApart) (given : Given) (are_two : IsOfTwo given) (pair : HaveOneLink given)
     (six : HaveAddresses given) (distinct : AreDistinct given.stations) (eight : (station : ℕ) → (setup_at given station).host_buffers ≡ 8)
     (some : (station : ℕ) → 0 < (setup_at given station).air_buffers) where
   abbrev Q : Place → List Event → Type 0

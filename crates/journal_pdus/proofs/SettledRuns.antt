@@ -24,7 +24,6 @@ use Rattle.run_model.proofs.LinkEnds.{AreTaken, IsUnderstood}
 use Rattle.run_model.proofs.Stations.{is_in}
 use Rattle.run_model.proofs.Walk.{Place, NoTurn, IsKept}
 use Rattle.run_laws.proofs.DistinctAccess.{AreApart}
-use Rattle.run_laws.proofs.InAgreement.{IsPair}
 use Rattle.run_laws.proofs.TurnPlaces.{stands_at}
 use Rattle.journal_packets.proofs.AccessOrder.{AreNth}
 use Rattle.journal_packets.proofs.SoFar.{IsBelongingSoFar}
@@ -37,6 +36,7 @@ use Rattle.journal_data.specs.Lines.{lines_of}
 use Rattle.journal_data.proofs.EachLine.{number_of}
 use Rattle.journal_data.proofs.Ends.{sound}
 use Rattle.journal_data.proofs.FedInRuns.{between_standing}
+use Rattle.journal_data.proofs.OneLink.{HaveOneLink}
 use Rattle.journal_data.proofs.StationLines.{for_open, links_open}
 use Rattle.journal_pdus.specs.Exchanged.{AllAreSettled}
 use Rattle.journal_pdus.specs.Settled.{AreSettled, IsSettled}
@@ -68,7 +68,7 @@ pub by_side : (given : Given) → IsOfTwo given → (T : Side → Type 0) → ((
 by_side given are_two T all A = all 0 (ap (is_in 0) are_two)
 by_side given are_two T all B = all 1 (ap (is_in 1) are_two)
 
-module _ (given : Given) (Q : Place → List Event → Type 0) (are_two : IsOfTwo given) (pair : IsPair given) (eight : (station : ℕ) → (setup_at given station).host_buffers ≡ 8)
+module _ (given : Given) (Q : Place → List Event → Type 0) (are_two : IsOfTwo given) (pair : HaveOneLink given) (eight : (station : ℕ) → (setup_at given station).host_buffers ≡ 8)
     (history : List Event) (is : IsKnownAt given Q NoTurn history) where
   rests : (station : ℕ) → is_in station given.stations ≡ true → is_between_turns (past_of station history) ≡ true
   rests station in_it =
@@ -124,7 +124,7 @@ turn_event links (Transmitted station channel octets (hearing ∷ hearings)) slo
 
 -- ---- in a run
 
-module _ (whole : IsHeardWhole) (understood : IsUnderstood) (taken : AreTaken) (nth : AreNth) (apart : AreApart) (given : Given) (are_two : IsOfTwo given) (pair : IsPair given)
+module _ (whole : IsHeardWhole) (understood : IsUnderstood) (taken : AreTaken) (nth : AreNth) (apart : AreApart) (given : Given) (are_two : IsOfTwo given) (pair : HaveOneLink given)
     (six : HaveAddresses given) (distinct : AreDistinct given.stations) (eight : (station : ℕ) → (setup_at given station).host_buffers ≡ 8) where
   abbrev P : Place → List Event → Type 0
   P place history = IsKnownAt given (IsBelongingSoFar given) place history

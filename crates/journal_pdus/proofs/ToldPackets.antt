@@ -20,7 +20,6 @@ use Rattle.run_model.proofs.Stations.{among}
 use Rattle.run_model.proofs.Walk.{Place, AtPackets}
 use Rattle.run_laws.proofs.Agreed.{ack_of, ack_sent, sent_ack}
 use Rattle.run_laws.proofs.Hearings.{wanted_is}
-use Rattle.run_laws.proofs.InAgreement.{IsPair}
 use Rattle.journal_packets.specs.Belonging.{link_of_packet}
 use Rattle.journal_packets.specs.Senders.{IsOfSendersLink}
 use Rattle.journal_packets.specs.Senders.{IsOfSendersLink}
@@ -32,6 +31,7 @@ use Rattle.journal_acks.proofs.Standing.{other_sends, phased_at}
 use Rattle.journal_acks.proofs.TwoStations.{IsOfTwo}
 use Rattle.journal_data.specs.Lines.{PduLine}
 use Rattle.journal_data.proofs.Arriving.{lines_length}
+use Rattle.journal_data.proofs.OneLink.{HaveOneLink}
 use Rattle.journal_pdus.specs.Announced.{last_number_sent, new_pdu_of}
 use Rattle.journal_pdus.proofs.Together.{IsKnownAt}
 use Rattle.journal_pdus.proofs.ToldLines.{told_at}
@@ -63,7 +63,7 @@ pub record TellsOf (station : ℕ) (history : List Event) (link : OpenLink) : Ty
   pub sent : (exchange_at (number_at station 0 history) history (side_of station)).sent ≡ length (ack_of link).sent
   pub told_is : told_at station history ≡ line_to_send (number_at station 0 history) (facts_in link)
 
-module _ (whole : IsHeardWhole) (given : Given) (Q : Place → List Event → Type 0) (known : AreKnown given Q) (are_two : IsOfTwo given) (pair : IsPair given) (six : HaveAddresses given)
+module _ (whole : IsHeardWhole) (given : Given) (Q : Place → List Event → Type 0) (known : AreKnown given Q) (are_two : IsOfTwo given) (pair : HaveOneLink given) (six : HaveAddresses given)
     (distinct : AreDistinct given.stations) (eight : (station : ℕ) → (setup_at given station).host_buffers ≡ 8) (phases : ℕ) (done left : List ℕ) (station channel : ℕ) (octets : List ℕ)
     (history : List Event) (are : given.stations ≡ done ++ station ∷ left) (wanted : use_at given station history ≡ Sends channel octets)
     (is : IsKnownAt given Q (AtPackets phases done (station ∷ left)) history) (told_is : IsTold given true station history) where

@@ -1,5 +1,5 @@
 -- What each call keeps of the links of one station, and how a call on one of two stations keeps what relates their links.
-use Rattle.std.proofs.Common.{◌≡◌, ℕ, zero, suc, ◌+◌, ◌<◌, ◌≤◌, ◌==◌, Bool, true, false, Option, Some, None, List, [], ◌∷◌, length, refl, sym, subst, ◌∙◌, arith}
+use Rattle.std.proofs.Common.{◌≡◌, ℕ, ◌+◌, ◌<◌, ◌≤◌, ◌==◌, Bool, true, false, Option, Some, None, List, [], ◌∷◌, refl, sym, subst, ◌∙◌, arith}
 use Rattle.std.specs.Prelude.{if◌then◌else◌}
 use Rattle.std.specs.Option.{option_map}
 use Rattle.std.proofs.lemmas.Bool.{eqb-true}
@@ -28,12 +28,6 @@ use Rattle.run_laws.proofs.OpenSteps.{AtOpen, EachOpen, IsKeptByHosts, IsKeptOpe
 use Rattle.run_laws.proofs.TurnPlaces.{Within}
 use Rattle.run_laws.proofs.TurnSteps.{MakesWell, begins_begun, begins_slot, octet_turn, phase_turn}
 use Rattle.run_laws.proofs.TwoStations.{differs_back as apart_back}
-use Rattle.radio_replay.specs.Script.{Script}
-use Rattle.run_model.specs.Pair.{given_of}
-
--- each station holds one link at most, which the laws of data over journals need
-pub record IsPair (given : Given) : Type 0 where
-  pub links : (station : ℕ) → (setup_at given station).links ≤ 1
 
 -- ---- the links of one station
 
@@ -306,9 +300,6 @@ stations_called given station step before after called next are = record { each 
         subst (λ n. IsStation (setup_at given n) (after n)) (sym (eqb-true other station one)) (subst (IsStation (setup_at given station)) (sym called.own) next)
     by other is false differs = subst (IsStation (setup_at given other)) (sym (called.others other differs)) (are.each other is)
 
-pub few_links : (given : Given) → IsPair given → (station : ℕ) (facts : Facts) → IsStation (setup_at given station) facts → length facts.links ≤ 1
-few_links given pair station facts is = let many = is.own.many in let few = pair.links station in omega (arith, many, few)
-
 pub one_slot : (one other turns : ℕ) → one + 1 ≡ turns → other + 1 ≡ turns → one ≡ other
 one_slot one other turns is is_too = omega (arith, is, is_too)
 
@@ -337,12 +328,3 @@ first_station setup = record {
   short = none_open TakesShort setup.links;
   old = λ on. absurd cc;
 }
-
--- ---- a pair
-
-pub is_pair : (a b : List ℕ) (script : Script) → IsPair (given_of a b script)
-is_pair a b script = record { links = links_of }
-  where
-    links_of : (station : ℕ) → (setup_at (given_of a b script) station).links ≤ 1
-    links_of zero = omega arith
-    links_of (suc station) = omega arith

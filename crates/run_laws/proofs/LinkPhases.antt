@@ -30,7 +30,7 @@ use Rattle.controller_model.specs.Side.{facts_after, facts_of}
 use Rattle.run_model.specs.Run.{step_of}
 use Rattle.run_laws.proofs.LinkPasses.{IsPassing, Leaves, Opens, Receives, is_on_link, phase_passes}
 use Rattle.run_laws.proofs.Entering.{IsInTurn, turn_first, turn_kept}
-use Rattle.run_laws.proofs.TurnPlaces.{Between, IsTurned, Stage, Within, at_stage, standing, turned}
+use Rattle.run_laws.proofs.TurnPlaces.{Between, IsTurned, Standing, Stage, Within, at_stage, standing, turned}
 
 abbrev pub HasRole : Role → Option OpenLink → Type 0
 HasRole role None = ⊤
@@ -246,9 +246,9 @@ passes_in setup facts received phases other doing is passing = off_passing facts
 -- ---- at any time
 
 -- where it stands in its turn, and what it does there
-record IsPhased (setup : Setup) (stage : Stage) (begun : ℕ) (facts : Facts) : Type 0 where
-  in_turn : IsInTurn setup stage begun facts
-  phase : IsAtStage stage facts.links facts.turn.doing
+pub record IsPhased (setup : Setup) (stage : Stage) (begun : ℕ) (facts : Facts) : Type 0 where
+  pub in_turn : IsInTurn setup stage begun facts
+  pub phase : IsAtStage stage facts.links facts.turn.doing
 
 phases_kept : (setup : Setup) → IsTurned setup (IsPhased setup)
 phases_kept setup = let kept = turn_kept setup in record {
@@ -261,7 +261,9 @@ phases_kept setup = let kept = turn_kept setup in record {
   ends = λ begun facts is. record { in_turn = kept.ends begun facts is.in_turn; phase = refl };
 }
 
+pub phased_at : (setup : Setup) (past : List Step) (at : Standing) → standing past ≡ Some at → IsPhased setup at.stage at.begun (facts_of setup past)
+phased_at setup past at stands = turned setup (IsPhased setup) (phases_kept setup) past at (record { in_turn = turn_first setup; phase = refl }) stands
+
 pub in_phase : (setup : Setup) (past : List Step) (phases begun : ℕ) → standing past ≡ Some (at_stage (Within phases) begun)
     → IsInPhase phases (facts_of setup past).links (facts_of setup past).turn.doing
-in_phase setup past phases begun stands =
-    (turned setup (IsPhased setup) (phases_kept setup) past (at_stage (Within phases) begun) (record { in_turn = turn_first setup; phase = refl }) stands).phase
+in_phase setup past phases begun stands = (phased_at setup past (at_stage (Within phases) begun) stands).phase

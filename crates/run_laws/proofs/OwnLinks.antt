@@ -49,7 +49,7 @@ use Rattle.run_laws.proofs.TwoStations.{AreTwo, differs_back}
 
 -- ---- the access address of a packet
 
-sent_begins : (setup : EndSetup) (facts : EndFacts) → take 4 (packet_sent setup facts) ≡ access_octets setup.link.fields.access
+pub sent_begins : (setup : EndSetup) (facts : EndFacts) → take 4 (packet_sent setup facts) ≡ access_octets setup.link.fields.access
 unfolding packet_sent
 sent_begins setup facts = refl
 
@@ -83,11 +83,11 @@ same_access one other below below_too same =
 
 -- ---- the sender of a CONNECT_IND
 
-at_central : (role : Role) (station : ℕ) (end : EndSetup) (sent : ConnectInd) → role ≡ Central → IsAtEnd role station end sent → sent.sender ≡ station
+pub at_central : (role : Role) (station : ℕ) (end : EndSetup) (sent : ConnectInd) → role ≡ Central → IsAtEnd role station end sent → sent.sender ≡ station
 at_central Central station end sent is at = at.0
 at_central Peripheral station end sent is at = absurd cc
 
-at_peripheral : (role : Role) (station : ℕ) (end : EndSetup) (sent : ConnectInd) → role ≡ Peripheral → IsAtEnd role station end sent → sent.sender ≢ station
+pub at_peripheral : (role : Role) (station : ℕ) (end : EndSetup) (sent : ConnectInd) → role ≡ Peripheral → IsAtEnd role station end sent → sent.sender ≢ station
 at_peripheral Central station end sent is at = absurd cc
 at_peripheral Peripheral station end sent is at = at.0
 
