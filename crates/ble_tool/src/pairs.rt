@@ -112,7 +112,7 @@ fn read_schedule(alloc: Global, octets: &[u8]) -> Result<Schedule, Fault>
 
 /// Runs the two streams by a schedule: the journal to write, and the fault to report after it, if
 /// there is one.
-#[tactic(auto, using(crate::proofs::Endings::run_ended, crate::proofs::Endings::run_lawful, crate::proofs::Endings::run_not_ended, crate::proofs::Endings::run_whole))]
+#[tactic(auto, using(crate::proofs::Endings::run_ended, crate::proofs::Endings::run_not_ended, crate::proofs::Endings::run_whole))]
 fn run_streams(
     alloc: Global,
     a: &[u8],
