@@ -18,7 +18,7 @@ pub struct HandleCount {
 /// Only the length is checked here: a field may have any value that its octets can hold, also a
 /// `handle`, of which 12 bits count, and a code that has no meaning. A `latency` is in connection
 /// events.
-#[derive(PartialEq, Eq, Debug, Drop)]
+#[derive(Debug, Drop)]
 pub enum Command {
     /// Disconnect (section 7.1.6).
     Disconnect {
@@ -237,7 +237,7 @@ pub enum Command {
 }
 
 /// What an opcode and the octets of its parameters are read as.
-#[derive(PartialEq, Eq, Debug, Drop)]
+#[derive(Debug, Drop)]
 pub enum CmdRead {
     /// This command.
     Known(Command),

@@ -87,10 +87,10 @@ fn general_command(opcode: u16, mut fields: Fields) -> CmdRead
     }
 }
 
-/// The LE commands of the device, its advertising, scanning and initiating.
+/// The LE commands of the device.
 #[tactic(auto, unfolding(crate::specs::Command::layout_of, crate::specs::Command::layouts))]
 fn device_command(opcode: u16, mut fields: Fields) -> CmdRead
-    requires group { (0x2000 ≤ opcode) × (opcode < 0x2013) }
+    requires group { (0x2000 ≤ opcode) × (opcode < 0x2006) }
     ensures { result ≡ read_with (layout_of opcode) fields.entry }
 {
     match opcode {
@@ -98,11 +98,33 @@ fn device_command(opcode: u16, mut fields: Fields) -> CmdRead
         0x2002 => take!(fields, LeReadBufferSize),
         0x2003 => take!(fields, LeReadFeatures),
         0x2005 => take!(fields, LeSetRandomAddress: [6] address),
+        _ => CmdRead::UnknownOpcode,
+    }
+}
+
+/// The LE commands of advertising.
+#[tactic(auto, unfolding(crate::specs::Command::layout_of, crate::specs::Command::layouts))]
+fn advertising_command(opcode: u16, mut fields: Fields) -> CmdRead
+    requires group { (0x2006 ≤ opcode) × (opcode < 0x200B) }
+    ensures { result ≡ read_with (layout_of opcode) fields.entry }
+{
+    match opcode {
         0x2006 => take!(fields, LeSetAdvParams: u16 min, u16 max, u8 kind, u8 own,
                 u8 peer_kind, [6] peer, u8 channels, u8 policy),
         0x2008 => take!(fields, LeSetAdvData: u8 length, [31] octets),
         0x2009 => take!(fields, LeSetScanResponse: u8 length, [31] octets),
         0x200A => take!(fields, LeSetAdvEnable: u8 value),
+        _ => CmdRead::UnknownOpcode,
+    }
+}
+
+/// The LE commands of scanning and initiating.
+#[tactic(auto, unfolding(crate::specs::Command::layout_of, crate::specs::Command::layouts))]
+fn listening_command(opcode: u16, mut fields: Fields) -> CmdRead
+    requires group { (0x200B ≤ opcode) × (opcode < 0x200F) }
+    ensures { result ≡ read_with (layout_of opcode) fields.entry }
+{
+    match opcode {
         0x200B =>
             take!(fields, LeSetScanParams: u8 kind, u16 interval, u16 window, u8 own, u8 policy),
         0x200C => take!(fields, LeSetScanEnable: u8 value, u8 duplicates),
@@ -110,6 +132,17 @@ fn device_command(opcode: u16, mut fields: Fields) -> CmdRead
                 u8 peer_kind, [6] peer, u8 own, u16 min, u16 max,
                 u16 latency, u16 timeout, pair lengths),
         0x200E => take!(fields, LeCreateCancel),
+        _ => CmdRead::UnknownOpcode,
+    }
+}
+
+/// The LE commands of the accept list.
+#[tactic(auto, unfolding(crate::specs::Command::layout_of, crate::specs::Command::layouts))]
+fn list_command(opcode: u16, mut fields: Fields) -> CmdRead
+    requires group { (0x200F ≤ opcode) × (opcode < 0x2013) }
+    ensures { result ≡ read_with (layout_of opcode) fields.entry }
+{
+    match opcode {
         0x200F => take!(fields, LeReadListSize),
         0x2010 => take!(fields, LeClearList),
         0x2011 => take!(fields, LeAddToList: u8 kind, [6] address),
@@ -118,10 +151,10 @@ fn device_command(opcode: u16, mut fields: Fields) -> CmdRead
     }
 }
 
-/// The LE commands of links and their encryption.
+/// The LE commands of a link.
 #[tactic(auto, unfolding(crate::specs::Command::layout_of, crate::specs::Command::layouts))]
 fn link_command(opcode: u16, mut fields: Fields) -> CmdRead
-    requires group { 0x2013 ≤ opcode }
+    requires group { (0x2013 ≤ opcode) × (opcode < 0x2017) }
     ensures { result ≡ read_with (layout_of opcode) fields.entry }
 {
     match opcode {
@@ -130,16 +163,49 @@ fn link_command(opcode: u16, mut fields: Fields) -> CmdRead
         0x2014 => take!(fields, LeSetChannels: u40 map),
         0x2015 => take!(fields, LeReadChannelMap: u16 handle),
         0x2016 => take!(fields, LeReadRemoteFeatures: u16 handle),
+        _ => CmdRead::UnknownOpcode,
+    }
+}
+
+/// The LE commands of encryption.
+#[tactic(auto, unfolding(crate::specs::Command::layout_of, crate::specs::Command::layouts))]
+fn encryption_command(opcode: u16, mut fields: Fields) -> CmdRead
+    requires group { (0x2017 ≤ opcode) × (opcode < 0x2020) }
+    ensures { result ≡ read_with (layout_of opcode) fields.entry }
+{
+    match opcode {
         0x2017 => take!(fields, LeEncrypt: [16] key, [16] text),
         0x2018 => take!(fields, LeRand),
         0x2019 => take!(fields, LeEnableEncryption: u16 handle, u64 rand, u16 ediv, [16] key),
         0x201A => take!(fields, LeKeyReply: u16 handle, [16] key),
         0x201B => take!(fields, LeKeyNegative: u16 handle),
+        _ => CmdRead::UnknownOpcode,
+    }
+}
+
+/// The LE commands of requests of the peer and lengths.
+#[tactic(auto, unfolding(crate::specs::Command::layout_of, crate::specs::Command::layouts))]
+fn request_command(opcode: u16, mut fields: Fields) -> CmdRead
+    requires group { (0x2020 ≤ opcode) × (opcode < 0x2030) }
+    ensures { result ≡ read_with (layout_of opcode) fields.entry }
+{
+    match opcode {
         0x2020 => take!(fields, LeParamReply: u16 handle, u16 min, u16 max,
                 u16 latency, u16 timeout, pair lengths),
         0x2021 => take!(fields, LeParamNegative: u16 handle, u8 reason),
         0x2022 => take!(fields, LeSetDataLength: u16 handle, u16 octets, u16 time),
         0x202F => take!(fields, LeReadMaxLength),
+        _ => CmdRead::UnknownOpcode,
+    }
+}
+
+/// The LE commands of the PHY.
+#[tactic(auto, unfolding(crate::specs::Command::layout_of, crate::specs::Command::layouts))]
+fn phy_command(opcode: u16, mut fields: Fields) -> CmdRead
+    requires group { 0x2030 ≤ opcode }
+    ensures { result ≡ read_with (layout_of opcode) fields.entry }
+{
+    match opcode {
         0x2030 => take!(fields, LeReadPhy: u16 handle),
         0x2031 => take!(fields, LeSetDefaultPhy: u8 all, u8 tx, u8 rx),
         0x2032 => take!(fields, LeSetPhy: u16 handle, u8 all, u8 tx, u8 rx, u16 options),
@@ -152,7 +218,13 @@ pub(crate) fn command(opcode: u16, fields: Fields) -> CmdRead
     ensures { result ≡ read_with (layout_of opcode) fields.entry }
 {
     match opcode {
+        0x2030.. => phy_command(opcode, fields),
+        0x2020.. => request_command(opcode, fields),
+        0x2017.. => encryption_command(opcode, fields),
         0x2013.. => link_command(opcode, fields),
+        0x200F.. => list_command(opcode, fields),
+        0x200B.. => listening_command(opcode, fields),
+        0x2006.. => advertising_command(opcode, fields),
         0x2000.. => device_command(opcode, fields),
         _ => general_command(opcode, fields),
     }

@@ -1,3 +1,4 @@
 -- The definitions of this crate.
 pub mod Event
+pub mod Groups
 pub mod Reading

@@ -10,7 +10,7 @@ pub(crate) const INDICATOR: u8 = 4;
 /// have the least significant octet first: `peer[0]` is the least significant octet. A number of
 /// entries that is always 1 is not a field. A `status`, `reason` or hardware `code` is any octet, a
 /// `latency` is in connection events, and kinds of addresses are codes of the standard.
-#[derive(PartialEq, Eq, Debug, Drop)]
+#[derive(Debug, Drop)]
 pub enum Event {
     /// Disconnection Complete (section 7.7.5).
     DisconnectionComplete {

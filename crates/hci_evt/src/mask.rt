@@ -11,13 +11,15 @@ macro_rules! mask_bits {
         $event:ident;
         masked { $($name:ident $code:literal $bit:literal: $($kind:tt $field:ident),*;)* }
         unmasked { $($status:ident $status_code:literal: $($status_kind:tt $status_field:ident),*;)* }
-        le { $($le_name:ident $subevent:literal $le_bit:literal: $($le_kind:tt $le_field:ident),*;)* }
+        low { $($low:ident $low_code:literal $low_bit:literal: $($low_kind:tt $low_field:ident),*;)* }
+        high { $($high:ident $high_code:literal $high_bit:literal: $($high_kind:tt $high_field:ident),*;)* }
     ) => {
         match $event {
             $(Event::$name { .. } => MaskBit::Main($bit),)*
             $(Event::$status { .. } => MaskBit::Always,)*
             Event::CommandComplete { .. } | Event::CompletedPackets { .. } => MaskBit::Always,
-            $(Event::$le_name { .. } => MaskBit::Meta($le_bit),)*
+            $(Event::$low { .. } => MaskBit::Meta($low_bit),)*
+            $(Event::$high { .. } => MaskBit::Meta($high_bit),)*
             Event::AdvertisingReport { .. } => MaskBit::Meta(1),
         }
     };

@@ -1,5 +1,5 @@
 //! Events, each read from its octets.
-ghost use Rattle.std.specs.Prelude.{◌≡◌, ◌≢◌, ℕ, ◌≤◌, ◌++◌, List, Some, length, IfSome, IfNone};
+ghost use Rattle.std.specs.Prelude.{◌≡◌, ◌≢◌, ℕ, ◌≤◌, ◌<◌, ◌++◌, List, Some, length, IfSome, IfNone};
 ghost use Rattle.wire_fields.specs.Field.{little_endian};
 ghost use Rattle.wire_fields.specs.Layout.{read_some_by};
 ghost use Rattle.wire_fields.specs.Table.{value_in};
@@ -31,7 +31,7 @@ macro_rules! take_row {
         $fields:ident $event_code:ident;
         masked { $($name:ident $code:literal $bit:literal: $($kind:tt $field:ident),*;)* }
         unmasked { $($status:ident $status_code:literal: $($status_kind:tt $status_field:ident),*;)* }
-        le { $($rest:tt)* }
+        $($le:ident { $($rest:tt)* })*
     ) => {
         match $event_code {
             $($code => take!($fields, $name: $($kind $field),*),)*
@@ -43,17 +43,34 @@ macro_rules! take_row {
     };
 }
 
-/// The LE meta event of the row with this subevent code.
-macro_rules! take_le_row {
+/// The LE meta event of the row with this subevent code, below 07.
+macro_rules! take_low_row {
     (
-        $fields:ident $event_code:ident;
+        $fields:ident $subevent:ident;
         masked { $($masked:tt)* }
         unmasked { $($unmasked:tt)* }
-        le { $($name:ident $subevent:literal $bit:literal: $($kind:tt $field:ident),*;)* }
+        low { $($name:ident $code:literal $bit:literal: $($kind:tt $field:ident),*;)* }
+        high { $($high:tt)* }
     ) => {
-        match $event_code {
-            $($subevent => take!($fields, $name: $($kind $field),*),)*
+        match $subevent {
+            $($code => take!($fields, $name: $($kind $field),*),)*
             0x02 => advertising_report($fields),
+            _ => None,
+        }
+    };
+}
+
+/// The LE meta event of the row with this subevent code, from 07 on.
+macro_rules! take_high_row {
+    (
+        $fields:ident $subevent:ident;
+        masked { $($masked:tt)* }
+        unmasked { $($unmasked:tt)* }
+        low { $($low:tt)* }
+        high { $($name:ident $code:literal $bit:literal: $($kind:tt $field:ident),*;)* }
+    ) => {
+        match $subevent {
+            $($code => take!($fields, $name: $($kind $field),*),)*
             _ => None,
         }
     };
@@ -127,14 +144,38 @@ fn completed_packets(mut fields: Fields) -> Option<Event>
     })
 }
 
-/// The LE event with this subevent code, of what is after the code.
+/// The LE event with this subevent code, below 07, of what is after the code.
 #[tactic(auto, unfolding(crate::specs::Reading::le_event_in, crate::specs::Reading::le_layouts))]
-fn le_event(subevent: u8, mut fields: Fields) -> Option<Event>
+fn low_le_event(subevent: u8, mut fields: Fields) -> Option<Event>
+    requires { subevent < 7 }
     ensures value { result ≡ le_event_in subevent fields.entry }
     ensures spells { IfSome result (λ event.
         Spells event 0x3E (little_endian 1 subevent ++ fields.entry)) }
 {
-    event_rows!(take_le_row fields subevent)
+    event_rows!(take_low_row fields subevent)
+}
+
+/// The LE event with this subevent code, from 07 on, of what is after the code.
+#[tactic(auto, unfolding(crate::specs::Reading::le_event_in, crate::specs::Reading::le_layouts))]
+fn high_le_event(subevent: u8, mut fields: Fields) -> Option<Event>
+    requires { 7 ≤ subevent }
+    ensures value { result ≡ le_event_in subevent fields.entry }
+    ensures spells { IfSome result (λ event.
+        Spells event 0x3E (little_endian 1 subevent ++ fields.entry)) }
+{
+    event_rows!(take_high_row fields subevent)
+}
+
+/// The LE event with this subevent code, of what is after the code.
+fn le_event(subevent: u8, fields: Fields) -> Option<Event>
+    ensures value { result ≡ le_event_in subevent fields.entry }
+    ensures spells { IfSome result (λ event.
+        Spells event 0x3E (little_endian 1 subevent ++ fields.entry)) }
+{
+    match subevent {
+        0x07.. => high_le_event(subevent, fields),
+        _ => low_le_event(subevent, fields),
+    }
 }
 
 /// The event with this code that is no LE event.

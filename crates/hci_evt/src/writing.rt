@@ -3,6 +3,7 @@ ghost use Rattle.std.specs.Prelude.{◌≡◌, ◌≤◌, ◌-◌, [], set};
 ghost use Rattle.arrayvec.specs.ArrayVec.{array_vec_len};
 ghost use Rattle.wire_fields.specs.Field.{appended, AllFit};
 ghost use Rattle.hci_evt.specs.Event.{code_of, parameters_of, written, IsEvent, IsWithinCapacity};
+ghost use Rattle.hci_evt.specs.Groups.{IsHigh, IsMeta};
 
 use crate::event::{Event, INDICATOR};
 use crate::rows::event_rows;
@@ -25,13 +26,13 @@ macro_rules! put {
     };
 }
 
-/// Appends the fields of an event, and before those of an LE meta event its subevent code.
+/// Appends the fields of an event that is no LE meta event.
 macro_rules! put_rows {
     (
         $packet:ident $event:ident;
         masked { $($name:ident $code:literal $bit:literal: $($kind:tt $field:ident),*;)* }
         unmasked { $($status:ident $status_code:literal: $($status_kind:tt $status_field:ident),*;)* }
-        le { $($le_name:ident $subevent:literal $le_bit:literal: $($le_kind:tt $le_field:ident),*;)* }
+        $($le:ident { $($rest:tt)* })*
     ) => {
         match $event {
             $(Event::$name { $($field),* } => {
@@ -39,10 +40,6 @@ macro_rules! put_rows {
             })*
             $(Event::$status { $($status_field),* } => {
                 $(put!($packet $status_kind $status_field);)*
-            })*
-            $(Event::$le_name { $($le_field),* } => {
-                put_u8($packet, $subevent);
-                $(put!($packet $le_kind $le_field);)*
             })*
             Event::CommandComplete { number, opcode, fields } => {
                 put_u8($packet, *number);
@@ -54,6 +51,25 @@ macro_rules! put_rows {
                 put_u16($packet, *handle);
                 put_u16($packet, *count);
             }
+            _ => put_low_parameters($packet, $event),
+        }
+    };
+}
+
+/// Appends the subevent code and the fields of an LE meta event with a subevent code below 07.
+macro_rules! put_low_rows {
+    (
+        $packet:ident $event:ident;
+        masked { $($masked:tt)* }
+        unmasked { $($unmasked:tt)* }
+        low { $($name:ident $subevent:literal $bit:literal: $($kind:tt $field:ident),*;)* }
+        high { $($high:tt)* }
+    ) => {
+        match $event {
+            $(Event::$name { $($field),* } => {
+                put_u8($packet, $subevent);
+                $(put!($packet $kind $field);)*
+            })*
             Event::AdvertisingReport { kind, address_kind, address, octets, rssi } => {
                 put_u8($packet, 0x02);
                 put_u8($packet, 1);
@@ -64,6 +80,26 @@ macro_rules! put_rows {
                 put_octets($packet, octets.as_slice());
                 put_u8($packet, *rssi);
             }
+            _ => put_high_parameters($packet, $event),
+        }
+    };
+}
+
+/// Appends the subevent code and the fields of an LE meta event with a subevent code from 07 on.
+macro_rules! put_high_rows {
+    (
+        $packet:ident $event:ident;
+        masked { $($masked:tt)* }
+        unmasked { $($unmasked:tt)* }
+        low { $($low:tt)* }
+        high { $($name:ident $subevent:literal $bit:literal: $($kind:tt $field:ident),*;)* }
+    ) => {
+        match $event {
+            $(Event::$name { $($field),* } => {
+                put_u8($packet, $subevent);
+                $(put!($packet $kind $field);)*
+            })*
+            _ => unreachable!(),
         }
     };
 }
@@ -74,7 +110,7 @@ macro_rules! codes {
         $event:ident;
         masked { $($name:ident $code:literal $bit:literal: $($kind:tt $field:ident),*;)* }
         unmasked { $($status:ident $status_code:literal: $($status_kind:tt $status_field:ident),*;)* }
-        le { $($rest:tt)* }
+        $($le:ident { $($rest:tt)* })*
     ) => {
         match $event {
             $(Event::$name { .. } => $code,)*
@@ -84,6 +120,30 @@ macro_rules! codes {
             _ => 0x3E,
         }
     };
+}
+
+/// Appends the parameters of an LE meta event with a subevent code from 07 on to its header.
+fn put_high_parameters(packet: &mut ArrayVec<u8, 260>, event: &Event)
+    requires header { array_vec_len packet.old ≡ 3 }
+    requires high { IsHigh event.now }
+    ensures items { packet.new.items ≡ appended packet.old.items (parameters_of event.now) }
+    ensures few { array_vec_len packet.new ≤ 258 }
+    ensures fits { AllFit (parameters_of event.now) }
+    ensures room { IsWithinCapacity event.now }
+{
+    event_rows!(put_high_rows packet event);
+}
+
+/// Appends the parameters of an LE meta event to its header.
+fn put_low_parameters(packet: &mut ArrayVec<u8, 260>, event: &Event)
+    requires header { array_vec_len packet.old ≡ 3 }
+    requires le { IsMeta event.now }
+    ensures items { packet.new.items ≡ appended packet.old.items (parameters_of event.now) }
+    ensures few { array_vec_len packet.new ≤ 258 }
+    ensures fits { AllFit (parameters_of event.now) }
+    ensures room { IsWithinCapacity event.now }
+{
+    event_rows!(put_low_rows packet event);
 }
 
 /// Appends the parameters of the event to its header: the subevent code of an LE event, and then the
