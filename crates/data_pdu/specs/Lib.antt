@@ -1,4 +1,5 @@
 -- The definitions of this crate.
+pub mod Groups
 pub mod Header
 pub mod Layouts
 pub mod Ranges

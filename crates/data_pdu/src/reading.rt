@@ -1,5 +1,5 @@
 //! Control PDUs, each read from its octets.
-ghost use Rattle.std.specs.Prelude.{◌≡◌, ◌≢◌, ◌+◌, ◌↔◌, ℕ, [], Some, length, slice_get, IsTrue};
+ghost use Rattle.std.specs.Prelude.{◌≡◌, ◌≢◌, ◌+◌, ◌<◌, ◌≤◌, ◌↔◌, ℕ, [], Some, length, slice_get, IsTrue};
 ghost use Rattle.data_pdu.specs.Layouts.{written, IsCtrl};
 ghost use Rattle.data_pdu.specs.Reading.{length_of, ctrl_of, IfKnown, Spells};
 ghost use Rattle.data_pdu.specs.declared.ctrl.Ctrl.{Ctrl};
@@ -20,9 +20,12 @@ macro_rules! size {
 
 /// The length of the control PDU with an opcode: an octet for that, and its fields.
 macro_rules! length_rows {
-    ($found:ident; $($opcode:literal $name:ident: $($kind:ident $field:ident),*;)*) => {
+    (
+        $found:ident;
+        $($part:ident { $($opcode:literal $name:ident: $($kind:ident $field:ident),*;)* })*
+    ) => {
         match $found {
-            $($opcode => Some(1 $(+ size!($kind))*),)*
+            $($($opcode => Some(1 $(+ size!($kind))*),)*)*
             _ => None,
         }
     };
@@ -38,9 +41,27 @@ macro_rules! take {
     };
 }
 
-/// The control PDU with an opcode, of its fields.
-macro_rules! take_rows {
-    ($found:ident $fields:ident; $($opcode:literal $name:ident: $($kind:ident $field:ident),*;)*) => {
+/// The control PDU with an opcode below 0F, of its fields.
+macro_rules! take_low_rows {
+    (
+        $found:ident $fields:ident;
+        low { $($opcode:literal $name:ident: $($kind:ident $field:ident),*;)* }
+        high { $($high:tt)* }
+    ) => {
+        match $found {
+            $($opcode => Ctrl::$name { $($field: take!($fields $kind)),* },)*
+            _ => unreachable!(),
+        }
+    };
+}
+
+/// The control PDU with an opcode from 0F on, of its fields.
+macro_rules! take_high_rows {
+    (
+        $found:ident $fields:ident;
+        low { $($low:tt)* }
+        high { $($opcode:literal $name:ident: $($kind:ident $field:ident),*;)* }
+    ) => {
         match $found {
             $($opcode => Ctrl::$name { $($field: take!($fields $kind)),* },)*
             _ => unreachable!(),
@@ -63,13 +84,35 @@ fn has_length(opcode: u8, octets: &[u8]) -> bool
     length_of(opcode) == Some(octets.len())
 }
 
-/// The control PDU with this opcode and these fields, whether or not these are in their ranges.
+/// The control PDU with this opcode, below 0F, and these fields.
 #[tactic(auto, unfolding(crate::specs::Reading::length_of, crate::specs::Layouts::makers))]
-fn ctrl_with(opcode: u8, mut fields: Fields) -> Ctrl
+fn low_ctrl(opcode: u8, mut fields: Fields) -> Ctrl
+    requires low { opcode < 0x0F }
+    requires len { length_of opcode ≡ Some (1 + length fields) }
+    ensures { Spells result opcode fields.entry }
+{
+    with_layouts!(take_low_rows opcode fields)
+}
+
+/// The control PDU with this opcode, from 0F on, and these fields.
+#[tactic(auto, unfolding(crate::specs::Reading::length_of, crate::specs::Layouts::makers))]
+fn high_ctrl(opcode: u8, mut fields: Fields) -> Ctrl
+    requires high { 0x0F ≤ opcode }
+    requires len { length_of opcode ≡ Some (1 + length fields) }
+    ensures { Spells result opcode fields.entry }
+{
+    with_layouts!(take_high_rows opcode fields)
+}
+
+/// The control PDU with this opcode and these fields, whether or not these are in their ranges.
+fn ctrl_with(opcode: u8, fields: Fields) -> Ctrl
     requires { length_of opcode ≡ Some (1 + length fields) }
     ensures { Spells result opcode fields.entry }
 {
-    with_layouts!(take_rows opcode fields)
+    match opcode {
+        0x0F.. => high_ctrl(opcode, fields),
+        _ => low_ctrl(opcode, fields),
+    }
 }
 
 /// What these octets are read as.

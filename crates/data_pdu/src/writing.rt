@@ -2,6 +2,7 @@
 ghost use Rattle.std.specs.Prelude.{◌≡◌, ◌+◌, ◌≤◌, [], length};
 ghost use Rattle.arrayvec.specs.ArrayVec.{array_vec_len};
 ghost use Rattle.wire_fields.specs.Field.{appended, AllFit};
+ghost use Rattle.data_pdu.specs.Groups.{IsHigh};
 ghost use Rattle.data_pdu.specs.Ranges.{IsInRange};
 ghost use Rattle.data_pdu.specs.Reading.{ctrl_of};
 ghost use Rattle.data_pdu.specs.Layouts.{fields_of, six_numbers, written, IsCtrl};
@@ -33,17 +34,36 @@ macro_rules! put {
     };
 }
 
-/// Appends the opcode and the fields of a control PDU.
-macro_rules! put_rows {
+/// Appends the opcode and the fields of a control PDU with an opcode below 0F.
+macro_rules! put_low_rows {
     (
         $ctrl:ident $pdu:ident;
-        $($opcode:literal $name:ident: $($kind:ident $field:ident),*;)*
+        low { $($opcode:literal $name:ident: $($kind:ident $field:ident),*;)* }
+        high { $($high:tt)* }
     ) => {
         match *$ctrl {
             $(Ctrl::$name { $($field),* } => {
                 put_u8(&mut $pdu, $opcode);
                 $(put!($pdu $kind $field);)*
             })*
+            _ => return high_octets($ctrl),
+        }
+    };
+}
+
+/// Appends the opcode and the fields of a control PDU with an opcode from 0F on.
+macro_rules! put_high_rows {
+    (
+        $ctrl:ident $pdu:ident;
+        low { $($low:tt)* }
+        high { $($opcode:literal $name:ident: $($kind:ident $field:ident),*;)* }
+    ) => {
+        match *$ctrl {
+            $(Ctrl::$name { $($field),* } => {
+                put_u8(&mut $pdu, $opcode);
+                $(put!($pdu $kind $field);)*
+            })*
+            _ => unreachable!(),
         }
     };
 }
@@ -65,6 +85,18 @@ fn put_six(pdu: &mut ArrayVec<u8, 27>, numbers: [u16; 6])
     put_u16(pdu, f);
 }
 
+/// The opcode, from 0F on, and the fields of a control PDU, one after another.
+fn high_octets(ctrl: &Ctrl) -> ArrayVec<u8, 27>
+    requires high { IsHigh ctrl.now }
+    requires range { IsInRange ctrl.now }
+    ensures items { result.items ≡ appended [] (fields_of ctrl.now) }
+    ensures is_ctrl { IsCtrl ctrl.now }
+{
+    let mut pdu = ArrayVec::new();
+    with_layouts!(put_high_rows ctrl pdu);
+    pdu
+}
+
 /// The opcode and the fields of a control PDU, one after another.
 fn opcode_and_fields(ctrl: &Ctrl) -> ArrayVec<u8, 27>
     requires { IsInRange ctrl.now }
@@ -72,7 +104,7 @@ fn opcode_and_fields(ctrl: &Ctrl) -> ArrayVec<u8, 27>
     ensures is_ctrl { IsCtrl ctrl.now }
 {
     let mut pdu = ArrayVec::new();
-    with_layouts!(put_rows ctrl pdu);
+    with_layouts!(put_low_rows ctrl pdu);
     pdu
 }
 

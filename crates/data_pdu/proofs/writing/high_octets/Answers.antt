@@ -2,7 +2,7 @@
 use Rattle.std.proofs.Common.{◌≡◌, List, [], ◌++◌, ℕ, ap, refl, ◌∙◌, arith}
 use Rattle.wire_fields.specs.Field.{appended}
 use Rattle.data_pdu.specs.Layouts.{six_numbers}
-use Rattle.data_pdu.proofs.writing.opcode_and_fields.Goals as goal
+use Rattle.data_pdu.proofs.writing.high_octets.Goals as goal
 
 -- a packet that was appended to seven times
 seven : (p q r s t u v w a b c d e f g : List ℕ) → p ≡ [] → q ≡ p ++ a → r ≡ q ++ b → s ≡ r ++ c → t ≡ s ++ d → u ≡ t ++ e → v ≡ u ++ f → w ≡ v ++ g → w ≡ ((((((([] ++ a) ++ b) ++ c) ++ d) ++ e) ++ f) ++ g)
@@ -11,7 +11,7 @@ seven p q r s t u v w a b c d e f g hp hq hr hs ht hu hv hw =
 
 pub returns-in-ConnectionParamReq-clause-items : goal.returns-in-ConnectionParamReq-clause-items
 returns-in-ConnectionParamReq-clause-items c =
-    let before = seven _ _ _ _ _ _ _ _ _ _ _ _ _ _ _ c.new-pdu.ensures c.put_u8-in-ConnectionParamReq.ensures.items c.put_u16-in-ConnectionParamReq.ensures.items c.put_u16-in-ConnectionParamReq-2.ensures.items c.put_u16-in-ConnectionParamReq-3.ensures.items c.put_u16-in-ConnectionParamReq-4.ensures.items c.put_u8-in-ConnectionParamReq-2.ensures.items c.put_u16-in-ConnectionParamReq-5.ensures.items in
+    let before = seven _ _ _ _ _ _ _ _ _ _ _ _ _ _ _ c.new-pdu.ensures c.put_u8.ensures.items c.put_u16.ensures.items c.put_u16-in-ConnectionParamReq.ensures.items c.put_u16-in-ConnectionParamReq-2.ensures.items c.put_u16-in-ConnectionParamReq-3.ensures.items c.put_u8-in-ConnectionParamReq.ensures.items c.put_u16-in-ConnectionParamReq-4.ensures.items in
     rw (c.in-ConnectionParamReq.is) (c.put_six.ensures.items ∙ ap (λ (front : List ℕ). appended front (six_numbers c.in-ConnectionParamReq.offsets)) before)
 
 pub returns-in-ConnectionParamReq-clause-is_ctrl : goal.returns-in-ConnectionParamReq-clause-is_ctrl
