@@ -1,0 +1,58 @@
+//! Calls of `pair` over files in memory, and what they must leave.
+use ble_tool::ble_tool;
+use outside::{MemFiles, MemSink};
+use std::alloc::{AllocError, Global};
+use std::process::Abort;
+
+/// The first three lines of a schedule.
+const SIDES: &str = "ble-schedule 1
+side a c0ffee00000a 71764129 0000000000000001
+side b c0ffee00000b 71764129 0000000000000002
+";
+
+/// The streams of two hosts, the turn lines of the schedule, and the name of the first file.
+#[derive(Clone, Copy)]
+pub(crate) struct Run<'a> {
+    pub(crate) name: &'a str,
+    pub(crate) a: &'a [u8],
+    pub(crate) b: &'a [u8],
+    pub(crate) turns: &'a str,
+}
+
+/// The files of a run.
+fn files_of(alloc: Global, run: Run<'_>) -> Result<MemFiles, AllocError> {
+    let mut schedule = String::from_str(alloc, SIDES)?;
+    schedule.push_str(run.turns)?;
+    let mut files = MemFiles::new(alloc);
+    files.hold(run.name, run.a)?;
+    files.hold("b", run.b)?;
+    files.hold("schedule", schedule.as_bytes())?;
+    Ok(files)
+}
+
+/// The words of `pair` over those files.
+fn words_of(alloc: Global, name: &str) -> Result<Vec<String>, AllocError> {
+    let mut words = Vec::new(alloc);
+    for word in ["pair", name, "b", "schedule"] {
+        words.push(String::from_str(alloc, word)?)?;
+    }
+    Ok(words)
+}
+
+/// Makes the run, and compares its status, its journal and its error line.
+pub(crate) fn check_run(
+    rt: &impl Abort,
+    alloc: Global,
+    run: Run<'_>,
+    (status, journal, line): (u8, &str, &str),
+) -> Result<(), AllocError> {
+    let mut files = files_of(alloc, run)?;
+    let words = words_of(alloc, run.name)?;
+    let mut out = MemSink::new(alloc);
+    let mut err = MemSink::new(alloc);
+    let ended = ble_tool(alloc, &words, &mut files, &mut out, &mut err);
+    assert_eq!(rt; err.octets(), line.as_bytes());
+    assert_eq!(rt; out.octets(), journal.as_bytes());
+    assert_eq!(rt; ended, status);
+    Ok(())
+}
