@@ -1,19 +1,11 @@
-//! Calls of `ble_capture` over files in memory, and what they must leave.
-use journal_tool::journal_tool;
-use outside::{Files, MemFiles, MemSink};
-use renderings::CaptureFile;
-use std::alloc::{AllocError, Global};
-use std::process::Abort;
+//! Calls of the programs over files in memory.
+ghost use Rattle.std.specs.Prelude.{None};
 
-/// The octets of a capture before its packets, as another program wrote them.
-pub(crate) const START: &[u8] = b"\
-\x0a\x0d\x0d\x0a\x1c\x00\x00\x00\x4d\x3c\x2b\x1a\x01\x00\x00\x00\xff\xff\xff\xff\
-\xff\xff\xff\xff\x1c\x00\x00\x00\x01\x00\x00\x00\x20\x00\x00\x00\x00\x01\x00\x00\
-\x00\x00\x00\x00\x02\x00\x03\x00\x61\x69\x72\x00\x00\x00\x00\x00\x20\x00\x00\x00\
-\x01\x00\x00\x00\x24\x00\x00\x00\xc9\x00\x00\x00\x00\x00\x00\x00\x02\x00\x06\x00\
-\x68\x6f\x73\x74\x20\x61\x00\x00\x00\x00\x00\x00\x24\x00\x00\x00\x01\x00\x00\x00\
-\x24\x00\x00\x00\xc9\x00\x00\x00\x00\x00\x00\x00\x02\x00\x06\x00\x68\x6f\x73\x74\
-\x20\x62\x00\x00\x00\x00\x00\x00\x24\x00\x00\x00";
+use crate::files::{Given, files_of, sink_failing};
+use journal_tool::journal_tool;
+use outside::{FileFault, Files, MemFiles, MemSink};
+use renderings::{CaptureFile, MessageChart};
+use std::alloc::{AllocError, Global};
 
 /// What a call left.
 #[derive(Drop)]
@@ -21,13 +13,6 @@ pub(crate) struct Ending {
     pub(crate) status: u8,
     pub(crate) out: MemSink,
     pub(crate) err: MemSink,
-}
-
-/// A file with the name `journal`.
-pub(crate) fn files_of(alloc: Global, text: &[u8]) -> Result<MemFiles, AllocError> {
-    let mut files = MemFiles::new(alloc);
-    files.hold("journal", text)?;
-    Ok(files)
 }
 
 /// The words of a line.
@@ -39,45 +24,98 @@ fn words_of(alloc: Global, line: &str) -> Result<Vec<String>, AllocError> {
     Ok(words)
 }
 
-/// Calls the program with these words, over these files and streams.
-pub(crate) fn call(
+/// Calls `ble_capture` with these words.
+pub(crate) fn captured(alloc: Global, given: &Given<'_>, line: &str) -> Result<Ending, AllocError> {
+    let words = words_of(alloc, line)?;
+    let mut files = files_of(alloc, given)?;
+    let out = sink_failing(alloc, given.failing_write)?;
+    let err = sink_failing(alloc, given.failing_error)?;
+    Ok(capture(alloc, &words, &mut files, (out, err)))
+}
+
+fn capture(
     alloc: Global,
-    words: &str,
-    files: &mut impl Files,
-    mut out: MemSink,
-    mut err: MemSink,
-) -> Result<Ending, AllocError> {
-    let words = words_of(alloc, words)?;
+    words: &Vec<String>,
+    files: &mut MemFiles,
+    (mut out, mut err): (MemSink, MemSink),
+) -> Ending {
     let status = journal_tool(
         alloc,
         "ble_capture",
         &CaptureFile,
-        &words,
+        words,
         files,
         &mut out,
         &mut err,
     );
-    Ok(Ending { status, out, err })
+    Ending { status, out, err }
 }
 
-/// Calls the program with these words and files, and compares the status and the error line.
-/// Nothing may be written.
-pub(crate) fn check_refused(
-    rt: &impl Abort,
-    alloc: Global,
-    words: &str,
-    files: &mut impl Files,
-    (status, err): (u8, &str),
-) -> Result<(), AllocError> {
-    let ending = call(
+/// Calls `ble_chart` with the word `journal`.
+pub(crate) fn charted(alloc: Global, given: &Given<'_>) -> Result<Ending, AllocError> {
+    let words = words_of(alloc, "journal")?;
+    let mut files = files_of(alloc, given)?;
+    let out = sink_failing(alloc, given.failing_write)?;
+    Ok(chart(alloc, &words, &mut files, out))
+}
+
+fn chart(alloc: Global, words: &Vec<String>, files: &mut MemFiles, mut out: MemSink) -> Ending {
+    let mut err = MemSink::new(alloc);
+    let status = journal_tool(
         alloc,
+        "ble_chart",
+        &MessageChart,
         words,
         files,
-        MemSink::new(alloc),
-        MemSink::new(alloc),
-    )?;
-    assert_eq!(rt; ending.status, status);
-    assert_eq!(rt; ending.err.octets(), err.as_bytes());
-    assert!(rt; ending.out.octets().is_empty());
-    Ok(())
+        &mut out,
+        &mut err,
+    );
+    Ending { status, out, err }
+}
+
+/// Files that are over every limit, or for which no memory is left.
+#[derive(Drop)]
+struct RefusedFiles {
+    are_long: bool,
+}
+
+impl Files for RefusedFiles {
+    ghost content = { λ _ _. None };
+
+    ghost faults = { λ _ _. 0 };
+
+    ghost is_reliable = { λ _ _. ⊥ };
+
+    fn read_file(
+        &mut self,
+        _alloc: Global,
+        _name: &str,
+        _limit: u32,
+    ) -> Result<Vec<u8>, FileFault> {
+        if self.are_long {
+            Err(FileFault::TooLong)
+        } else {
+            Err(FileFault::Memory)
+        }
+    }
+}
+
+/// Calls `ble_capture` with the word `journal` over files that are refused.
+pub(crate) fn refused(alloc: Global, are_long: bool) -> Result<Ending, AllocError> {
+    let words = words_of(alloc, "journal")?;
+    Ok(refuse(alloc, &words, RefusedFiles { are_long }))
+}
+
+fn refuse(alloc: Global, words: &Vec<String>, mut files: RefusedFiles) -> Ending {
+    let (mut out, mut err) = (MemSink::new(alloc), MemSink::new(alloc));
+    let status = journal_tool(
+        alloc,
+        "ble_capture",
+        &CaptureFile,
+        words,
+        &mut files,
+        &mut out,
+        &mut err,
+    );
+    Ending { status, out, err }
 }

@@ -4,7 +4,11 @@
 #[cfg(test)]
 mod calls;
 #[cfg(test)]
+mod files;
+#[cfg(test)]
 mod lines;
+#[cfg(test)]
+mod scripts;
 #[cfg(test)]
 mod statuses;
 #[cfg(test)]

@@ -1,68 +1,67 @@
 //! Lines that are not those of a journal: the first of them is named, and nothing is written.
-use crate::calls::{call, check_refused, files_of};
-use outside::MemSink;
-use std::alloc::{AllocError, Global};
-use std::test::Fail;
+use crate::scripts::check;
+use std::alloc::AllocError;
 
 /// Bad lines at the start, between others, at the end and without a newline; signs, octets and
 /// numbers that no line has.
+const BAD_LINES: &str = "\
+file turn +|turn 1 ++|
+capture journal = 3 0 [journal line 1|]
+file |turn 0 ++|
+capture journal = 3 0 [journal line 1|]
+file turn 0 ++|up c 0401|up a 04|
+capture journal = 3 0 [journal line 2|]
+file turn 0 ++||turn 1 ++|
+capture journal = 3 0 [journal line 2|]
+file turn 0 ++|up a 0401|up a 4|
+capture journal = 3 0 [journal line 3|]
+file turn 0 ++|turn 1 ++
+capture journal = 3 0 [journal line 2|]
+file turn 0 ++
+capture journal = 3 0 [journal line 1|]
+file turn 0 ++|up a 0401~0d|
+capture journal = 3 0 [journal line 2|]
+file turn 0 ++|up a 0401 |
+capture journal = 3 0 [journal line 2|]
+file turn 0 ++|up  a 0401|
+capture journal = 3 0 [journal line 2|]
+file turn 0 ++|up a 040G|
+capture journal = 3 0 [journal line 2|]
+file turn 0 ++|up a 040A|
+capture journal = 3 0 [journal line 2|]
+file turn 00 ++|
+capture journal = 3 0 [journal line 1|]
+file turn 18446744073709551616 ++|
+capture journal = 3 0 [journal line 1|]
+file turn 0 ++|air a 256 00 . good|
+capture journal = 3 0 [journal line 2|]
+file turn 0 ++|up a ~004|
+capture journal = 3 0 [journal line 2|]
+file turn 0 ++|up ~c3~a4 04|
+capture journal = 3 0 [journal line 2|]
+file turn 0 ++|up a 04~ff|
+capture journal = 3 0 [journal line 2|]
+file ~ef~bb~bfturn 0 ++|
+capture journal = 3 0 [journal line 1|]
+";
+
 #[test]
-fn the_first_bad_line_is_named(rt: HostRuntime) -> Result<(), Fail> {
-    let alloc = rt.alloc();
-    let rows = [
-        (b"turn +\nturn 1 ++\n".as_slice(), "journal line 1\n"),
-        (b"\nturn 0 ++\n", "journal line 1\n"),
-        (b"turn 0 ++\nup c 0401\nup a 04\n", "journal line 2\n"),
-        (b"turn 0 ++\n\nturn 1 ++\n", "journal line 2\n"),
-        (b"turn 0 ++\nup a 0401\nup a 4\n", "journal line 3\n"),
-        (b"turn 0 ++\nturn 1 ++", "journal line 2\n"),
-        (b"turn 0 ++", "journal line 1\n"),
-        (b"turn 0 ++\nup a 0401\r\n", "journal line 2\n"),
-        (b"turn 0 ++\nup a 0401 \n", "journal line 2\n"),
-        (b"turn 0 ++\nup  a 0401\n", "journal line 2\n"),
-        (b"turn 0 ++\nup a 040G\n", "journal line 2\n"),
-        (b"turn 0 ++\nup a 040A\n", "journal line 2\n"),
-        (b"turn 00 ++\n", "journal line 1\n"),
-        (b"turn 18446744073709551616 ++\n", "journal line 1\n"),
-        (b"turn 0 ++\nair a 256 00 . good\n", "journal line 2\n"),
-        (b"turn 0 ++\nup a \x004\n", "journal line 2\n"),
-        (b"turn 0 ++\nup \xc3\xa4 04\n", "journal line 2\n"),
-        (b"turn 0 ++\nup a 04\xff\n", "journal line 2\n"),
-        (b"\xef\xbb\xbfturn 0 ++\n", "journal line 1\n"),
-    ];
-    for (text, err) in rows {
-        let mut files = files_of(alloc, text)?;
-        check_refused(&rt, alloc, "journal", &mut files, (3, err))?;
-    }
-    Ok(())
+fn the_first_bad_line_is_named(rt: HostRuntime) -> Result<(), AllocError> {
+    check(&rt, rt.alloc(), BAD_LINES)
 }
 
-/// A text with this number of zeros between these parts.
-fn padded(alloc: Global, front: &[u8], count: usize, back: &[u8]) -> Result<Vec<u8>, AllocError> {
-    let mut text = Vec::from_slice(alloc, front)?;
-    let zeros: Vec<u8> = vec![in alloc; b'0'; count]?;
-    text.extend_from_slice(&zeros)?;
-    text.extend_from_slice(back)?;
-    Ok(text)
-}
+/// A line of a million octets is one of a journal where it has an even number of digits. Its
+/// capture has 132 octets of the start, 32 of a block, and 500,004 of the packet.
+const LONG_LINES: &str = "\
+file up a~20
+zeros 1000000
+capture journal = 0 500168 []
+file turn 0 ++|up a~20
+zeros 1000001
+capture journal = 3 0 [journal line 2|]
+";
 
-/// A line of a million octets is one of a journal where it has an even number of digits.
 #[test]
-fn long_lines_are_read(rt: HostRuntime) -> Result<(), Fail> {
-    let alloc = rt.alloc();
-    let even = padded(alloc, b"up a ", 1_000_000, b"\n")?;
-    let mut files = files_of(alloc, &even)?;
-    let ending = call(
-        alloc,
-        "journal",
-        &mut files,
-        MemSink::new(alloc),
-        MemSink::new(alloc),
-    )?;
-    assert_eq!(rt; ending.status, 0);
-    assert_eq!(rt; ending.out.octets().len(), 132 + 32 + 500_004);
-    let odd = padded(alloc, b"turn 0 ++\nup a ", 1_000_001, b"\n")?;
-    let mut files = files_of(alloc, &odd)?;
-    check_refused(&rt, alloc, "journal", &mut files, (3, "journal line 2\n"))?;
-    Ok(())
+fn long_lines_are_read(rt: HostRuntime) -> Result<(), AllocError> {
+    check(&rt, rt.alloc(), LONG_LINES)
 }

@@ -4,4 +4,10 @@
 #[cfg(test)]
 mod files;
 #[cfg(test)]
+mod reads;
+#[cfg(test)]
+mod scripts;
+#[cfg(test)]
+mod sinks;
+#[cfg(test)]
 mod streams;

@@ -10,6 +10,12 @@ mod calls;
 #[cfg(test)]
 mod data;
 #[cfg(test)]
+mod lengths;
+#[cfg(test)]
+mod lines;
+#[cfg(test)]
 mod links;
+#[cfg(test)]
+mod scripts;
 #[cfg(test)]
 mod statuses;

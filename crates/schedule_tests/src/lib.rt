@@ -3,6 +3,14 @@
 #![tactic(auto)]
 
 #[cfg(test)]
+mod calls;
+#[cfg(test)]
 mod schedules;
 #[cfg(test)]
+mod scripts;
+#[cfg(test)]
+mod texts;
+#[cfg(test)]
 mod words;
+#[cfg(test)]
+mod words_tests;

@@ -2,9 +2,11 @@
 #![tactic(auto)]
 
 mod reading;
+mod texts;
 mod writing;
 
 pub use reading::{
     Call, call_of, hex_number, number, octet, octets_of, parts_of, side_and_call, slot,
 };
+pub use texts::{push_lines, put_text, rest_of};
 pub use writing::{decimal_of, put_answer, put_number, put_octets, put_value};
