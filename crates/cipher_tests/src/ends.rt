@@ -1,10 +1,14 @@
 //! Calls on one end of a link, and what each gives, as words.
 ghost use Rattle.std.specs.Prelude.{◌≤◌, ◌<◌, ◌^◌, length};
 
-use crate::words::{Call, put_answer, put_number, put_octets};
-use data_pdu::Ctrl;
-use enc_phase::{Phase, Session};
-use std::alloc::AllocError;
+use crate::ciphers::{COUNTERS, LONGEST, hex_octet};
+use arrayvec::ArrayVec;
+use ble_base::Role;
+use ccm_link::Forged;
+use data_pdu::{Ctrl, CtrlRead, read_ctrl};
+use enc_phase::{Asked, Clear, Phase, Session};
+use std::alloc::{AllocError, Global};
+use test_words::{Call, call_of, octet, octets_of, put_answer, put_number, put_octets};
 
 /// The session of the sample data (Core 5.2, volume 6 part C, section 1).
 pub(crate) const SESSION: Session = Session {
@@ -15,57 +19,35 @@ pub(crate) const SESSION: Session = Session {
     iv: [0x24, 0xAB, 0xDC, 0xBA, 0xBE, 0xBA, 0xAF, 0xDE],
 };
 
-/// The counters are below this number (Core 5.2, volume 6 part E, section 2.1).
-const COUNTERS: u64 = 1 << 39;
+/// A PDU of each class: its letter, its LLID, and the octets of a control PDU that can be read.
+const PDUS: &str = "\
+e 0
+d 1
+D 2
+t 3 0213
+3 3 0300000000000000000000000000000000000000000000
+4 3 04000000000000000000000000
+5 3 05
+6 3 06
+A 3 0a
+B 3 0b
+r 3 0d06
+R 3 110306
+v 3 0c0bffff0100
+f 3 0e0000000000000000
+p 3 160101
+o 3 110f06
+q 3 080000000000000000
+u 3
+";
 
-/// The most octets of a payload that is not sealed.
-const LONGEST: usize = 251;
-
-/// A PDU of each class: its letter, its LLID and what it is read as.
-const PDUS: [(&str, u8, Option<Ctrl>); 18] = [
-    ("e", 0, None),
-    ("d", 1, None),
-    ("D", 2, None),
-    ("t", 3, Some(Ctrl::TerminateInd { code: 0x13 })),
-    (
-        "3",
-        3,
-        Some(Ctrl::EncReq {
-            rand: 0,
-            ediv: 0,
-            skd_m: 0,
-            iv_m: 0,
-        }),
-    ),
-    ("4", 3, Some(Ctrl::EncRsp { skd_s: 0, iv_s: 0 })),
-    ("5", 3, Some(Ctrl::StartEncReq)),
-    ("6", 3, Some(Ctrl::StartEncRsp)),
-    ("A", 3, Some(Ctrl::PauseEncReq)),
-    ("B", 3, Some(Ctrl::PauseEncRsp)),
-    ("r", 3, Some(Ctrl::RejectInd { code: 6 })),
-    ("R", 3, Some(Ctrl::RejectExtInd { opcode: 3, code: 6 })),
-    (
-        "v",
-        3,
-        Some(Ctrl::VersionInd {
-            version: 11,
-            company: 0xFFFF,
-            sub: 1,
-        }),
-    ),
-    ("f", 3, Some(Ctrl::PeripheralFeatureReq { features: 0 })),
-    ("p", 3, Some(Ctrl::PhyReq { tx: 1, rx: 1 })),
-    (
-        "o",
-        3,
-        Some(Ctrl::RejectExtInd {
-            opcode: 0x0F,
-            code: 6,
-        }),
-    ),
-    ("q", 3, Some(Ctrl::FeatureReq { features: 0 })),
-    ("u", 3, None),
-];
+/// The control PDU of a line of the table.
+fn ctrl_of(alloc: Global, line: Call<'_>) -> Option<Ctrl> {
+    match read_ctrl(octets_of(alloc, line.words[1]).as_slice()) {
+        CtrlRead::Known(ctrl) => Some(ctrl),
+        _ => None,
+    }
+}
 
 /// The phase after this one, where nothing is refused.
 pub(crate) fn next(phase: Phase) -> Phase {
@@ -79,29 +61,57 @@ pub(crate) fn next(phase: Phase) -> Phase {
     }
 }
 
+/// Where the start of encryption may be refused, the phase is Clear again.
+fn refused(phase: Phase) -> Phase {
+    match phase {
+        Phase::Asked(asked) => refused_start(asked),
+        other => other,
+    }
+}
+
+/// The start of encryption is refused, if it may be.
+fn refused_start(asked: Asked) -> Phase {
+    if asked.after_pause() {
+        Phase::Asked(asked)
+    } else {
+        Phase::Clear(asked.refuse())
+    }
+}
+
 /// Makes a call on an end.
 pub(crate) fn take(phase: &mut Phase, call: Call<'_>, told: &mut String) -> Result<(), AllocError> {
     match call.name {
+        "next" => go_on(phase),
+        "refuse" => refuse(phase),
         "counts" => put_counts(phase, told),
         "quiet" => put_answer(told, phase.facts().is_quiet()),
         "paused" => put_answer(told, is_after_pause(phase)),
         "takes" => put_taken(phase, told),
         "unknown" => put_unknown(phase, told),
-        "saw" => see(phase, call.first),
+        "saw" => see(phase, call.words[0], *told.allocator()),
+        "clear" => on_clear(phase, call.words, told),
         _ => take_payload(phase, call, told),
     }
 }
 
+/// An end goes on to its next phase.
+fn go_on(phase: &mut Phase) -> Result<(), AllocError> {
+    let here = std::mem::replace(phase, Phase::Clear(Clear::new(Role::Central)));
+    *phase = next(here);
+    Ok(())
+}
+
+/// The start of encryption is refused.
+fn refuse(phase: &mut Phase) -> Result<(), AllocError> {
+    let here = std::mem::replace(phase, Phase::Clear(Clear::new(Role::Central)));
+    *phase = refused(here);
+    Ok(())
+}
+
 /// Makes a call with a header and a payload.
 fn take_payload(phase: &mut Phase, call: Call<'_>, told: &mut String) -> Result<(), AllocError> {
-    let alloc = *told.allocator();
-    let Ok(header) = hex::decode(alloc, call.first) else {
-        return told.push_str(" which header?");
-    };
-    let Ok(payload) = hex::decode(alloc, call.second) else {
-        return told.push_str(" which payload?");
-    };
-    let header = header.first().copied().unwrap_or(0);
+    let header = hex_octet(*told.allocator(), call.words[0]);
+    let payload = octets_of(*told.allocator(), call.words[1]);
     let payload = payload.as_slice();
     match call.name {
         "send" => send(phase, header, payload, told),
@@ -112,10 +122,52 @@ fn take_payload(phase: &mut Phase, call: Call<'_>, told: &mut String) -> Result<
     }
 }
 
+/// Makes a call on an end in phase Clear.
+fn on_clear(phase: &mut Phase, words: [&str; 8], told: &mut String) -> Result<(), AllocError> {
+    match phase {
+        Phase::Clear(clear) => take_clear(clear, words, told),
+        _ => told.push_str(" not Clear"),
+    }
+}
+
+/// Makes a call of phase Clear.
+fn take_clear(clear: &mut Clear, words: [&str; 8], told: &mut String) -> Result<(), AllocError> {
+    let [name, header, payload, ..] = words;
+    let header = hex_octet(*told.allocator(), header);
+    let payload = octets_of(*told.allocator(), payload);
+    let payload = payload.as_slice();
+    if payload.len() > LONGEST {
+        return told.push_str(" cannot");
+    }
+    match name {
+        "data" => put_octets(told, clear.send_data(header, payload).as_slice()),
+        "try" => put_answer(told, clear.try_pdu(header, payload)),
+        "open" => put_opened(told, clear.open_pdu(header, payload)),
+        "counts" => put_pair(told, clear.sent(), clear.opened()),
+        _ => told.push_str(" which call?"),
+    }
+}
+
+/// Writes what a payload is opened to.
+pub(crate) fn put_opened(
+    told: &mut String,
+    opened: Result<ArrayVec<u8, 251>, Forged>,
+) -> Result<(), AllocError> {
+    match opened {
+        Ok(body) => put_octets(told, body.as_slice()),
+        Err(Forged) => told.push_str(" forged"),
+    }
+}
+
+/// Writes two numbers.
+fn put_pair(told: &mut String, first: u64, second: u64) -> Result<(), AllocError> {
+    put_number(told, first)?;
+    put_number(told, second)
+}
+
 /// How many payloads were sealed, and how many opened.
 fn put_counts(phase: &Phase, told: &mut String) -> Result<(), AllocError> {
-    put_number(told, phase.sent())?;
-    put_number(told, phase.opened())
+    put_pair(told, phase.sent(), phase.opened())
 }
 
 /// Whether encryption was asked for after a pause.
@@ -129,10 +181,17 @@ fn is_after_pause(phase: &Phase) -> bool {
 /// The letters of the PDUs that an end may take, in the order of the table.
 fn put_taken(phase: &Phase, told: &mut String) -> Result<(), AllocError> {
     told.push(' ')?;
-    for (letter, llid, ctrl) in &PDUS {
-        if phase.allows(*llid, ctrl.as_ref()) {
-            told.push_str(letter)?;
-        }
+    for line in PDUS.lines() {
+        put_if_taken(phase, call_of(line), told)?;
+    }
+    Ok(())
+}
+
+/// The letter of a line of the table, if an end may take its PDU.
+fn put_if_taken(phase: &Phase, line: Call<'_>, told: &mut String) -> Result<(), AllocError> {
+    let ctrl = ctrl_of(*told.allocator(), line);
+    if phase.allows(octet(line.words[0]), ctrl.as_ref()) {
+        return told.push_str(line.name);
     }
     Ok(())
 }
@@ -140,22 +199,36 @@ fn put_taken(phase: &Phase, told: &mut String) -> Result<(), AllocError> {
 /// The letters of the PDUs that an end answers with LL_UNKNOWN_RSP, in the order of the table.
 fn put_unknown(phase: &Phase, told: &mut String) -> Result<(), AllocError> {
     told.push(' ')?;
-    for (letter, _, ctrl) in &PDUS {
-        if ctrl.as_ref().is_some_and(|ctrl| phase.is_unknown(ctrl)) {
-            told.push_str(letter)?;
+    for line in PDUS.lines() {
+        put_if_unknown(phase, call_of(line), told)?;
+    }
+    Ok(())
+}
+
+/// The letter of a line of the table, if an end answers its PDU with LL_UNKNOWN_RSP.
+fn put_if_unknown(phase: &Phase, line: Call<'_>, told: &mut String) -> Result<(), AllocError> {
+    match ctrl_of(*told.allocator(), line) {
+        Some(ctrl) if phase.is_unknown(&ctrl) => told.push_str(line.name),
+        _ => Ok(()),
+    }
+}
+
+/// An end took the PDU with this letter, if it may.
+fn see(phase: &mut Phase, wanted: &str, alloc: Global) -> Result<(), AllocError> {
+    for line in PDUS.lines() {
+        let line = call_of(line);
+        if line.name == wanted {
+            see_line(phase, octet(line.words[0]), ctrl_of(alloc, line));
         }
     }
     Ok(())
 }
 
-/// An end took the PDU with this letter, if it may.
-fn see(phase: &mut Phase, wanted: &str) -> Result<(), AllocError> {
-    for (letter, llid, ctrl) in &PDUS {
-        if *letter == wanted && phase.allows(*llid, ctrl.as_ref()) {
-            phase.saw(*llid, ctrl.as_ref());
-        }
+/// An end took a PDU, if it may.
+fn see_line(phase: &mut Phase, llid: u8, ctrl: Option<Ctrl>) {
+    if phase.allows(llid, ctrl.as_ref()) {
+        phase.saw(llid, ctrl.as_ref());
     }
-    Ok(())
 }
 
 /// The payload of a control PDU as it is sent.
@@ -213,8 +286,5 @@ fn open(
     if payload.len() > LONGEST || phase.opened() >= COUNTERS {
         return told.push_str(" cannot");
     }
-    match phase.open_pdu(header, payload) {
-        Ok(body) => put_octets(told, body.as_slice()),
-        Err(_) => told.push_str(" forged"),
-    }
+    put_opened(told, phase.open_pdu(header, payload))
 }

@@ -4,6 +4,8 @@
 #[cfg(test)]
 mod block_tests;
 #[cfg(test)]
+mod ciphers;
+#[cfg(test)]
 mod ends;
 #[cfg(test)]
 mod phase_tests;
@@ -11,5 +13,3 @@ mod phase_tests;
 mod scripts;
 #[cfg(test)]
 mod sealing_tests;
-#[cfg(test)]
-mod words;

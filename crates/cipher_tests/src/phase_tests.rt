@@ -4,13 +4,15 @@
 use crate::ends::SESSION;
 use crate::scripts::check;
 use ble_base::Role;
+use ccm_link::laws::sealed_payloads;
 use enc_phase::laws::*;
 use enc_phase::{Asked, Clear, HalfClear, HalfKeyed, Pausing, Phase, Secure};
 use std::alloc::AllocError;
 
-/// LL_START_ENC_RSP of each end with counter 0, and then the data of the sample with counter 1.
-/// The counts are those of the payloads that an end sent and opened.
-const SAMPLES: &str = "\
+const PHASES: &str = "\
+# Seals and opens the samples.
+# LL_START_ENC_RSP of each end with counter 0, and then the data of the sample with counter 1. The
+# counts are those of the payloads that an end sent and opened.
 central quiet = yes
 central next
 central next
@@ -38,16 +40,10 @@ peripheral open 0e 7a70d66415226df26b17839a060405596bd6564f796b5b9ce6ff32f75a6d3
     1700636465666768696a6b6c6d6e6f707131323334353637383930
 central open 06 f38881e7bd94c9c369b9a66846dd4786aa8c39ce540d0dae3adcdf89b96088 = \
     170037363534333231304142434445464748494a4b4c4d4e4f5051
-";
-
-#[test]
-fn seals_and_opens_the_samples(rt: HostRuntime) -> Result<(), AllocError> {
-    check(&rt, rt.alloc(), SAMPLES)
-}
-
-/// One payload from the same end; and one that comes again, one with another last octet, and one
-/// that is too short.
-const FORGED: &str = "\
+new
+# Refuses the forged.
+# One payload from the same end; and one that comes again, one with another last octet, and one
+# that is too short.
 central next
 central next
 peripheral next
@@ -62,16 +58,10 @@ peripheral open 0f 9fcda7f449 = forged
 peripheral try 0f 9fcda7f4 = no
 peripheral open 0f 9fcda7f4 = forged
 peripheral counts = 0 1
-";
-
-#[test]
-fn refuses_the_forged(rt: HostRuntime) -> Result<(), AllocError> {
-    check(&rt, rt.alloc(), FORGED)
-}
-
-/// While encryption pauses, the peripheral sends sealed and receives clear, as LL_PAUSE_ENC_RSP; a
-/// restart begins with counters of 0.
-const PAUSED: &str = "\
+new
+# Pauses and restarts.
+# While encryption pauses, the peripheral sends sealed and receives clear, as LL_PAUSE_ENC_RSP; a
+# restart begins with counters of 0.
 central next
 central next
 peripheral next
@@ -97,32 +87,23 @@ central paused = yes
 central next
 central send 0f 06 = 9fcda7f448
 peripheral try 03 03 = yes
-";
-
-#[test]
-fn pauses_and_restarts(rt: HostRuntime) -> Result<(), AllocError> {
-    check(&rt, rt.alloc(), PAUSED)
-}
-
-/// A PDU of one octet.
-const ONE_OCTET: &[u8] = b"\x00";
-
-#[test]
-fn a_refused_start_is_clear_again(rt: HostRuntime) {
-    let asked = Clear::new(Role::Central).ask();
-    assert!(rt; !asked.after_pause());
-    let mut clear = asked.refuse();
-    assert_eq!(rt; clear.send_data(0x02, ONE_OCTET).as_slice(), ONE_OCTET);
-    assert!(rt; clear.try_pdu(0x02, ONE_OCTET));
-    assert!(rt; clear.open_pdu(0x02, ONE_OCTET).is_ok());
-    assert_eq!(rt; (clear.sent(), clear.opened()), (0, 0));
-}
-
-/// The PDUs that an end may take in its phases, by letters: one that is empty (e), data (d and D),
-/// LL_TERMINATE_IND (t), the PDUs of encryption by their opcodes, rejects (r, R and o),
-/// LL_VERSION_IND (v), requests (f, p and q), and a control PDU that cannot be read (u). Both ends
-/// go from Clear to Asked, HalfKeyed, Secure, Pausing, HalfClear and Asked again.
-const TAKEN: &str = "\
+new
+# A refused start is clear again.
+# The phase is Clear again, and nothing was sealed.
+central next
+central paused = no
+central refuse
+central quiet = yes
+central clear data 02 00 = 00
+central clear try 02 00 = yes
+central clear open 02 00 = 00
+central clear counts = 0 0
+new
+# Takes what the table lets a phase take.
+# The PDUs that an end may take in its phases, by letters: one that is empty (e), data (d and D),
+# LL_TERMINATE_IND (t), the PDUs of encryption by their opcodes, rejects (r, R and o),
+# LL_VERSION_IND (v), requests (f, p and q), and a control PDU that cannot be read (u). Both ends
+# go from Clear to Asked, HalfKeyed, Secure, Pausing, HalfClear and Asked again.
 central takes = edDt3456ABrRvfpoqu
 central next
 central takes = edDt4rRvfp
@@ -149,25 +130,17 @@ peripheral next
 peripheral takes = et3
 peripheral next
 peripheral takes = et
-";
-
-#[test]
-fn takes_what_the_table_lets_a_phase_take(rt: HostRuntime) -> Result<(), AllocError> {
-    check(&rt, rt.alloc(), TAKEN)
-}
-
-/// LL_ENC_RSP comes once and ends the data; the first PDU of the peripheral's procedure comes
-/// once.
-const SEEN: &str = "\
+new
+# Keeps what it saw.
+# LL_ENC_RSP comes once and ends the data; the first PDU of the peripheral's procedure comes once.
 central next
 central saw 4
 central takes = et5rRvfp
 central saw p
 central takes = et5rR
-";
-
-/// It comes once over the pause too.
-const SEEN_IN_A_PAUSE: &str = "\
+new
+# Keeps what it saw in a pause.
+# It comes once over the pause too.
 central next
 central next
 central next
@@ -178,16 +151,9 @@ central takes = edDtB
 central next
 central next
 central takes = edDt4
-";
-
-#[test]
-fn keeps_what_it_saw(rt: HostRuntime) -> Result<(), AllocError> {
-    check(&rt, rt.alloc(), SEEN)?;
-    check(&rt, rt.alloc(), SEEN_IN_A_PAUSE)
-}
-
-/// The PDUs that are answered with LL_UNKNOWN_RSP, in Clear and in Secure.
-const UNKNOWN: &str = "\
+new
+# Encryption pdus without meaning are unknown.
+# The PDUs that are answered with LL_UNKNOWN_RSP, in Clear and in Secure.
 central unknown = 3A
 peripheral unknown = 45A
 central next
@@ -201,12 +167,28 @@ peripheral unknown = 345
 ";
 
 #[test]
-fn encryption_pdus_without_meaning_are_unknown(rt: HostRuntime) -> Result<(), AllocError> {
-    check(&rt, rt.alloc(), UNKNOWN)
+fn phases_of_both_ends(rt: HostRuntime) -> Result<(), AllocError> {
+    check(&rt, rt.alloc(), PHASES)
 }
 
-fn secure(role: Role) -> Secure {
-    Clear::new(role).ask().key(SESSION).confirm()
+/// A central that asked for encryption.
+fn asked() -> Asked {
+    Clear::new(Role::Central).ask()
+}
+
+/// A central that has the key.
+fn half_keyed() -> HalfKeyed {
+    asked().key(SESSION)
+}
+
+/// A central that is encrypted.
+fn secure() -> Secure {
+    half_keyed().confirm()
+}
+
+/// A central that asked for a pause.
+fn pausing() -> Pausing {
+    secure().pause()
 }
 
 /// What a method answers that a type does not have.
@@ -292,21 +274,21 @@ impl IsUsedOnce for Phase {
 
 #[test]
 fn only_clear_and_secure_send_data() {
-    let NotThere = Clear::new(Role::Central).ask().send_data();
-    let NotThere = Clear::new(Role::Central).ask().key(SESSION).send_data();
-    let NotThere = secure(Role::Central).pause().send_data();
-    let NotThere = secure(Role::Central).pause().unlock().send_data();
+    let NotThere = asked().send_data();
+    let NotThere = half_keyed().send_data();
+    let NotThere = pausing().send_data();
+    let NotThere = pausing().unlock().send_data();
 }
 
 #[test]
 fn no_phase_is_copied() {
     let NotThere = Clear::new(Role::Central).clone();
-    let NotThere = Clear::new(Role::Central).ask().clone();
-    let NotThere = Clear::new(Role::Central).ask().key(SESSION).clone();
-    let NotThere = secure(Role::Central).clone();
-    let NotThere = secure(Role::Central).pause().clone();
-    let NotThere = secure(Role::Central).pause().unlock().clone();
-    let NotThere = Phase::Secure(secure(Role::Central)).clone();
+    let NotThere = asked().clone();
+    let NotThere = half_keyed().clone();
+    let NotThere = secure().clone();
+    let NotThere = pausing().clone();
+    let NotThere = pausing().unlock().clone();
+    let NotThere = Phase::Secure(secure()).clone();
 }
 
 #[test]
@@ -316,4 +298,5 @@ fn laws_hold_of_each_end() {
     sealing_follows_what_was_taken();
     leaving_changes_no_sealing();
     clear_directions_have_counter_0();
+    sealed_payloads();
 }

@@ -1,50 +1,77 @@
-//! Scripts: calls on both ends of a link, each with what it gives.
-use crate::ends::{next, take};
-use crate::words::{Call, call_of};
+//! Scripts: calls on both ends of a link and on the ciphers, each with what it gives.
+use crate::{ciphers, ends};
 use ble_base::Role;
 use enc_phase::{Clear, Phase};
 use std::alloc::{AllocError, Global};
 use std::process::Abort;
+use test_words::{Call, parts_of, side_and_call};
 
-/// Both ends of a link.
-#[derive(Drop)]
-struct Ends {
-    central: Phase,
-    peripheral: Phase,
-}
-
-/// Each line has a call, and after " =" what it gives. Both ends begin without encryption.
+/// Each line has a call, and after " =" what it gives. Both ends begin without encryption, and again
+/// at a line "new". A line that begins with "#" says what follows.
 pub(crate) fn check(rt: &impl Abort, alloc: Global, script: &str) -> Result<(), AllocError> {
     let mut ends = Ends {
-        central: Phase::Clear(Clear::new(Role::Central)),
-        peripheral: Phase::Clear(Clear::new(Role::Peripheral)),
+        phases: Vec::new(alloc),
     };
-    for line in script.lines() {
-        let mut told = String::new(alloc);
-        let mut parts = line.split(" =");
-        let call = call_of(parts.next().unwrap_or(""));
-        ends.take(call, &mut told)?;
-        assert_eq!(rt; told.as_str(), parts.next().unwrap_or(""), "{line}");
-    }
-    Ok(())
+    ends.begin()?;
+    ends.run(rt, alloc, script)
+}
+
+/// The central and the peripheral of a link.
+#[derive(Drop)]
+struct Ends {
+    phases: Vec<Phase>,
 }
 
 impl Ends {
-    /// Makes a call, and writes what it gives.
-    fn take(&mut self, call: Call<'_>, told: &mut String) -> Result<(), AllocError> {
-        match call.end {
-            "central" => take_or_go_on(&mut self.central, call, told),
-            _ => take_or_go_on(&mut self.peripheral, call, told),
+    /// Both ends are without encryption.
+    fn begin(&mut self) -> Result<(), AllocError> {
+        self.phases.clear();
+        for role in [Role::Central, Role::Peripheral] {
+            self.phases.push(Phase::Clear(Clear::new(role)))?;
+        }
+        Ok(())
+    }
+
+    /// Makes each call of a script, and compares what it gives.
+    fn run(&mut self, rt: &impl Abort, alloc: Global, script: &str) -> Result<(), AllocError> {
+        for line in script.lines() {
+            let (call, want) = parts_of(line);
+            let told = self.told_of(alloc, call)?;
+            assert_eq!(rt; told.as_str(), want, "{line}");
+        }
+        Ok(())
+    }
+
+    /// What a call gives.
+    fn told_of(&mut self, alloc: Global, text: &str) -> Result<String, AllocError> {
+        let mut told = String::new(alloc);
+        let (side, call) = side_and_call(text);
+        self.take(side, call, &mut told)?;
+        Ok(told)
+    }
+
+    /// Makes a call on an end or on a cipher.
+    fn take(&mut self, side: &str, call: Call<'_>, told: &mut String) -> Result<(), AllocError> {
+        match side {
+            "central" => self.on_end(0, call, told),
+            "peripheral" => self.on_end(1, call, told),
+            "cipher" => ciphers::take(call, told),
+            "new" => self.begin(),
+            "#" => Ok(()),
+            _ => told.push_str(" which end?"),
         }
     }
-}
 
-/// Makes a call on an end. At "next" the end goes on to its next phase.
-fn take_or_go_on(phase: &mut Phase, call: Call<'_>, told: &mut String) -> Result<(), AllocError> {
-    if call.name == "next" {
-        let here = std::mem::replace(phase, Phase::Clear(Clear::new(Role::Central)));
-        *phase = next(here);
-        return Ok(());
+    /// Makes a call on the end at this place.
+    fn on_end(
+        &mut self,
+        place: usize,
+        call: Call<'_>,
+        told: &mut String,
+    ) -> Result<(), AllocError> {
+        match self.phases.as_mut_slice().get_mut(place) {
+            None => told.push_str(" which end?"),
+            Some(phase) => ends::take(phase, call, told),
+        }
     }
-    take(phase, call, told)
 }

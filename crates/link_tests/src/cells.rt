@@ -1,35 +1,96 @@
 //! Each call once, and a pool of one cell.
-
+use crate::scripts::check;
 use cell_pool::CellPool;
-use std::test::Fail;
+use std::alloc::{AllocError, Global};
+use test_words::{Call, put_number};
 
-#[test]
-fn full_pool_hands_the_value_back(rt: HostRuntime) -> Result<(), Fail> {
-    let mut pool: CellPool<u8, 1> = CellPool::make(rt.alloc())?;
-    assert!(rt; pool.put(7).is_ok());
-    assert_eq!(rt; pool.put(7), Err(7));
-    assert_eq!(rt; pool.held(), 1);
-    Ok(())
+/// Makes the calls on a new pool that have this name.
+pub(crate) fn take(call: Call<'_>, told: &mut String) -> Result<(), AllocError> {
+    match call.name {
+        "fill" => fill(told),
+        "use_again" => use_again(told),
+        "change" => change(told),
+        _ => told.push_str(" which call?"),
+    }
 }
 
-#[test]
-fn a_cell_is_used_again(rt: HostRuntime) -> Result<(), Fail> {
-    let mut pool: CellPool<u8, 1> = CellPool::make(rt.alloc())?;
-    let cell = pool.put(1).ok().ok_or("no cell")?;
-    assert!(rt; pool.holds(cell));
-    assert_eq!(rt; pool.take(cell), 1);
-    assert!(rt; !pool.holds(cell));
-    assert!(rt; pool.put(4).is_ok());
-    Ok(())
+/// Writes the value that is found.
+fn put_found(told: &mut String, found: Option<u8>) -> Result<(), AllocError> {
+    match found {
+        None => told.push_str(" none"),
+        Some(value) => put_number(told, u64::from(value)),
+    }
 }
 
-#[test]
-fn a_value_changes_in_its_cell(rt: HostRuntime) -> Result<(), Fail> {
-    let mut pool: CellPool<u8, 2> = CellPool::make(rt.alloc())?;
-    let cell = pool.put(2).ok().ok_or("no cell")?;
-    assert!(rt; pool.holds(cell));
+/// Writes what a full pool hands back, and how many of its cells are taken.
+fn fill(told: &mut String) -> Result<(), AllocError> {
+    let (found, held) = filled(*told.allocator())?;
+    put_found(told, found)?;
+    put_number(told, held as u64)
+}
+
+/// What a pool of one cell hands back when it is full, and how many cells are taken then.
+fn filled(alloc: Global) -> Result<(Option<u8>, usize), AllocError> {
+    let mut pool: CellPool<u8, 1> = CellPool::make(alloc)?;
+    let found = handed_back(&mut pool);
+    Ok((found, pool.held()))
+}
+
+/// What was in a cell that is used again.
+fn use_again(told: &mut String) -> Result<(), AllocError> {
+    let mut pool: CellPool<u8, 1> = CellPool::make(*told.allocator())?;
+    put_found(told, taken(&mut pool))
+}
+
+/// What is in a cell whose value changes.
+fn change(told: &mut String) -> Result<(), AllocError> {
+    let mut pool: CellPool<u8, 2> = CellPool::make(*told.allocator())?;
+    put_found(told, changed(&mut pool))
+}
+
+/// Puts 7 into a pool of one cell twice: what the second call hands back.
+fn handed_back(pool: &mut CellPool<u8, 1>) -> Option<u8> {
+    if pool.put(7).is_err() {
+        return None;
+    }
+    pool.put(7).err()
+}
+
+/// Puts 1 into a cell, takes it, and puts 4 there: what was taken.
+fn taken(pool: &mut CellPool<u8, 1>) -> Option<u8> {
+    let cell = pool.put(1).ok()?;
+    if !pool.holds(cell) {
+        return None;
+    }
+    let value = pool.take(cell);
+    if pool.holds(cell) || pool.put(4).is_err() {
+        return None;
+    }
+    Some(value)
+}
+
+/// Puts 2 into a cell and changes it to 7: what is there then.
+fn changed(pool: &mut CellPool<u8, 2>) -> Option<u8> {
+    let cell = pool.put(2).ok()?;
+    if !pool.holds(cell) {
+        return None;
+    }
     *pool.get_mut(cell) = 7;
-    assert!(rt; pool.holds(cell));
-    assert_eq!(rt; *pool.get(cell), 7);
-    Ok(())
+    if !pool.holds(cell) {
+        return None;
+    }
+    Some(*pool.get(cell))
+}
+
+/// A full pool hands the value back and holds one; a cell is used again; and a value changes in its
+/// cell.
+const CELLS: &str = "\
+cell fill = 7 1
+cell use_again = 1
+cell change = 7
+";
+
+#[test]
+fn cells_hold_values(rt: HostRuntime) -> Result<(), AllocError> {
+    check(&rt, rt.alloc(), CELLS)
 }

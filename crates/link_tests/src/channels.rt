@@ -1,49 +1,87 @@
 //! Channels of the standard's sample data, and against plain programs.
 use crate::plain::{plain_by_hop, plain_by_number};
+use crate::scripts::check;
 use ble_base::{ChannelMap, EventNo};
 use chan_select::Selector;
 use chan_select::laws::{hop_is_added_each_event, numbers_of_the_sample_data};
-use std::test::Fail;
-
-const ALL: u64 = 0x1F_FFFF_FFFF;
-
-/// Channels 9, 10, 21, 22, 23, 33, 34, 35 and 36.
-const NINE: u64 = 0x1E_00E0_0600;
+use std::alloc::AllocError;
+use test_words::{Call, hex_number, put_number, slot};
 
 /// The access address of the sample data of Core 5.2, volume 6 part C, section 3.
 const SAMPLE: u32 = 0x8E89_BED6;
 
-/// Channels 0 and 36.
-const TWO: u64 = 0x10_0000_0001;
-
-/// Algorithm #2 as in the sample data of Core 5.2, volume 6 part C, section 3.
-#[test]
-fn channels_of_the_sample_data(rt: HostRuntime) -> Result<(), Fail> {
-    let all = map_of(ALL).ok_or("no map")?;
-    assert_eq!(rt; by_number(0, &all), 25);
-    assert_eq!(rt; by_number(1, &all), 20);
-    assert_eq!(rt; by_number(2, &all), 6);
-    assert_eq!(rt; by_number(3, &all), 21);
-    let nine = map_of(NINE).ok_or("no map")?;
-    assert_eq!(rt; by_number(6, &nine), 23);
-    assert_eq!(rt; by_number(7, &nine), 9);
-    assert_eq!(rt; by_number(8, &nine), 34);
-    Ok(())
+/// Makes a call on the selection of channels of a map.
+pub(crate) fn take(call: Call<'_>, told: &mut String) -> Result<(), AllocError> {
+    let [map, event, ..] = call.words;
+    match ChannelMap::new(hex_number(*told.allocator(), map)) {
+        None => told.push_str(" no map"),
+        Some(map) => select(call.name, &map, slot(event), told),
+    }
 }
 
-/// Algorithm #1 as worked out by hand where its counter wraps.
-#[test]
-fn channels_where_the_counter_wraps(rt: HostRuntime) -> Result<(), Fail> {
-    let all = map_of(ALL).ok_or("no map")?;
-    assert_eq!(rt; by_hop(65535, &all), 33);
-    assert_eq!(rt; by_hop(65536, &all), 12);
-    assert_eq!(rt; by_hop(65537, &all), 28);
-    Ok(())
+/// Selects the channel of an event, or of the next 80 ones.
+fn select(name: &str, map: &ChannelMap, event: u32, told: &mut String) -> Result<(), AllocError> {
+    match name {
+        "by_number" => put_number(told, u64::from(by_number(event, map))),
+        "by_hop" => put_number(told, u64::from(by_hop(event, map))),
+        "plain" => put_difference(told, first_difference(map, event)),
+        _ => told.push_str(" which call?"),
+    }
 }
 
-/// The map with these bits.
-fn map_of(bits: u64) -> Option<ChannelMap> {
-    ChannelMap::new(bits)
+/// Writes the event in which two programs differ.
+fn put_difference(told: &mut String, event: Option<u32>) -> Result<(), AllocError> {
+    match event {
+        None => told.push_str(" same"),
+        Some(event) => put_number(told, u64::from(event)),
+    }
+}
+
+const CHANNELS: &str = "\
+# Algorithm #2 as in the sample data of Core 5.2, volume 6 part C, section 3: on all channels, and
+# on the channels 9, 10, 21, 22, 23, 33, 34, 35 and 36.
+channel by_number 1fffffffff 0 = 25
+channel by_number 1fffffffff 1 = 20
+channel by_number 1fffffffff 2 = 6
+channel by_number 1fffffffff 3 = 21
+channel by_number 1e00e00600 6 = 23
+channel by_number 1e00e00600 7 = 9
+channel by_number 1e00e00600 8 = 34
+# Algorithm #1 as worked out by hand where its counter wraps.
+channel by_hop 1fffffffff 65535 = 33
+channel by_hop 1fffffffff 65536 = 12
+channel by_hop 1fffffffff 65537 = 28
+# Both algorithms against programs that go by single steps and single bits, on six maps, from four
+# events on.
+channel plain 1fffffffff 0 = same
+channel plain 1fffffffff 65500 = same
+channel plain 1fffffffff 131060 = same
+channel plain 1fffffffff 4294967040 = same
+channel plain 1e00e00600 0 = same
+channel plain 1e00e00600 65500 = same
+channel plain 1e00e00600 131060 = same
+channel plain 1e00e00600 4294967040 = same
+channel plain 1000000001 0 = same
+channel plain 1000000001 65500 = same
+channel plain 1000000001 131060 = same
+channel plain 1000000001 4294967040 = same
+channel plain 1555555555 0 = same
+channel plain 1555555555 65500 = same
+channel plain 1555555555 131060 = same
+channel plain 1555555555 4294967040 = same
+channel plain 0000000006 0 = same
+channel plain 0000000006 65500 = same
+channel plain 0000000006 131060 = same
+channel plain 0000000006 4294967040 = same
+channel plain 001fff8000 0 = same
+channel plain 001fff8000 65500 = same
+channel plain 001fff8000 131060 = same
+channel plain 001fff8000 4294967040 = same
+";
+
+#[test]
+fn channels_of_events(rt: HostRuntime) -> Result<(), AllocError> {
+    check(&rt, rt.alloc(), CHANNELS)
 }
 
 /// The channel of an event by algorithm #1 with a hop increment of 16.
@@ -54,25 +92,6 @@ fn by_hop(event: u32, map: &ChannelMap) -> u8 {
 /// The channel of an event by algorithm #2 with the access address of the sample data.
 fn by_number(event: u32, map: &ChannelMap) -> u8 {
     Selector::two(SAMPLE).channel(EventNo(u64::from(event)), map)
-}
-
-/// Both algorithms against programs that go by single steps and single bits.
-#[test]
-fn channels_are_those_of_a_plain_program(rt: HostRuntime) -> Result<(), Fail> {
-    for bits in [
-        ALL,
-        NINE,
-        TWO,
-        0x15_5555_5555,
-        0x00_0000_0006,
-        0x00_1FFF_8000,
-    ] {
-        let map = ChannelMap::new(bits).ok_or("no map")?;
-        for first in [0, 65_500, 131_060, 0xFFFF_FF00] {
-            assert_eq!(rt; first_difference(&map, first), None, "on {bits}");
-        }
-    }
-    Ok(())
 }
 
 /// The first of 80 events in which a channel is not that of the plain programs.

@@ -12,6 +12,6 @@ mod indications;
 #[cfg(test)]
 mod plain;
 #[cfg(test)]
-mod tracks;
+mod scripts;
 #[cfg(test)]
-mod words;
+mod tracks;

@@ -1,19 +1,18 @@
-//! Scripts: calls on the parameters of a link, each with what it gives.
+//! Calls on the parameters of a link, and what each gives, as words.
 ghost use Rattle.std.specs.Prelude.{◌≤◌};
 ghost use Rattle.instants.specs.Track.{HasInterval};
 
-use crate::words::{Call, call_of, number, put_answer, put_number};
-use ble_base::{ChannelMap, SlotNo};
+use ble_base::{ChannelMap, SlotNo, instant_gap};
 use instants::{Indication, ParamTrack, Params};
-use std::alloc::{AllocError, Global};
-use std::process::Abort;
+use std::alloc::AllocError;
+use test_words::{Call, number, put_answer, put_number};
 
 /// The channels 0 to 32.
 const LOW_CHANNELS: u64 = 0x01_FFFF_FFFF;
 
 /// A link whose event 0 has its anchor in slot 2, with 30 ms from one event to the next, which are
 /// 24 slots, no latency, a supervision timeout of 720 ms and all channels.
-fn new_track() -> ParamTrack {
+pub(crate) fn new_track() -> ParamTrack {
     let params = Params {
         interval: 24,
         latency: 0,
@@ -23,39 +22,28 @@ fn new_track() -> ParamTrack {
     ParamTrack::new(params, SlotNo(2))
 }
 
-/// Each line has a call, and after " =" what it gives. The first call is on a new link, and so is
-/// each one after the line "new".
-pub(crate) fn check(rt: &impl Abort, alloc: Global, script: &str) -> Result<(), AllocError> {
-    let mut track = new_track();
-    for line in script.lines() {
-        let mut told = String::new(alloc);
-        let mut parts = line.split(" =");
-        let call = call_of(parts.next().unwrap_or(""));
-        take(&mut track, call, &mut told)?;
-        assert_eq!(rt; told.as_str(), parts.next().unwrap_or(""), "{line}");
-    }
-    Ok(())
-}
-
-/// Makes a call, and writes what it gives.
-fn take(track: &mut ParamTrack, call: Call<'_>, told: &mut String) -> Result<(), AllocError> {
-    let [first, second, third] = call.words;
+/// Makes a call on the parameters of a link.
+pub(crate) fn take(
+    track: &mut ParamTrack,
+    call: Call<'_>,
+    told: &mut String,
+) -> Result<(), AllocError> {
+    let [first, second, ..] = call.words;
     match call.name {
-        "new" => begin(track),
         "enter" => enter(track, number(first), told),
         "update" => hear(track, update(number(first), number(second)), told),
         "map" => hear(track, low_channels(number(first)), told),
+        "gap" => put_gap(told, number(first), number(second)),
         "free" => put_answer(told, track.free()),
         "anchor" => put_number(told, track.next_anchor().0),
         "params" => put_params(track.params(), told),
-        _ => told.push_str(third),
+        _ => told.push_str(" which call?"),
     }
 }
 
-/// The link is a new one.
-fn begin(track: &mut ParamTrack) -> Result<(), AllocError> {
-    *track = new_track();
-    Ok(())
+/// Writes the number of events from one to an Instant.
+fn put_gap(told: &mut String, instant: u16, now: u16) -> Result<(), AllocError> {
+    put_number(told, u64::from(instant_gap(instant, now)))
 }
 
 /// Enters this number of events, and writes the number of each indication that they apply.

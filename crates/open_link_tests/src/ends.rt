@@ -3,8 +3,9 @@
 use crate::scripts::check;
 use std::alloc::AllocError;
 
-/// Each end wants each event, and none continues.
-const EMPTY_PDUS: &str = "\
+const ENDS: &str = "\
+# Two ends exchange empty PDUs.
+# Each end wants each event, and none continues.
 a central 0 0 11 0
 b peripheral 0 0 10 0
 a enter 2 = 0 enter 0 0 25
@@ -22,17 +23,11 @@ b send 0 26 = 9
 a hear 0 26 = no
 a shape 0 = 20 24 no
 a enter 50 = 0 enter 0 2 6
-";
-
-#[test]
-fn two_ends_exchange_empty_pdus(rt: HostRuntime) -> Result<(), AllocError> {
-    check(&rt, rt.alloc(), EMPTY_PDUS)
-}
-
-/// A packet of 28 octets goes over in two pieces. The packet with the first piece is lost, then the
-/// answer to it, so that it is repeated after it was taken; and the second piece is repeated until
-/// there is room for it.
-const LOST_PACKETS: &str = "\
+new
+# Data over lost packets.
+# A packet of 28 octets goes over in two pieces. The packet with the first piece is lost, then the
+# answer to it, so that it is repeated after it was taken; and the second piece is repeated until
+# there is room for it.
 a central 0 0 11 0
 b peripheral 0 0 10 0
 a give 0 0102030405060708090a0b0c0d0e0f101112131415161718191a1b1c = kept
@@ -73,16 +68,10 @@ a hear 0 74 = no
 a shape 0 = 21 24 no
 b receive = 0 no 1c
 a report = 0 1
-";
-
-#[test]
-fn data_over_lost_packets(rt: HostRuntime) -> Result<(), AllocError> {
-    check(&rt, rt.alloc(), LOST_PACKETS)
-}
-
-/// The packets of channel 25, by their octets: NESN and SN are bits 2 and 3 of the fifth one, as
-/// they are whitened. The central repeats its packet until the answer arrives.
-const NUMBERS: &str = "\
+new
+# Numbers change only with an acknowledgement.
+# The packets of channel 25, by their octets: NESN and SN are bits 2 and 3 of the fifth one, as
+# they are whitened. The central repeats its packet until the answer arrives.
 a central 0 0 11 0
 b peripheral 0 0 10 0
 a enter 2 = 0 enter 0 0 25
@@ -97,15 +86,9 @@ b air = 2941767154facde350
 a hear 0 2 = no
 a send 0 3 = 9
 a air = 294176715cfa6bee50
-";
-
-#[test]
-fn numbers_change_only_with_an_acknowledgement(rt: HostRuntime) -> Result<(), AllocError> {
-    check(&rt, rt.alloc(), NUMBERS)
-}
-
-/// One octet of a packet is changed: of its CRC, then of its access address.
-const VERDICTS: &str = "\
+new
+# Verdicts on packets.
+# One octet of a packet is changed: of its CRC, then of its access address.
 a central 0 0 11 0
 b peripheral 0 0 10 0
 a enter 2 = 0 enter 0 0 25
@@ -121,16 +104,10 @@ b hear 0 3 = no
 a send 0 4 = 9
 b judge 0 = good
 b hear 0 4 = yes
-";
-
-#[test]
-fn verdicts(rt: HostRuntime) -> Result<(), AllocError> {
-    check(&rt, rt.alloc(), VERDICTS)
-}
-
-/// An end that received nothing good ends after six intervals, and another one after its
-/// supervision timeout.
-const TIMEOUTS: &str = "\
+new
+# Links time out.
+# An end that received nothing good ends after six intervals, and another one after its
+# supervision timeout.
 a central 0 0 11 2
 b peripheral 0 0 10 2
 a enter 2 = 0 enter 0 0 25
@@ -142,15 +119,9 @@ a shut_due 143 =
 a shut_due 144 = 0 3e
 b shut_due 577 =
 b shut_due 578 = 0 08
-";
-
-#[test]
-fn timeouts(rt: HostRuntime) -> Result<(), AllocError> {
-    check(&rt, rt.alloc(), TIMEOUTS)
-}
-
-/// A peripheral with a latency of two events wants the third one after it heard a packet.
-const IDLE: &str = "\
+new
+# An idle peripheral skips events.
+# A peripheral with a latency of two events wants the third one after it heard a packet.
 a central 0 0 11 2
 b peripheral 0 0 10 2
 a enter 2 = 0 enter 0 0 25
@@ -162,15 +133,9 @@ a hear 0 2 = no
 b enter 26 = nobody enter 0 1 20
 b enter 50 = nobody enter 0 2 6
 b enter 74 = 0 enter 0 3 21
-";
-
-#[test]
-fn an_idle_peripheral_skips_events(rt: HostRuntime) -> Result<(), AllocError> {
-    check(&rt, rt.alloc(), IDLE)
-}
-
-/// A peripheral with latency skips no event while its host has data to send.
-const BUSY: &str = "\
+new
+# A busy peripheral skips no event.
+# A peripheral with latency skips no event while its host has data to send.
 a central 0 0 11 2
 b peripheral 0 0 10 2
 b give 0 0102030405060708090a0b0c0d0e0f101112131415161718191a1b1c = kept
@@ -183,16 +148,10 @@ a hear 0 2 = no
 b enter 26 = 0 enter 0 1 20
 b enter 50 = 0 enter 0 2 6
 b enter 74 = 0 enter 0 3 21
-";
-
-#[test]
-fn a_busy_peripheral_skips_no_event(rt: HostRuntime) -> Result<(), AllocError> {
-    check(&rt, rt.alloc(), BUSY)
-}
-
-/// The channels of a link over 100 events, by both algorithms on all channels and on nine, as a
-/// program of another language lists them that goes by single steps and bits.
-const CHANNELS: &str = "\
+new
+# Channels of a whole link.
+# The channels of a link over 100 events, by both algorithms on all channels and on nine, as a
+# program of another language lists them that goes by single steps and bits.
 a sample one all
 a channels 100 = 7 14 21 28 35 5 12 19 26 33 3 10 17 24 31 1 8 15 22 29 36 6 13 20 27 34 4 \
     11 18 25 32 2 9 16 23 30 0 7 14 21 28 35 5 12 19 26 33 3 10 17 24 31 1 8 15 22 29 36 6 13 20 \
@@ -216,6 +175,6 @@ a channels 100 = 35 9 33 21 34 36 23 9 34 21 21 10 23 22 9 36 23 36 34 34 36 33 
 ";
 
 #[test]
-fn channels_of_a_whole_link(rt: HostRuntime) -> Result<(), AllocError> {
-    check(&rt, rt.alloc(), CHANNELS)
+fn two_ends_of_a_link(rt: HostRuntime) -> Result<(), AllocError> {
+    check(&rt, rt.alloc(), ENDS)
 }

@@ -12,5 +12,3 @@ mod links;
 mod scripts;
 #[cfg(test)]
 mod sides;
-#[cfg(test)]
-mod words;

@@ -2,8 +2,9 @@
 use crate::scripts::check;
 use std::alloc::AllocError;
 
-/// There are two buffers for packets of the host.
-const GIVEN: &str = "\
+const DATA: &str = "\
+# What the host gives.
+# There are two buffers for packets of the host.
 a central 0 0 1 0
 a central 1 0 2 0
 a give 2 01 = no link
@@ -12,15 +13,9 @@ a give 0 long = overflow
 a give 0 0102 = kept
 a give 1 03 = kept
 a give 1 04 = overflow
-";
-
-#[test]
-fn what_the_host_gives(rt: HostRuntime) -> Result<(), AllocError> {
-    check(&rt, rt.alloc(), GIVEN)
-}
-
-/// A packet of 251 octets fits a buffer. A link that ends frees the buffers of its packets.
-const FREED: &str = "\
+new
+# Buffers are freed.
+# A packet of 251 octets fits a buffer. A link that ends frees the buffers of its packets.
 a central 0 0 1 0
 a central 1 0 2 0
 a give 1 most = kept
@@ -28,15 +23,9 @@ a give 0 00 = kept
 a give 0 08 = overflow
 a shut 1
 a give 0 08 = kept
-";
-
-#[test]
-fn buffers_are_freed(rt: HostRuntime) -> Result<(), AllocError> {
-    check(&rt, rt.alloc(), FREED)
-}
-
-/// Two packets that would fit one PDU.
-const SHORT_PACKETS: &str = "\
+new
+# No piece has octets of two packets.
+# Two packets that would fit one PDU.
 a central 0 0 11 0
 b peripheral 0 0 10 0
 a give 0 0102 = kept
@@ -52,17 +41,11 @@ b hear 0 3 = yes took 0 1 2 0102
 b send 0 3 = 9
 a hear 0 3 = no
 a send 0 4 = 10 sent 0 2 2 03
-";
-
-#[test]
-fn no_piece_has_octets_of_two_packets(rt: HostRuntime) -> Result<(), AllocError> {
-    check(&rt, rt.alloc(), SHORT_PACKETS)
-}
-
-/// A central has links 0 and 1 to two peripherals. Its host gives each a packet, it exchanges empty
-/// PDUs with both, and then sends each its piece. What is given to one link goes nowhere else, and
-/// is complete as that link is answered.
-const TWO_LINKS: &str = "\
+new
+# Data of two links.
+# A central has links 0 and 1 to two peripherals. Its host gives each a packet, it exchanges empty
+# PDUs with both, and then sends each its piece. What is given to one link goes nowhere else, and
+# is complete as that link is answered.
 a central 0 0 1 0
 a central 1 0 2 0
 b peripheral 0 0 12 0
@@ -91,16 +74,10 @@ a report = 0 1
 a report =
 b receive = 0 yes 0102
 b receive = none
-";
-
-#[test]
-fn data_of_two_links(rt: HostRuntime) -> Result<(), AllocError> {
-    check(&rt, rt.alloc(), TWO_LINKS)
-}
-
-/// A link that ends frees its buffer, and its host receives no more of it, also not where the
-/// handle has a new link.
-const ENDED_LINK: &str = "\
+new
+# Data of a link that ends.
+# A link that ends frees its buffer, and its host receives no more of it, also not where the
+# handle has a new link.
 a central 0 0 1 0
 a central 1 0 2 0
 b peripheral 0 0 12 0
@@ -132,6 +109,6 @@ c receive = none
 ";
 
 #[test]
-fn data_of_a_link_that_ends(rt: HostRuntime) -> Result<(), AllocError> {
-    check(&rt, rt.alloc(), ENDED_LINK)
+fn data_of_links(rt: HostRuntime) -> Result<(), AllocError> {
+    check(&rt, rt.alloc(), DATA)
 }

@@ -2,7 +2,8 @@
 use crate::scripts::check;
 use std::alloc::AllocError;
 
-const HANDLES: &str = "\
+const LINKS: &str = "\
+# Handles are the least free ones.
 a free = 0
 a has 0 = no
 a central 0 0 1 0
@@ -16,15 +17,9 @@ a has 2 = no
 a central 2 0 1 0
 a has 2 = yes
 a free = none
-";
-
-#[test]
-fn handles_are_the_least_free_ones(rt: HostRuntime) -> Result<(), AllocError> {
-    check(&rt, rt.alloc(), HANDLES)
-}
-
-/// The own address is that of number 10. Link 1 is to number 1, and link 2 to number 2.
-const ADDRESSES: &str = "\
+new
+# Links are between addresses.
+# The own address is that of number 10. Link 1 is to number 1, and link 2 to number 2.
 a central 0 0 0 0
 a central 1 0 1 0
 a central 2 0 2 0
@@ -36,16 +31,10 @@ a between 2 10 = no
 a between 10 2 = yes
 a shut_all = 0 2
 a free = 0
-";
-
-#[test]
-fn links_are_between_addresses(rt: HostRuntime) -> Result<(), AllocError> {
-    check(&rt, rt.alloc(), ADDRESSES)
-}
-
-/// The anchors of links 0 and 1 are in the same slots. The one that was served earlier has the
-/// radio, and the CONNECT_IND counts as served.
-const SERVED: &str = "\
+new
+# The radio goes to the one served earlier.
+# The anchors of links 0 and 1 are in the same slots. The one that was served earlier has the
+# radio, and the CONNECT_IND counts as served.
 a central 0 0 1 0
 a enter 2 = 0 enter 0 0 25
 a central 1 24 2 0
@@ -57,28 +46,16 @@ a serve 1 50
 a enter 74 = 0 enter 0 3 21 enter 1 2 6
 a serve 0 74
 a enter 98 = 1 enter 0 4 34 enter 1 3 21
-";
-
-#[test]
-fn the_radio_goes_to_the_one_served_earlier(rt: HostRuntime) -> Result<(), AllocError> {
-    check(&rt, rt.alloc(), SERVED)
-}
-
-/// Of two links that were served in one slot, the one with the lesser handle has the radio.
-const TWINS: &str = "\
+new
+# The lesser handle has the radio.
+# Of two links that were served in one slot, the one with the lesser handle has the radio.
 a central 2 0 1 0
 a central 1 0 2 0
 a enter 2 = 1 enter 1 0 25 enter 2 0 25
-";
-
-#[test]
-fn the_lesser_handle_has_the_radio(rt: HostRuntime) -> Result<(), AllocError> {
-    check(&rt, rt.alloc(), TWINS)
-}
-
-/// The peripheral has a latency of one event. After an exchange it enters the event that it may
-/// skip, and does not want the radio for it.
-const EXCHANGED: &str = "\
+new
+# Links exchange packets and skip events.
+# The peripheral has a latency of one event. After an exchange it enters the event that it may
+# skip, and does not want the radio for it.
 a central 1 0 11 1
 b peripheral 0 0 12 1
 a enter 2 = 1 enter 1 0 25
@@ -92,17 +69,11 @@ a hear 1 2 = no
 a shape 1 = 25 24 no
 b enter 26 = nobody enter 0 1 20
 b enter 50 = 0 enter 0 2 6
-";
-
-#[test]
-fn links_exchange_packets_and_skip_events(rt: HostRuntime) -> Result<(), AllocError> {
-    check(&rt, rt.alloc(), EXCHANGED)
-}
-
-/// Links 0, 1 and 2 of a peripheral. Link 1 hears a packet in slot 2, and link 2 is opened in slot
-/// 434. Nothing else is heard: links that were not established end after six intervals for the
-/// reason 3E, and link 1 after its supervision timeout for the reason 08.
-const ENDED: &str = "\
+new
+# Links end by handle with their reasons.
+# Links 0, 1 and 2 of a peripheral. Link 1 hears a packet in slot 2, and link 2 is opened in slot
+# 434. Nothing else is heard: links that were not established end after six intervals for the
+# reason 3E, and link 1 after its supervision timeout for the reason 08.
 b peripheral 0 0 1 0
 b peripheral 1 0 2 0
 b peripheral 2 434 3 0
@@ -120,6 +91,6 @@ b shut_all =
 ";
 
 #[test]
-fn links_end_by_handle_with_their_reasons(rt: HostRuntime) -> Result<(), AllocError> {
-    check(&rt, rt.alloc(), ENDED)
+fn open_links(rt: HostRuntime) -> Result<(), AllocError> {
+    check(&rt, rt.alloc(), LINKS)
 }

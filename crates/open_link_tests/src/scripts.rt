@@ -1,9 +1,9 @@
 //! Scripts: calls on the open links of three controllers, each with what it gives.
 use crate::sides::{Side, sample_setup, setup};
-use crate::words::{Call, call_of, number, octet, put_octets, slot};
 use ble_base::Role;
 use std::alloc::{AllocError, Global};
 use std::process::Abort;
+use test_words::{Call, number, octet, octets_of, parts_of, put_octets, side_and_call, slot};
 
 /// Octets that one buffer does not hold.
 const LONG: [u8; 252] = [7; 252];
@@ -15,44 +15,66 @@ struct Scene {
     air: Vec<u8>,
 }
 
-/// Each line has a call, and after " =" what it gives. No link is open before the first line.
+/// Each line has a call, and after " =" what it gives. No link is open before the first line, nor
+/// after a line "new". A line that begins with "#" says what follows.
 pub(crate) fn check(rt: &impl Abort, alloc: Global, script: &str) -> Result<(), AllocError> {
-    let mut scene = Scene::start(alloc)?;
+    let mut scene = Scene {
+        sides: Vec::new(alloc),
+        air: Vec::new(alloc),
+    };
+    scene.begin()?;
     scene.run(rt, alloc, script)
 }
 
 impl Scene {
     /// No link is open.
-    fn start(alloc: Global) -> Result<Self, AllocError> {
-        let mut sides = Vec::new(alloc);
+    fn begin(&mut self) -> Result<(), AllocError> {
+        self.air.clear();
+        self.sides.clear();
         for _ in 0..3 {
-            sides.push(Side::start(alloc)?)?;
+            let side = Side::start(*self.sides.allocator())?;
+            self.sides.push(side)?;
         }
-        Ok(Scene {
-            sides,
-            air: Vec::new(alloc),
-        })
+        Ok(())
     }
 
     /// Makes each call of a script, and compares what it gives.
     fn run(&mut self, rt: &impl Abort, alloc: Global, script: &str) -> Result<(), AllocError> {
         for line in script.lines() {
-            let mut told = String::new(alloc);
-            let mut parts = line.split(" =");
-            let call = parts.next().unwrap_or("");
-            self.take(call_of(call), &mut told)?;
-            assert_eq!(rt; told.as_str(), parts.next().unwrap_or(""), "{line}");
+            let (call, want) = parts_of(line);
+            let told = self.told_of(alloc, call)?;
+            assert_eq!(rt; told.as_str(), want, "{line}");
         }
         Ok(())
     }
 
+    /// What a call gives.
+    fn told_of(&mut self, alloc: Global, text: &str) -> Result<String, AllocError> {
+        let mut told = String::new(alloc);
+        let (side, call) = side_and_call(text);
+        self.take(side, call, &mut told)?;
+        Ok(told)
+    }
+
     /// Makes a call, and writes what it gives.
-    fn take(&mut self, call: Call<'_>, told: &mut String) -> Result<(), AllocError> {
-        let place = match call.side {
-            "a" => 0,
-            "b" => 1,
-            _ => 2,
-        };
+    fn take(&mut self, side: &str, call: Call<'_>, told: &mut String) -> Result<(), AllocError> {
+        match side {
+            "a" => self.on_side(0, call, told),
+            "b" => self.on_side(1, call, told),
+            "c" => self.on_side(2, call, told),
+            "new" => self.begin(),
+            "#" => Ok(()),
+            _ => told.push_str(" which controller?"),
+        }
+    }
+
+    /// Makes a call on the controller at this place.
+    fn on_side(
+        &mut self,
+        place: usize,
+        call: Call<'_>,
+        told: &mut String,
+    ) -> Result<(), AllocError> {
         match self.sides.as_mut_slice().get_mut(place) {
             Some(side) => side.on_air(call, &mut self.air, told),
             None => told.push_str(" which controller?"),
@@ -95,8 +117,8 @@ impl Side {
     }
 
     /// Opens a link: handle, slot, peer and latency.
-    fn begin(&mut self, role: Role, words: [&str; 5]) -> Result<(), AllocError> {
-        let [handle, opened, peer, latency, _] = words;
+    fn begin(&mut self, role: Role, words: [&str; 8]) -> Result<(), AllocError> {
+        let [handle, opened, peer, latency, ..] = words;
         let setup = setup(role, number(handle), octet(peer), number(latency));
         self.open(setup, slot(opened))
     }
@@ -131,10 +153,8 @@ impl Side {
         if word == "long" {
             return self.give(handle, &LONG, told);
         }
-        match hex::decode(*told.allocator(), word) {
-            Err(_) => told.push_str(" which octets?"),
-            Ok(body) => self.give(handle, body.as_slice(), told),
-        }
+        let body = octets_of(*told.allocator(), word);
+        self.give(handle, body.as_slice(), told)
     }
 }
 

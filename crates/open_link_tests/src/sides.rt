@@ -1,13 +1,13 @@
 //! The open links of a controller.
 ghost use Rattle.std.specs.Prelude.{◌≡◌, IfOk};
 
-use crate::words::{put_answer, put_notes, put_number, put_octets, put_verdict, put_winner};
 use adv_pdu::ConnectFields;
 use ble_base::{Address, Outbox, Role, SlotNo};
 use open_links::{Completed, LinkEnded, LinkSetup, Offer, OpenLinks};
-use slot_plan::Plan;
+use slot_plan::{Activity, Plan};
 use std::alloc::{AllocError, Global};
 use std::marker::Model;
+use test_words::{put_answer, put_notes, put_number, put_octets, put_verdict};
 
 /// The address of each controller whose links are opened.
 const OWN: u8 = 0x0A;
@@ -101,6 +101,15 @@ fn no_links(alloc: Global) -> Result<OpenLinks<3, 2, 1>, AllocError>
     OpenLinks::new(alloc)
 }
 
+/// Writes the link that has the radio.
+fn put_winner(told: &mut String, winner: Option<Activity>) -> Result<(), AllocError> {
+    match winner {
+        None => told.push_str(" nobody"),
+        Some(Activity::Link(handle)) => put_number(told, u64::from(handle)),
+        Some(_) => told.push_str(" another"),
+    }
+}
+
 impl Side {
     /// No link is open.
     pub(crate) fn start(alloc: Global) -> Result<Self, AllocError> {
@@ -192,7 +201,10 @@ impl Side {
         packet: &[u8],
         told: &mut String,
     ) -> Result<(), AllocError> {
-        put_verdict(told, self.links.judge(handle, packet))
+        match self.links.judge(handle, packet) {
+            None => told.push_str(" none"),
+            Some(verdict) => put_verdict(told, verdict),
+        }
     }
 
     /// A link had the radio in this slot.

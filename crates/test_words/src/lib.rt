@@ -1,10 +1,12 @@
 //! Scripts of tests: each line has a call, and after " =" what it gives, as words.
 #![tactic(auto)]
 
+mod notes;
 mod reading;
 mod texts;
 mod writing;
 
+pub use notes::{put_notes, put_verdict};
 pub use reading::{
     Call, call_of, hex_number, number, octet, octets_of, parts_of, side_and_call, slot,
 };
