@@ -324,7 +324,7 @@ module _ (whole : IsHeardWhole) (given : Given) (Q : Place → List Event → Ty
               (listener_role phases (facts other).links (facts other).turn.doing handle link (phased other is_too).phase listens is_open)
 
           -- the journal has one number for both of its ends
-          one_number : own_number ≡ number_at other handle history
+          pub one_number : own_number ≡ number_at other handle history
           one_number =
               let numbers : Some own_number ≡ Some (number_at other handle history) =
               sym (known.fits here history q station sent.handle link_sent octets is sent.is_open (ap (take 4) sent.packet ∙ sent_begins sent.link.setup (facts_in sent.link)))

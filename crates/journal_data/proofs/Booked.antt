@@ -1,8 +1,8 @@
--- What the lines of a side say of its link is what its notes say since the link was opened.
+-- What the lines of a side say of a link is what its notes under the handle of that link say since it was opened.
 use Rattle.std.proofs.Common.{◌≡◌, ℕ, ◌+◌, ◌==◌, ◌&&◌, Bool, true, false, Option, Some, None, List, [], ◌∷◌, ◌++◌, cond, refl, sym, ap, ◌∙◌, append-nil, arith}
 use Rattle.std.specs.Prelude.{drop, filter, ⊤}
 use Rattle.std.specs.List.{flat_map, sum_by}
-use Rattle.std.proofs.lemmas.Bool.{eq-eqb}
+use Rattle.std.proofs.lemmas.Bool.{eqb-true}
 use Rattle.std.proofs.lemmas.List.Concat.{flat_map-append}
 use Rattle.std.proofs.lemmas.List.Elements.{filter-append}
 use Rattle.std.proofs.lemmas.List.Sums.{sum_by-append}
@@ -15,6 +15,7 @@ use Rattle.host_view.specs.Noted.{acl_handle, is_acl_data, two_octets}
 use Rattle.controller_model.specs.Notes.{is_event}
 use Rattle.controller_model.specs.Since.{data_up, starts_message}
 use Rattle.run_model.specs.Journal.{entry_of}
+use Rattle.journal_acks.specs.Exchange.{is_number}
 use Rattle.journal_data.specs.HostLines.{OpenUnder, link_under}
 use Rattle.journal_data.specs.Lines.{Credited, Lines, PduLine, Received, credit_up, credited_in, credited_on, data_received, line_after, pdus_on, received_in, received_on}
 
@@ -24,13 +25,13 @@ abbrev pub line_if : Bool → ℕ → ℕ → ℕ → List ℕ → List PduLine
 line_if of_one link number llid octets =
     cond of_one (record { link = link; number = number; pdu = record { llid = llid; body = octets } } ∷ []) []
 
-abbrev pub sent_line : ℕ → Note → List PduLine
-sent_line link (Sent handle number llid body) = line_if (handle == 0) link number llid body.items
-sent_line link note = []
+abbrev pub sent_line : ℕ → ℕ → Note → List PduLine
+sent_line handle link (Sent other number llid body) = line_if (other == handle) link number llid body.items
+sent_line handle link note = []
 
-abbrev pub took_line : ℕ → Note → List PduLine
-took_line link (Took handle number llid body) = line_if (handle == 0) link number llid body.items
-took_line link note = []
+abbrev pub took_line : ℕ → ℕ → Note → List PduLine
+took_line handle link (Took other number llid body) = line_if (other == handle) link number llid body.items
+took_line handle link note = []
 
 abbrev pub count_if : Bool → List ℕ → ℕ
 count_if completed octets = cond completed (two_octets 6 octets) 0
@@ -42,32 +43,29 @@ abbrev pub count_up : ℕ → Note → ℕ
 count_up handle (Up packet) = count_if (is_completion_on handle packet.items) packet.items
 count_up handle note = 0
 
--- the lines say of the link with this number what these notes of the handle 0 say
-pub record IsBook (link : ℕ) (lines : Lines) (since : List Note) : Type 0 where
-  pub sent : pdus_on link lines.sent ≡ flat_map (sent_line link) since
-  pub taken : pdus_on link lines.taken ≡ flat_map (took_line link) since
-  pub received : received_on link lines ≡ flat_map (data_up 0) since
-  pub credited : credited_on link lines ≡ sum_by (count_up 0) since
+-- the lines say of the link with this number what these notes of its handle say
+pub record IsBook (handle link : ℕ) (lines : Lines) (since : List Note) : Type 0 where
+  pub sent : pdus_on link lines.sent ≡ flat_map (sent_line handle link) since
+  pub taken : pdus_on link lines.taken ≡ flat_map (took_line handle link) since
+  pub received : received_on link lines ≡ flat_map (data_up handle) since
+  pub credited : credited_on link lines ≡ sum_by (count_up handle) since
 
 -- ---- a note more
 
--- a note of the only handle
-abbrev pub IsOfOne : Note → Type 0
-IsOfOne (Sent handle number llid body) = handle ≡ 0
-IsOfOne (Took handle number llid body) = handle ≡ 0
-IsOfOne note = ⊤
+-- what is under a handle is the link just where that is its handle
+abbrev IsUnder : ℕ → ℕ → List OpenUnder → ℕ → Type 0
+IsUnder handle link links other = is_number (link_under other links) link ≡ (other == handle)
 
--- data and complete packets are of the link that is open
-abbrev pub IsUnder : ℕ → List OpenUnder → ℕ → Type 0
-IsUnder link links handle = link_under handle links ≡ cond (handle == 0) (Some link) None
+pub record IsFitting (handle link : ℕ) (links : List OpenUnder) (octets : List ℕ) : Type 0 where
+  pub data_of : is_acl_data octets ≡ true → IsUnder handle link links (acl_handle octets)
+  pub completed : is_event 0x13 octets ≡ true → IsUnder handle link links (two_octets 4 octets)
 
-pub record IsFitting (link : ℕ) (links : List OpenUnder) (octets : List ℕ) : Type 0 where
-  pub data_of : is_acl_data octets ≡ true → IsUnder link links (acl_handle octets)
-  pub completed : is_event 0x13 octets ≡ true → IsUnder link links (two_octets 4 octets)
-
-abbrev pub FitsLink : ℕ → List OpenUnder → Note → Type 0
-FitsLink link links (Up packet) = IsFitting link links packet.items
-FitsLink link links note = ⊤
+-- a note is of the link just where it is of its handle
+abbrev pub FitsLink : ℕ → ℕ → (ℕ → ℕ) → List OpenUnder → Note → Type 0
+FitsLink handle link link_of links (Up packet) = IsFitting handle link links packet.items
+FitsLink handle link link_of links (Sent other number llid body) = (link_of other == link) ≡ (other == handle)
+FitsLink handle link link_of links (Took other number llid body) = (link_of other == link) ≡ (other == handle)
+FitsLink handle link link_of links note = ⊤
 
 -- this is added to a list
 added : {X Y : Type 0} (of : X → List Y) (before : List Y) (since : List X) (note : X) (more : List Y)
@@ -84,110 +82,117 @@ counted_same of before since note none is =
     let more = sum_by-append of since (note ∷ []) in
     let one : sum_by of (note ∷ []) ≡ 0 + of note = refl in omega (arith, is, none, more, one)
 
--- a PDU line more
-pdu_more : (link : ℕ) (lines : List PduLine) (one : PduLine) → one.link ≡ link → pdus_on link (lines ++ one ∷ []) ≡ pdus_on link lines ++ one ∷ []
-pdu_more link lines one is =
-    filter-append (λ (pdu : PduLine). pdu.link == link) lines (one ∷ [])
-    ∙ ap (λ (b : Bool). pdus_on link lines ++ cond b (one ∷ []) []) (eq-eqb one.link link is)
+-- a PDU line more, of this link or of another one
+line_by : (one link number llid : ℕ) (octets : List ℕ) (same : Bool) → (one == link) ≡ same → line_if same one number llid octets ≡ line_if same link number llid octets
+line_by one link number llid octets true is = ap (λ n. line_if true n number llid octets) (eqb-true one link is)
+line_by one link number llid octets false is = refl
+
+pdu_more : (link one number llid : ℕ) (lines : List PduLine) (octets : List ℕ) (same : Bool) → (one == link) ≡ same
+    → pdus_on link (lines ++ record { link = one; number = number; pdu = record { llid = llid; body = octets } } ∷ [])
+    ≡ pdus_on link lines ++ line_if same link number llid octets
+pdu_more link one number llid lines octets same is =
+    let line : PduLine = record { link = one; number = number; pdu = record { llid = llid; body = octets } } in
+    filter-append (λ (pdu : PduLine). pdu.link == link) lines (line ∷ [])
+    ∙ ap (λ (more : List PduLine). pdus_on link lines ++ more)
+    (line_by one link number llid octets (one == link) refl ∙ ap (λ (b : Bool). line_if b link number llid octets) is)
 
 -- data of a handle
-abbrev octets_on : ℕ → List Received → List Marked
+abbrev pub octets_on : ℕ → List Received → List Marked
 octets_on link received = flat_map (λ (one : Received). one.octets) (filter (λ (one : Received). one.link == link) received)
 
-data_by : (acl one : Bool) (link : ℕ) (under : Option ℕ) (octets : List ℕ) → (acl ≡ true → under ≡ cond one (Some link) None)
+one_received : (same : Bool) (one : Received) → flat_map (λ (r : Received). r.octets) (cond same (one ∷ []) []) ≡ cond same one.octets []
+one_received true one = append-nil one.octets
+one_received false one = refl
+
+pub data_by : (acl one : Bool) (link : ℕ) (under : Option ℕ) (octets : List ℕ) → (acl ≡ true → is_number under link ≡ one)
     → octets_on link (cond acl (data_received under octets) []) ≡ cond (acl && one) (marked_octets (starts_message octets) (drop 5 octets)) []
 data_by false one link under octets is = refl
-data_by true true link under octets is =
-    ap (λ (u : Option ℕ). octets_on link (data_received u octets)) (is refl)
-    ∙ ap (λ (b : Bool). flat_map (λ (r : Received). r.octets) (cond b (record { link = link; octets = marked_octets (starts_message octets) (drop 5 octets) } ∷ []) [])) (eq-eqb link link refl)
-    ∙ append-nil (marked_octets (starts_message octets) (drop 5 octets))
-data_by true false link under octets is = ap (λ (u : Option ℕ). octets_on link (data_received u octets)) (is refl)
+data_by true one link None octets is = ap (λ (b : Bool). cond b (marked_octets (starts_message octets) (drop 5 octets)) []) (is refl)
+data_by true one link (Some other) octets is =
+    one_received (other == link) (record { link = other; octets = marked_octets (starts_message octets) (drop 5 octets) })
+    ∙ ap (λ (b : Bool). cond b (marked_octets (starts_message octets) (drop 5 octets)) []) (is refl)
 
 -- complete packets of a handle
-abbrev counts_on : ℕ → List Credited → ℕ
+abbrev pub counts_on : ℕ → List Credited → ℕ
 counts_on link credited = sum_by (λ (one : Credited). one.count) (filter (λ (one : Credited). one.link == link) credited)
 
-credit_by : (event one : Bool) (link : ℕ) (under : Option ℕ) (octets : List ℕ) → (event ≡ true → under ≡ cond one (Some link) None)
+one_credited : (same : Bool) (one : Credited) → sum_by (λ (r : Credited). r.count) (cond same (one ∷ []) []) ≡ cond same one.count 0
+one_credited true one = let all : sum_by (λ (r : Credited). r.count) (one ∷ []) ≡ 0 + one.count = refl in omega (arith, all)
+one_credited false one = refl
+
+pub credit_by : (event one : Bool) (link : ℕ) (under : Option ℕ) (octets : List ℕ) → (event ≡ true → is_number under link ≡ one)
     → counts_on link (cond event (credit_up under (two_octets 6 octets)) []) ≡ count_if (event && one) octets
 credit_by false one link under octets is = refl
-credit_by true true link under octets is =
-    ap (λ (u : Option ℕ). counts_on link (credit_up u (two_octets 6 octets))) (is refl)
-    ∙ ap (λ (b : Bool). sum_by (λ (r : Credited). r.count) (cond b (record { link = link; count = two_octets 6 octets } ∷ []) [])) (eq-eqb link link refl)
-    ∙ (let one : sum_by (λ (r : Credited). r.count) (record { link = link; count = two_octets 6 octets } ∷ []) ≡ 0 + two_octets 6 octets = refl in omega (arith, one))
-credit_by true false link under octets is = ap (λ (u : Option ℕ). counts_on link (credit_up u (two_octets 6 octets))) (is refl)
+credit_by true one link None octets is = ap (λ (b : Bool). count_if b octets) (is refl)
+credit_by true one link (Some other) octets is =
+    one_credited (other == link) (record { link = other; count = two_octets 6 octets }) ∙ ap (λ (b : Bool). count_if b octets) (is refl)
 
-up_booked : (link : ℕ) (lines : Lines) (since : List Note) (side : Side) (link_of : ℕ → ℕ) (last : ℕ) (packet : ArrayVec ℕ) → IsFitting link lines.links packet.items
-    → IsBook link lines since → IsBook link (line_after 8 lines (entry_of side link_of last (Up packet))) (since ++ Up packet ∷ [])
-up_booked link lines since side link_of last packet fits book =
+up_booked : (handle link : ℕ) (lines : Lines) (since : List Note) (side : Side) (link_of : ℕ → ℕ) (last : ℕ) (packet : ArrayVec ℕ)
+    → IsFitting handle link lines.links packet.items → IsBook handle link lines since
+    → IsBook handle link (line_after 8 lines (entry_of side link_of last (Up packet))) (since ++ Up packet ∷ [])
+up_booked handle link lines since side link_of last packet fits book =
     let octets = packet.items in record {
-      sent = kept_same (sent_line link) (pdus_on link lines.sent) since (Up packet) refl book.sent;
-      taken = kept_same (took_line link) (pdus_on link lines.taken) since (Up packet) refl book.taken;
+      sent = kept_same (sent_line handle link) (pdus_on link lines.sent) since (Up packet) refl book.sent;
+      taken = kept_same (took_line handle link) (pdus_on link lines.taken) since (Up packet) refl book.taken;
       received =
           ap (flat_map (λ (one : Received). one.octets)) (filter-append (λ (one : Received). one.link == link) lines.received (received_in lines.links octets))
           ∙ flat_map-append (λ (one : Received). one.octets) (filter (λ (one : Received). one.link == link) lines.received)
           (filter (λ (one : Received). one.link == link) (received_in lines.links octets))
-          ∙ added (data_up 0) (received_on link lines) since (Up packet) (octets_on link (received_in lines.links octets)) book.received
-          (data_by (is_acl_data octets) (acl_handle octets == 0) link (link_under (acl_handle octets) lines.links) octets fits.data_of);
+          ∙ added (data_up handle) (received_on link lines) since (Up packet) (octets_on link (received_in lines.links octets)) book.received
+          (data_by (is_acl_data octets) (acl_handle octets == handle) link (link_under (acl_handle octets) lines.links) octets fits.data_of);
       credited =
           let parts = ap (sum_by (λ (one : Credited). one.count)) (filter-append (λ (one : Credited). one.link == link) lines.credited (credited_in lines.links octets)) in
           let both = sum_by-append (λ (one : Credited). one.count) (filter (λ (one : Credited). one.link == link) lines.credited)
           (filter (λ (one : Credited). one.link == link) (credited_in lines.links octets)) in
-          let one = credit_by (is_event 0x13 octets) (two_octets 4 octets == 0) link (link_under (two_octets 4 octets) lines.links) octets fits.completed in
-          let more = sum_by-append (count_up 0) since (Up packet ∷ []) in
-          let last_one : sum_by (count_up 0) (Up packet ∷ []) ≡ 0 + count_up 0 (Up packet) = refl in
+          let one = credit_by (is_event 0x13 octets) (two_octets 4 octets == handle) link (link_under (two_octets 4 octets) lines.links) octets fits.completed in
+          let more = sum_by-append (count_up handle) since (Up packet ∷ []) in
+          let last_one : sum_by (count_up handle) (Up packet ∷ []) ≡ 0 + count_up handle (Up packet) = refl in
           let before = book.credited in
           omega (arith, parts, both, one, more, last_one, before);
     }
 
 -- a note that says nothing of data
-silent_booked : (link : ℕ) (lines after : Lines) (since : List Note) (note : Note) → after.sent ≡ lines.sent → after.taken ≡ lines.taken
-    → after.received ≡ lines.received → after.credited ≡ lines.credited → sent_line link note ≡ [] → took_line link note ≡ [] → data_up 0 note ≡ []
-    → count_up 0 note ≡ 0 → IsBook link lines since → IsBook link after (since ++ note ∷ [])
-silent_booked link lines after since note s t r c no_sent no_took no_data no_count book = record {
-  sent = ap (pdus_on link) s ∙ kept_same (sent_line link) (pdus_on link lines.sent) since note no_sent book.sent;
-  taken = ap (pdus_on link) t ∙ kept_same (took_line link) (pdus_on link lines.taken) since note no_took book.taken;
-  received = ap (octets_on link) r ∙ kept_same (data_up 0) (received_on link lines) since note no_data book.received;
-  credited = ap (counts_on link) c ∙ counted_same (count_up 0) (credited_on link lines) since note no_count book.credited;
+silent_booked : (handle link : ℕ) (lines after : Lines) (since : List Note) (note : Note) → after.sent ≡ lines.sent → after.taken ≡ lines.taken
+    → after.received ≡ lines.received → after.credited ≡ lines.credited → sent_line handle link note ≡ [] → took_line handle link note ≡ []
+    → data_up handle note ≡ [] → count_up handle note ≡ 0 → IsBook handle link lines since → IsBook handle link after (since ++ note ∷ [])
+silent_booked handle link lines after since note s t r c no_sent no_took no_data no_count book = record {
+  sent = ap (pdus_on link) s ∙ kept_same (sent_line handle link) (pdus_on link lines.sent) since note no_sent book.sent;
+  taken = ap (pdus_on link) t ∙ kept_same (took_line handle link) (pdus_on link lines.taken) since note no_took book.taken;
+  received = ap (octets_on link) r ∙ kept_same (data_up handle) (received_on link lines) since note no_data book.received;
+  credited = ap (counts_on link) c ∙ counted_same (count_up handle) (credited_on link lines) since note no_count book.credited;
 }
 
-pub note_booked : (link : ℕ) (lines : Lines) (since : List Note) (side : Side) (link_of : ℕ → ℕ) (last : ℕ) (note : Note) → link_of 0 ≡ link → IsOfOne note
-    → FitsLink link lines.links note → IsBook link lines since → IsBook link (line_after 8 lines (entry_of side link_of last note)) (since ++ note ∷ [])
-note_booked link lines since side link_of last (Up packet) is one fits book = up_booked link lines since side link_of last packet fits book
-note_booked link lines since side link_of last (Sent handle number llid body) is one fits book =
-    let line : PduLine = record { link = link_of handle; number = number; pdu = record { llid = llid; body = body.items } } in
-    let same : link_of handle ≡ link = ap link_of one ∙ is in
-    record {
-      sent = pdu_more link lines.sent line same
-          ∙ added (sent_line link) (pdus_on link lines.sent) since (Sent handle number llid body) (line ∷ []) book.sent
-          (ap (λ (n : ℕ). record { link = n; number = number; pdu = record { llid = llid; body = body.items } } ∷ []) same
-          ∙ sym (ap (λ (b : Bool). line_if b link number llid body.items) (eq-eqb handle 0 one)));
-      taken = kept_same (took_line link) (pdus_on link lines.taken) since (Sent handle number llid body) refl book.taken;
-      received = kept_same (data_up 0) (received_on link lines) since (Sent handle number llid body) refl book.received;
-      credited = counted_same (count_up 0) (credited_on link lines) since (Sent handle number llid body) refl book.credited;
+pub note_booked : (handle link : ℕ) (lines : Lines) (since : List Note) (side : Side) (link_of : ℕ → ℕ) (last : ℕ) (note : Note)
+    → FitsLink handle link link_of lines.links note → IsBook handle link lines since
+    → IsBook handle link (line_after 8 lines (entry_of side link_of last note)) (since ++ note ∷ [])
+note_booked handle link lines since side link_of last (Up packet) fits book = up_booked handle link lines since side link_of last packet fits book
+note_booked handle link lines since side link_of last (Sent other number llid body) fits book =
+    let note = Sent other number llid body in record {
+      sent = pdu_more link (link_of other) number llid lines.sent body.items (other == handle) fits
+          ∙ added (sent_line handle link) (pdus_on link lines.sent) since note (line_if (other == handle) link number llid body.items) book.sent refl;
+      taken = kept_same (took_line handle link) (pdus_on link lines.taken) since note refl book.taken;
+      received = kept_same (data_up handle) (received_on link lines) since note refl book.received;
+      credited = counted_same (count_up handle) (credited_on link lines) since note refl book.credited;
     }
-note_booked link lines since side link_of last (Took handle number llid body) is one fits book =
-    let line : PduLine = record { link = link_of handle; number = number; pdu = record { llid = llid; body = body.items } } in
-    let same : link_of handle ≡ link = ap link_of one ∙ is in
-    record {
-      sent = kept_same (sent_line link) (pdus_on link lines.sent) since (Took handle number llid body) refl book.sent;
-      taken = pdu_more link lines.taken line same
-          ∙ added (took_line link) (pdus_on link lines.taken) since (Took handle number llid body) (line ∷ []) book.taken
-          (ap (λ (n : ℕ). record { link = n; number = number; pdu = record { llid = llid; body = body.items } } ∷ []) same
-          ∙ sym (ap (λ (b : Bool). line_if b link number llid body.items) (eq-eqb handle 0 one)));
-      received = kept_same (data_up 0) (received_on link lines) since (Took handle number llid body) refl book.received;
-      credited = counted_same (count_up 0) (credited_on link lines) since (Took handle number llid body) refl book.credited;
+note_booked handle link lines since side link_of last (Took other number llid body) fits book =
+    let note = Took other number llid body in record {
+      sent = kept_same (sent_line handle link) (pdus_on link lines.sent) since note refl book.sent;
+      taken = pdu_more link (link_of other) number llid lines.taken body.items (other == handle) fits
+          ∙ added (took_line handle link) (pdus_on link lines.taken) since note (line_if (other == handle) link number llid body.items) book.taken refl;
+      received = kept_same (data_up handle) (received_on link lines) since note refl book.received;
+      credited = counted_same (count_up handle) (credited_on link lines) since note refl book.credited;
     }
-note_booked link lines since side link_of last (Opened handle role own peer) is one fits book =
-    silent_booked link lines _ since (Opened handle role own peer) refl refl refl refl refl refl refl refl book
-note_booked link lines since side link_of last (Shut handle reason) is one fits book =
-    silent_booked link lines _ since (Shut handle reason) refl refl refl refl refl refl refl refl book
-note_booked link lines since side link_of last (Enter handle event channel) is one fits book =
-    silent_booked link lines _ since (Enter handle event channel) refl refl refl refl refl refl refl refl book
-note_booked link lines since side link_of last (Applied handle number event) is one fits book =
-    silent_booked link lines _ since (Applied handle number event) refl refl refl refl refl refl refl refl book
-note_booked link lines since side link_of last (Began handle kind) is one fits book =
-    silent_booked link lines _ since (Began handle kind) refl refl refl refl refl refl refl refl book
-note_booked link lines since side link_of last (Refused handle kind code) is one fits book =
-    silent_booked link lines _ since (Refused handle kind code) refl refl refl refl refl refl refl refl book
-note_booked link lines since side link_of last (Done handle kind) is one fits book =
-    silent_booked link lines _ since (Done handle kind) refl refl refl refl refl refl refl refl book
+note_booked handle link lines since side link_of last (Opened other role own peer) fits book =
+    silent_booked handle link lines _ since (Opened other role own peer) refl refl refl refl refl refl refl refl book
+note_booked handle link lines since side link_of last (Shut other reason) fits book =
+    silent_booked handle link lines _ since (Shut other reason) refl refl refl refl refl refl refl refl book
+note_booked handle link lines since side link_of last (Enter other event channel) fits book =
+    silent_booked handle link lines _ since (Enter other event channel) refl refl refl refl refl refl refl refl book
+note_booked handle link lines since side link_of last (Applied other number event) fits book =
+    silent_booked handle link lines _ since (Applied other number event) refl refl refl refl refl refl refl refl book
+note_booked handle link lines since side link_of last (Began other kind) fits book =
+    silent_booked handle link lines _ since (Began other kind) refl refl refl refl refl refl refl refl book
+note_booked handle link lines since side link_of last (Refused other kind code) fits book =
+    silent_booked handle link lines _ since (Refused other kind code) refl refl refl refl refl refl refl refl book
+note_booked handle link lines since side link_of last (Done other kind) fits book =
+    silent_booked handle link lines _ since (Done other kind) refl refl refl refl refl refl refl refl book

@@ -1,5 +1,5 @@
 -- In the middle of the notes of a call in a turn, the lines of its station are between those before the call and those after it.
-use Rattle.std.proofs.Common.{◌≡◌, ℕ, ◌≤◌, Bool, false, List, [], ◌∷◌, ◌++◌, ◌⊎◌, inl, inr, map, cond, refl, sym, ap, subst, ◌∙◌, append-nil, append_assoc}
+use Rattle.std.proofs.Common.{◌≡◌, ℕ, Bool, false, List, [], ◌∷◌, ◌++◌, ◌⊎◌, inl, inr, map, cond, refl, sym, ap, subst, ◌∙◌, append-nil, append_assoc}
 use Rattle.std.proofs.lemmas.Bool.{or_parts}
 use Rattle.ble_base.specs.declared.roles.Side.{Side}
 use Rattle.ble_base.specs.declared.notes.Note.{Note}
@@ -169,10 +169,10 @@ between_by link station history mid rest after is middle whole kind =
       one_kind = kind_on link station history mid after kind;
     }
 
-pub call_between : (given : Given) (station : ℕ) (step : Step) (history mid rest : List Event) → (setup_at given station).links ≤ 1 → IsInTurn step
+pub call_between : (given : Given) (station : ℕ) (step : Step) (history mid rest : List Event) → IsInTurn step
     → Called station step ∷ map (Noted station) (notes_after (setup_at given station) (facts_at given station history) step) ≡ mid ++ rest
     → (link : ℕ) → IsBetween link (lines_at station history) (lines_at station (history ++ mid)) (lines_at station (after_call given station step history))
-call_between given station step history mid rest few turn is link =
+call_between given station step history mid rest turn is link =
     let notes = notes_after (setup_at given station) (facts_at given station history) step in
     let front = front_called station step notes mid rest is in
     between_by link station history mid rest (after_call given station step history)

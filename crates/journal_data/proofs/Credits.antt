@@ -258,14 +258,11 @@ few_feed given station octets history between few = (feed_fed given station octe
 
 -- ---- what its host is credited
 
-abbrev pub IsCredited : Given → ℕ → List Event → Type 0
-IsCredited given station history =
-    (link : OpenLink) → link_at 0 (facts_at given station history).links ≡ Some link
-    → sum_by (count_up 0) (since_opened 0 (noted_by station history))
-    ≡ (facts_in link).outgoing.reported + empties_of (setup_at given station) 0 (past_of station history)
-
-pub credited : (given : Given) (station : ℕ) (history : List Event) → (setup_at given station).links ≤ 1 → (setup_at given station).host_buffers ≡ 8
-    → HasNoted given station history → AreFew given station history → IsCredited given station history
-credited given station history one eight noted few link is =
-    ap (λ (notes : List Note). sum_by (count_up 0) (since_opened 0 notes)) noted
-    ∙ credited_past (setup_at given station) (past_of station history) 0 link (omega (arith, one)) (omega (arith, eight)) few.fed is
+pub credited : (given : Given) (station handle : ℕ) (history : List Event) (link : OpenLink) → (setup_at given station).links ≤ 4096
+    → (setup_at given station).host_buffers ≡ 8 → HasNoted given station history → AreFew given station history
+    → link_at handle (facts_at given station history).links ≡ Some link
+    → sum_by (count_up handle) (since_opened handle (noted_by station history))
+    ≡ (facts_in link).outgoing.reported + empties_of (setup_at given station) handle (past_of station history)
+credited given station handle history link few_links eight noted few is =
+    ap (λ (notes : List Note). sum_by (count_up handle) (since_opened handle notes)) noted
+    ∙ credited_past (setup_at given station) (past_of station history) handle link few_links (omega (arith, eight)) few.fed is

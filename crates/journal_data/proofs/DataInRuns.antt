@@ -11,9 +11,9 @@ use Rattle.run_model.specs.History.{Event, TurnBegan, Called, HostFed, Noted, Tr
 use Rattle.run_model.specs.LinkEnds.{HaveAddresses}
 use Rattle.run_model.specs.Run.{Given, after_call, after_feed, facts_at, hearings_of, octets_left, setup_at, step_of}
 use Rattle.run_model.proofs.Stations.{is_in, among}
-use Rattle.run_model.proofs.Walk.{Place, IsKept}
+use Rattle.run_model.proofs.Walk.{AtFeeds, Place, IsKept}
 use Rattle.run_laws.proofs.TurnPlaces.{Between, at_stage}
-use Rattle.journal_acks.proofs.Counting.{AreKnown}
+use Rattle.journal_acks.proofs.Counting.{AreKnown, HaveOwnNumbers}
 use Rattle.journal_acks.proofs.TwoStations.{IsOfTwo, other_is, other_of}
 use Rattle.journal_data.specs.Delivered.{ArrivesInOrder}
 use Rattle.journal_data.proofs.CallMiddle.{call_between}
@@ -22,11 +22,10 @@ use Rattle.journal_data.proofs.FedInRuns.{between_standing}
 use Rattle.journal_data.proofs.FeedSide.{feed_step}
 use Rattle.journal_data.proofs.Feeds.{feed_front}
 use Rattle.journal_data.proofs.Fronts.{AreAlways, HasMore, always_event, always_more, call_outside, feed_more, mid_same}
-use Rattle.journal_data.proofs.KeptData.{AreWell, IsBetween, IsDataAt, data_kept, far_side, other_in, pass_in_turn}
+use Rattle.journal_data.proofs.KeptData.{AreWell, own_numbers, IsBetween, IsDataAt, data_kept, far_side, other_in, pass_in_turn}
 use Rattle.journal_data.proofs.Middle.{from_fed, from_middle, to_fed, to_middle}
 use Rattle.journal_data.proofs.Mine.{other_back}
 use Rattle.journal_data.proofs.OneLink.{HaveOneLink}
-use Rattle.journal_data.proofs.StationLines.{OnlyOpenHaveNotes}
 use Rattle.journal_data.proofs.Submitting.{AreInStep}
 
 -- on each link, of what each side sends
@@ -53,11 +52,11 @@ module _ (given : Given) (are_two : IsOfTwo given) where
           (subst (λ n. ArrivesInOrder link (lines_at (other_of station) history) (lines_at n history)) (sym (other_back given are_two station is)) (back link))
 
   -- in the middle of a call
-  call_middle : (station : ℕ) (step : Step) (history : List Event) → is_in station given.stations ≡ true → (setup_at given station).links ≤ 1 → IsInTurn step
+  call_middle : (station : ℕ) (step : Step) (history : List Event) → is_in station given.stations ≡ true → IsInTurn step
       → AllArrive given history → AllArrive given (after_call given station step history) → (mid rest : List Event)
       → Called station step ∷ map (Noted station) (notes_after (setup_at given station) (facts_at given station history) step) ≡ mid ++ rest
       → AllArrive given (history ++ mid)
-  call_middle station step history is few in_turn before after mid rest mid_is =
+  call_middle station step history is in_turn before after mid rest mid_is =
       let notes = notes_after (setup_at given station) (facts_at given station history) step in
       let call = Called station step ∷ map (Noted station) notes in
       let other = other_of station in
@@ -65,7 +64,7 @@ module _ (given : Given) (are_two : IsOfTwo given) where
       let outside = call_outside other station step notes (far_side station) in
       let far = mid_same other history call mid rest outside mid_is in
       let far_last = mid_same other history call call [] outside (sym (append-nil call)) in
-      let between = call_between given station step history mid rest few in_turn mid_is in
+      let between = call_between given station step history mid rest in_turn mid_is in
       let end = after_call given station step history in
       by_one station (history ++ mid) is
       (λ link. subst (ArrivesInOrder link (lines_at station (history ++ mid))) (sym far)
@@ -83,9 +82,9 @@ module _ (given : Given) (are_two : IsOfTwo given) where
           (all (other_of station) (other_in given are_two station is) link)
 
   -- in the middle of a feed
-  module _ (law : OnlyOpenHaveNotes) (one : (station : ℕ) → (setup_at given station).links ≤ 1) (eight : (station : ℕ) → (setup_at given station).host_buffers ≡ 8)
+  module _ (one : (station : ℕ) → (setup_at given station).links ≤ 1) (eight : (station : ℕ) → (setup_at given station).host_buffers ≡ 8)
       (station octet : ℕ) (octets : List ℕ) (history : List Event) (is : is_in station given.stations ≡ true) (are : AreWell given history)
-      (between : IsBetween given station history) where
+      (own : HaveOwnNumbers given station history) (between : IsBetween given station history) where
     abbrev fed : List ℕ
     fed = octet ∷ octets
 
@@ -116,7 +115,7 @@ module _ (given : Given) (are_two : IsOfTwo given) where
         (before other (other_in given are_two station is) link))))
       where
         feed_well_step : AreInStep given station history
-        feed_well_step = feed_step law given one eight station fed history (are.well station is) between
+        feed_well_step = feed_step given one eight station fed history own (are.well station is) between
 
     feed_always : AreAlways (AllArrive given) history → AreAlways (AllArrive given) (after_feed given station fed history)
     feed_always always =
@@ -126,19 +125,20 @@ module _ (given : Given) (are_two : IsOfTwo given) where
         (λ mid rest mid_is. subst (AllArrive given) (sym (append_assoc history (HostFed station fed ∷ []) mid)) (feed_middle mid rest mid_is)))
 
   -- in a whole feed
-  whole_feed : OnlyOpenHaveNotes → ((station : ℕ) → (setup_at given station).links ≤ 1) → ((station : ℕ) → (setup_at given station).host_buffers ≡ 8)
-      → (station : ℕ) (octets : List ℕ) (history : List Event) → is_in station given.stations ≡ true → AreWell given history → IsBetween given station history
+  whole_feed : ((station : ℕ) → (setup_at given station).links ≤ 1) → ((station : ℕ) → (setup_at given station).host_buffers ≡ 8)
+      → (station : ℕ) (octets : List ℕ) (history : List Event) → is_in station given.stations ≡ true → AreWell given history → HaveOwnNumbers given station history
+      → IsBetween given station history
       → AreAlways (AllArrive given) history → AreAlways (AllArrive given) (after_feed given station octets history)
-  whole_feed law one eight station [] history is are between always = always
-  whole_feed law one eight station (octet ∷ octets) history is are between always = feed_always law one eight station octet octets history is are between always
+  whole_feed one eight station [] history is are own between always = always
+  whole_feed one eight station (octet ∷ octets) history is are own between always = feed_always one eight station octet octets history is are own between always
 
   -- in a whole call
-  whole_call : ((station : ℕ) → (setup_at given station).links ≤ 1) → (station : ℕ) (step : Step) (history : List Event) → is_in station given.stations ≡ true → IsInTurn step
+  whole_call : (station : ℕ) (step : Step) (history : List Event) → is_in station given.stations ≡ true → IsInTurn step
       → AreWell given history → AreWell given (after_call given station step history) → AreAlways (AllArrive given) history
       → AreAlways (AllArrive given) (after_call given station step history)
-  whole_call one station step history is in_turn are are_after always =
+  whole_call station step history is in_turn are are_after always =
       always_more (AllArrive given) history (Called station step ∷ map (Noted station) (notes_after (setup_at given station) (facts_at given station history) step)) always
-      (call_middle station step history is (one station) in_turn (well_arrive given history are) (well_arrive given (after_call given station step history) are_after))
+      (call_middle station step history is in_turn (well_arrive given history are) (well_arrive given (after_call given station step history) are_after))
 
 -- ---- each step
 
@@ -146,10 +146,10 @@ pub record IsDataSoFar (given : Given) (Q : Place → List Event → Type 0) (pl
   pub is : IsDataAt given Q place history
   pub always : AreAlways (AllArrive given) history
 
-module _ (law : OnlyOpenHaveNotes) (whole : IsHeardWhole) (given : Given) (Q : Place → List Event → Type 0) (known : AreKnown given Q) (are_two : IsOfTwo given) (pair : HaveOneLink given)
+module _ (whole : IsHeardWhole) (given : Given) (Q : Place → List Event → Type 0) (known : AreKnown given Q) (are_two : IsOfTwo given) (pair : HaveOneLink given)
     (six : HaveAddresses given) (distinct : AreDistinct given.stations) (eight : (station : ℕ) → (setup_at given station).host_buffers ≡ 8) where
   pub so_far_kept : IsKept given (IsDataSoFar given Q)
-  so_far_kept = let kept = data_kept law whole given Q known are_two pair six distinct eight in record {
+  so_far_kept = let kept = data_kept whole given Q known are_two pair six distinct eight in record {
     on_turn = λ slot plan history begun at has.
         let next = kept.on_turn slot plan history begun at has.is in
         let event = TurnBegan slot (map plan.radio_of given.stations) in record {
@@ -159,14 +159,15 @@ module _ (law : OnlyOpenHaveNotes) (whole : IsHeardWhole) (given : Given) (Q : P
     on_feed = λ plan done left station history are some now has.
         let in_it = among given.stations done left station are in record {
           is = kept.on_feed plan done left station history are some now has.is;
-          always = whole_feed given are_two law pair.links eight station (take (plan.feed_of station) (octets_left given station history)) history in_it has.is.are
+          always = whole_feed given are_two pair.links eight station (take (plan.feed_of station) (octets_left given station history)) history in_it has.is.are
+              (own_numbers given Q known (AtFeeds done (station ∷ left)) history station in_it has.is.counted.known)
               (between_standing (past_of station history) (at_stage Between (turns_begun history - 1)) (has.is.counted.holds.hearing.stand station in_it)) has.always;
         };
     on_fed = λ history has. record { is = kept.on_fed history has.is; always = has.always };
     on_begin = λ slot plan done left station history are due has.
         let next = kept.on_begin slot plan done left station history are due has.is in record {
           is = next;
-          always = whole_call given are_two pair.links station (TurnBegins slot (plan.radio_of station)) history (among given.stations done left station are) tt
+          always = whole_call given are_two station (TurnBegins slot (plan.radio_of station)) history (among given.stations done left station are) tt
               has.is.are next.are has.always;
         };
     on_begun = λ history has. record { is = kept.on_begun history has.is; always = has.always };
@@ -183,7 +184,7 @@ module _ (law : OnlyOpenHaveNotes) (whole : IsHeardWhole) (given : Given) (Q : P
         let next = kept.on_hearing phases done left station history are some has.is in
         let received = packet_received station history in record {
           is = next;
-          always = whole_call given are_two pair.links station (step_of received) history (among given.stations done left station are) (pass_in_turn received)
+          always = whole_call given are_two station (step_of received) history (among given.stations done left station are) (pass_in_turn received)
               has.is.are next.are has.always;
         };
     on_heard = λ phases history has. record { is = kept.on_heard phases history has.is; always = has.always };
@@ -191,7 +192,7 @@ module _ (law : OnlyOpenHaveNotes) (whole : IsHeardWhole) (given : Given) (Q : P
     on_end = λ done left station history are some has.
         let next = kept.on_end done left station history are some has.is in record {
           is = next;
-          always = whole_call given are_two pair.links station TurnEnds history (among given.stations done left station are) tt has.is.are next.are has.always;
+          always = whole_call given are_two station TurnEnds history (among given.stations done left station are) tt has.is.are next.are has.always;
         };
     on_ended = λ history has. record { is = kept.on_ended history has.is; always = has.always };
   }

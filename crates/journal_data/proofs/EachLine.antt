@@ -18,6 +18,10 @@ use Rattle.journal_data.specs.Lines.{Lines, line_after, lines_after, lines_of, n
 abbrev pub number_of : ℕ → List Event → ℕ
 number_of station history = (links_of history).link_of station 0
 
+-- the numbers of the links that a station opened last, by handle
+abbrev pub numbers_at : ℕ → List Event → ℕ → ℕ
+numbers_at station history = (links_of history).link_of station
+
 -- what the lines of a station say so far, where each station has eight buffers
 abbrev pub lines_at : ℕ → List Event → Lines
 lines_at station history = lines_of 8 (side_of station) (journal_of history)

@@ -1,33 +1,34 @@
--- The end that a station has of its link, and what is known of its lines.
-use Rattle.std.proofs.Common.{◌≡◌, ℕ, ◌≤◌, Option, Some, None, List, [], length, refl, sym, ap, ◌∙◌, append-nil, arith}
+-- The ends that a station has of its links, and what is known of its lines.
+use Rattle.std.proofs.Common.{◌≡◌, ℕ, suc, ◌+◌, ◌<◌, ◌≤◌, ◌==◌, Bool, true, false, ◌∷◌, if◌then◌else◌, Option, Some, None, List, [], length, refl, sym, ap, ◌∙◌, append-nil, arith}
 use Rattle.std.specs.Option.{option_map}
+use Rattle.std.proofs.lemmas.Bool.{eqb-true}
 use Rattle.std.specs.Prelude.{not}
 use Rattle.std.specs.List.{filter}
 use Rattle.acl_banks.specs.History.{HostData}
 use Rattle.journal_data.specs.HostLines.{has_octets}
 use Rattle.link_model.proofs.Sending.{past_counted, past_in_order}
-use Rattle.open_links.specs.OpenLinks.{OpenLink, facts_in, link_at}
+use Rattle.open_links.specs.OpenLinks.{Links, OpenLink, facts_in, link_at, link_from}
 use Rattle.controller_model.specs.Since.{data_waiting}
 use Rattle.run_model.specs.Feeding.{HasNoted}
 use Rattle.run_model.specs.History.{Event}
 use Rattle.run_model.specs.Run.{Given, facts_at, setup_at}
+use Rattle.journal_acks.proofs.Exchanging.{number_at}
 use Rattle.journal_data.specs.Lines.{Lines, empties_on, submitted_on}
 use Rattle.journal_data.proofs.Credits.{AreFew, credited}
 use Rattle.journal_data.proofs.EachLine.{lines_at}
 use Rattle.journal_data.proofs.Middle.{IsFed}
-use Rattle.journal_data.proofs.Sides.{End, IsSound}
-use Rattle.journal_data.proofs.StationAdds.{IsSameOn}
-use Rattle.journal_data.proofs.StationLines.{IsStationBooked}
+use Rattle.journal_data.proofs.Sides.{End, IsFound, IsSound, found}
+use Rattle.journal_data.proofs.StationLines.{IsSameOn, IsStationBooked}
 use Rattle.journal_data.proofs.Submitting.{HasFed, IsSubmitted}
 use Rattle.journal_data.proofs.Tied.{tied}
-use Rattle.journal_data.proofs.EachLine.{number_of}
 
-abbrev pub end_of : ℕ → List Event → Given → OpenLink → End
-end_of station history given link =
-    record { link = number_of station history; facts = facts_in link; waiting = data_waiting 0 (facts_at given station history).received }
+abbrev pub end_of : ℕ → ℕ → List Event → Given → OpenLink → End
+end_of station handle history given link =
+    record { link = number_at station handle history; facts = facts_in link; waiting = data_waiting handle (facts_at given station history).received }
 
-abbrev pub end_at : Given → ℕ → List Event → Option End
-end_at given station history = option_map (end_of station history given) (link_at 0 (facts_at given station history).links)
+-- the ends that a station has, by handle
+abbrev pub end_at : Given → ℕ → List Event → ℕ → Option End
+end_at given station history handle = option_map (end_of station handle history given) (link_at handle (facts_at given station history).links)
 
 -- what is known of the lines of a station
 pub record IsWell (given : Given) (station : ℕ) (history : List Event) : Type 0 where
@@ -37,31 +38,49 @@ pub record IsWell (given : Given) (station : ℕ) (history : List Event) : Type 
   pub fed : HasFed given station history
   pub few : AreFew given station history
 
-pub sound : (given : Given) (station : ℕ) (history : List Event) (link : OpenLink) → (setup_at given station).links ≤ 1
-    → (setup_at given station).host_buffers ≡ 8 → IsWell given station history → link_at 0 (facts_at given station history).links ≡ Some link
-    → IsSound (end_of station history given link) (lines_at station history)
-sound given station history link one eight well at = record {
-  booked = tied given station history link one well.noted at well.booked.book
-      (credited given station history one eight well.noted well.few link at) (well.submitted.data_is link at) (well.submitted.empties_are link at);
+pub sound : (given : Given) (station handle : ℕ) (history : List Event) (link : OpenLink) → (setup_at given station).links ≤ 1
+    → (setup_at given station).host_buffers ≡ 8 → IsWell given station history → link_at handle (facts_at given station history).links ≡ Some link
+    → IsSound (end_of station handle history given link) (lines_at station history)
+sound given station handle history link one eight well at = record {
+  booked = tied given station handle history link (omega (arith, one)) well.noted at (well.booked.book handle link at)
+      (credited given station handle history link (omega (arith, one)) eight well.noted well.few at)
+      (well.submitted.data_is handle link at) (well.submitted.empties_are handle link at);
   order = past_in_order link.setup link.past;
   one_out = (past_counted link.setup link.past).1;
 }
 
 -- the link of an end
-pub record IsEndOf (given : Given) (station : ℕ) (history : List Event) (end : End) : Type 0 where
+pub record IsEndOf (given : Given) (station : ℕ) (history : List Event) (handle : ℕ) (end : End) : Type 0 where
   pub link : OpenLink
-  pub at : link_at 0 (facts_at given station history).links ≡ Some link
-  pub is : end_of station history given link ≡ end
+  pub at : link_at handle (facts_at given station history).links ≡ Some link
+  pub is : end_of station handle history given link ≡ end
 
-pub from_end : (given : Given) (station : ℕ) (history : List Event) (end : End) → end_at given station history ≡ Some end → IsEndOf given station history end
-from_end given station history end is = by (link_at 0 (facts_at given station history).links) refl is
+pub from_end : (given : Given) (station : ℕ) (history : List Event) (handle : ℕ) (end : End) → end_at given station history handle ≡ Some end
+    → IsEndOf given station history handle end
+from_end given station history handle end is = by (link_at handle (facts_at given station history).links) refl is
   where
-    by : (place : Option OpenLink) → link_at 0 (facts_at given station history).links ≡ place
-        → option_map (end_of station history given) place ≡ Some end → IsEndOf given station history end
+    by : (place : Option OpenLink) → link_at handle (facts_at given station history).links ≡ place
+        → option_map (end_of station handle history given) place ≡ Some end → IsEndOf given station history handle end
     by None at is = absurd cc
     by (Some link) at is =
-        let equal : Some (end_of station history given link) ≡ Some end = is in
+        let equal : Some (end_of station handle history given link) ≡ Some end = is in
         record { link = link; at = at; is = cc }
+
+-- ends are under handles below the number of places
+below_from : (first handle : ℕ) (links : Links) (link : OpenLink) → link_from first handle links ≡ Some link → handle < first + length links
+below_from first handle [] link at = absurd (let h : None ≡ Some link = at in absurd cc)
+below_from first handle (place ∷ links) link at = by (first == handle) refl at (below_from (first + 1) handle links link)
+  where
+    by : (own : Bool) → (first == handle) ≡ own → (if own then place else link_from (first + 1) handle links) ≡ Some link
+        → (link_from (first + 1) handle links ≡ Some link → handle < first + 1 + length links) → handle < first + suc (length links)
+    by true is found rest = let equal = eqb-true first handle is in omega (arith, equal)
+    by false is found rest = let below = rest found in omega (arith, below)
+
+pub found_at : (given : Given) (station : ℕ) (history : List Event) (link : ℕ) → IsFound (end_at given station history) link
+found_at given station history link =
+    let links = (facts_at given station history).links in
+    found (length links) (end_at given station history) link
+    (λ handle end is. let of = from_end given station history handle end is in let below = below_from 0 handle links of.link of.at in omega (arith, below))
 
 -- lines that say the same of a link
 pub same_fed : (link : ℕ) (before after : Lines) → IsSameOn link before after → submitted_on link after ≡ submitted_on link before → IsFed link before after

@@ -1,9 +1,6 @@
--- What a host sends is of the open link of its station alone.
-use Rattle.std.proofs.Common.{◌≡◌, ℕ, ◌+◌, ◌==◌, ◌⊎◌, inl, inr, Bool, true, false, cond, Option, Some, None, List, [], ◌∷◌, ◌++◌, refl, sym, ap, ◌∙◌, append-nil, if◌then◌else◌}
-use Rattle.std.specs.Prelude.{◌≢◌, map}
-use Rattle.std.specs.Option.{option_map}
-use Rattle.std.proofs.lemmas.Bool.{eqb-true, false_from_ne_true}
-use Rattle.acl_banks.specs.History.{HostData}
+-- What a host sends is of the open links of its station alone.
+use Rattle.std.proofs.Common.{◌≡◌, ℕ, ◌+◌, Bool, true, false, cond, Option, Some, None, List, [], ◌∷◌, ◌++◌, refl, ap, ◌∙◌, append-nil, if◌then◌else◌}
+use Rattle.std.specs.Prelude.{is_some, map}
 use Rattle.h4_frames.specs.declared.packet.HostPacket.{HostPacket}
 use Rattle.h4_frames.specs.declared.packet.HostPacket.TheVariants.{Command, Acl}
 use Rattle.open_links.specs.OpenLinks.{OpenLink, link_at}
@@ -14,48 +11,50 @@ use Rattle.run_model.specs.Run.{Given, after_call, after_feed, after_octets, fac
 use Rattle.journal_data.specs.HostLines.{OpenUnder, Submitted, buffers_of, is_dropped, is_reset, kept_of, kept_one, link_under, packets_framed}
 use Rattle.journal_data.specs.Lines.{Lines, buffers_taken, submitted_on}
 use Rattle.journal_data.proofs.EachLine.{fed_lines, lines_at}
-use Rattle.journal_data.proofs.HostPackets.{links_for, on_link, on_link-append}
+use Rattle.journal_data.proofs.HostPackets.{on_link, on_link-append}
 use Rattle.journal_data.proofs.Submitting.{call_submits}
-use Rattle.journal_data.proofs.StationLines.{IsStationBooked}
-use Rattle.journal_data.proofs.EachLine.{number_of}
+use Rattle.journal_data.proofs.StationLines.{IsNoneOf, IsStationBooked}
+use Rattle.journal_acks.proofs.Exchanging.{number_at}
+use Rattle.journal_acks.specs.Exchange.{is_number}
+use Rattle.journal_data.proofs.EachLine.{numbers_at}
+use Rattle.journal_data.proofs.HeldLinks.{under_is}
+use Rattle.journal_data.proofs.Openness.{is_open}
 
--- the packets of a link are of no other one
-abbrev IsApart : ℕ → ℕ → Option OpenLink → Type 0
-IsApart other number place = (place ≡ None) ⊎ (other ≢ number)
+-- this number is of no link under a handle
+abbrev IsApart : ℕ → List OpenUnder → Type 0
+IsApart other links = (handle : ℕ) → is_number (link_under handle links) other ≡ false
 
-one_kept : (other number : ℕ) (place : Option OpenLink) (handle : ℕ) (dropped start : Bool) (body : List ℕ) → IsApart other number place
-    → on_link other (kept_one (link_under handle (links_for number place)) dropped start body) ≡ []
-one_kept other number None handle dropped start body apart = refl
-one_kept other number (Some link) handle dropped start body (inl none) = absurd (let h : Some link ≡ None = none in absurd cc)
-one_kept other number (Some link) handle dropped start body (inr differs) = by (0 == handle) dropped
+one_kept : (other : ℕ) (under : Option ℕ) (dropped start : Bool) (body : List ℕ) → is_number under other ≡ false → on_link other (kept_one under dropped start body) ≡ []
+one_kept other None dropped start body apart = refl
+one_kept other (Some link) true start body apart = refl
+one_kept other (Some link) false start body apart =
+    ap (λ (b : Bool). map (λ (one : Submitted). one.packet) (cond b (record { link = link; packet = record { start = start; body = body } } ∷ []) [])) apart
+
+kept_others : (other : ℕ) (links : List OpenUnder) (taken : ℕ) (packets : List HostPacket) → IsApart other links → on_link other (kept_of 8 links taken packets) ≡ []
+kept_others other links taken [] apart = refl
+kept_others other links taken (Command opcode parameters ∷ packets) apart = by (is_reset opcode parameters.items) (kept_others other links taken packets apart)
   where
-    apart : (number == other) ≡ false
-    apart = false_from_ne_true (number == other) (λ same. differs (sym (eqb-true number other same)))
-
-    one_on : (packet : HostData) → on_link other (record { link = number; packet = packet } ∷ []) ≡ []
-    one_on packet = ap (λ (b : Bool). map (λ (one : Submitted). one.packet) (cond b (record { link = number; packet = packet } ∷ []) [])) apart
-
-    by : (own dropped : Bool) → on_link other (kept_one (option_map (λ (one : OpenUnder). one.link) (cond own (Some (record { link = number; handle = 0 })) None)) dropped start body) ≡ []
-    by true true = refl
-    by true false = one_on (record { start = start; body = body })
-    by false dropped = refl
-
-kept_others : (other number : ℕ) (place : Option OpenLink) (taken : ℕ) (packets : List HostPacket) → IsApart other number place
-    → on_link other (kept_of 8 (links_for number place) taken packets) ≡ []
-kept_others other number place taken [] apart = refl
-kept_others other number place taken (Command opcode parameters ∷ packets) apart =
-    by (is_reset opcode parameters.items) (kept_others other number place taken packets apart)
-  where
-    by : (resets : Bool) → on_link other (kept_of 8 (links_for number place) taken packets) ≡ []
-        → on_link other (if resets then [] else kept_of 8 (links_for number place) taken packets) ≡ []
+    by : (resets : Bool) → on_link other (kept_of 8 links taken packets) ≡ [] → on_link other (if resets then [] else kept_of 8 links taken packets) ≡ []
     by true none = refl
     by false none = none
-kept_others other number place taken (Acl handle start count body ∷ packets) apart =
-    let kept = kept_one (link_under handle (links_for number place)) (is_dropped 8 taken count) start body.items in
-    let later = kept_of 8 (links_for number place) (taken + buffers_of kept) packets in
+kept_others other links taken (Acl handle start count body ∷ packets) apart =
+    let kept = kept_one (link_under handle links) (is_dropped 8 taken count) start body.items in
+    let later = kept_of 8 links (taken + buffers_of kept) packets in
     on_link-append other kept later
-    ∙ ap (λ first. first ++ on_link other later) (one_kept other number place handle (is_dropped 8 taken count) start body.items apart)
-    ∙ kept_others other number place (taken + buffers_of kept) packets apart
+    ∙ ap (λ first. first ++ on_link other later) (one_kept other (link_under handle links) (is_dropped 8 taken count) start body.items (apart handle))
+    ∙ kept_others other links (taken + buffers_of kept) packets apart
+
+-- the links of the lines are those that are open
+none_under : (given : Given) (station other : ℕ) (history : List Event) → IsStationBooked given station history → IsNoneOf given station other history
+    → IsApart other (lines_at station history).links
+none_under given station other history booked none handle =
+    ap (λ (under : Option ℕ). is_number under other) (under_is (setup_at given station).links (lines_at station history).links (numbers_at station history)
+    (is_open (facts_at given station history).links) booked.links handle) ∙ by (link_at handle (facts_at given station history).links) refl
+  where
+    by : (place : Option OpenLink) → link_at handle (facts_at given station history).links ≡ place
+        → is_number (cond (is_some place) (Some (number_at station handle history)) None) other ≡ false
+    by None at = refl
+    by (Some link) at = none handle link at
 
 octets_submit : (given : Given) (station : ℕ) (octets : List ℕ) (history : List Event)
     → (lines_at station (after_octets given station octets history)).submitted ≡ (lines_at station history).submitted
@@ -63,19 +62,17 @@ octets_submit given station [] history = refl
 octets_submit given station (octet ∷ octets) history =
     octets_submit given station octets (after_call given station (HostOctet octet) history) ∙ call_submits station (HostOctet octet) (notes_after (setup_at given station) (facts_at given station history) (HostOctet octet)) history
 
--- of a link that is not the open one, no packet is submitted
+-- of a link that is not open, no packet is submitted
 pub others_submit : (given : Given) (station other : ℕ) (octets : List ℕ) (history : List Event) → IsStationBooked given station history
-    → IsApart other (number_of station history) (link_at 0 (facts_at given station history).links)
+    → IsNoneOf given station other history
     → submitted_on other (lines_at station (after_feed given station octets history)) ≡ submitted_on other (lines_at station history)
-others_submit given station other [] history booked apart = refl
-others_submit given station other (octet ∷ octets) history booked apart =
+others_submit given station other [] history booked none = refl
+others_submit given station other (octet ∷ octets) history booked none =
     let lines = lines_at station history in
-    let place = link_at 0 (facts_at given station history).links in
     let fed = octet ∷ octets in
     let come = history ++ HostFed station fed ∷ [] in
-    let kept = kept_of 8 (links_for (number_of station history) place) (buffers_taken lines) (packets_framed lines.fed fed) in
-    ap (on_link other) (octets_submit given station fed come ∙ ap (λ (after : Lines). after.submitted) (fed_lines station history fed)
-    ∙ ap (λ links. lines.submitted ++ kept_of 8 links (buffers_taken lines) (packets_framed lines.fed fed)) booked.links)
+    let kept = kept_of 8 lines.links (buffers_taken lines) (packets_framed lines.fed fed) in
+    ap (on_link other) (octets_submit given station fed come ∙ ap (λ (after : Lines). after.submitted) (fed_lines station history fed))
     ∙ on_link-append other lines.submitted kept
-    ∙ ap (λ more. on_link other lines.submitted ++ more) (kept_others other (number_of station history) place (buffers_taken lines) (packets_framed lines.fed fed) apart)
+    ∙ ap (λ more. on_link other lines.submitted ++ more) (kept_others other lines.links (buffers_taken lines) (packets_framed lines.fed fed) (none_under given station other history booked none))
     ∙ append-nil (on_link other lines.submitted)

@@ -45,7 +45,7 @@ use Rattle.journal_data.proofs.EachLine.{number_of}
 use Rattle.journal_data.proofs.EachLine.{call_lines, fed_lines, lines_at, note_lines}
 use Rattle.journal_data.proofs.HostPackets.{PlaceHas, has_none, links_for, octet_taken, on_link, on_link-append, passing-append}
 use Rattle.journal_data.proofs.Middle.{IsFed}
-use Rattle.journal_data.proofs.Submitting.{AheadAt, AreInStep, IsSubmitted, call_ahead, fed_ahead, kept_left, octet_left, same_number}
+use Rattle.journal_data.proofs.Submitting.{AheadAt, AreInStep, IsFirstSubmitted, IsSubmitted, first_submitted, few_links, call_ahead, fed_ahead, kept_left, octet_left, same_number}
 
 -- ---- the notes of a feed
 
@@ -308,10 +308,6 @@ adds_then station history mid after first second = record {
 noted_are : (station : ℕ) (notes : List Note) → AllByRecursion IsOfFeed notes → AllByRecursion (IsInFeedOf station) (map (Noted station) notes)
 noted_are station [] are = tt
 noted_are station (note ∷ notes) are = ((refl, are.0), noted_are station notes are.1)
-
-few_links : (given : Given) (station : ℕ) (history : List Event) → (setup_at given station).links ≤ 1 → length (facts_at given station history).links ≤ 1
-few_links given station history one =
-    let many = (own_handles (setup_at given station) (past_of station history)).many in omega (arith, many, one)
 
 call_brings : (given : Given) (station octet : ℕ) (history : List Event) → (setup_at given station).links ≤ 1
     → let facts = facts_at given station history in OctetBrings (setup_at given station) facts (result_of facts.octets octet)
@@ -627,7 +623,7 @@ nothing_fed link lines = record {
 
 -- a station that is fed something
 module _ (given : Given) (station : ℕ) (octets : List ℕ) (history : List Event) (one : (setup_at given station).links ≤ 1)
-    (eight : (setup_at given station).host_buffers ≡ 8) (step : AreInStep given station history) (submitted : IsSubmitted given station history) where
+    (eight : (setup_at given station).host_buffers ≡ 8) (step : AreInStep given station history) (submitted : IsFirstSubmitted given station history) where
   abbrev come_at : List Event
   come_at = history ++ HostFed station octets ∷ []
 
@@ -655,7 +651,7 @@ pub feed_is_fed : (given : Given) (station : ℕ) (octets : List ℕ) (history :
     → (link : ℕ) → IsFed link (lines_at station history) (lines_at station (after_feed given station octets history))
 feed_is_fed given station [] history one eight step submitted link = nothing_fed link (lines_at station history)
 feed_is_fed given station (octet ∷ octets) history one eight step submitted link =
-    all_fed given station (octet ∷ octets) history one eight step submitted link
+    all_fed given station (octet ∷ octets) history one eight step (first_submitted given station history submitted) link
 
 -- ---- in the middle of a feed
 
@@ -699,7 +695,7 @@ feed_front given station (octet ∷ octets) history before rest one eight step s
     let come = history ++ event ∷ [] in
     let mid = history ++ event ∷ before in
     let after = after_feed given station fed history in
-    let adds = all_adds given station fed history one eight step submitted in
+    let adds = all_adds given station fed history one eight step (first_submitted given station history submitted) in
     let more_is : before ++ rest ≡ adds.more =
     append_cancel_left come (before ++ rest) adds.more (append_assoc history (event ∷ []) (before ++ rest) ∙ sym is ∙ adds.is) in
     let parts = split_are station before rest (subst (AllByRecursion (IsInFeedOf station)) (sym more_is) adds.are) in

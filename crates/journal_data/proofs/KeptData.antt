@@ -23,7 +23,7 @@ use Rattle.run_laws.proofs.InAgreement.{IsStation, OpenedBefore, differs_back}
 use Rattle.run_laws.proofs.OpenSteps.{open_has}
 use Rattle.run_laws.proofs.TurnPlaces.{Between, Within, at_stage}
 use Rattle.journal_packets.specs.Belonging.{is_side}
-use Rattle.journal_acks.proofs.Counting.{AreKnown}
+use Rattle.journal_acks.proofs.Counting.{AreKnown, HaveOwnNumbers, apart_numbers}
 use Rattle.journal_acks.proofs.KeptCounts.{AreCountedAt, counts_kept}
 use Rattle.journal_acks.proofs.Standing.{PhasedBy, phased_at}
 use Rattle.journal_acks.proofs.TwoStations.{IsOfTwo, other_apart, other_is, other_of, own_differs}
@@ -36,11 +36,10 @@ use Rattle.journal_data.proofs.FeedSide.{feed_arrives, feed_used, feed_well}
 use Rattle.journal_data.proofs.Mine.{AreMine, other_back, packet_mine}
 use Rattle.journal_data.proofs.MineKept.{heard_none_mine, hearing_mine}
 use Rattle.journal_data.proofs.Moves.{alike_aged, begin_moves, end_moves, phase_moves, station_aged}
-use Rattle.journal_data.proofs.OneCall.{HasMoved, IsAged, IsCallMade, arriving_after, used_after, well_after}
+use Rattle.journal_data.proofs.OneCall.{EachAt, HasMoved, IsAged, IsCallMade, arriving_after, used_after, well_after}
 use Rattle.journal_data.proofs.OneLink.{HaveOneLink}
 use Rattle.journal_data.proofs.SameView.{SeesSame, same_end, same_used, same_well, sees_other_call, sees_other_feed, sees_packet, sees_turn}
 use Rattle.journal_data.proofs.Sides.{AreArriving}
-use Rattle.journal_data.proofs.StationLines.{OnlyOpenHaveNotes}
 use Rattle.journal_data.proofs.Used.{AreUsed, IsOldLink, old_call, old_event, old_feed}
 
 abbrev IsArriving : Given → ℕ → ℕ → List Event → Type 0
@@ -129,13 +128,19 @@ module _ (given : Given) (are_two : IsOfTwo given) where
           (subst (λ n. IsArriving given (other_of station) n after) (sym (other_back given are_two station is))
           (other_way given station (other_of station) after own.arriving))
 
+-- the open links of a station have numbers of their own
+pub own_numbers : (given : Given) (Q : Place → List Event → Type 0) → AreKnown given Q → (place : Place) (history : List Event) (station : ℕ)
+    → is_in station given.stations ≡ true → Q place history → HaveOwnNumbers given station history
+own_numbers given Q known place history station is q one other a b at at_too differs =
+    apart_numbers given Q known place history q station one other a b is at at_too differs
+
 pub pass_in_turn : (received : Option (List ℕ)) → IsInTurn (step_of received)
 pass_in_turn None = tt
 pass_in_turn (Some octets) = tt
 
 -- ---- each step
 
-module _ (law : OnlyOpenHaveNotes) (whole : IsHeardWhole) (given : Given) (Q : Place → List Event → Type 0) (known : AreKnown given Q) (are_two : IsOfTwo given) (pair : HaveOneLink given)
+module _ (whole : IsHeardWhole) (given : Given) (Q : Place → List Event → Type 0) (known : AreKnown given Q) (are_two : IsOfTwo given) (pair : HaveOneLink given)
     (six : HaveAddresses given) (distinct : AreDistinct given.stations) (eight : (station : ℕ) → (setup_at given station).host_buffers ≡ 8) where
   abbrev P : Place → List Event → Type 0
   P place history = IsDataAt given Q place history
@@ -143,13 +148,13 @@ module _ (law : OnlyOpenHaveNotes) (whole : IsHeardWhole) (given : Given) (Q : P
   abbrev C : Place → List Event → Type 0
   C place history = AreCountedAt given Q place history
 
-  call_well : (station : ℕ) (step : Step) (history : List Event) (place : Place) → is_in station given.stations ≡ true → IsInTurn step
-      → C place (after_call given station step history)
-      → ((link : OpenLink) → link_at 0 (facts_at given station (after_call given station step history)).links ≡ Some link → HasMoved given station history link)
-      → ((link : OpenLink) → link_at 0 (facts_at given station (after_call given station step history)).links ≡ Some link → IsAged history link)
+  call_well : (station : ℕ) (step : Step) (history : List Event) (before place : Place) → is_in station given.stations ≡ true → IsInTurn step
+      → C before history → C place (after_call given station step history)
+      → EachAt given station (after_call given station step history) (HasMoved given station history)
+      → EachAt given station (after_call given station step history) (λ handle link. IsAged history link)
       → (AreFew given station history → AreFew given station (after_call given station step history))
       → AreMine given history → AreWell given history → AreWell given (after_call given station step history)
-  call_well station step history place is in_turn counted moved aged few mine are =
+  call_well station step history before place is in_turn was counted moved aged few mine are =
       let after = after_call given station step history in
       let other = other_of station in
       let far = other_in given are_two station is in
@@ -159,8 +164,10 @@ module _ (law : OnlyOpenHaveNotes) (whole : IsHeardWhole) (given : Given) (Q : P
         used = are.used station is;
         arriving = are.arriving station is;
         mine = mine station is;
-        begun = λ link at. known.begun place after counted.known station 0 link is at;
-        far_begun = λ link at. known.begun place after counted.known other 0 link far at;
+        own = own_numbers given Q known before history station is was.known;
+        own_after = own_numbers given Q known place after station is counted.known;
+        begun = λ handle link at. known.begun place after counted.known station handle link is at;
+        far_begun = λ handle link at. known.begun place after counted.known other handle link far at;
         agree = known.agree whole place after counted.known station other is far (own_differs station);
         moved = moved;
         aged = aged;
@@ -169,17 +176,17 @@ module _ (law : OnlyOpenHaveNotes) (whole : IsHeardWhole) (given : Given) (Q : P
       } in
       own_all given are_two station history after is (λ one differs. sees_other_call given one station step history differs)
       (old_call given station step history) (record {
-        well = well_after law given pair.links eight station step history made;
-        used = used_after law given pair.links eight station step history made;
-        arriving = arriving_after law given pair.links eight station step history made;
+        well = well_after given pair.links eight station step history made;
+        used = used_after given pair.links eight station step history made;
+        arriving = arriving_after given pair.links eight station step history made;
       }) are
 
   -- a station in a turn
-  turn_aged : (history after : List Event) (station phases : ℕ) (link : OpenLink) → turns_begun after ≡ turns_begun history
+  turn_aged : (history after : List Event) (station phases handle : ℕ) (link : OpenLink) → turns_begun after ≡ turns_begun history
       → IsStation (setup_at given station) (facts_at given station after) → PhasedBy given after station (at_stage (Within phases) (turns_begun after))
-      → link_at 0 (facts_at given station after).links ≡ Some link → IsAged history link
-  turn_aged history after station phases link turns is phased at =
-      station_aged history (setup_at given station) (facts_at given station after) link is (phased.uses.in_turn.begun_is ∙ turns) (phased.uses.in_turn.slot_is ∙ turns) at
+      → link_at handle (facts_at given station after).links ≡ Some link → IsAged history link
+  turn_aged history after station phases handle link turns is phased at =
+      station_aged history (setup_at given station) (facts_at given station after) handle link is (phased.uses.in_turn.begun_is ∙ turns) (phased.uses.in_turn.slot_is ∙ turns) at
 
   feed_kept : (station : ℕ) (octets : List ℕ) (history : List Event) (place : Place) → is_in station given.stations ≡ true → C place history
       → PhasedBy given history station (at_stage Between (turns_begun history - 1)) → IsBetween given station history
@@ -188,28 +195,29 @@ module _ (law : OnlyOpenHaveNotes) (whole : IsHeardWhole) (given : Given) (Q : P
       let after = after_feed given station octets history in
       let other = other_of station in
       let facts = facts_at given station history in
+      let own = own_numbers given Q known place history station is counted.known in
       own_all given are_two station history after is (λ one differs. sees_other_feed given one station octets history differs)
       (old_feed given station octets history) (record {
-        well = feed_well law given pair.links eight station octets history (are.well station is) between;
-        used = feed_used law given pair.links eight station octets history (are.well station is) between (λ link at.
-            let begun = known.begun place history counted.known station 0 link is at in
+        well = feed_well given pair.links eight station octets history own (are.well station is) between;
+        used = feed_used given pair.links eight station octets history own (are.well station is) between (λ handle link at.
+            let begun = known.begun place history counted.known station handle link is at in
             let before : link.setup.opened < facts.turn.begun =
-            open_has (OpenedBefore facts.turn.begun) 0 0 facts.links link (counted.holds.so_far.last.each station is).earlier at in
+            open_has (OpenedBefore facts.turn.begun) 0 handle facts.links link (counted.holds.so_far.last.each station is).earlier at in
             let now = phased.uses.in_turn.begun_is in
             let slot = begun.slot in
             record { link = begun.link; is_link = begun.is_link; before = omega (arith, before, now, slot) }) (are.used station is);
-        arriving = fed_arriving station octets history is between are;
+        arriving = fed_arriving station octets history is own between are;
       }) are
     where
-      fed_arriving : (station : ℕ) (octets : List ℕ) (history : List Event) → is_in station given.stations ≡ true → IsBetween given station history → AreWell given history
-          → IsArriving given station (other_of station) (after_feed given station octets history)
-      fed_arriving station octets history is between are =
+      fed_arriving : (station : ℕ) (octets : List ℕ) (history : List Event) → is_in station given.stations ≡ true → HaveOwnNumbers given station history
+          → IsBetween given station history → AreWell given history → IsArriving given station (other_of station) (after_feed given station octets history)
+      fed_arriving station octets history is own between are =
           let after = after_feed given station octets history in
           let other = other_of station in
           let far = sees_other_feed given other station octets history (far_side station) in
           subst (λ lines. AreArriving (lines_at station after) lines (end_at given station after) (end_at given other after)) (sym far.lines)
           (subst (AreArriving (lines_at station after) (lines_at other history) (end_at given station after)) (sym (same_end given other history after far))
-          (feed_arrives law given pair.links eight station octets history (are.well station is) between (lines_at other history) (end_at given other history) (are.arriving station is)))
+          (feed_arrives given pair.links eight station octets history own (are.well station is) between (lines_at other history) (end_at given other history) (are.arriving station is)))
 
   pub data_kept : IsKept given (IsDataAt given Q)
   data_kept = let kept = counts_kept whole given Q known are_two six distinct in record {
@@ -246,8 +254,8 @@ module _ (law : OnlyOpenHaveNotes) (whole : IsHeardWhole) (given : Given) (Q : P
         let turns = turns_called station step (notes_after (setup_at given station) (facts_at given station history) step) history in record {
           counted = counted;
           mine = heard_none_mine given after counted.holds.hearing.hears;
-          are = call_well station step history place in_it tt counted (begin_moves given station slot on history)
-              (λ link at. turn_aged history after station 0 link turns (counted.holds.so_far.last.each station in_it) phased at)
+          are = call_well station step history (AtBegins done (station ∷ left)) place in_it tt is.counted counted (begin_moves given station slot on history)
+              (λ handle link at. turn_aged history after station 0 handle link turns (counted.holds.so_far.last.each station in_it) phased at)
               (few_begin given station slot on history) is.mine is.are;
         };
     on_begun = λ history is. record { counted = kept.on_begun history is.counted; mine = is.mine; are = is.are };
@@ -259,7 +267,7 @@ module _ (law : OnlyOpenHaveNotes) (whole : IsHeardWhole) (given : Given) (Q : P
         let in_it = among given.stations done left station are in
         let out = not_before given.stations done left station distinct are in record {
           counted = kept.on_packet phases plan done left station channel octets history are some due is.counted;
-          mine = packet_mine whole given Q known are_two pair six distinct phases done left station channel octets plan.fates history are due.is_wanted is.counted.known is.counted.holds
+          mine = packet_mine whole given Q known are_two six distinct phases done left station channel octets plan.fates history are due.is_wanted is.counted.known is.counted.holds
               is.counted.counted due.is_seen (λ other is_other differs. is.counted.silent other station is_other in_it differs out) is.mine;
           are = all_same given history (history ++ Transmitted station channel octets hearings ∷ []) (λ one. sees_packet one history station channel octets hearings)
               (old_event history (Transmitted station channel octets hearings)) is.are;
@@ -280,10 +288,10 @@ module _ (law : OnlyOpenHaveNotes) (whole : IsHeardWhole) (given : Given) (Q : P
         (in_more_same station station done (same_station station)) (phased_at given place after counted.holds.hearing.stand station in_it) in
         let turns = turns_called station step (notes_after (setup_at given station) (facts_at given station history) step) history in record {
           counted = counted;
-          mine = hearing_mine given are_two pair station history in_it is.mine;
-          are = call_well station step history place in_it (pass_in_turn received) counted
-              (λ link at. phase_moves given station history link before.uses.in_turn.slot_is before.uses.in_turn.listens at)
-              (λ link at. turn_aged history after station (suc phases) link turns (counted.holds.so_far.last.each station in_it) phased at)
+          mine = hearing_mine given are_two station history in_it is.mine;
+          are = call_well station step history (AtListening phases done (station ∷ left)) place in_it (pass_in_turn received) is.counted counted
+              (λ handle link at. phase_moves given station history handle link before.uses.in_turn.slot_is before.uses.in_turn.listens at)
+              (λ handle link at. turn_aged history after station (suc phases) handle link turns (counted.holds.so_far.last.each station in_it) phased at)
               (few_pass given station received history) is.mine is.are;
         };
     on_heard = λ phases history is. record { counted = kept.on_heard phases history is.counted; mine = is.mine; are = is.are };
@@ -299,17 +307,17 @@ module _ (law : OnlyOpenHaveNotes) (whole : IsHeardWhole) (given : Given) (Q : P
         record {
           counted = counted;
           mine = heard_none_mine given after counted.holds.hearing.hears;
-          are = call_well station TurnEnds history place in_it tt counted (end_moves given station history)
-              (λ link at. ended_aged station history link (is.counted.holds.so_far.last.each station in_it) before at)
+          are = call_well station TurnEnds history (AtEnds done (station ∷ left)) place in_it tt is.counted counted (end_moves given station history)
+              (λ handle link at. ended_aged station history handle link (is.counted.holds.so_far.last.each station in_it) before at)
               (few_end given station history) is.mine is.are;
         };
     on_ended = λ history is. record { counted = kept.on_ended history is.counted; mine = is.mine; are = is.are };
   }
     where
-      ended_aged : (station : ℕ) (history : List Event) (link : OpenLink) → IsStation (setup_at given station) (facts_at given station history)
+      ended_aged : (station : ℕ) (history : List Event) (handle : ℕ) (link : OpenLink) → IsStation (setup_at given station) (facts_at given station history)
           → PhasedBy given history station (at_stage (Within 3) (turns_begun history))
-          → link_at 0 (facts_at given station (after_call given station TurnEnds history)).links ≡ Some link → IsAged history link
-      ended_aged station history link is before at =
-          let was = end_under (setup_at given station) (facts_at given station history) 0 link
-          (ap (λ (f : Facts). link_at 0 f.links) (sym (own_facts given station TurnEnds history)) ∙ at) in
-          alike_aged history was.link link was.setup was.ack (turn_aged history history station 3 was.link refl is before was.was)
+          → link_at handle (facts_at given station (after_call given station TurnEnds history)).links ≡ Some link → IsAged history link
+      ended_aged station history handle link is before at =
+          let was = end_under (setup_at given station) (facts_at given station history) handle link
+          (ap (λ (f : Facts). link_at handle f.links) (sym (own_facts given station TurnEnds history)) ∙ at) in
+          alike_aged history was.link link was.setup was.ack (turn_aged history history station 3 handle was.link refl is before was.was)

@@ -5,7 +5,7 @@ use Rattle.std.specs.Prelude.{◌&&◌, ◌||◌, filter, fold, map, ⊤}
 use Rattle.std.specs.List.{AllByRecursion}
 use Rattle.std.proofs.lemmas.Bool.{eq-eqb, eqb-true}
 use Rattle.ble_base.specs.declared.notes.Note.{Note}
-use Rattle.ble_base.specs.declared.notes.Note.TheVariants.{Up, Opened, Shut, Sent, Took, Enter, Applied, Began, Refused, Done}
+use Rattle.ble_base.specs.declared.notes.Note.TheVariants.{Up, Opened}
 use Rattle.open_links.specs.OpenLinks.{OpenLink, facts_in, link_at}
 use Rattle.controller_model.specs.Facts.{Setup, Facts}
 use Rattle.controller_model.specs.Side.{notes_after}
@@ -19,12 +19,13 @@ use Rattle.run_model.specs.Run.{Given, after_call, facts_at, setup_at}
 use Rattle.run_model.proofs.Calls.{past_own}
 use Rattle.run_model.proofs.LinksKnown.{link_by_own, links_event}
 use Rattle.run_model.proofs.OpenedNotes.{is_opened}
+use Rattle.journal_acks.proofs.Exchanging.{number_at}
 use Rattle.run_laws.proofs.Hearings.{own_facts}
 use Rattle.run_laws.proofs.TurnPlaces.{event_past}
 use Rattle.journal_packets.specs.Belonging.{is_side}
 use Rattle.journal_data.specs.HostLines.{has_octets}
 use Rattle.journal_data.specs.Lines.{data_on, empties_on, submitted_on}
-use Rattle.journal_data.proofs.EachLine.{number_of}
+use Rattle.journal_data.proofs.EachLine.{numbers_at}
 use Rattle.journal_data.proofs.EachLine.{air_lines, call_lines, fed_other, lines_at, note_other, own_side, turn_lines}
 use Rattle.journal_data.proofs.HostPackets.{has_none, on_link}
 use Rattle.journal_data.proofs.SameGiven.{WasSo, turn_given}
@@ -36,13 +37,13 @@ use Rattle.journal_data.proofs.Submitting.{IsSubmitted, call_submits, counted_on
 pub record IsUnchanged (station : ℕ) (before after : List Event) : Type 0 where
   pub lines : lines_at station after ≡ lines_at station before
   pub past : past_of station after ≡ past_of station before
-  pub number : number_of station after ≡ number_of station before
+  pub number : numbers_at station after ≡ numbers_at station before
 
 unchanged_same : (station : ℕ) (before after : List Event) → after ≡ before → IsUnchanged station before after
 unchanged_same station before after same = record {
   lines = ap (lines_at station) same;
   past = ap (past_of station) same;
-  number = ap (number_of station) same;
+  number = ap (numbers_at station) same;
 }
 
 unchanged_then : (station : ℕ) (before mid after : List Event) → IsUnchanged station before mid → IsUnchanged station mid after
@@ -74,29 +75,22 @@ differs station other apart = by (station == other) refl
         let own = ap (λ n. is_side (side_of n) (side_of station)) (sym (eqb-true station other is)) ∙ own_side station in
         absurd (let h : true ≡ false = sym own ∙ apart in absurd cc)
 
--- the number of its link
+-- the numbers of its links
 sent_number : (station : ℕ) (begins : Bool) (sender : ℕ) (hearings : List Hearing) (links : Links)
-    → (if begins then with_link sender hearings links else links).link_of station 0 ≡ links.link_of station 0
+    → (if begins then with_link sender hearings links else links).link_of station ≡ links.link_of station
 sent_number station true sender hearings links = refl
 sent_number station false sender hearings links = refl
 
 noted_number : (station other : ℕ) (note : Note) (links : Links) → (station == other) ≡ false
-    → (links_noted other note links).link_of station 0 ≡ links.link_of station 0
+    → (links_noted other note links).link_of station ≡ links.link_of station
 noted_number station other (Opened handle role own peer) links apart =
-    ap (λ b. if b && (0 == handle) then links.last_of other else links.link_of station 0) apart
+    λ i under. if apart i && (under == handle) then links.last_of other else links.link_of station under
 noted_number station other (Up packet) links apart = refl
-noted_number station other (Shut handle reason) links apart = refl
-noted_number station other (Sent handle number llid body) links apart = refl
-noted_number station other (Took handle number llid body) links apart = refl
-noted_number station other (Enter handle event channel) links apart = refl
-noted_number station other (Applied handle number event) links apart = refl
-noted_number station other (Began handle kind) links apart = refl
-noted_number station other (Refused handle kind code) links apart = refl
-noted_number station other (Done handle kind) links apart = refl
+noted_number station other note links apart = refl
 
-number_event : (station : ℕ) (history : List Event) (event : Event) (number : ℕ) → (links_after (links_of history) event).link_of station 0 ≡ number
-    → number_of station (history ++ event ∷ []) ≡ number
-number_event station history event number is = ap (λ (links : Links). links.link_of station 0) (links_event history event) ∙ is
+number_event : (station : ℕ) (history : List Event) (event : Event) (number : ℕ → ℕ) → (links_after (links_of history) event).link_of station ≡ number
+    → numbers_at station (history ++ event ∷ []) ≡ number
+number_event station history event number is = ap (λ (links : Links). links.link_of station) (links_event history event) ∙ is
 
 pub event_unchanged : (station : ℕ) (history : List Event) (event : Event) → IsOutside station event
     → IsUnchanged station history (history ++ event ∷ [])
@@ -147,23 +141,24 @@ none_or_none : (own : Bool) → cond {A = ℕ} own 0 0 ≡ 0
 none_or_none true = refl
 none_or_none false = refl
 
-counted_none : (notes : List Note) → fold (count_since 0) 0 notes ≡ 0
-counted_none [] = refl
-counted_none (Opened handle role own peer ∷ notes) = ap (λ n. fold (count_since 0) n notes) (none_or_none (handle == 0)) ∙ counted_none notes
-counted_none (note ∷ notes) = counted_none notes
+counted_none : (handle : ℕ) (notes : List Note) → fold (count_since handle) 0 notes ≡ 0
+counted_none handle [] = refl
+counted_none handle (Opened other role own peer ∷ notes) =
+    ap (λ n. fold (count_since handle) n notes) (none_or_none (other == handle)) ∙ counted_none handle notes
+counted_none handle (note ∷ notes) = counted_none handle notes
 
-counted_anew : (count : ℕ) (notes : List Note) → is_opened 0 notes ≡ true → fold (count_since 0) count notes ≡ 0
-counted_anew count [] is = absurd cc
-counted_anew count (Opened handle role own peer ∷ notes) is =
-    by (0 == handle) refl is (counted_anew (if handle == 0 then 0 else count) notes)
+counted_anew : (handle count : ℕ) (notes : List Note) → is_opened handle notes ≡ true → fold (count_since handle) count notes ≡ 0
+counted_anew handle count [] is = absurd cc
+counted_anew handle count (Opened other role own peer ∷ notes) is =
+    by (handle == other) refl is (counted_anew handle (if other == handle then 0 else count) notes)
   where
-    by : (same : Bool) → (0 == handle) ≡ same → (same || is_opened 0 notes) ≡ true
-        → (is_opened 0 notes ≡ true → fold (count_since 0) (if handle == 0 then 0 else count) notes ≡ 0)
-        → fold (count_since 0) (if handle == 0 then 0 else count) notes ≡ 0
+    by : (same : Bool) → (handle == other) ≡ same → (same || is_opened handle notes) ≡ true
+        → (is_opened handle notes ≡ true → fold (count_since handle) (if other == handle then 0 else count) notes ≡ 0)
+        → fold (count_since handle) (if other == handle then 0 else count) notes ≡ 0
     by true same opened later =
-        ap (λ b. fold (count_since 0) (if b then 0 else count) notes) (eq-eqb handle 0 (sym (eqb-true 0 handle same))) ∙ counted_none notes
+        ap (λ b. fold (count_since handle) (if b then 0 else count) notes) (eq-eqb other handle (sym (eqb-true handle other same))) ∙ counted_none handle notes
     by false same opened later = later opened
-counted_anew count (note ∷ notes) is = counted_anew count notes is
+counted_anew handle count (note ∷ notes) is = counted_anew handle count notes is
 
 -- a call of a turn gives nothing
 given_none : (handle : ℕ) (facts : Facts) (step : Step) (count : ℕ) → IsInTurn step → count_given handle facts step count ≡ count
@@ -176,7 +171,7 @@ given_none handle facts TurnEnds count turn = refl
 -- where a link is opened, no packet was submitted under its number before
 abbrev pub OpensAnew : Given → ℕ → Step → List Event → Type 0
 OpensAnew given station step history =
-    is_opened 0 (notes_after (setup_at given station) (facts_at given station history) step) ≡ true
+    (handle : ℕ) → is_opened handle (notes_after (setup_at given station) (facts_at given station history) step) ≡ true
     → submitted_on ((links_of history).last_of station) (lines_at station history) ≡ []
 
 module _ (given : Given) (station : ℕ) (step : Step) (history : List Event) (turn : IsInTurn step) where
@@ -195,50 +190,51 @@ module _ (given : Given) (station : ℕ) (step : Step) (history : List Event) (t
   submits : (number : ℕ) → on_link number (lines_at station next).submitted ≡ on_link number (lines_at station history).submitted
   submits number = ap (on_link number) (call_submits station step noted history)
 
-  next_number : (opened : Bool) → is_opened 0 noted ≡ opened
-      → number_of station next ≡ (if opened then (links_of history).last_of station else number_of station history)
-  next_number opened is =
-      link_by_own station step noted history 0
-      ∙ ap (λ (b : Bool). if b then (links_of history).last_of station else number_of station history) is
+  next_number : (handle : ℕ) (opened : Bool) → is_opened handle noted ≡ opened
+      → number_at station handle next ≡ (if opened then (links_of history).last_of station else number_at station handle history)
+  next_number handle opened is =
+      link_by_own station step noted history handle
+      ∙ ap (λ (b : Bool). if b then (links_of history).last_of station else number_at station handle history) is
 
-  next_link : (link : OpenLink) → link_at 0 (facts_at given station next).links ≡ Some link → (opened : Bool) → is_opened 0 noted ≡ opened
-      → WasSo opened (link_at 0 facts_now.links) link
-  next_link link is opened noted_is =
-      turn_given setup_of (past_of station history) step turn link
-      (ap (λ (facts : Facts). link_at 0 facts.links) (sym (own_facts given station step history)) ∙ is) opened noted_is
+  next_link : (handle : ℕ) (link : OpenLink) → link_at handle (facts_at given station next).links ≡ Some link → (opened : Bool) → is_opened handle noted ≡ opened
+      → WasSo opened (link_at handle facts_now.links) link
+  next_link handle link is opened noted_is =
+      turn_given handle setup_of (past_of station history) step turn link
+      (ap (λ (facts : Facts). link_at handle facts.links) (sym (own_facts given station step history)) ∙ is) opened noted_is
 
-  next_empties : empties_of setup_of 0 (past_of station next) ≡ fold (count_since 0) (empties_of setup_of 0 (past_of station history)) noted
-  next_empties =
-      ap (empties_of setup_of 0) (past_own station step noted history)
-      ∙ empties_more setup_of 0 (past_of station history) step
-      ∙ given_none 0 facts_now step (fold (count_since 0) (empties_of setup_of 0 (past_of station history)) noted) turn
+  next_empties : (handle : ℕ)
+      → empties_of setup_of handle (past_of station next) ≡ fold (count_since handle) (empties_of setup_of handle (past_of station history)) noted
+  next_empties handle =
+      ap (empties_of setup_of handle) (past_own station step noted history)
+      ∙ empties_more setup_of handle (past_of station history) step
+      ∙ given_none handle facts_now step (fold (count_since handle) (empties_of setup_of handle (past_of station history)) noted) turn
 
-  -- what the lines have of the link, and what it was given
-  data_by : (link : OpenLink) (opened : Bool) → is_opened 0 noted ≡ opened → OpensAnew given station step history → IsSubmitted given station history
-      → WasSo opened (link_at 0 facts_now.links) link → data_on (number_of station next) (lines_at station next) ≡ (facts_in link).outgoing.given
-  data_by link true is anew submitted none =
-      ap (λ n. data_on n (lines_at station next)) (next_number true is)
-      ∙ ap (filter has_octets) (submits ((links_of history).last_of station) ∙ anew is) ∙ sym none
-  data_by link false is anew submitted was =
-      ap (λ n. data_on n (lines_at station next)) (next_number false is)
-      ∙ ap (filter has_octets) (submits (number_of station history)) ∙ submitted.data_is was.old was.was ∙ sym was.same
+  -- what the lines have of a link, and what it was given
+  data_by : (handle : ℕ) (link : OpenLink) (opened : Bool) → is_opened handle noted ≡ opened → OpensAnew given station step history → IsSubmitted given station history
+      → WasSo opened (link_at handle facts_now.links) link → data_on (number_at station handle next) (lines_at station next) ≡ (facts_in link).outgoing.given
+  data_by handle link true is anew submitted none =
+      ap (λ n. data_on n (lines_at station next)) (next_number handle true is)
+      ∙ ap (filter has_octets) (submits ((links_of history).last_of station) ∙ anew handle is) ∙ sym none
+  data_by handle link false is anew submitted was =
+      ap (λ n. data_on n (lines_at station next)) (next_number handle false is)
+      ∙ ap (filter has_octets) (submits (number_at station handle history)) ∙ submitted.data_is handle was.old was.was ∙ sym was.same
 
-  empties_by : (link : OpenLink) (opened : Bool) → is_opened 0 noted ≡ opened → OpensAnew given station step history → IsSubmitted given station history
-      → WasSo opened (link_at 0 facts_now.links) link
-      → empties_on (number_of station next) (lines_at station next) ≡ empties_of setup_of 0 (past_of station next)
-  empties_by link true is anew submitted none =
-      ap (λ n. empties_on n (lines_at station next)) (next_number true is)
-      ∙ ap (λ packets. length (filter has_none packets)) (submits ((links_of history).last_of station) ∙ anew is)
-      ∙ sym (next_empties ∙ counted_anew (empties_of setup_of 0 (past_of station history)) noted is)
-  empties_by link false is anew submitted was =
-      ap (λ n. empties_on n (lines_at station next)) (next_number false is)
-      ∙ ap (λ packets. length (filter has_none packets)) (submits (number_of station history))
-      ∙ submitted.empties_are was.old was.was
-      ∙ sym (next_empties ∙ counted_on (empties_of setup_of 0 (past_of station history)) noted is)
+  empties_by : (handle : ℕ) (link : OpenLink) (opened : Bool) → is_opened handle noted ≡ opened → OpensAnew given station step history → IsSubmitted given station history
+      → WasSo opened (link_at handle facts_now.links) link
+      → empties_on (number_at station handle next) (lines_at station next) ≡ empties_of setup_of handle (past_of station next)
+  empties_by handle link true is anew submitted none =
+      ap (λ n. empties_on n (lines_at station next)) (next_number handle true is)
+      ∙ ap (λ packets. length (filter has_none packets)) (submits ((links_of history).last_of station) ∙ anew handle is)
+      ∙ sym (next_empties handle ∙ counted_anew handle (empties_of setup_of handle (past_of station history)) noted is)
+  empties_by handle link false is anew submitted was =
+      ap (λ n. empties_on n (lines_at station next)) (next_number handle false is)
+      ∙ ap (λ packets. length (filter has_none packets)) (submits (number_at station handle history))
+      ∙ submitted.empties_are handle was.old was.was
+      ∙ sym (next_empties handle ∙ counted_on handle (empties_of setup_of handle (past_of station history)) noted is)
 
   pub turn_submitted : OpensAnew given station step history → IsSubmitted given station history
       → IsSubmitted given station (after_call given station step history)
   turn_submitted anew submitted = record {
-    data_is = λ link is. data_by link (is_opened 0 noted) refl anew submitted (next_link link is (is_opened 0 noted) refl);
-    empties_are = λ link is. empties_by link (is_opened 0 noted) refl anew submitted (next_link link is (is_opened 0 noted) refl);
+    data_is = λ handle link is. data_by handle link (is_opened handle noted) refl anew submitted (next_link handle link is (is_opened handle noted) refl);
+    empties_are = λ handle link is. empties_by handle link (is_opened handle noted) refl anew submitted (next_link handle link is (is_opened handle noted) refl);
   }

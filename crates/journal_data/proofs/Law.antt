@@ -1,14 +1,12 @@
 -- In every journal of a run of a pair, after each of its lines, the data of both sides arrives in order.
-use Rattle.std.proofs.Common.{◌≡◌, ℕ, zero, suc, true, Some, None, List, [], ◌∷◌, ◌++◌, length, replicate, refl, sym, subst, ◌∙◌, append-nil, arith}
-use Rattle.std.specs.Option.{option_map}
+use Rattle.std.proofs.Common.{◌≡◌, ℕ, zero, suc, ◌+◌, ◌==◌, Bool, true, false, cond, Some, None, List, [], ◌∷◌, ◌++◌, length, replicate, refl, sym, subst, ◌∙◌, append-nil, arith}
 use Rattle.ble_base.specs.Side.{other_side}
 use Rattle.ble_base.specs.declared.roles.Side.{Side}
 use Rattle.ble_base.specs.declared.roles.Side.TheVariants.{A, B}
 use Rattle.journal.specs.declared.entries.Entry.{Entry}
 use Rattle.link_model.proofs.Received.{IsHeardWhole}
-use Rattle.open_links.specs.OpenLinks.{OpenLink, link_at}
+use Rattle.open_links.specs.OpenLinks.{OpenLink, link_at, link_from}
 use Rattle.controller_model.specs.Side.{facts_of, notes_of}
-use Rattle.controller_model.proofs.OpenNotes.{open_after, open_before}
 use Rattle.radio_replay.specs.Script.{Script}
 use Rattle.run_model.specs.Feeding.{AreDistinct, HasNoted}
 use Rattle.run_model.specs.Journal.{journal_of, side_of}
@@ -31,34 +29,32 @@ use Rattle.journal_data.specs.Lines.{lines_of}
 use Rattle.journal_data.proofs.Credits.{few_first}
 use Rattle.journal_data.proofs.DataInRuns.{AllArrive, IsDataSoFar, so_far_kept, well_arrive}
 use Rattle.journal_data.proofs.EachLine.{lines_at}
-use Rattle.journal_data.proofs.Ends.{IsWell, end_at, end_of}
+use Rattle.journal_data.proofs.Ends.{IsWell, end_at, from_end}
 use Rattle.journal_data.proofs.Fronts.{AreAlways, always_first}
 use Rattle.journal_data.proofs.KeptData.{AreWell}
 use Rattle.journal_data.proofs.MineKept.{heard_none_mine}
 use Rattle.journal_data.proofs.OneLink.{HaveOneLink, pair_links}
-use Rattle.journal_data.proofs.Sides.{AreArriving}
-use Rattle.journal_data.proofs.StationLines.{OnlyOpenHaveNotes, first_booked}
+use Rattle.journal_data.proofs.Sides.{AreAhead, AreArriving}
+use Rattle.journal_data.proofs.StationLines.{first_booked}
 use Rattle.journal_data.proofs.Submitting.{HasFed}
 use Rattle.journal_data.proofs.Used.{AreUsed, IsClear}
 
-pub only_open : OnlyOpenHaveNotes
-only_open setup past step few = record {
-  before = λ note noted data_is. open_before setup past step note 0 (omega (arith, few)) noted data_is;
-  after = λ note noted data_is. open_after setup past step note 0 (omega (arith, few)) noted data_is;
-}
-
 -- ---- as a run begins
 
-none_first : (places : ℕ) → link_at 0 (replicate places None) ≡ None
-none_first zero = refl
-none_first (suc places) = refl
+none_first : (first handle places : ℕ) → link_from first handle (replicate places None) ≡ None
+none_first first handle zero = refl
+none_first first handle (suc places) = by (first == handle) (none_first (first + 1) handle places)
+  where
+    by : (own : Bool) → link_from (first + 1) handle (replicate places None) ≡ None → cond own None (link_from (first + 1) handle (replicate places None)) ≡ None
+    by true rest = refl
+    by false rest = rest
 
-none_open : (given : Given) (station : ℕ) → link_at 0 (facts_at given station []).links ≡ None
+none_open : (given : Given) (station handle : ℕ) → link_at handle (facts_at given station []).links ≡ None
 unfolding facts_of
-none_open given station = none_first (setup_at given station).links
+none_open given station handle = none_first 0 handle (setup_at given station).links
 
-none_at : {X : Type 0} (given : Given) (station : ℕ) (link : OpenLink) → link_at 0 (facts_at given station []).links ≡ Some link → X
-none_at given station link at = absurd (let h : None ≡ Some link = sym (none_open given station) ∙ at in absurd cc)
+none_at : {X : Type 0} (given : Given) (station handle : ℕ) (link : OpenLink) → link_at handle (facts_at given station []).links ≡ Some link → X
+none_at given station handle link at = absurd (let h : None ≡ Some link = sym (none_open given station handle) ∙ at in absurd cc)
 
 first_noted : (given : Given) (station : ℕ) → HasNoted given station []
 unfolding notes_of
@@ -72,7 +68,10 @@ first_well : (given : Given) (station : ℕ) → IsWell given station []
 first_well given station = record {
   noted = first_noted given station;
   booked = first_booked given station;
-  submitted = record { data_is = λ link at. none_at given station link at; empties_are = λ link at. none_at given station link at };
+  submitted = record {
+    data_is = λ handle link at. none_at given station handle link at;
+    empties_are = λ handle link at. none_at given station handle link at;
+  };
   fed = first_fed given station;
   few = few_first given station;
 }
@@ -91,11 +90,16 @@ nothing_arrives one other link = record {
   delivered = record { received = refl; accepted = refl; credited = omega arith };
 }
 
+none_ahead : (given : Given) (one other : ℕ) → AreAhead (end_at given one []) (lines_at other [])
+none_ahead given one other handle end is = let of = from_end given one [] handle end is in none_at given one handle of.link of.at
+
 first_arriving : (given : Given) (station other : ℕ) → AreArriving (lines_at station []) (lines_at other []) (end_at given station []) (end_at given other [])
-first_arriving given station other =
-    subst (λ place. AreArriving (lines_at station []) (lines_at other []) (option_map (end_of station [] given) place) (end_at given other [])) (sym (none_open given station))
-    (subst (λ place. AreArriving (lines_at station []) (lines_at other []) None (option_map (end_of other [] given) place)) (sym (none_open given other))
-    (record { out = nothing_arrives station other; in_ = nothing_arrives other station; ahead = tt; behind = tt }))
+first_arriving given station other = record {
+  out = nothing_arrives station other;
+  in_ = nothing_arrives other station;
+  ahead = none_ahead given station other;
+  behind = none_ahead given other station;
+}
 
 first_are : (given : Given) → AreWell given []
 first_are given = record {
@@ -119,7 +123,7 @@ module _ (whole : IsHeardWhole) (understood : IsUnderstood) (taken : AreTaken) (
       ends_with (run_of given) (IsWhole given (IsDataSoFar given (IsBelongingSoFar given))) (IsStopped given (IsDataSoFar given (IsBelongingSoFar given)))
       (AreAlways (AllArrive given))
       (run_kept given (IsDataSoFar given (IsBelongingSoFar given))
-      (so_far_kept only_open whole given (IsBelongingSoFar given) (known_of understood taken nth apart given are_two six) are_two pair six distinct eight)
+      (so_far_kept whole given (IsBelongingSoFar given) (known_of understood taken nth apart given are_two six) are_two pair six distinct eight)
       (first_data given))
       (λ history is. is.is.always) (λ history stop is. is.kept.always)
 

@@ -1,6 +1,7 @@
 -- The lemmas of this crate.
 pub mod OneLink
 pub mod EachLine
+pub mod HeldLinks
 pub mod Booked
 pub mod Arriving
 pub mod NotedPdus

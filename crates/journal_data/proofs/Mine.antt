@@ -1,4 +1,4 @@
--- A station takes a packet on its link only where the other station has the other end of that link open.
+-- A station takes a packet on a link only where the other station has the other end of that link open.
 use Rattle.std.proofs.Common.{◌≡◌, ℕ, ◌==◌, ◌⊎◌, inl, inr, Bool, true, false, not, Some, None, List, [], ◌∷◌, ◌++◌, refl, sym, ap, subst, ◌∙◌, if◌then◌else◌}
 use Rattle.std.proofs.lemmas.Bool.{eqb-true}
 use Rattle.link_model.proofs.Received.{IsHeardWhole}
@@ -8,7 +8,6 @@ use Rattle.radio_replay.specs.declared.fates.Fate.{Fate}
 use Rattle.run_model.specs.Feeding.{AreDistinct}
 use Rattle.run_model.specs.History.{Event, Hearing, Transmitted, has_received, packet_received}
 use Rattle.run_model.specs.LinkEnds.{HaveAddresses}
-use Rattle.run_model.specs.Links.{links_of}
 use Rattle.run_model.specs.Run.{Given, facts_at, hearings_of, unseen_in, use_at}
 use Rattle.run_model.proofs.LinkEnds.{received_event}
 use Rattle.run_model.proofs.Stations.{is_in, among}
@@ -18,34 +17,32 @@ use Rattle.run_laws.proofs.InAgreement.{AreStations}
 use Rattle.run_model.proofs.Journals.{two}
 use Rattle.journal_acks.proofs.AirCounts.{packet_far}
 use Rattle.journal_acks.proofs.Counting.{AreCountedSo, AreKnown, facts_event}
-use Rattle.journal_acks.proofs.Exchanging.{number_sent}
+use Rattle.journal_acks.proofs.Exchanging.{number_at, number_sent}
 use Rattle.journal_acks.proofs.LinkUses.{listens_under}
 use Rattle.journal_acks.proofs.TwoStations.{IsOfTwo, hearing_of, one_hearing, other_is, other_of, own_differs, own_received}
-use Rattle.journal_data.proofs.OneLink.{HaveOneLink, few_links, first_handle}
 
-abbrev number : ℕ → List Event → ℕ
-number station history = (links_of history).link_of station 0
-
--- the other station has an open end of the link of a station
-pub record HasFarEnd (given : Given) (station : ℕ) (history : List Event) : Type 0 where
+-- the other station has an open end of the link of a station under a handle
+pub record HasFarEnd (given : Given) (station : ℕ) (history : List Event) (handle : ℕ) : Type 0 where
+  pub far_handle : ℕ
   pub far : OpenLink
-  pub is_open : link_at 0 (facts_at given (other_of station) history).links ≡ Some far
-  pub same : number (other_of station) history ≡ number station history
+  pub is_open : link_at far_handle (facts_at given (other_of station) history).links ≡ Some far
+  pub same : number_at (other_of station) far_handle history ≡ number_at station handle history
 
--- a station that is to take a packet on its link
-pub record IsTaking (given : Given) (station : ℕ) (history : List Event) : Type 0 where
+-- a station that is to take a packet on that link
+pub record IsTaking (given : Given) (station : ℕ) (history : List Event) (handle : ℕ) : Type 0 where
   pub octets : List ℕ
   pub received : packet_received station history ≡ Some octets
   pub link : OpenLink
-  pub is_open : link_at 0 (facts_at given station history).links ≡ Some link
-  pub listens : listens_under 0 (facts_at given station history).turn.doing ≡ true
+  pub is_open : link_at handle (facts_at given station history).links ≡ Some link
+  pub listens : listens_under handle (facts_at given station history).turn.doing ≡ true
 
 abbrev pub AreMine : Given → List Event → Type 0
-AreMine given history = (station : ℕ) → is_in station given.stations ≡ true → IsTaking given station history → HasFarEnd given station history
+AreMine given history = (station : ℕ) → is_in station given.stations ≡ true → (handle : ℕ) → IsTaking given station history handle → HasFarEnd given station history handle
 
 -- where nothing was received, nothing is to be taken
-pub none_mine : (given : Given) (station : ℕ) (history : List Event) → packet_received station history ≡ None → IsTaking given station history → HasFarEnd given station history
-none_mine given station history none taking = absurd (let h : None ≡ Some taking.octets = sym none ∙ taking.received in absurd cc)
+pub none_mine : (given : Given) (station : ℕ) (history : List Event) (handle : ℕ) → packet_received station history ≡ None → IsTaking given station history handle
+    → HasFarEnd given station history handle
+none_mine given station history handle none taking = absurd (let h : None ≡ Some taking.octets = sym none ∙ taking.received in absurd cc)
 
 -- the other one of the other one is the station
 pub other_back : (given : Given) → IsOfTwo given → (station : ℕ) → is_in station given.stations ≡ true → other_of (other_of station) ≡ station
@@ -57,7 +54,7 @@ other_back given are_two station is = by (two station (ap (is_in station) (sym a
 
 -- ---- a packet is on the air
 
-module _ (whole : IsHeardWhole) (given : Given) (Q : Place → List Event → Type 0) (known : AreKnown given Q) (are_two : IsOfTwo given) (pair : HaveOneLink given) (six : HaveAddresses given)
+module _ (whole : IsHeardWhole) (given : Given) (Q : Place → List Event → Type 0) (known : AreKnown given Q) (are_two : IsOfTwo given) (six : HaveAddresses given)
     (distinct : AreDistinct given.stations) (phases : ℕ) (done left : List ℕ) (station channel : ℕ) (octets : List ℕ) (fates : List Fate) (history : List Event)
     (are : given.stations ≡ done ++ station ∷ left) (wanted : use_at given station history ≡ Sends channel octets)
     (q : Q (AtPackets phases done (station ∷ left)) history) (holds : Holds given (AreStations given) (AtPackets phases done (station ∷ left)) history)
@@ -79,27 +76,28 @@ module _ (whole : IsHeardWhole) (given : Given) (Q : Place → List Event → Ty
   facts_same : (one : ℕ) → facts_at given one next ≡ facts_at given one history
   facts_same one = facts_event given one history event refl
 
-  number_same : (one : ℕ) → number one next ≡ number one history
-  number_same one = number_sent one 0 history station channel octets hearings
+  number_same : (one handle : ℕ) → number_at one handle next ≡ number_at one handle history
+  number_same one handle = number_sent one handle history station channel octets hearings
 
   is : is_in station given.stations ≡ true
   is = among given.stations done left station are
 
   -- before the packet it had the same to take
-  taking_before : (one : ℕ) → IsTaking given one next → packet_received one next ≡ packet_received one history → IsTaking given one history
-  taking_before one taking same = record {
+  taking_before : (one handle : ℕ) → IsTaking given one next handle → packet_received one next ≡ packet_received one history → IsTaking given one history handle
+  taking_before one handle taking same = record {
     octets = taking.octets;
     received = sym same ∙ taking.received;
     link = taking.link;
-    is_open = ap (λ (f : Facts). link_at 0 f.links) (sym (facts_same one)) ∙ taking.is_open;
-    listens = ap (λ (f : Facts). listens_under 0 f.turn.doing) (sym (facts_same one)) ∙ taking.listens;
+    is_open = ap (λ (f : Facts). link_at handle f.links) (sym (facts_same one)) ∙ taking.is_open;
+    listens = ap (λ (f : Facts). listens_under handle f.turn.doing) (sym (facts_same one)) ∙ taking.listens;
   }
 
-  far_after : (one : ℕ) → HasFarEnd given one history → HasFarEnd given one next
-  far_after one has = record {
+  far_after : (one handle : ℕ) → HasFarEnd given one history handle → HasFarEnd given one next handle
+  far_after one handle has = record {
+    far_handle = has.far_handle;
     far = has.far;
-    is_open = ap (λ (f : Facts). link_at 0 f.links) (facts_same (other_of one)) ∙ has.is_open;
-    same = number_same (other_of one) ∙ has.same ∙ sym (number_same one);
+    is_open = ap (λ (f : Facts). link_at has.far_handle f.links) (facts_same (other_of one)) ∙ has.is_open;
+    same = number_same (other_of one) has.far_handle ∙ has.same ∙ sym (number_same one handle);
   }
 
   own_same : packet_received station next ≡ packet_received station history
@@ -113,35 +111,35 @@ module _ (whole : IsHeardWhole) (given : Given) (Q : Place → List Event → Ty
   station_back = other_back given are_two station is
 
   -- the listener
-  heard_far : (got : Bool) → has_received other hearings ≡ got → is_in other given.stations ≡ true → (other == station) ≡ false → AreMine given history
-      → IsTaking given other next → HasFarEnd given other next
-  heard_far false got is_too differs mine taking =
-      far_after other (mine other is_too (taking_before other taking
+  heard_far : (handle : ℕ) (got : Bool) → has_received other hearings ≡ got → is_in other given.stations ≡ true → (other == station) ≡ false → AreMine given history
+      → IsTaking given other next handle → HasFarEnd given other next handle
+  heard_far handle false got is_too differs mine taking =
+      far_after other handle (mine other is_too handle (taking_before other handle taking
       (received_event other history event ∙ ap (λ b. if b then Some octets else packet_received other history) got)))
-  heard_far true got is_too differs mine taking =
-      let here : link_at 0 (facts_at given other history).links ≡ Some taking.link = ap (λ (f : Facts). link_at 0 f.links) (sym (facts_same other)) ∙ taking.is_open in
-      let listens : listens_under 0 (facts_at given other history).turn.doing ≡ true = ap (λ (f : Facts). listens_under 0 f.turn.doing) (sym (facts_same other)) ∙ taking.listens in
+  heard_far handle true got is_too differs mine taking =
+      let here : link_at handle (facts_at given other history).links ≡ Some taking.link = ap (λ (f : Facts). link_at handle f.links) (sym (facts_same other)) ∙ taking.is_open in
+      let listens : listens_under handle (facts_at given other history).turn.doing ≡ true = ap (λ (f : Facts). listens_under handle f.turn.doing) (sym (facts_same other)) ∙ taking.listens in
       let far = packet_far whole given Q known are_two six distinct phases done left station channel octets fates history are wanted q holds counted
-      is_too differs seen silent got 0 taking.link here listens in
-      let none = first_handle (facts_at given station history).links far.far_handle far.far
-      (few_links given pair station (facts_at given station history) (holds.so_far.last.each station is)) far.is_open in
+      is_too differs seen silent got handle taking.link here listens in
       record {
+        far_handle = far.far_handle;
         far = far.far;
-        is_open = ap (λ n. link_at 0 (facts_at given n next).links) station_back
-            ∙ ap (λ (f : Facts). link_at 0 f.links) (facts_same station) ∙ ap (λ n. link_at n (facts_at given station history).links) (sym none) ∙ far.is_open;
-        same = ap (λ n. number n next) station_back ∙ number_same station ∙ ap (λ n. (links_of history).link_of station n) (sym none) ∙ far.same ∙ sym (number_same other);
+        is_open = ap (λ n. link_at far.far_handle (facts_at given n next).links) station_back
+            ∙ ap (λ (f : Facts). link_at far.far_handle f.links) (facts_same station) ∙ far.is_open;
+        same = ap (λ n. number_at n far.far_handle next) station_back ∙ number_same station far.far_handle ∙ far.same ∙ sym (number_same other handle);
       }
 
-  by_station : (one : ℕ) → is_in one given.stations ≡ true → (same : Bool) → (one == station) ≡ same → AreMine given history → IsTaking given one next → HasFarEnd given one next
-  by_station one in_it true same mine taking =
+  by_station : (one handle : ℕ) → is_in one given.stations ≡ true → (same : Bool) → (one == station) ≡ same → AreMine given history → IsTaking given one next handle
+      → HasFarEnd given one next handle
+  by_station one handle in_it true same mine taking =
       let equal = eqb-true one station same in
-      subst (λ n. HasFarEnd given n next) (sym equal)
-      (far_after station (mine station is (taking_before station (subst (λ n. IsTaking given n next) equal taking) own_same)))
-  by_station one in_it false differs mine taking =
+      subst (λ n. HasFarEnd given n next handle) (sym equal)
+      (far_after station handle (mine station is handle (taking_before station handle (subst (λ n. IsTaking given n next handle) equal taking) own_same)))
+  by_station one handle in_it false differs mine taking =
       let equal = other_is given are_two station one is in_it differs in
-      subst (λ n. HasFarEnd given n next) (sym equal)
-      (heard_far (has_received other hearings) refl (subst (λ n. is_in n given.stations ≡ true) equal in_it) (subst (λ n. (n == station) ≡ false) equal differs) mine
-      (subst (λ n. IsTaking given n next) equal taking))
+      subst (λ n. HasFarEnd given n next handle) (sym equal)
+      (heard_far handle (has_received other hearings) refl (subst (λ n. is_in n given.stations ≡ true) equal in_it) (subst (λ n. (n == station) ≡ false) equal differs) mine
+      (subst (λ n. IsTaking given n next handle) equal taking))
 
   pub packet_mine : AreMine given history → AreMine given next
-  packet_mine mine = λ one in_it taking. by_station one in_it (one == station) refl mine taking
+  packet_mine mine = λ one in_it handle taking. by_station one handle in_it (one == station) refl mine taking

@@ -1,105 +1,96 @@
 -- Other steps of a run keep that what a station takes is of the other end of its link.
-use Rattle.std.proofs.Common.{◌≡◌, ℕ, ◌==◌, Bool, true, false, Option, Some, None, List, [], ◌∷◌, cond, refl, sym, ap, ◌∙◌}
+use Rattle.std.proofs.Common.{◌≡◌, ℕ, ◌+◌, ◌==◌, Bool, true, false, Option, Some, None, List, [], ◌∷◌, cond, refl, sym, ap, ◌∙◌}
 use Rattle.std.specs.Prelude.{is_some, if◌then◌else◌}
 use Rattle.ble_base.specs.declared.notes.Note.{Note}
-use Rattle.ble_base.specs.declared.notes.Note.TheVariants.{Opened}
 use Rattle.link_model.specs.Setup.{Setup as EndSetup}
 use Rattle.link_model.specs.Step.{PacketReceived}
 use Rattle.link_model.specs.declared.setup.LinkSetup.{LinkSetup}
-use Rattle.open_links.specs.OpenLinks.{Links, OpenLink, link_after, link_at, new_link, with_change_from, with_link}
+use Rattle.open_links.specs.OpenLinks.{Links, OpenLink, link_after, link_at, link_from, new_link, with_change_from}
 use Rattle.controller_model.specs.Facts.{Facts, Setup}
 use Rattle.controller_model.specs.Heard.{has_room, link_heard, link_taken, opens as opening, scanner_heard}
-use Rattle.controller_model.specs.Notes.{is_opening}
 use Rattle.controller_model.specs.Outcome.{Outcome, facts_passed}
 use Rattle.controller_model.specs.Side.{facts_after, notes_after}
 use Rattle.controller_model.proofs.Always.{opening_is}
-use Rattle.controller_model.proofs.Handles.{own_handles}
 use Rattle.controller_model.proofs.OpenPlaces.{changed_opens, opens, sent_opens}
 use Rattle.controller_model.proofs.Phases.{EachOutcome, heard_is, unheard_is}
 use Rattle.run_model.specs.History.{Event, packet_received, past_of}
 use Rattle.run_model.specs.Links.{links_of}
 use Rattle.run_model.specs.Run.{Given, after_call, facts_at, setup_at, step_of}
 use Rattle.run_model.proofs.LinkEnds.{received_by}
-use Rattle.run_model.proofs.OpenedNotes.{is_opened}
 use Rattle.run_model.proofs.Stations.{is_in}
 use Rattle.run_laws.proofs.Hearings.{other_facts, own_facts}
-use Rattle.journal_acks.proofs.Exchanging.{number_other}
+use Rattle.journal_acks.proofs.Exchanging.{number_at, number_other}
 use Rattle.journal_acks.proofs.LinkUses.{listens_under}
 use Rattle.journal_acks.proofs.TwoStations.{IsOfTwo, other_is, other_of}
 use Rattle.journal_data.proofs.Mine.{AreMine, HasFarEnd, IsTaking, none_mine, other_back}
-use Rattle.journal_data.proofs.OneLink.{HaveOneLink}
-use Rattle.journal_data.proofs.Openness.{AreNot, is_open, opens_where_free, same_open}
-use Rattle.journal_data.proofs.StationAdds.{call_number}
-use Rattle.journal_data.proofs.EachLine.{number_of}
+use Rattle.journal_data.proofs.Openness.{is_open, opens_where_free, same_open}
+use Rattle.journal_data.proofs.StationLines.{is_link}
+use Rattle.run_model.proofs.LinksKnown.{link_by_own}
 
 -- ---- nothing is received
 
 pub heard_none_mine : (given : Given) (history : List Event) → ((station : ℕ) → is_in station given.stations ≡ true → packet_received station history ≡ None)
     → AreMine given history
-heard_none_mine given history none = λ station is taking. none_mine given station history (none station is) taking
+heard_none_mine given history none = λ station is handle taking. none_mine given station history handle (none station is) taking
 
 -- ---- a phase shuts no link
 
-abbrev StaysOpen : Facts → Outcome → Type 0
-StaysOpen facts outcome = is_open facts.links ≡ true → is_open (facts_passed outcome).links ≡ true
+module _ (handle : ℕ) where
+  abbrev StaysOpen : Facts → Outcome → Type 0
+  StaysOpen facts outcome = is_open facts.links handle ≡ true → is_open (facts_passed outcome).links handle ≡ true
 
-same_stays : (facts : Facts) (outcome : Outcome) → opens outcome.facts.links ≡ opens facts.links → StaysOpen facts outcome
-same_stays facts outcome same linked =
-    same_open facts.links _ (sent_opens outcome.facts.turn.slot outcome.next outcome.facts.links ∙ same) ∙ linked
+  same_stays : (facts : Facts) (outcome : Outcome) → opens outcome.facts.links ≡ opens facts.links → StaysOpen facts outcome
+  same_stays facts outcome same linked =
+      same_open facts.links _ (sent_opens outcome.facts.turn.slot outcome.next outcome.facts.links ∙ same) handle ∙ linked
 
--- a link is opened under any handle
-with_link_open : (end : EndSetup) (links : Links) → is_open links ≡ true → is_open (with_link end links) ≡ true
-with_link_open end [] linked = linked
-with_link_open end (place ∷ links) linked = by (0 == end.link.handle)
-  where
-    by : (test : Bool)
-        → is_open (if test then Some (new_link end) ∷ links else place ∷ with_change_from 1 end.link.handle (λ before. Some (new_link end)) links) ≡ true
-    by true = refl
-    by false = linked
+  -- a link is opened under any handle
+  with_link_open : (end : EndSetup) (first : ℕ) (links : Links) → is_some (link_from first handle links) ≡ true
+      → is_some (link_from first handle (with_change_from first end.link.handle (λ before. Some (new_link end)) links)) ≡ true
+  with_link_open end first [] linked = linked
+  with_link_open end first (place ∷ links) linked = by (first == end.link.handle) (first == handle) refl linked (with_link_open end (first + 1) links)
+    where
+      by : (opened own : Bool) → (first == handle) ≡ own → is_some (if own then place else link_from (first + 1) handle links) ≡ true
+          → (is_some (link_from (first + 1) handle links) ≡ true
+          → is_some (link_from (first + 1) handle (with_change_from (first + 1) end.link.handle (λ before. Some (new_link end)) links)) ≡ true)
+          → is_some (link_from first handle
+          (if opened then Some (new_link end) ∷ links else place ∷ with_change_from (first + 1) end.link.handle (λ before. Some (new_link end)) links)) ≡ true
+      by true true is linked rest = ap (λ (b : Bool). is_some (if b then Some (new_link end) else link_from (first + 1) handle links)) is
+      by true false is linked rest = ap (λ (b : Bool). is_some (if b then Some (new_link end) else link_from (first + 1) handle links)) is ∙ linked
+      by false true is linked rest =
+          ap (λ (b : Bool). is_some (if b then place else link_from (first + 1) handle (with_change_from (first + 1) end.link.handle (λ before. Some (new_link end)) links))) is ∙ linked
+      by false false is linked rest =
+          ap (λ (b : Bool). is_some (if b then place else link_from (first + 1) handle (with_change_from (first + 1) end.link.handle (λ before. Some (new_link end)) links))) is ∙ rest linked
 
-opening_stays : (facts : Facts) (link : LinkSetup) → StaysOpen facts (opening link facts)
-opening_stays facts link linked =
-    ap (λ (held : Facts). is_open held.links) (opening_is link facts)
-    ∙ with_link_open (record { link = link; opened = facts.turn.slot }) facts.links linked
+  opening_stays : (facts : Facts) (link : LinkSetup) → StaysOpen facts (opening link facts)
+  opening_stays facts link linked =
+      ap (λ (held : Facts). is_open held.links handle) (opening_is link facts)
+      ∙ with_link_open (record { link = link; opened = facts.turn.slot }) 0 facts.links linked
 
-phase_stays : (setup : Setup) (facts : Facts) → EachOutcome setup facts (StaysOpen facts)
-phase_stays setup facts = record {
-  rests = λ linked. linked;
-  awaits_request = λ channel doing linked. linked;
-  awaits_response = λ channel advertiser doing linked. linked;
-  central_listens = λ handle doing linked. linked;
-  sent = λ channel link doing. opening_stays facts link;
-  responds = λ channel on doing is_on linked. linked;
-  taken = λ channel octets pdu on fields handle is_on hears takes free. opening_stays facts (link_taken on.params.own pdu fields handle);
-  scanned = λ channel octets pdu on doing is_on hears. same_stays facts (scanner_heard (Some on) true channel pdu facts) refl;
-  answered = λ channel octets pdu on doing is_on hears. same_stays facts (scanner_heard (Some on) false channel pdu facts) refl;
-  connects = λ channel octets pdu on access handle doing is_on hears answers next free in_range linked. linked;
-  received = λ handle octets.
-      same_stays facts (link_heard setup handle octets facts)
-      (changed_opens (link_after (PacketReceived facts.turn.slot octets (has_room setup facts))) handle facts.links);
-}
+  phase_stays : (setup : Setup) (facts : Facts) → EachOutcome setup facts (StaysOpen facts)
+  phase_stays setup facts = record {
+    rests = λ linked. linked;
+    awaits_request = λ channel doing linked. linked;
+    awaits_response = λ channel advertiser doing linked. linked;
+    central_listens = λ under doing linked. linked;
+    sent = λ channel link doing. opening_stays facts link;
+    responds = λ channel on doing is_on linked. linked;
+    taken = λ channel octets pdu on fields under is_on hears takes free. opening_stays facts (link_taken on.params.own pdu fields under);
+    scanned = λ channel octets pdu on doing is_on hears. same_stays facts (scanner_heard (Some on) true channel pdu facts) refl;
+    answered = λ channel octets pdu on doing is_on hears. same_stays facts (scanner_heard (Some on) false channel pdu facts) refl;
+    connects = λ channel octets pdu on access under doing is_on hears answers next free in_range linked. linked;
+    received = λ under octets.
+        same_stays facts (link_heard setup under octets facts)
+        (changed_opens (link_after (PacketReceived facts.turn.slot octets (has_room setup facts))) under facts.links);
+  }
 
-pub phase_open : (setup : Setup) (facts : Facts) (received : Option (List ℕ)) → is_some (link_at 0 facts.links) ≡ true
-    → is_some (link_at 0 (facts_after setup facts (step_of received)).links) ≡ true
-phase_open setup facts None linked = unheard_is setup facts (StaysOpen facts) (phase_stays setup facts) facts.turn.doing refl linked
-phase_open setup facts (Some octets) linked = heard_is setup facts (StaysOpen facts) (phase_stays setup facts) facts.turn.doing octets refl linked
+  pub phase_open : (setup : Setup) (facts : Facts) (received : Option (List ℕ)) → is_some (link_at handle facts.links) ≡ true
+      → is_some (link_at handle (facts_after setup facts (step_of received)).links) ≡ true
+  phase_open setup facts None linked = unheard_is setup facts (StaysOpen facts) (phase_stays setup facts) facts.turn.doing refl linked
+  phase_open setup facts (Some octets) linked = heard_is setup facts (StaysOpen facts) (phase_stays setup facts) facts.turn.doing octets refl linked
 
 -- ---- the link of the station whose call it is
 
-none_opened : (notes : List Note) → AreNot is_opening notes → is_opened 0 notes ≡ false
-none_opened [] none = refl
-none_opened (Opened handle role own peer ∷ notes) none = absurd (let h : true ≡ false = none.0 in absurd cc)
-none_opened (note ∷ notes) none = none_opened notes none.1
-
-record IsLinked (place : Option OpenLink) : Type 0 where
-  link : OpenLink
-  is : place ≡ Some link
-
-linked_by : (place : Option OpenLink) → is_some place ≡ true → IsLinked place
-linked_by None linked = absurd (let h : false ≡ true = linked in absurd cc)
-linked_by (Some link) linked = record { link = link; is = refl }
-
-module _ (given : Given) (are_two : IsOfTwo given) (pair : HaveOneLink given) (station : ℕ) (history : List Event) (is : is_in station given.stations ≡ true) where
+module _ (given : Given) (are_two : IsOfTwo given) (station : ℕ) (history : List Event) (is : is_in station given.stations ≡ true) where
   abbrev received : Option (List ℕ)
   received = packet_received station history
 
@@ -116,47 +107,48 @@ module _ (given : Given) (are_two : IsOfTwo given) (pair : HaveOneLink given) (s
   notes = notes_after setup facts (step_of received)
 
   -- an open link stays open, under its number
-  own_open : is_some (link_at 0 facts.links) ≡ true → is_some (link_at 0 (facts_at given station after).links) ≡ true
-  own_open linked =
-      ap (λ (f : Facts). is_some (link_at 0 f.links)) (own_facts given station (step_of received) history) ∙ phase_open setup facts received linked
+  own_open : (handle : ℕ) → is_some (link_at handle facts.links) ≡ true → is_some (link_at handle (facts_at given station after).links) ≡ true
+  own_open handle linked =
+      ap (λ (f : Facts). is_some (link_at handle f.links)) (own_facts given station (step_of received) history) ∙ phase_open handle setup facts received linked
 
-  own_number : is_some (link_at 0 facts.links) ≡ true → number_of station after ≡ number_of station history
-  own_number linked =
-      call_number given station (step_of received) history
-      ∙ ap (λ (opened : Bool). cond opened ((links_of history).last_of station) (number_of station history))
-      (none_opened notes (opens_where_free setup facts (step_of received) (pair.links station) (own_handles setup (past_of station history)) linked))
+  own_number : (handle : ℕ) (link : OpenLink) → link_at handle facts.links ≡ Some link → number_at station handle after ≡ number_at station handle history
+  own_number handle link at =
+      link_by_own station (step_of received) notes history handle
+      ∙ ap (λ (opened : Bool). cond opened ((links_of history).last_of station) (number_at station handle history))
+      (opens_where_free setup (past_of station history) (step_of received) handle link at)
 
   -- the other station had the same to take
-  taking_before : (one : ℕ) → (one == station) ≡ false → IsTaking given one after → IsTaking given one history
-  taking_before one differs taking =
+  taking_before : (one handle : ℕ) → (one == station) ≡ false → IsTaking given one after handle → IsTaking given one history handle
+  taking_before one handle differs taking =
       let same : facts_at given one after ≡ facts_at given one history = other_facts given station (step_of received) history one differs in
       record {
         octets = taking.octets;
         received = sym (received_by given one station (step_of received) history false differs) ∙ taking.received;
         link = taking.link;
-        is_open = ap (λ (f : Facts). link_at 0 f.links) (sym same) ∙ taking.is_open;
-        listens = ap (λ (f : Facts). listens_under 0 f.turn.doing) (sym same) ∙ taking.listens;
+        is_open = ap (λ (f : Facts). link_at handle f.links) (sym same) ∙ taking.is_open;
+        listens = ap (λ (f : Facts). listens_under handle f.turn.doing) (sym same) ∙ taking.listens;
       }
 
-  far_after : (one : ℕ) → (one == station) ≡ false → other_of one ≡ station → HasFarEnd given one history → HasFarEnd given one after
-  far_after one differs back has =
-      let open_is : link_at 0 facts.links ≡ Some has.far = ap (λ n. link_at 0 (facts_at given n history).links) (sym back) ∙ has.is_open in
-      let linked : is_some (link_at 0 facts.links) ≡ true = ap (λ (place : Option OpenLink). is_some place) open_is in
-      let still = linked_by (link_at 0 (facts_at given station after).links) (own_open linked) in
+  far_after : (one handle : ℕ) → (one == station) ≡ false → other_of one ≡ station → HasFarEnd given one history handle → HasFarEnd given one after handle
+  far_after one handle differs back has =
+      let under = has.far_handle in
+      let open_is : link_at under facts.links ≡ Some has.far = ap (λ n. link_at under (facts_at given n history).links) (sym back) ∙ has.is_open in
+      let still = is_link (link_at under (facts_at given station after).links) (own_open under (ap (λ (place : Option OpenLink). is_some place) open_is)) in
       record {
+        far_handle = under;
         far = still.link;
-        is_open = ap (λ n. link_at 0 (facts_at given n after).links) back ∙ still.is;
-        same = ap (λ n. number_of n after) back ∙ own_number linked ∙ ap (λ n. number_of n history) (sym back) ∙ has.same
-            ∙ sym (number_other given station (step_of received) history one 0 differs);
+        is_open = ap (λ n. link_at under (facts_at given n after).links) back ∙ still.is;
+        same = ap (λ n. number_at n under after) back ∙ own_number under has.far open_is ∙ ap (λ n. number_at n under history) (sym back) ∙ has.same
+            ∙ sym (number_other given station (step_of received) history one handle differs);
       }
 
-  by_station : (one : ℕ) → is_in one given.stations ≡ true → (same : Bool) → (one == station) ≡ same → AreMine given history
-      → IsTaking given one after → HasFarEnd given one after
-  by_station one in_it true same mine taking =
-      none_mine given one after (received_by given one station (step_of received) history true same) taking
-  by_station one in_it false differs mine taking =
+  by_station : (one handle : ℕ) → is_in one given.stations ≡ true → (same : Bool) → (one == station) ≡ same → AreMine given history
+      → IsTaking given one after handle → HasFarEnd given one after handle
+  by_station one handle in_it true same mine taking =
+      none_mine given one after handle (received_by given one station (step_of received) history true same) taking
+  by_station one handle in_it false differs mine taking =
       let back : other_of one ≡ station = ap other_of (other_is given are_two station one is in_it differs) ∙ other_back given are_two station is in
-      far_after one differs back (mine one in_it (taking_before one differs taking))
+      far_after one handle differs back (mine one in_it handle (taking_before one handle differs taking))
 
   pub hearing_mine : AreMine given history → AreMine given after
-  hearing_mine mine = λ one in_it taking. by_station one in_it (one == station) refl mine taking
+  hearing_mine mine = λ one in_it handle taking. by_station one handle in_it (one == station) refl mine taking

@@ -42,56 +42,56 @@ sent_on true slot base =
       acked = sent_more (ack.acked == length ack.sent) ack (facts_in base).outgoing.fixed (past_counted base.setup base.past).0;
     })
 
-module _ (given : Given) (station : ℕ) (step : Step) (history : List Event) (link : OpenLink)
-    (at : link_at 0 (facts_at given station (after_call given station step history)).links ≡ Some link) where
-  own_at : link_at 0 (facts_after (setup_at given station) (facts_at given station history) step).links ≡ Some link
-  own_at = ap (λ (f : Facts). link_at 0 f.links) (sym (own_facts given station step history)) ∙ at
+module _ (given : Given) (station : ℕ) (step : Step) (history : List Event) (handle : ℕ) (link : OpenLink)
+    (at : link_at handle (facts_at given station (after_call given station step history)).links ≡ Some link) where
+  own_at : link_at handle (facts_after (setup_at given station) (facts_at given station history) step).links ≡ Some link
+  own_at = ap (λ (f : Facts). link_at handle f.links) (sym (own_facts given station step history)) ∙ at
 
 -- ---- as a turn begins
 
-pub begin_moves : (given : Given) (station slot : ℕ) (on : Bool) (history : List Event) (link : OpenLink)
-    → link_at 0 (facts_at given station (after_call given station (TurnBegins slot on) history)).links ≡ Some link → HasMoved given station history link
-begin_moves given station slot on history link at =
+pub begin_moves : (given : Given) (station slot : ℕ) (on : Bool) (history : List Event) (handle : ℕ) (link : OpenLink)
+    → link_at handle (facts_at given station (after_call given station (TurnBegins slot on) history)).links ≡ Some link → HasMoved given station history handle link
+begin_moves given station slot on history handle link at =
     let setup = setup_at given station in
     let facts = facts_at given station history in
     let next = facts_after setup facts (TurnBegins slot on) in
-    let begun = begins_under setup facts slot on 0 link (own_at given station (TurnBegins slot on) history link at) in
-    let sent = sent_on (sends_under 0 next.turn.doing) slot begun.base in
-    let base = base_ack facts slot on 0 next.turn.doing link begun in
+    let begun = begins_under setup facts slot on handle link (own_at given station (TurnBegins slot on) history handle link at) in
+    let sent = sent_on (sends_under handle next.turn.doing) slot begun.base in
+    let base = base_ack facts slot on handle next.turn.doing link begun in
     Kept begun.link begun.was
     (ap (λ (l : OpenLink). (ack_of l).accepted) begun.is ∙ sent.accepted ∙ ap (λ (a : Acknowledgement). a.accepted) base)
     (ap (λ (l : OpenLink). take (ack_of l).acked (ack_of l).sent) begun.is ∙ sent.acked ∙ ap (λ (a : Acknowledgement). take a.acked a.sent) base)
 
 -- ---- in a phase
 
-passed_moves : (given : Given) (station : ℕ) (history : List Event) (link : OpenLink) (room : Bool)
+passed_moves : (given : Given) (station : ℕ) (history : List Event) (handle : ℕ) (link : OpenLink) (room : Bool)
     → (next : Facts) → (facts_at given station history).turn.slot + 1 ≡ turns_begun history
-    → HasPassed (facts_at given station history) room (packet_received station history) 0 next.turn.doing link → HasMoved given station history link
-passed_moves given station history link room next now (IsNew end made opened off) =
+    → HasPassed (facts_at given station history) room (packet_received station history) handle next.turn.doing link → HasMoved given station history handle link
+passed_moves given station history handle link room next now (IsNew end made opened off) =
     let setup : link.setup.opened ≡ end.opened = ap (λ (l : OpenLink). l.setup.opened) made in
     New (omega (arith, setup, opened, now)) (ap ack_of made ∙ first_ack end)
-passed_moves given station history link room next now (Stays was none nothing listened) = Kept link was refl refl
-passed_moves given station history link room next now (Takes base octets was some on same) =
+passed_moves given station history handle link room next now (Stays was none nothing listened) = Kept link was refl refl
+passed_moves given station history handle link room next now (Takes base octets was some on same) =
     Took base was (record { octets = octets; received = some; link = base; is_open = was; listens = on })
 
-pub phase_moves : (given : Given) (station : ℕ) (history : List Event) (link : OpenLink)
+pub phase_moves : (given : Given) (station : ℕ) (history : List Event) (handle : ℕ) (link : OpenLink)
     → (facts_at given station history).turn.slot + 1 ≡ turns_begun history → IsListening (facts_at given station history) (facts_at given station history).turn.doing
-    → link_at 0 (facts_at given station (after_call given station (step_of (packet_received station history)) history)).links ≡ Some link
-    → HasMoved given station history link
-phase_moves given station history link now listens at =
+    → link_at handle (facts_at given station (after_call given station (step_of (packet_received station history)) history)).links ≡ Some link
+    → HasMoved given station history handle link
+phase_moves given station history handle link now listens at =
     let setup = setup_at given station in
     let facts = facts_at given station history in
     let received = packet_received station history in
     let next = facts_after setup facts (step_of received) in
-    passed_moves given station history link (has_room setup facts) next now
-    (passes_under setup facts received 0 link listens (own_at given station (step_of received) history link at))
+    passed_moves given station history handle link (has_room setup facts) next now
+    (passes_under setup facts received handle link listens (own_at given station (step_of received) history handle link at))
 
 -- ---- as a turn ends
 
-pub end_moves : (given : Given) (station : ℕ) (history : List Event) (link : OpenLink)
-    → link_at 0 (facts_at given station (after_call given station TurnEnds history)).links ≡ Some link → HasMoved given station history link
-end_moves given station history link at =
-    let was = end_under (setup_at given station) (facts_at given station history) 0 link (own_at given station TurnEnds history link at) in
+pub end_moves : (given : Given) (station : ℕ) (history : List Event) (handle : ℕ) (link : OpenLink)
+    → link_at handle (facts_at given station (after_call given station TurnEnds history)).links ≡ Some link → HasMoved given station history handle link
+end_moves given station history handle link at =
+    let was = end_under (setup_at given station) (facts_at given station history) handle link (own_at given station TurnEnds history handle link at) in
     Kept was.link was.was (ap (λ (a : Acknowledgement). a.accepted) was.ack) (ap (λ (a : Acknowledgement). take a.acked a.sent) was.ack)
 
 -- ---- how old it is
@@ -114,11 +114,11 @@ aged_by history link slot begun turns before begun_is now same fresh = by (link.
         Before (not_equal link.setup.opened slot (turns_begun history) differs (omega (arith, before, begun_is, same)) (omega (arith, now, same)))
 
 -- a station in a turn, with this link
-pub station_aged : (history : List Event) (setup : Setup) (facts : Facts) (link : OpenLink) → IsStation setup facts → facts.turn.begun ≡ turns_begun history
-    → facts.turn.slot + 1 ≡ turns_begun history → link_at 0 facts.links ≡ Some link → IsAged history link
-station_aged history setup facts link is begun now at =
-    aged_by history link facts.turn.slot facts.turn.begun (turns_begun history) (open_has (OpenedBefore facts.turn.begun) 0 0 facts.links link is.earlier at)
-    begun now refl (open_has (IsFresh facts.turn.slot) 0 0 facts.links link is.fresh at)
+pub station_aged : (history : List Event) (setup : Setup) (facts : Facts) (handle : ℕ) (link : OpenLink) → IsStation setup facts → facts.turn.begun ≡ turns_begun history
+    → facts.turn.slot + 1 ≡ turns_begun history → link_at handle facts.links ≡ Some link → IsAged history link
+station_aged history setup facts handle link is begun now at =
+    aged_by history link facts.turn.slot facts.turn.begun (turns_begun history) (open_has (OpenedBefore facts.turn.begun) 0 handle facts.links link is.earlier at)
+    begun now refl (open_has (IsFresh facts.turn.slot) 0 handle facts.links link is.fresh at)
 
 -- and a link that is as it was
 pub alike_aged : (history : List Event) (was link : OpenLink) → link.setup ≡ was.setup → ack_of link ≡ ack_of was → IsAged history was → IsAged history link

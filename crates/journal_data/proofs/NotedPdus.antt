@@ -1,6 +1,7 @@
 -- The lines of PDUs of a link, from the notes of its end.
 use Rattle.std.proofs.Common.{◌≡◌, ℕ, ◌+◌, Bool, true, false, List, [], ◌∷◌, ◌++◌, cond, refl, ap, ◌∙◌}
 use Rattle.std.specs.List.{filter, flat_map}
+use Rattle.std.proofs.lemmas.Bool.{eq-eqb}
 use Rattle.ble_base.specs.declared.notes.Note.{Note}
 use Rattle.ble_base.specs.declared.notes.Note.TheVariants.{Up, Sent, Took}
 use Rattle.link_model.specs.Acknowledgement.{Pdu}
@@ -20,32 +21,32 @@ flat_filtered of test (x ∷ xs) none = by (test x) refl (flat_filtered of test 
     by true is rest = ap (λ others. of x ++ others) rest
     by false is rest = ap (λ first. first ++ flat_map of xs) (none x is) ∙ rest
 
-no_sent : (link : ℕ) (note : Note) → is_sent_on 0 note ≡ false → sent_line link note ≡ []
-no_sent link (Sent handle number llid body) is = ap (λ (b : Bool). line_if b link number llid body.items) is
-no_sent link (Up packet) is = refl
-no_sent link note is = refl
+no_sent : (handle link : ℕ) (note : Note) → is_sent_on handle note ≡ false → sent_line handle link note ≡ []
+no_sent handle link (Sent other number llid body) is = ap (λ (b : Bool). line_if b link number llid body.items) is
+no_sent handle link (Up packet) is = refl
+no_sent handle link note is = refl
 
-no_took : (link : ℕ) (note : Note) → is_took_on 0 note ≡ false → took_line link note ≡ []
-no_took link (Took handle number llid body) is = ap (λ (b : Bool). line_if b link number llid body.items) is
-no_took link (Up packet) is = refl
-no_took link note is = refl
+no_took : (handle link : ℕ) (note : Note) → is_took_on handle note ≡ false → took_line handle link note ≡ []
+no_took handle link (Took other number llid body) is = ap (λ (b : Bool). line_if b link number llid body.items) is
+no_took handle link (Up packet) is = refl
+no_took handle link note is = refl
 
-sent_lines : (link number : ℕ) (pdus : List Pdu) → flat_map (sent_line link) (numbered_notes (sent_note 0) number pdus) ≡ pdu_lines link number pdus
-sent_lines link number [] = refl
-sent_lines link number (pdu ∷ pdus) =
-    ap (λ rest. record { link = link; number = number; pdu = pdu } ∷ rest) (sent_lines link (number + 1) pdus)
+sent_lines : (handle link number : ℕ) (pdus : List Pdu) → flat_map (sent_line handle link) (numbered_notes (sent_note handle) number pdus) ≡ pdu_lines link number pdus
+sent_lines handle link number [] = refl
+sent_lines handle link number (pdu ∷ pdus) =
+    (λ i. line_if (eq-eqb handle handle refl i) link number pdu.llid pdu.body ++ sent_lines handle link (number + 1) pdus i)
 
-took_lines : (link number : ℕ) (pdus : List Pdu) → flat_map (took_line link) (numbered_notes (took_note 0) number pdus) ≡ pdu_lines link number pdus
-took_lines link number [] = refl
-took_lines link number (pdu ∷ pdus) =
-    ap (λ rest. record { link = link; number = number; pdu = pdu } ∷ rest) (took_lines link (number + 1) pdus)
+took_lines : (handle link number : ℕ) (pdus : List Pdu) → flat_map (took_line handle link) (numbered_notes (took_note handle) number pdus) ≡ pdu_lines link number pdus
+took_lines handle link number [] = refl
+took_lines handle link number (pdu ∷ pdus) =
+    (λ i. line_if (eq-eqb handle handle refl i) link number pdu.llid pdu.body ++ took_lines handle link (number + 1) pdus i)
 
-pub noted_sent : (link : ℕ) (since : List Note) (pdus : List Pdu) → filter (is_sent_on 0) since ≡ numbered_notes (sent_note 0) 1 pdus
-    → flat_map (sent_line link) since ≡ pdu_lines link 1 pdus
-noted_sent link since pdus is =
-    flat_filtered (sent_line link) (is_sent_on 0) since (no_sent link) ∙ ap (flat_map (sent_line link)) is ∙ sent_lines link 1 pdus
+pub noted_sent : (handle link : ℕ) (since : List Note) (pdus : List Pdu) → filter (is_sent_on handle) since ≡ numbered_notes (sent_note handle) 1 pdus
+    → flat_map (sent_line handle link) since ≡ pdu_lines link 1 pdus
+noted_sent handle link since pdus is =
+    flat_filtered (sent_line handle link) (is_sent_on handle) since (no_sent handle link) ∙ ap (flat_map (sent_line handle link)) is ∙ sent_lines handle link 1 pdus
 
-pub noted_took : (link : ℕ) (since : List Note) (pdus : List Pdu) → filter (is_took_on 0) since ≡ numbered_notes (took_note 0) 1 pdus
-    → flat_map (took_line link) since ≡ pdu_lines link 1 pdus
-noted_took link since pdus is =
-    flat_filtered (took_line link) (is_took_on 0) since (no_took link) ∙ ap (flat_map (took_line link)) is ∙ took_lines link 1 pdus
+pub noted_took : (handle link : ℕ) (since : List Note) (pdus : List Pdu) → filter (is_took_on handle) since ≡ numbered_notes (took_note handle) 1 pdus
+    → flat_map (took_line handle link) since ≡ pdu_lines link 1 pdus
+noted_took handle link since pdus is =
+    flat_filtered (took_line handle link) (is_took_on handle) since (no_took handle link) ∙ ap (flat_map (took_line handle link)) is ∙ took_lines handle link 1 pdus

@@ -1,7 +1,8 @@
--- Which notes of a step say that the link under the handle 0 is opened or shut, and which other notes come in that step.
+-- Which notes of a step say that a link is opened or shut under a handle, and which other notes come in that step.
 use Rattle.std.proofs.Common.{◌≡◌, ℕ, ◌+◌, ◌<◌, ◌≤◌, ◌==◌, Bool, true, false, Option, Some, None, List, [], ◌∷◌, ◌++◌, ◌⊎◌, inl, inr, length, map, cond, refl, ap, sym, subst, ◌∙◌, arith}
 use Rattle.std.specs.Prelude.{◌||◌, filter, flat_map, fold, is_some, ⊤, if◌then◌else◌}
 use Rattle.std.specs.List.{AllByRecursion}
+use Rattle.std.proofs.lemmas.Bool.{eqb-false, eqb-true, false_from_ne_true}
 use Rattle.std.proofs.lemmas.List.Sums.{fold-append}
 use Rattle.acl_banks.specs.declared.pieces.Piece.{Piece}
 use Rattle.ble_base.specs.declared.addresses.Address.{Address}
@@ -39,7 +40,7 @@ use Rattle.open_links.specs.declared.ended.LinkEnded.{LinkEnded}
 use Rattle.open_links.specs.declared.offers.Offer.{Offer}
 use Rattle.open_links.specs.declared.offers.Offer.TheVariants.{NoLink, Empty, Overflow, Kept}
 use Rattle.open_links.specs.Data.{completed_from, link_reported}
-use Rattle.open_links.specs.OpenLinks.{Links, OpenLink, facts_in, handles_from, link_after, link_at, new_link, with_change_from, with_link, without_links}
+use Rattle.open_links.specs.OpenLinks.{Links, OpenLink, facts_in, handles_from, link_after, link_at, link_from, new_link, with_link, without_links}
 use Rattle.open_links.specs.Turns.{end_by, ends_from, is_anchor, link_entered, links_staying, notes_entering, notes_if, reason_in, staying_by}
 use Rattle.controller_model.specs.declared.doing.Doing.{Doing}
 use Rattle.controller_model.specs.declared.doing.Doing.TheVariants.{Advertises, CentralSends, PeripheralSends}
@@ -61,15 +62,17 @@ use Rattle.controller_model.proofs.AnsweredOnce.{answered_once}
 use Rattle.controller_model.proofs.Handles.{HaveOwnHandles, IsNew, free_is_new, own_handles}
 use Rattle.controller_model.proofs.OpenPlaces.{changed_opens, fixed_opens, mapped_opens, opens, sent_opens, won_opens}
 use Rattle.controller_model.proofs.Phases.{EachOutcome, heard_is, unheard_is}
+use Rattle.open_links.proofs.Handles.{opened_at, other_stays}
+use Rattle.run_model.proofs.OpenedNotes.{is_opened, opened_was_free}
 use Rattle.journal_acks.proofs.CallNotes.{is_taking}
 
 -- ---- what a note says
 
--- whether the link under the handle 0 is open after a note
-abbrev pub note_open : Bool → Note → Bool
-note_open linked (Opened handle role own peer) = if handle == 0 then true else linked
-note_open linked (Shut handle reason) = if handle == 0 then false else linked
-note_open linked note = linked
+-- whether a link is open under a handle after a note
+abbrev pub note_open : ℕ → Bool → Note → Bool
+note_open handle linked (Opened other role own peer) = if other == handle then true else linked
+note_open handle linked (Shut other reason) = if other == handle then false else linked
+note_open handle linked note = linked
 
 abbrev pub is_shutting : Note → Bool
 is_shutting (Shut handle reason) = true
@@ -84,23 +87,26 @@ is_report note = false
 abbrev pub AreNot : (Note → Bool) → List Note → Type 0
 AreNot kind notes = AllByRecursion (λ note. kind note ≡ false) notes
 
--- what the notes of a step say of the link under the handle 0, which is open before the step or not, and after it
-pub data IsNotedAs (before after : Bool) (notes : List Note) : Type 0 where
+-- what the notes of a step say of the handles with open links before the step, and after it
+pub data IsNotedAs (before after : ℕ → Bool) (notes : List Note) : Type 0 where
   -- none is opened or shut
-  stays : AreNot is_opening notes → AreNot is_shutting notes → after ≡ before → IsNotedAs before after notes
+  stays : AreNot is_opening notes → AreNot is_shutting notes → ((handle : ℕ) → after handle ≡ before handle) → IsNotedAs before after notes
   -- none is opened, and nothing is reported
-  shuts : AreNot is_opening notes → AreNot is_report notes → fold note_open before notes ≡ after → IsNotedAs before after notes
-  -- it is opened first, and then none is opened or shut, and nothing is reported
-  opens_first : (role : Role) (own peer : Address) (rest : List Note) → notes ≡ Opened 0 role own peer ∷ rest → AreNot is_opening rest
-      → AreNot is_shutting rest → AreNot is_report rest → before ≡ false → after ≡ true → IsNotedAs before after notes
+  shuts : AreNot is_opening notes → AreNot is_report notes → ((handle : ℕ) → fold (note_open handle) (before handle) notes ≡ after handle)
+      → IsNotedAs before after notes
+  -- one is opened first, under a free handle, and then none is opened or shut, and nothing is reported
+  opens_first : (handle : ℕ) (role : Role) (own peer : Address) (rest : List Note) → notes ≡ Opened handle role own peer ∷ rest
+      → AreNot is_opening rest → AreNot is_shutting rest → AreNot is_report rest → before handle ≡ false → after handle ≡ true
+      → ((other : ℕ) → (handle == other) ≡ false → after other ≡ before other) → IsNotedAs before after notes
 
 -- ---- notes that open and shut none
 
-pub open_still : (linked : Bool) (notes : List Note) → AreNot is_opening notes → AreNot is_shutting notes → fold note_open linked notes ≡ linked
-open_still linked [] none shut = refl
-open_still linked (Opened handle role own peer ∷ notes) none shut = absurd (let h : true ≡ false = none.0 in absurd cc)
-open_still linked (Shut handle reason ∷ notes) none shut = absurd (let h : true ≡ false = shut.0 in absurd cc)
-open_still linked (note ∷ notes) none shut = open_still linked notes none.1 shut.1
+pub open_still : (handle : ℕ) (linked : Bool) (notes : List Note) → AreNot is_opening notes → AreNot is_shutting notes
+    → fold (note_open handle) linked notes ≡ linked
+open_still handle linked [] none shut = refl
+open_still handle linked (Opened other role own peer ∷ notes) none shut = absurd (let h : true ≡ false = none.0 in absurd cc)
+open_still handle linked (Shut other reason ∷ notes) none shut = absurd (let h : true ≡ false = shut.0 in absurd cc)
+open_still handle linked (note ∷ notes) none shut = open_still handle linked notes none.1 shut.1
 
 -- a note that opens and shuts none, and reports nothing
 pub record IsQuiet (note : Note) : Type 0 where
@@ -134,10 +140,10 @@ both_quiet xs ys all more = both IsQuiet xs ys all more
 both_not : (kind : Note → Bool) (xs ys : List Note) → AreNot kind xs → AreNot kind ys → AreNot kind (xs ++ ys)
 both_not kind xs ys all more = both (λ note. kind note ≡ false) xs ys all more
 
-quiet_fold : (linked : Bool) (notes : List Note) → AreQuiet notes → fold note_open linked notes ≡ linked
-quiet_fold linked notes quiet = open_still linked notes (none_open notes quiet) (none_shut notes quiet)
+quiet_fold : (handle : ℕ) (linked : Bool) (notes : List Note) → AreQuiet notes → fold (note_open handle) linked notes ≡ linked
+quiet_fold handle linked notes quiet = open_still handle linked notes (none_open notes quiet) (none_shut notes quiet)
 
-stays_quiet : (before after : Bool) (notes : List Note) → AreQuiet notes → after ≡ before → IsNotedAs before after notes
+stays_quiet : (before after : ℕ → Bool) (notes : List Note) → AreQuiet notes → ((handle : ℕ) → after handle ≡ before handle) → IsNotedAs before after notes
 stays_quiet before after notes quiet is = stays (none_open notes quiet) (none_shut notes quiet) is
 
 -- ---- events
@@ -204,25 +210,35 @@ pieces_not : (kind : Note → Bool) → ((octets : List ℕ) → kind (Up (recor
 pieces_not kind up [] = tt
 pieces_not kind up (piece ∷ pieces) = (up _, pieces_not kind up pieces)
 
--- ---- the link under the handle 0
+-- ---- the handles with open links
 
-abbrev pub is_open : Links → Bool
-is_open links = is_some (link_at 0 links)
+abbrev pub is_open : Links → ℕ → Bool
+is_open links handle = is_some (link_at handle links)
 
-abbrev first_of : List Bool → Bool
-first_of [] = false
-first_of (linked ∷ places) = linked
+abbrev opened_in : ℕ → ℕ → List Bool → Bool
+opened_in first handle [] = false
+opened_in first handle (linked ∷ places) = if first == handle then linked else opened_in (first + 1) handle places
 
-open_is : (links : Links) → is_open links ≡ first_of (opens links)
-open_is [] = refl
-open_is (place ∷ links) = refl
+open_is : (first handle : ℕ) (links : Links) → is_some (link_from first handle links) ≡ opened_in first handle (opens links)
+open_is first handle [] = refl
+open_is first handle (place ∷ links) = by (first == handle) (open_is (first + 1) handle links)
+  where
+    by : (own : Bool) → is_some (link_from (first + 1) handle links) ≡ opened_in (first + 1) handle (opens links)
+        → is_some (if own then place else link_from (first + 1) handle links) ≡ (if own then is_some place else opened_in (first + 1) handle (opens links))
+    by true rest = refl
+    by false rest = rest
 
-pub same_open : (before after : Links) → opens after ≡ opens before → is_open after ≡ is_open before
-same_open before after same = open_is after ∙ ap first_of same ∙ sym (open_is before)
+pub same_open : (before after : Links) → opens after ≡ opens before → (handle : ℕ) → is_open after handle ≡ is_open before handle
+same_open before after same handle = open_is 0 handle after ∙ ap (opened_in 0 handle) same ∙ sym (open_is 0 handle before)
 
-reset_open : (links : Links) → is_open (without_links links) ≡ false
-reset_open [] = refl
-reset_open (place ∷ links) = refl
+reset_open : (first handle : ℕ) (links : Links) → is_some (link_from first handle (without_links links)) ≡ false
+reset_open first handle [] = refl
+reset_open first handle (place ∷ links) = by (first == handle) (reset_open (first + 1) handle links)
+  where
+    by : (own : Bool) → is_some (link_from (first + 1) handle (without_links links)) ≡ false
+        → is_some (if own then None else link_from (first + 1) handle (without_links links)) ≡ false
+    by true rest = refl
+    by false rest = rest
 
 -- ---- a packet of the host
 
@@ -256,27 +272,36 @@ shuts_not : (kind : Note → Bool) → ((handle : ℕ) → kind (note_shut handl
 shuts_not kind shut [] = tt
 shuts_not kind shut (handle ∷ handles) = (shut handle, shuts_not kind shut handles)
 
-past_zero : (n : ℕ) → 0 < n → (n == 0) ≡ false
-past_zero n some = grind (arith, some)
+still_shut : (own : Bool) → cond own false false ≡ false
+still_shut true = refl
+still_shut false = refl
 
-shut_past : (linked : Bool) (handle reason : ℕ) → 0 < handle → note_open linked (note_shut handle reason) ≡ linked
-shut_past linked handle reason later = ap (λ (b : Bool). cond b false linked) (past_zero handle later)
+keeps_shut : (handle : ℕ) (handles : List ℕ) → fold (note_open handle) false (map (λ one. note_shut one 0) handles) ≡ false
+keeps_shut handle [] = refl
+keeps_shut handle (one ∷ handles) =
+    ap (λ (b : Bool). fold (note_open handle) b (map (λ other. note_shut other 0) handles)) (still_shut (one == handle)) ∙ keeps_shut handle handles
 
-later_shut : (linked : Bool) (first : ℕ) (links : Links) → 0 < first
-    → fold note_open linked (map (λ handle. note_shut handle 0) (handles_from first links)) ≡ linked
-later_shut linked first [] later = refl
-later_shut linked first (None ∷ links) later = later_shut linked (first + 1) links (omega arith)
-later_shut linked first (Some link ∷ links) later =
-    ap (λ (b : Bool). fold note_open b (map (λ handle. note_shut handle 0) (handles_from (first + 1) links))) (shut_past linked first 0 later)
-    ∙ later_shut linked (first + 1) links (omega arith)
+all_shut : (first handle : ℕ) (links : Links)
+    → fold (note_open handle) (is_some (link_from first handle links)) (map (λ one. note_shut one 0) (handles_from first links)) ≡ false
+all_shut first handle [] = refl
+all_shut first handle (None ∷ links) = by (first == handle) (all_shut (first + 1) handle links)
+  where
+    by : (own : Bool)
+        → fold (note_open handle) (is_some (link_from (first + 1) handle links)) (map (λ one. note_shut one 0) (handles_from (first + 1) links)) ≡ false
+        → fold (note_open handle) (is_some (if own then None else link_from (first + 1) handle links)) (map (λ one. note_shut one 0) (handles_from (first + 1) links)) ≡ false
+    by true rest = keeps_shut handle (handles_from (first + 1) links)
+    by false rest = rest
+all_shut first handle (Some link ∷ links) = by (first == handle) (all_shut (first + 1) handle links)
+  where
+    by : (own : Bool)
+        → fold (note_open handle) (is_some (link_from (first + 1) handle links)) (map (λ one. note_shut one 0) (handles_from (first + 1) links)) ≡ false
+        → fold (note_open handle) (cond own false (is_some (if own then Some link else link_from (first + 1) handle links)))
+        (map (λ one. note_shut one 0) (handles_from (first + 1) links)) ≡ false
+    by true rest = keeps_shut handle (handles_from (first + 1) links)
+    by false rest = rest
 
-all_shut : (links : Links) → fold note_open (is_open links) (map (λ handle. note_shut handle 0) (handles_from 0 links)) ≡ false
-all_shut [] = refl
-all_shut (None ∷ links) = later_shut false (0 + 1) links (omega arith)
-all_shut (Some link ∷ links) = later_shut false (0 + 1) links (omega arith)
-
-fold_quiet : (linked : Bool) (xs ys : List Note) → AreQuiet ys → fold note_open linked (xs ++ ys) ≡ fold note_open linked xs
-fold_quiet linked xs ys quiet = fold-append note_open linked xs ys ∙ quiet_fold (fold note_open linked xs) ys quiet
+fold_quiet : (handle : ℕ) (linked : Bool) (xs ys : List Note) → AreQuiet ys → fold (note_open handle) linked (xs ++ ys) ≡ fold (note_open handle) linked xs
+fold_quiet handle linked xs ys quiet = fold-append (note_open handle) linked xs ys ∙ quiet_fold handle (fold (note_open handle) linked xs) ys quiet
 
 accepted_as : (setup : Setup) (facts : Facts) (opcode : ℕ) (command : Command)
     → IsNotedAs (is_open facts.links) (is_open (links_after command facts.links)) (notes_known true setup facts opcode command)
@@ -292,34 +317,34 @@ accepted_as setup facts opcode Reset =
     (both_not is_opening shut answer (shuts_not is_opening (λ handle. refl) handles) (none_open answer answers)) (none_open caused causes))
     (both_not is_report (shut ++ answer) caused
     (both_not is_report shut answer (shuts_not is_report (λ handle. refl) handles) (none_report answer answers)) (none_report caused causes))
-    (fold_quiet (is_open facts.links) (shut ++ answer) caused causes ∙ fold_quiet (is_open facts.links) shut answer answers
-    ∙ all_shut facts.links ∙ sym (reset_open facts.links))
+    (λ handle. fold_quiet handle (is_open facts.links handle) (shut ++ answer) caused causes ∙ fold_quiet handle (is_open facts.links handle) shut answer answers
+    ∙ all_shut 0 handle facts.links ∙ sym (reset_open 0 handle facts.links))
 accepted_as setup facts opcode other =
     let answer = notes_of_events facts.view (answer_to setup facts opcode (Known other)) in
     let caused = notes_of_events facts.view (events_caused facts other) in
     stays_quiet (is_open facts.links) (is_open facts.links) (answer ++ caused)
-    (both_quiet answer caused (answer_quiet setup facts opcode (Known other)) (caused_quiet facts other)) refl
+    (both_quiet answer caused (answer_quiet setup facts opcode (Known other)) (caused_quiet facts other)) (λ handle. refl)
 
 known_as : (accepted : Bool) (setup : Setup) (facts : Facts) (opcode : ℕ) (command : Command)
     → IsNotedAs (is_open facts.links) (is_open (facts_known accepted setup facts command).links) (notes_known accepted setup facts opcode command)
 known_as true setup facts opcode command = accepted_as setup facts opcode command
 known_as false setup facts opcode command =
-    stays_quiet (is_open facts.links) (is_open facts.links) _ (answer_quiet setup facts opcode (Known command)) refl
+    stays_quiet (is_open facts.links) (is_open facts.links) _ (answer_quiet setup facts opcode (Known command)) (λ handle. refl)
 
 read_as : (setup : Setup) (facts : Facts) (opcode : ℕ) (read : CmdRead)
     → IsNotedAs (is_open facts.links) (is_open (facts_commanded setup facts read).links) (notes_commanded setup facts opcode read)
 read_as setup facts opcode (Known command) = known_as (status_of facts.view command == 0) setup facts opcode command
 read_as setup facts opcode UnknownOpcode =
-    stays_quiet (is_open facts.links) (is_open facts.links) _ (answer_quiet setup facts opcode UnknownOpcode) refl
+    stays_quiet (is_open facts.links) (is_open facts.links) _ (answer_quiet setup facts opcode UnknownOpcode) (λ handle. refl)
 read_as setup facts opcode BadLength =
-    stays_quiet (is_open facts.links) (is_open facts.links) _ (answer_quiet setup facts opcode BadLength) refl
+    stays_quiet (is_open facts.links) (is_open facts.links) _ (answer_quiet setup facts opcode BadLength) (λ handle. refl)
 
-event_stays : (linked : Bool) (view : View) (events : List Event) → IsNotedAs linked linked (notes_of_events view events)
-event_stays linked view events = stays (events_not is_opening (λ octets. refl) view events) (events_not is_shutting (λ octets. refl) view events) refl
+event_stays : (linked : ℕ → Bool) (view : View) (events : List Event) → IsNotedAs linked linked (notes_of_events view events)
+event_stays linked view events = stays (events_not is_opening (λ octets. refl) view events) (events_not is_shutting (λ octets. refl) view events) (λ handle. refl)
 
 offered_as : (offer : Offer) (facts : Facts) (handle : ℕ) (start : Bool) (octets : List ℕ)
     → IsNotedAs (is_open facts.links) (is_open (facts_offered offer handle start octets facts).links) (notes_offered facts.view offer handle)
-offered_as NoLink facts handle start octets = stays tt tt refl
+offered_as NoLink facts handle start octets = stays tt tt (λ handle. refl)
 offered_as Empty facts handle start octets = event_stays (is_open facts.links) facts.view (CompletedPackets handle 1 ∷ [])
 offered_as Overflow facts handle start octets = event_stays (is_open facts.links) facts.view (BufferOverflow 1 ∷ [])
 offered_as Kept facts handle start octets = stays tt tt (same_open facts.links _ (changed_opens (link_after (DataGiven start octets)) handle facts.links))
@@ -330,7 +355,7 @@ fed_as setup facts (Packet (HostCommand opcode body)) = read_as setup facts opco
 fed_as setup facts (Packet (Acl handle start count body)) =
     offered_as (offer_of setup facts handle count) facts handle start body.items
 fed_as setup facts LostSync = event_stays (is_open facts.links) facts.view (HardwareError 0x01 ∷ [])
-fed_as setup facts More = stays tt tt refl
+fed_as setup facts More = stays tt tt (λ handle. refl)
 
 -- ---- a turn begins
 
@@ -346,38 +371,66 @@ ends_not kind shut quiet view (one ∷ ended) =
 ended_event : (view : View) (handle reason : ℕ) → AreQuiet (notes_of_events view (DisconnectionComplete 0 handle reason ∷ []))
 ended_event view handle reason = events_quiet view (DisconnectionComplete 0 handle reason ∷ []) (tt, tt)
 
-later_end : (linked : Bool) (view : View) (first : ℕ) (reason : Option ℕ) (others : List LinkEnded) → 0 < first
-    → fold note_open linked (flat_map (notes_ended view) (end_by first reason ++ others)) ≡ fold note_open linked (flat_map (notes_ended view) others)
-later_end linked view first None others later = refl
-later_end linked view first (Some reason) others later =
+one_end : (handle : ℕ) (linked : Bool) (view : View) (first reason : ℕ) (others : List LinkEnded)
+    → fold (note_open handle) linked (flat_map (notes_ended view) (end_by first (Some reason) ++ others))
+    ≡ fold (note_open handle) (cond (first == handle) false linked) (flat_map (notes_ended view) others)
+one_end handle linked view first reason others =
     let event = notes_of_events view (DisconnectionComplete 0 first reason ∷ []) in
-    ap (λ (b : Bool). fold note_open b (event ++ flat_map (notes_ended view) others)) (shut_past linked first reason later)
-    ∙ fold-append note_open linked event (flat_map (notes_ended view) others)
-    ∙ ap (λ (b : Bool). fold note_open b (flat_map (notes_ended view) others)) (quiet_fold linked event (ended_event view first reason))
+    let shut = cond (first == handle) false linked in
+    fold-append (note_open handle) shut event (flat_map (notes_ended view) others)
+    ∙ ap (λ (b : Bool). fold (note_open handle) b (flat_map (notes_ended view) others)) (quiet_fold handle shut event (ended_event view first reason))
 
-later_ends : (linked : Bool) (view : View) (slot first : ℕ) (links : Links) → 0 < first
-    → fold note_open linked (flat_map (notes_ended view) (ends_from slot first links)) ≡ linked
-later_ends linked view slot first [] later = refl
-later_ends linked view slot first (None ∷ links) later = later_ends linked view slot (first + 1) links (omega arith)
-later_ends linked view slot first (Some link ∷ links) later =
-    later_end linked view first (reason_in slot link) (ends_from slot (first + 1) links) later
-    ∙ later_ends linked view slot (first + 1) links (omega arith)
+not_before : (handle first : ℕ) → handle < first → (first == handle) ≡ false
+not_before handle first before = grind (arith, before)
 
-first_end : (view : View) (reason : Option ℕ) (link : OpenLink) (others : List LinkEnded)
-    → ((linked : Bool) → fold note_open linked (flat_map (notes_ended view) others) ≡ linked)
-    → fold note_open true (flat_map (notes_ended view) (end_by 0 reason ++ others)) ≡ is_some (staying_by reason link)
-first_end view None link others rest = rest true
-first_end view (Some reason) link others rest =
-    let event = notes_of_events view (DisconnectionComplete 0 0 reason ∷ []) in
-    fold-append note_open false event (flat_map (notes_ended view) others)
-    ∙ ap (λ (b : Bool). fold note_open b (flat_map (notes_ended view) others)) (quiet_fold false event (ended_event view 0 reason)) ∙ rest false
+later_end : (handle : ℕ) (linked : Bool) (view : View) (first : ℕ) (reason : Option ℕ) (others : List LinkEnded) → handle < first
+    → fold (note_open handle) linked (flat_map (notes_ended view) (end_by first reason ++ others))
+    ≡ fold (note_open handle) linked (flat_map (notes_ended view) others)
+later_end handle linked view first None others later = refl
+later_end handle linked view first (Some reason) others later =
+    one_end handle linked view first reason others
+    ∙ ap (λ (b : Bool). fold (note_open handle) (cond b false linked) (flat_map (notes_ended view) others)) (not_before handle first later)
 
-ends_open : (view : View) (slot : ℕ) (links : Links)
-    → fold note_open (is_open links) (flat_map (notes_ended view) (ends_from slot 0 links)) ≡ is_open (links_staying slot links)
-ends_open view slot [] = refl
-ends_open view slot (None ∷ links) = later_ends false view slot (0 + 1) links (omega arith)
-ends_open view slot (Some link ∷ links) =
-    first_end view (reason_in slot link) link (ends_from slot (0 + 1) links) (λ linked. later_ends linked view slot (0 + 1) links (omega arith))
+later_ends : (handle : ℕ) (linked : Bool) (view : View) (slot first : ℕ) (links : Links) → handle < first
+    → fold (note_open handle) linked (flat_map (notes_ended view) (ends_from slot first links)) ≡ linked
+later_ends handle linked view slot first [] later = refl
+later_ends handle linked view slot first (None ∷ links) later = later_ends handle linked view slot (first + 1) links (omega (arith, later))
+later_ends handle linked view slot first (Some link ∷ links) later =
+    later_end handle linked view first (reason_in slot link) (ends_from slot (first + 1) links) later
+    ∙ later_ends handle linked view slot (first + 1) links (omega (arith, later))
+
+ends_open : (view : View) (slot first handle : ℕ) (links : Links)
+    → fold (note_open handle) (is_some (link_from first handle links)) (flat_map (notes_ended view) (ends_from slot first links))
+    ≡ is_some (link_from first handle (links_staying slot links))
+ends_open view slot first handle [] = refl
+ends_open view slot first handle (None ∷ links) = by (first == handle) refl (ends_open view slot (first + 1) handle links)
+  where
+    by : (own : Bool) → (first == handle) ≡ own
+        → fold (note_open handle) (is_some (link_from (first + 1) handle links)) (flat_map (notes_ended view) (ends_from slot (first + 1) links))
+        ≡ is_some (link_from (first + 1) handle (links_staying slot links))
+        → fold (note_open handle) (is_some (if own then None else link_from (first + 1) handle links)) (flat_map (notes_ended view) (ends_from slot (first + 1) links))
+        ≡ is_some (if own then None else link_from (first + 1) handle (links_staying slot links))
+    by true is rest = let equal = eqb-true first handle is in later_ends handle false view slot (first + 1) links (omega (arith, equal))
+    by false is rest = rest
+ends_open view slot first handle (Some link ∷ links) = by (first == handle) (reason_in slot link) refl (ends_open view slot (first + 1) handle links)
+  where
+    by : (own : Bool) (reason : Option ℕ) → (first == handle) ≡ own
+        → fold (note_open handle) (is_some (link_from (first + 1) handle links)) (flat_map (notes_ended view) (ends_from slot (first + 1) links))
+        ≡ is_some (link_from (first + 1) handle (links_staying slot links))
+        → fold (note_open handle) (is_some (if own then Some link else link_from (first + 1) handle links))
+        (flat_map (notes_ended view) (end_by first reason ++ ends_from slot (first + 1) links))
+        ≡ is_some (if own then staying_by reason link else link_from (first + 1) handle (links_staying slot links))
+    by true None is rest = let equal = eqb-true first handle is in later_ends handle true view slot (first + 1) links (omega (arith, equal))
+    by true (Some reason) is rest =
+        let equal = eqb-true first handle is in
+        one_end handle true view first reason (ends_from slot (first + 1) links)
+        ∙ ap (λ (b : Bool). fold (note_open handle) (cond b false true) (flat_map (notes_ended view) (ends_from slot (first + 1) links))) is
+        ∙ later_ends handle false view slot (first + 1) links (omega (arith, equal))
+    by false None is rest = rest
+    by false (Some reason) is rest =
+        one_end handle _ view first reason (ends_from slot (first + 1) links)
+        ∙ ap (λ (b : Bool). fold (note_open handle) (cond b false (is_some (link_from (first + 1) handle links)))
+        (flat_map (notes_ended view) (ends_from slot (first + 1) links))) is ∙ rest
 
 -- the links that enter an event
 applied_quiet : (handle event : ℕ) (number : Option ℕ) → AreQuiet (applied_notes handle event number)
@@ -433,8 +486,8 @@ begun_as setup facts slot on =
     (both_not is_opening ends enters (ends_not is_opening (λ one. refl) (λ note is. is.no_opening) facts.view (ends_in slot facts))
     (none_open enters entered)) (none_open sends sent))
     (begun_reports facts setup slot on)
-    (fold_quiet (is_open facts.links) (ends ++ enters) sends sent ∙ fold_quiet (is_open facts.links) ends enters entered
-    ∙ ends_open facts.view slot facts.links ∙ sym (same_open (links_staying slot facts.links) _ (begun_opens slot on facts)))
+    (λ handle. fold_quiet handle (is_open facts.links handle) (ends ++ enters) sends sent ∙ fold_quiet handle (is_open facts.links handle) ends enters entered
+    ∙ ends_open facts.view slot 0 handle facts.links ∙ sym (same_open (links_staying slot facts.links) _ (begun_opens slot on facts) handle))
 
 -- ---- a phase
 
@@ -447,25 +500,24 @@ passed_as facts outcome quiet same =
     (both_quiet outcome.notes (notes_doing outcome.next outcome.facts) quiet (doing_quiet outcome.next outcome.facts))
     (same_open facts.links _ (sent_opens outcome.facts.turn.slot outcome.next outcome.facts.links ∙ same))
 
-opened_open : (end : EndSetup) (links : Links) → 0 < length links → end.link.handle ≡ 0 → is_open (with_link end links) ≡ true
-opened_open end [] some is = absurd (omega (arith, some))
-opened_open end (place ∷ links) some is = ap (λ n. is_open (with_change_from 0 n (λ before. Some (new_link end)) (place ∷ links))) is
-
 complete_other : (enhanced : Bool) (link : LinkSetup) → IsOtherEvent (connection_complete enhanced link)
 complete_other true link = tt
 complete_other false link = tt
 
-opened_as : (setup : Setup) (link : LinkSetup) (facts : Facts) → setup.links ≤ 1 → length facts.links ≡ setup.links → link.handle < length facts.links
-    → link_at link.handle facts.links ≡ None → OfOutcome facts (opening link facts)
-opened_as setup link facts few many within free =
-    let zero_is : link.handle ≡ 0 = omega (arith, few, many, within) in
+opened_as : (link : LinkSetup) (facts : Facts) → link.handle < length facts.links → link_at link.handle facts.links ≡ None
+    → OfOutcome facts (opening link facts)
+opened_as link facts within free =
     let events = notes_of_events facts.view (events_opened facts.view link) in
     let quiet = both_quiet events [] (events_quiet facts.view (events_opened facts.view link) (complete_other (wants_enhanced facts.view) link, (tt, tt))) tt in
     let end : EndSetup = record { link = link; opened = facts.turn.slot } in
-    opens_first link.role link.own link.peer (events ++ []) (ap (λ n. Opened n link.role link.own link.peer ∷ (events ++ [])) zero_is)
+    opens_first link.handle link.role link.own link.peer (events ++ []) refl
     (none_open (events ++ []) quiet) (none_shut (events ++ []) quiet) (none_report (events ++ []) quiet)
-    (ap (λ (place : Option OpenLink). is_some place) (subst (λ n. link_at n facts.links ≡ None) zero_is free))
-    (ap (λ (held : Facts). is_open held.links) (opening_is link facts) ∙ opened_open end facts.links (omega (arith, within)) zero_is)
+    (ap (λ (place : Option OpenLink). is_some place) free)
+    (ap (λ (held : Facts). is_open held.links link.handle) (opening_is link facts)
+    ∙ ap (λ (place : Option OpenLink). is_some place) (opened_at end facts.links within))
+    (λ other differs. ap (λ (held : Facts). is_open held.links other) (opening_is link facts)
+    ∙ ap (λ (place : Option OpenLink). is_some place)
+    (other_stays (λ before. Some (new_link end)) 0 link.handle other facts.links (λ same. eqb-false link.handle other differs (sym same))))
 
 report_quiet : (reports : Bool) (view : View) (pdu : AdvPdu) (kind : Option ReportKind)
     → AreQuiet (notes_of_events view (cond reports (report_events pdu kind) []))
@@ -476,17 +528,17 @@ report_quiet false view pdu kind = tt
 answered_quiet : (view : View) (answer : ScanAnswer) (pdu : AdvPdu) → AreQuiet (notes_of_events view (events_reported answer pdu))
 answered_quiet view answer pdu = report_quiet _ view pdu (kind_of pdu)
 
-phase_as : (setup : Setup) (facts : Facts) → setup.links ≤ 1 → HaveOwnHandles setup facts → EachOutcome setup facts (OfOutcome facts)
-phase_as setup facts few own = let nothing = stays tt tt refl in record {
+phase_as : (setup : Setup) (facts : Facts) → HaveOwnHandles setup facts → EachOutcome setup facts (OfOutcome facts)
+phase_as setup facts own = let nothing = stays tt tt (λ handle. refl) in record {
   rests = nothing;
   awaits_request = λ channel doing. nothing;
   awaits_response = λ channel advertiser doing. nothing;
   central_listens = λ handle doing. nothing;
-  sent = λ channel link doing. let new = subst (IsNew facts.links) doing own.new in opened_as setup link facts few own.many new.0 new.1;
+  sent = λ channel link doing. let new = subst (IsNew facts.links) doing own.new in opened_as link facts new.0 new.1;
   responds = λ channel on doing is_on. nothing;
   taken = λ channel octets pdu on fields handle is_on hears takes free.
       let new = free_is_new facts.links handle free in
-      opened_as setup (link_taken on.params.own pdu fields handle) facts few own.many new.0 new.1;
+      opened_as (link_taken on.params.own pdu fields handle) facts new.0 new.1;
   scanned = λ channel octets pdu on doing is_on hears.
       passed_as facts (scanner_heard (Some on) true channel pdu facts)
       (answered_quiet facts.view (scan_answer on.params facts.view.accepted on.recent pdu) pdu) refl;
@@ -513,26 +565,22 @@ ended_as facts setup =
     (pieces_not is_shutting (λ octets. refl) facts.received) (events_not is_shutting (λ octets. refl) facts.view events))
     (same_open facts.links _ (mapped_opens link_reported facts.links))
 
-pub step_noted : (setup : Setup) (facts : Facts) (step : Step) → setup.links ≤ 1 → HaveOwnHandles setup facts
+pub step_noted : (setup : Setup) (facts : Facts) (step : Step) → HaveOwnHandles setup facts
     → IsNotedAs (is_open facts.links) (is_open (facts_after setup facts step).links) (notes_after setup facts step)
-step_noted setup facts (HostOctet octet) few own = fed_as setup facts (result_of facts.octets octet)
-step_noted setup facts (TurnBegins slot on) few own = begun_as setup facts slot on
-step_noted setup facts (PacketHeard octets) few own = heard_is setup facts (OfOutcome facts) (phase_as setup facts few own) facts.turn.doing octets refl
-step_noted setup facts NothingHeard few own = unheard_is setup facts (OfOutcome facts) (phase_as setup facts few own) facts.turn.doing refl
-step_noted setup facts TurnEnds few own = ended_as facts setup
+step_noted setup facts (HostOctet octet) own = fed_as setup facts (result_of facts.octets octet)
+step_noted setup facts (TurnBegins slot on) own = begun_as setup facts slot on
+step_noted setup facts (PacketHeard octets) own = heard_is setup facts (OfOutcome facts) (phase_as setup facts own) facts.turn.doing octets refl
+step_noted setup facts NothingHeard own = unheard_is setup facts (OfOutcome facts) (phase_as setup facts own) facts.turn.doing refl
+step_noted setup facts TurnEnds own = ended_as facts setup
 
 -- ---- what follows
 
 -- where a link is open none is opened
-none_more : (before after : Bool) (notes : List Note) → IsNotedAs before after notes → before ≡ true → AreNot is_opening notes
-none_more before after notes (stays opens shut same) linked = opens
-none_more before after notes (shuts opens reports is) linked = opens
-none_more before after notes (opens_first role own peer rest is opens shut reports free now) linked =
-    absurd (let h : true ≡ false = sym linked ∙ free in absurd cc)
-
-pub opens_where_free : (setup : Setup) (facts : Facts) (step : Step) → setup.links ≤ 1 → HaveOwnHandles setup facts
-    → is_some (link_at 0 facts.links) ≡ true → AreNot is_opening (notes_after setup facts step)
-opens_where_free setup facts step few own linked = none_more _ _ (notes_after setup facts step) (step_noted setup facts step few own) linked
+pub opens_where_free : (setup : Setup) (past : List Step) (step : Step) (handle : ℕ) (link : OpenLink) → link_at handle (facts_of setup past).links ≡ Some link
+    → is_opened handle (notes_after setup (facts_of setup past) step) ≡ false
+opens_where_free setup past step handle link at =
+    false_from_ne_true (is_opened handle (notes_after setup (facts_of setup past) step))
+    (λ opened. let h : Some link ≡ None = sym at ∙ opened_was_free handle setup (facts_of setup past) step (own_handles setup past) opened in absurd cc)
 
 -- ---- a step of a turn that notes PDUs which are taken reports nothing
 
@@ -583,7 +631,7 @@ turn_kinds setup facts TurnEnds turn =
     (pieces_not is_taking (λ octets. refl) facts.received) (events_not is_taking (λ octets. refl) facts.view events))
 
 -- of a past
-pub past_noted : (setup : Setup) (past : List Step) (step : Step) → setup.links ≤ 1
+pub past_noted : (setup : Setup) (past : List Step) (step : Step)
     → IsNotedAs (is_open (facts_of setup past).links) (is_open (facts_after setup (facts_of setup past) step).links)
     (notes_after setup (facts_of setup past) step)
-past_noted setup past step few = step_noted setup (facts_of setup past) step few (own_handles setup past)
+past_noted setup past step = step_noted setup (facts_of setup past) step (own_handles setup past)

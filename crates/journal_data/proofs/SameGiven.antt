@@ -1,5 +1,5 @@
--- In the calls of a turn the open link of a controller keeps the packets that it was given, and a new one has none.
-use Rattle.std.proofs.Common.{◌≡◌, ℕ, ◌==◌, ◌||◌, ◌⊎◌, inl, inr, Bool, true, false, Option, Some, None, List, [], ◌∷◌, ◌++◌, map, refl, sym, ap, subst, ◌∙◌, if◌then◌else◌}
+-- In the calls of a turn each open link of a controller keeps the packets that it was given, and a new one has none.
+use Rattle.std.proofs.Common.{◌≡◌, ℕ, ◌+◌, ◌==◌, ◌||◌, ◌⊎◌, inl, inr, Bool, true, false, Option, Some, None, List, [], ◌∷◌, ◌++◌, map, refl, sym, ap, subst, ◌∙◌, if◌then◌else◌}
 use Rattle.std.specs.Prelude.{◌&&◌, nat_lt, ⊤}
 use Rattle.ble_base.specs.declared.notes.Note.{Note}
 use Rattle.std.specs.Option.{option_map}
@@ -16,7 +16,7 @@ use Rattle.scan_init.specs.Reports.{does_ask, scan_answer}
 use Rattle.slot_plan.specs.declared.Activity.{Activity}
 use Rattle.slot_plan.specs.declared.Activity.TheVariants.{Link, Advertise, Scan, Initiate}
 use Rattle.open_links.specs.Data.{complete_in, link_reported}
-use Rattle.open_links.specs.OpenLinks.{Links, OpenLink, facts_in, link_after, link_at, link_served, new_link, with_change, with_change_from, with_link}
+use Rattle.open_links.specs.OpenLinks.{Links, OpenLink, facts_in, link_after, link_at, link_from, link_served, new_link, with_change, with_link}
 use Rattle.open_links.specs.Turns.{entered_if, is_anchor, link_entered, place_staying, reason_in, staying_by}
 use Rattle.controller_model.specs.declared.doing.Doing.{Doing}
 use Rattle.controller_model.specs.declared.doing.Doing.TheVariants.{Advertises, CentralSends, PeripheralListens, PeripheralSends}
@@ -33,6 +33,9 @@ use Rattle.controller_model.proofs.Always.{IsInTurn, IsKeptAtStarts, links_won, 
 use Rattle.controller_model.proofs.Handles.{own_handles}
 use Rattle.controller_model.proofs.Phases.{EachOutcome, heard_is, unheard_is}
 use Rattle.run_model.proofs.OpenedNotes.{is_opened, opened_was_free}
+use Rattle.open_links.proofs.Handles.{changed_is, other_stays}
+use Rattle.journal_acks.proofs.UnderHandles.{IsOpenedIf, opened_under}
+use Rattle.std.proofs.lemmas.Bool.{eq-eqb, eqb-false, eqb-true}
 
 -- ---- one link
 
@@ -106,22 +109,38 @@ changed_stays : (change : OpenLink → OpenLink) → ((link : OpenLink) → give
 changed_stays change keeps None = tt
 changed_stays change keeps (Some link) = record { old = link; was = refl; same = keeps link }
 
--- ---- the first place
+-- ---- the place under a handle
 
--- under any handle
-under_stays : (handle : ℕ) (change : OpenLink → OpenLink) → ((link : OpenLink) → given_in (change link) ≡ given_in link) → (links : Links)
-    → Stays (link_at 0 links) (link_at 0 (with_change handle change links))
-under_stays handle change keeps [] = tt
-under_stays handle change keeps (place ∷ links) = by (0 == handle)
+abbrev At : ℕ → Links → Option OpenLink
+At under links = link_at under links
+
+-- a change of one link
+under_stays : (under handle : ℕ) (change : OpenLink → OpenLink) → ((link : OpenLink) → given_in (change link) ≡ given_in link) → (links : Links)
+    → Stays (At under links) (At under (with_change handle change links))
+under_stays under handle change keeps links = by (handle == under) refl
   where
-    by : (own : Bool) → Stays place (link_at 0 (if own then option_map change place ∷ links else place ∷ with_change_from 1 handle (option_map change) links))
-    by true = changed_stays change keeps place
-    by false = stays_same place
+    by : (own : Bool) → (handle == under) ≡ own → Stays (link_at under links) (link_at under (with_change handle change links))
+    by true is =
+        let same = eqb-true handle under is in
+        subst (λ n. Stays (link_at n links) (link_at n (with_change handle change links))) same
+        (subst (Stays (link_at handle links)) (sym (changed_is (option_map change) 0 handle links refl)) (changed_stays change keeps (link_at handle links)))
+    by false is =
+        subst (Stays (link_at under links)) (sym (other_stays (option_map change) 0 handle under links (λ same. eqb-false handle under is (sym same)))) (stays_same (link_at under links))
 
-each_stays : (change : Option OpenLink → Option OpenLink) → ((place : Option OpenLink) → Stays place (change place)) → (links : Links)
-    → Stays (link_at 0 links) (link_at 0 (map change links))
-each_stays change keeps [] = tt
-each_stays change keeps (place ∷ links) = keeps place
+-- a change of each place
+each_from : (under first : ℕ) (change : Option OpenLink → Option OpenLink) → ((place : Option OpenLink) → Stays place (change place)) → (links : Links)
+    → Stays (link_from first under links) (link_from first under (map change links))
+each_from under first change keeps [] = tt
+each_from under first change keeps (place ∷ links) = by (first == under) (each_from under (first + 1) change keeps links)
+  where
+    by : (own : Bool) → Stays (link_from (first + 1) under links) (link_from (first + 1) under (map change links))
+        → Stays (if own then place else link_from (first + 1) under links) (if own then change place else link_from (first + 1) under (map change links))
+    by true rest = keeps place
+    by false rest = rest
+
+each_stays : (under : ℕ) (change : Option OpenLink → Option OpenLink) → ((place : Option OpenLink) → Stays place (change place)) → (links : Links)
+    → Stays (At under links) (At under (map change links))
+each_stays under change keeps links = each_from under 0 change keeps links
 
 place_stays : (slot : ℕ) (place : Option OpenLink) → Stays place (place_staying slot place)
 place_stays slot None = tt
@@ -145,42 +164,42 @@ reported_same link = by (nat_lt 0 (complete_in link))
     by true = after_reported link
     by false = refl
 
-won_stays : (slot : ℕ) (activity : Activity) (links : Links) → Stays (link_at 0 links) (link_at 0 (links_won slot activity links))
-won_stays slot (Link handle) links = under_stays handle (link_served slot) (λ link. refl) links
-won_stays slot Advertise links = stays_same (link_at 0 links)
-won_stays slot Scan links = stays_same (link_at 0 links)
-won_stays slot Initiate links = stays_same (link_at 0 links)
+won_stays : (under slot : ℕ) (activity : Activity) (links : Links) → Stays (link_at under links) (link_at under (links_won slot activity links))
+won_stays under slot (Link handle) links = under_stays under handle (link_served slot) (λ link. refl) links
+won_stays under slot Advertise links = stays_same (link_at under links)
+won_stays under slot Scan links = stays_same (link_at under links)
+won_stays under slot Initiate links = stays_same (link_at under links)
 
-fixing_stays : (doing : Doing) (links : Links) → Stays (link_at 0 links) (link_at 0 (links_fixing doing links))
-fixing_stays (CentralSends handle) links = under_stays handle (link_after PduFixed) after_fixed links
-fixing_stays (PeripheralListens handle) links = under_stays handle (link_after PduFixed) after_fixed links
-fixing_stays (Advertises channel) links = stays_same (link_at 0 links)
-fixing_stays other links = stays_same (link_at 0 links)
+fixing_stays : (under : ℕ) (doing : Doing) (links : Links) → Stays (link_at under links) (link_at under (links_fixing doing links))
+fixing_stays under (CentralSends handle) links = under_stays under handle (link_after PduFixed) after_fixed links
+fixing_stays under (PeripheralListens handle) links = under_stays under handle (link_after PduFixed) after_fixed links
+fixing_stays under (Advertises channel) links = stays_same (link_at under links)
+fixing_stays under other links = stays_same (link_at under links)
 
-sending_stays : (slot : ℕ) (doing : Doing) (links : Links) → Stays (link_at 0 links) (link_at 0 (links_sending slot doing links))
-sending_stays slot (CentralSends handle) links = under_stays handle (link_after (PacketSent slot)) (after_sent slot) links
-sending_stays slot (PeripheralSends handle) links = under_stays handle (link_after (PacketSent slot)) (after_sent slot) links
-sending_stays slot (Advertises channel) links = stays_same (link_at 0 links)
-sending_stays slot other links = stays_same (link_at 0 links)
+sending_stays : (under slot : ℕ) (doing : Doing) (links : Links) → Stays (link_at under links) (link_at under (links_sending slot doing links))
+sending_stays under slot (CentralSends handle) links = under_stays under handle (link_after (PacketSent slot)) (after_sent slot) links
+sending_stays under slot (PeripheralSends handle) links = under_stays under handle (link_after (PacketSent slot)) (after_sent slot) links
+sending_stays under slot (Advertises channel) links = stays_same (link_at under links)
+sending_stays under slot other links = stays_same (link_at under links)
 
 -- ---- a turn begins, and ends
 
-abbrev StaysIn : Option OpenLink → Facts → Type 0
-StaysIn before facts = Stays before (link_at 0 facts.links)
+abbrev StaysIn : ℕ → Option OpenLink → Facts → Type 0
+StaysIn under before facts = Stays before (link_at under facts.links)
 
-sends_on : (before : Option OpenLink) (doing : Doing) (facts : Facts) → StaysIn before facts → StaysIn before (facts_doing doing facts)
-sends_on before doing facts stays = stays_then before (link_at 0 facts.links) _ stays (sending_stays facts.turn.slot doing facts.links)
+sends_on : (under : ℕ) (before : Option OpenLink) (doing : Doing) (facts : Facts) → StaysIn under before facts → StaysIn under before (facts_doing doing facts)
+sends_on under before doing facts stays = stays_then before (link_at under facts.links) _ stays (sending_stays under facts.turn.slot doing facts.links)
 
-kept_starts : (before : Option OpenLink) → IsKeptAtStarts (StaysIn before) (StaysIn before)
-kept_starts before = record {
+kept_starts : (under : ℕ) (before : Option OpenLink) → IsKeptAtStarts (StaysIn under before) (StaysIn under before)
+kept_starts under before = record {
   weakens = λ facts stays. stays;
-  ends = λ slot facts stays. stays_then before (link_at 0 facts.links) _ stays (each_stays (place_staying slot) (place_stays slot) facts.links);
+  ends = λ slot facts stays. stays_then before (link_at under facts.links) _ stays (each_stays under (place_staying slot) (place_stays slot) facts.links);
   begins = λ slot facts stays. stays;
-  enters = λ slot facts stays. stays_then before (link_at 0 facts.links) _ stays
-      (each_stays (option_map (link_entered slot)) (changed_stays (link_entered slot) (entered_same slot)) facts.links);
-  wins = λ slot activity facts stays. stays_then before (link_at 0 facts.links) _ stays (won_stays slot activity facts.links);
-  fixes = λ doing facts stays. stays_then before (link_at 0 facts.links) _ stays (fixing_stays doing facts.links);
-  does = λ doing facts may stays. sends_on before doing facts stays;
+  enters = λ slot facts stays. stays_then before (link_at under facts.links) _ stays
+      (each_stays under (option_map (link_entered slot)) (changed_stays (link_entered slot) (entered_same slot)) facts.links);
+  wins = λ slot activity facts stays. stays_then before (link_at under facts.links) _ stays (won_stays under slot activity facts.links);
+  fixes = λ doing facts stays. stays_then before (link_at under facts.links) _ stays (fixing_stays under doing facts.links);
+  does = λ doing facts may stays. sends_on under before doing facts stays;
 }
 
 -- ---- a phase
@@ -190,69 +209,72 @@ abbrev IsFresh : Option OpenLink → Type 0
 IsFresh None = ⊤
 IsFresh (Some link) = given_in link ≡ []
 
-abbrev Goes : Option OpenLink → List Note → Facts → Type 0
-Goes before notes after = StaysIn before after ⊎ (IsFresh (link_at 0 after.links) × is_opened 0 notes ≡ true)
+abbrev Goes : ℕ → Option OpenLink → List Note → Facts → Type 0
+Goes under before notes after = StaysIn under before after ⊎ (IsFresh (link_at under after.links) × is_opened under notes ≡ true)
 
-opened_by : (end : EndSetup) (place : Option OpenLink) (links : Links) (own : Bool)
-    → let after = if own then Some (new_link end) ∷ links else place ∷ with_change_from 1 end.link.handle (λ old. Some (new_link end)) links in
-    Stays place (link_at 0 after) ⊎ (IsFresh (link_at 0 after) × own ≡ true)
-opened_by end place links true = inr (new_none end, refl)
-opened_by end place links false = inl (stays_same place)
+opened_by : (under : ℕ) (end : EndSetup) (links : Links) (place : Option OpenLink) → link_at under (with_link end links) ≡ place
+    → Stays (link_at under links) place ⊎ (IsFresh place × (under == end.link.handle) ≡ true)
+opened_by under end links None at = inl tt
+opened_by under end links (Some after) at = by (end.link.handle == under) refl (opened_under end under links after at)
+  where
+    by : (same : Bool) → (end.link.handle == under) ≡ same → ((same : Bool) → (end.link.handle == under) ≡ same → IsOpenedIf same end (link_at under links) after)
+        → Stays (link_at under links) (Some after) ⊎ (IsFresh (Some after) × (under == end.link.handle) ≡ true)
+    by true is opened = inr (ap given_in (opened true is) ∙ new_none end, eq-eqb under end.link.handle (sym (eqb-true end.link.handle under is)))
+    by false is opened = inl (record { old = after; was = opened false is; same = refl })
 
-opened_at : (end : EndSetup) (links : Links)
-    → Stays (link_at 0 links) (link_at 0 (with_link end links)) ⊎ (IsFresh (link_at 0 (with_link end links)) × (0 == end.link.handle) ≡ true)
-opened_at end [] = inl tt
-opened_at end (place ∷ links) = opened_by end place links (0 == end.link.handle)
+opened_at : (under : ℕ) (end : EndSetup) (links : Links)
+    → Stays (link_at under links) (link_at under (with_link end links)) ⊎ (IsFresh (link_at under (with_link end links)) × (under == end.link.handle) ≡ true)
+opened_at under end links = opened_by under end links (link_at under (with_link end links)) refl
 
 -- what comes of a phase
-abbrev Passes : Option OpenLink → Outcome → Type 0
-Passes before outcome = Goes before (notes_passed outcome) (facts_passed outcome)
+abbrev Passes : ℕ → Option OpenLink → Outcome → Type 0
+Passes under before outcome = Goes under before (notes_passed outcome) (facts_passed outcome)
 
-opens_goes : (link : LinkSetup) (facts : Facts) → Passes (link_at 0 facts.links) (opens link facts)
-opens_goes link facts = by (opened_at (record { link = link; opened = facts.turn.slot }) facts.links)
+opens_goes : (under : ℕ) (link : LinkSetup) (facts : Facts) → Passes under (link_at under facts.links) (opens link facts)
+opens_goes under link facts = by (opened_at under (record { link = link; opened = facts.turn.slot }) facts.links)
   where
-    by : Stays (link_at 0 facts.links) (link_at 0 (with_link (record { link = link; opened = facts.turn.slot }) facts.links))
-        ⊎ (IsFresh (link_at 0 (with_link (record { link = link; opened = facts.turn.slot }) facts.links)) × (0 == link.handle) ≡ true)
-        → Passes (link_at 0 facts.links) (opens link facts)
-    by (inl stays) = inl (opening_passes (StaysIn (link_at 0 facts.links)) link facts stays)
+    by : Stays (link_at under facts.links) (link_at under (with_link (record { link = link; opened = facts.turn.slot }) facts.links))
+        ⊎ (IsFresh (link_at under (with_link (record { link = link; opened = facts.turn.slot }) facts.links)) × (under == link.handle) ≡ true)
+        → Passes under (link_at under facts.links) (opens link facts)
+    by (inl stays) = inl (opening_passes (StaysIn under (link_at under facts.links)) link facts stays)
     by (inr new) = inr (
-      opening_passes (λ (after : Facts). IsFresh (link_at 0 after.links)) link facts new.0,
-      ap (λ b. b || is_opened 0 (notes_of_events facts.view (events_opened facts.view link) ++ [])) new.1,
+      opening_passes (λ (after : Facts). IsFresh (link_at under after.links)) link facts new.0,
+      ap (λ b. b || is_opened under (notes_of_events facts.view (events_opened facts.view link) ++ [])) new.1,
     )
 
-each_goes : (setup : Setup) (facts : Facts) → EachOutcome setup facts (Passes (link_at 0 facts.links))
-each_goes setup facts = let same = stays_same (link_at 0 facts.links) in record {
+each_goes : (under : ℕ) (setup : Setup) (facts : Facts) → EachOutcome setup facts (Passes under (link_at under facts.links))
+each_goes under setup facts = let same = stays_same (link_at under facts.links) in record {
   rests = inl same;
   awaits_request = λ channel doing. inl same;
   awaits_response = λ channel advertiser doing. inl same;
   central_listens = λ handle doing. inl same;
-  sent = λ channel link doing. opens_goes link facts;
+  sent = λ channel link doing. opens_goes under link facts;
   responds = λ channel on doing is_on. inl same;
-  taken = λ channel octets pdu on fields handle is_on hears takes free. opens_goes (link_taken on.params.own pdu fields handle) facts;
+  taken = λ channel octets pdu on fields handle is_on hears takes free. opens_goes under (link_taken on.params.own pdu fields handle) facts;
   scanned = λ channel octets pdu on doing is_on hears.
-      inl (sends_on (link_at 0 facts.links) (asks_if (true && does_ask (scan_answer on.params facts.view.accepted on.recent pdu)) channel pdu)
+      inl (sends_on under (link_at under facts.links) (asks_if (true && does_ask (scan_answer on.params facts.view.accepted on.recent pdu)) channel pdu)
       (with_scanner (scanner_after on facts.view.accepted pdu) facts) same);
   answered = λ channel octets pdu on doing is_on hears.
-      inl (sends_on (link_at 0 facts.links) (asks_if (false && does_ask (scan_answer on.params facts.view.accepted on.recent pdu)) channel pdu)
+      inl (sends_on under (link_at under facts.links) (asks_if (false && does_ask (scan_answer on.params facts.view.accepted on.recent pdu)) channel pdu)
       (with_scanner (scanner_after on facts.view.accepted pdu) facts) same);
   connects = λ channel octets pdu on access handle doing is_on hears answers next free in_range. inl same;
   received = λ handle octets.
-      inl (sends_on (link_at 0 facts.links) (reply_if (replies_in (link_at handle facts.links) octets) handle)
+      inl (sends_on under (link_at under facts.links) (reply_if (replies_in (link_at handle facts.links) octets) handle)
       (link_received handle (has_room setup facts) octets facts)
-      (under_stays handle (link_after (PacketReceived facts.turn.slot octets (has_room setup facts)))
+      (under_stays under handle (link_after (PacketReceived facts.turn.slot octets (has_room setup facts)))
       (after_received facts.turn.slot octets (has_room setup facts)) facts.links));
 }
 
-step_goes : (setup : Setup) (facts : Facts) (step : Step) → IsInTurn step
-    → Goes (link_at 0 facts.links) (notes_after setup facts step) (facts_after setup facts step)
-step_goes setup facts (HostOctet octet) turn = absurd turn
-step_goes setup facts (TurnBegins slot on) turn =
-    let before = link_at 0 facts.links in
-    inl (start_keeps (StaysIn before) (StaysIn before) (kept_starts before) slot on facts (stays_same before))
-step_goes setup facts (PacketHeard octets) turn =
-    heard_is setup facts (Passes (link_at 0 facts.links)) (each_goes setup facts) facts.turn.doing octets refl
-step_goes setup facts NothingHeard turn = unheard_is setup facts (Passes (link_at 0 facts.links)) (each_goes setup facts) facts.turn.doing refl
-step_goes setup facts TurnEnds turn = inl (each_stays (option_map link_reported) (changed_stays link_reported reported_same) facts.links)
+step_goes : (under : ℕ) (setup : Setup) (facts : Facts) (step : Step) → IsInTurn step
+    → Goes under (link_at under facts.links) (notes_after setup facts step) (facts_after setup facts step)
+step_goes under setup facts (HostOctet octet) turn = absurd turn
+step_goes under setup facts (TurnBegins slot on) turn =
+    let before = link_at under facts.links in
+    inl (start_keeps (StaysIn under before) (StaysIn under before) (kept_starts under before) slot on facts (stays_same before))
+step_goes under setup facts (PacketHeard octets) turn =
+    heard_is setup facts (Passes under (link_at under facts.links)) (each_goes under setup facts) facts.turn.doing octets refl
+step_goes under setup facts NothingHeard turn = unheard_is setup facts (Passes under (link_at under facts.links)) (each_goes under setup facts) facts.turn.doing refl
+step_goes under setup facts TurnEnds turn = inl (each_stays under (option_map link_reported) (changed_stays link_reported reported_same) facts.links)
 
 -- ---- a call of a turn
 
@@ -264,17 +286,17 @@ WasSo false before link = WasGiven before link
 no_old : (before : Option OpenLink) (link : OpenLink) (X : Type 0) → before ≡ None → WasGiven before link → X
 no_old before link X none was = absurd (let h : None ≡ Some was.old = sym none ∙ was.was in absurd cc)
 
-was_so : (before after : Option OpenLink) (link : OpenLink) (notes : List Note) (opened : Bool) → is_opened 0 notes ≡ opened
-    → (is_opened 0 notes ≡ true → before ≡ None) → after ≡ Some link → Stays before after ⊎ (IsFresh after × is_opened 0 notes ≡ true) → WasSo opened before link
-was_so before after link notes true is free at (inl stays) = no_old before link _ (free is) (subst (Stays before) at stays)
-was_so before after link notes true is free at (inr new) = subst IsFresh at new.0
-was_so before after link notes false is free at (inl stays) = subst (Stays before) at stays
-was_so before after link notes false is free at (inr new) = absurd (let h : true ≡ false = sym new.1 ∙ is in absurd cc)
+was_so : (under : ℕ) (before after : Option OpenLink) (link : OpenLink) (notes : List Note) (opened : Bool) → is_opened under notes ≡ opened
+    → (is_opened under notes ≡ true → before ≡ None) → after ≡ Some link → Stays before after ⊎ (IsFresh after × is_opened under notes ≡ true) → WasSo opened before link
+was_so under before after link notes true is free at (inl stays) = no_old before link _ (free is) (subst (Stays before) at stays)
+was_so under before after link notes true is free at (inr new) = subst IsFresh at new.0
+was_so under before after link notes false is free at (inl stays) = subst (Stays before) at stays
+was_so under before after link notes false is free at (inr new) = absurd (let h : true ≡ false = sym new.1 ∙ is in absurd cc)
 
-pub turn_given : (setup : Setup) (past : List Step) (step : Step) → IsInTurn step → let facts = facts_of setup past in
-    (link : OpenLink) → link_at 0 (facts_after setup facts step).links ≡ Some link
-    → (opened : Bool) → is_opened 0 (notes_after setup facts step) ≡ opened → WasSo opened (link_at 0 facts.links) link
-turn_given setup past step turn link at opened is =
+pub turn_given : (under : ℕ) (setup : Setup) (past : List Step) (step : Step) → IsInTurn step → let facts = facts_of setup past in
+    (link : OpenLink) → link_at under (facts_after setup facts step).links ≡ Some link
+    → (opened : Bool) → is_opened under (notes_after setup facts step) ≡ opened → WasSo opened (link_at under facts.links) link
+turn_given under setup past step turn link at opened is =
     let facts = facts_of setup past in
-    was_so (link_at 0 facts.links) (link_at 0 (facts_after setup facts step).links) link (notes_after setup facts step) opened is
-    (opened_was_free 0 setup facts step (own_handles setup past)) at (step_goes setup facts step turn)
+    was_so under (link_at under facts.links) (link_at under (facts_after setup facts step).links) link (notes_after setup facts step) opened is
+    (opened_was_free under setup facts step (own_handles setup past)) at (step_goes under setup facts step turn)

@@ -1,6 +1,7 @@
 -- An event that is of no call of a station changes nothing of what is known of its lines.
-use Rattle.std.proofs.Common.{◌≡◌, ℕ, Bool, false, List, [], ◌∷◌, ◌++◌, refl, sym, ap, subst, ◌∙◌, append-nil}
+use Rattle.std.proofs.Common.{Some, ◌≡◌, ℕ, Bool, false, List, [], ◌∷◌, ◌++◌, refl, sym, ap, subst, ◌∙◌, append-nil}
 use Rattle.std.specs.Option.{option_map}
+use mathlib.Core.Path.{fun_ext}
 use Rattle.ble_base.specs.declared.notes.Note.{Note}
 use Rattle.open_links.specs.OpenLinks.{OpenLink, facts_in, link_at}
 use Rattle.controller_model.specs.Facts.{Facts}
@@ -13,20 +14,22 @@ use Rattle.run_model.specs.Run.{Given, after_call, after_feed, after_octets, fac
 use Rattle.run_model.proofs.Calls.{flat_nothing, noted_called, past_other}
 use Rattle.run_model.proofs.LinksKnown.{link_by_other}
 use Rattle.journal_packets.specs.Belonging.{is_side}
-use Rattle.journal_data.proofs.HostPackets.{links_for}
+use Rattle.journal_acks.proofs.Exchanging.{number_at}
+use Rattle.journal_data.proofs.HeldLinks.{HoldsLinks}
+use Rattle.journal_data.proofs.Openness.{is_open}
 use Rattle.journal_data.specs.Lines.{Lines, data_on, empties_on}
 use Rattle.journal_data.proofs.Booked.{IsBook}
 use Rattle.journal_data.proofs.EachLine.{air_lines, fed_other, lines_at, turn_lines}
 use Rattle.journal_data.proofs.Ends.{IsWell, end_at}
 use Rattle.journal_data.proofs.FewComplete.{IsFedBetween}
-use Rattle.journal_data.proofs.StationLines.{IsStationBooked, not_one, number_event, other_lines}
+use Rattle.journal_data.proofs.StationLines.{IsStationBooked, not_one, numbers_event, other_lines}
 use Rattle.journal_data.proofs.Submitting.{IsSubmitted}
-use Rattle.journal_data.proofs.EachLine.{number_of}
+use Rattle.journal_data.proofs.EachLine.{numbers_at}
 use Rattle.journal_data.proofs.Used.{AreUsed, IsClear, IsClearOn, IsOld, IsOldLink, IsUsed}
 
 pub record SeesSame (station : ℕ) (history after : List Event) : Type 0 where
   pub lines : lines_at station after ≡ lines_at station history
-  pub number : number_of station after ≡ number_of station history
+  pub number : numbers_at station after ≡ numbers_at station history
   pub past : past_of station after ≡ past_of station history
   pub noted : noted_by station after ≡ noted_by station history
 
@@ -47,23 +50,27 @@ module _ (given : Given) (station : ℕ) (history after : List Event) (same : Se
   pub same_facts : facts_at given station after ≡ facts_at given station history
   same_facts = ap (facts_of (setup_at given station)) same.past
 
+  was_at : (handle : ℕ) (link : OpenLink) → link_at handle (facts_at given station after).links ≡ Some link
+      → link_at handle (facts_at given station history).links ≡ Some link
+  was_at handle link at = ap (λ (f : Facts). link_at handle f.links) (sym same_facts) ∙ at
+
   same_book : IsStationBooked given station history → IsStationBooked given station after
   same_book booked = record {
-    book =
-        subst (λ (n : ℕ). IsBook n (lines_at station after) (since_opened 0 (noted_by station after))) (sym same.number)
-        (subst (λ (lines : Lines). IsBook (number_of station history) lines (since_opened 0 (noted_by station after))) (sym same.lines)
-        (subst (λ (noted : List Note). IsBook (number_of station history) (lines_at station history) (since_opened 0 noted)) (sym same.noted) booked.book));
-    links = ap (λ (lines : Lines). lines.links) same.lines ∙ booked.links
-        ∙ (λ i. links_for (sym same.number i) (link_at 0 (sym same_facts i).links));
+    book = λ handle link at.
+        subst (λ (number : ℕ → ℕ). IsBook handle (number handle) (lines_at station after) (since_opened handle (noted_by station after))) (sym same.number)
+        (subst (λ (lines : Lines). IsBook handle (number_at station handle history) lines (since_opened handle (noted_by station after))) (sym same.lines)
+        (subst (λ (noted : List Note). IsBook handle (number_at station handle history) (lines_at station history) (since_opened handle noted)) (sym same.noted)
+        (booked.book handle link (was_at handle link at))));
+    links = subst (λ (lines : Lines). HoldsLinks (setup_at given station).links lines.links (numbers_at station after) (is_open (facts_at given station after).links)) (sym same.lines)
+        (subst (λ (number : ℕ → ℕ). HoldsLinks (setup_at given station).links (lines_at station history).links number (is_open (facts_at given station after).links)) (sym same.number)
+        (subst (λ (f : Facts). HoldsLinks (setup_at given station).links (lines_at station history).links (numbers_at station history) (is_open f.links)) (sym same_facts) booked.links));
   }
 
   same_submitted : IsSubmitted given station history → IsSubmitted given station after
   same_submitted submitted = record {
-    data_is = λ link at. (λ i. data_on (same.number i) (same.lines i))
-        ∙ submitted.data_is link (ap (λ (f : Facts). link_at 0 f.links) (sym same_facts) ∙ at);
-    empties_are = λ link at. (λ i. empties_on (same.number i) (same.lines i))
-        ∙ submitted.empties_are link (ap (λ (f : Facts). link_at 0 f.links) (sym same_facts) ∙ at)
-        ∙ ap (empties_of (setup_at given station) 0) (sym same.past);
+    data_is = λ handle link at. (λ i. data_on (same.number i handle) (same.lines i)) ∙ submitted.data_is handle link (was_at handle link at);
+    empties_are = λ handle link at. (λ i. empties_on (same.number i handle) (same.lines i)) ∙ submitted.empties_are handle link (was_at handle link at)
+        ∙ ap (empties_of (setup_at given station) handle) (sym same.past);
   }
 
   pub same_well : IsWell given station history → IsWell given station after
@@ -76,8 +83,8 @@ module _ (given : Given) (station : ℕ) (history after : List Event) (same : Se
   }
 
   pub same_end : end_at given station after ≡ end_at given station history
-  same_end = λ i. option_map (λ (link : OpenLink). record { link = same.number i; facts = facts_in link; waiting = data_waiting 0 (same_facts i).received })
-      (link_at 0 (same_facts i).links)
+  same_end = λ i handle. option_map (λ (link : OpenLink). record { link = same.number i handle; facts = facts_in link; waiting = data_waiting handle (same_facts i).received })
+      (link_at handle (same_facts i).links)
 
   pub same_used : ((number : ℕ) → IsOldLink number history → IsOldLink number after) → AreUsed station history → AreUsed station after
   same_used still used = λ number. by number (used number)
@@ -91,7 +98,7 @@ module _ (given : Given) (station : ℕ) (history after : List Event) (same : Se
 pub sees_turn : (station : ℕ) (history : List Event) (slot : ℕ) (radios : List Bool) → SeesSame station history (history ++ TurnBegan slot radios ∷ [])
 sees_turn station history slot radios = record {
   lines = turn_lines station history slot radios;
-  number = number_event station history (TurnBegan slot radios) refl;
+  number = numbers_event station history (TurnBegan slot radios) refl;
   past = flat_nothing (steps_in station) history (TurnBegan slot radios) refl;
   noted = flat_nothing (notes_in station) history (TurnBegan slot radios) refl;
 }
@@ -100,7 +107,7 @@ pub sees_packet : (station : ℕ) (history : List Event) (sender channel : ℕ) 
     → SeesSame station history (history ++ Transmitted sender channel octets hearings ∷ [])
 sees_packet station history sender channel octets hearings = record {
   lines = air_lines station history sender channel octets hearings;
-  number = number_event station history (Transmitted sender channel octets hearings) refl;
+  number = numbers_event station history (Transmitted sender channel octets hearings) refl;
   past = flat_nothing (steps_in station) history (Transmitted sender channel octets hearings) refl;
   noted = flat_nothing (notes_in station) history (Transmitted sender channel octets hearings) refl;
 }
@@ -112,7 +119,7 @@ sees_other_call given station other step history differs =
     let apart = not_one station other differs in
     record {
       lines = other_lines station other step notes history differs;
-      number = link_by_other other step notes history station 0 apart;
+      number = fun_ext (λ handle. link_by_other other step notes history station handle apart);
       past = past_other station other step notes history apart;
       noted = noted_called station other step notes history false apart ∙ append-nil (noted_by station history);
     }
@@ -121,7 +128,7 @@ sees_fed : (station other : ℕ) (octets : List ℕ) (history : List Event) → 
     → SeesSame station history (history ++ HostFed other octets ∷ [])
 sees_fed station other octets history differs = record {
   lines = fed_other station other history octets differs;
-  number = number_event station history (HostFed other octets) refl;
+  number = numbers_event station history (HostFed other octets) refl;
   past = flat_nothing (steps_in station) history (HostFed other octets) refl;
   noted = flat_nothing (notes_in station) history (HostFed other octets) refl;
 }

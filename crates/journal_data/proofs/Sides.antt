@@ -1,5 +1,5 @@
 -- What a call on one side of a link keeps of both sides.
-use Rattle.std.proofs.Common.{◌≡◌, ℕ, ◌+◌, ◌≤◌, ◌==◌, Bool, true, false, Option, Some, None, List, [], length, take, refl, sym, ap, subst, ◌∙◌, append-nil}
+use Rattle.std.proofs.Common.{◌≡◌, ℕ, zero, suc, ◌+◌, ◌<◌, ◌≤◌, ◌==◌, ◌⊎◌, inl, inr, arith, Bool, true, false, Option, Some, None, List, [], length, take, refl, sym, ap, subst, ◌∙◌, append-nil}
 use Rattle.std.specs.Prelude.{◌≢◌}
 use Rattle.std.specs.List.{filter, flat_map}
 use Rattle.std.proofs.lemmas.Bool.{eqb-true, eqb-false}
@@ -16,9 +16,9 @@ use Rattle.journal_data.specs.Delivered.{ArrivesInOrder}
 use Rattle.journal_data.proofs.Arriving.{Arrives, Grows, IsAhead, IsEndBooked, both_open, from_alone, to_alone}
 use Rattle.journal_data.proofs.Middle.{IsFed, from_fed, to_fed}
 
--- ---- the end of a side, if it has one
+-- ---- the ends of a side
 
--- the number of its open link, what the end holds, and the data that its host has not received
+-- the number of an open link, what the end holds, and the data that its host has not received
 pub record End : Type 0 where
   pub link : ℕ
   pub facts : EndFacts
@@ -29,18 +29,59 @@ pub record IsSound (end : End) (lines : Lines) : Type 0 where
   pub order : IsInOrder end.facts
   pub one_out : length end.facts.acknowledgement.sent ≤ end.facts.acknowledgement.acked + 1
 
-abbrev pub OfEnd : (End → Type 0) → Option End → Type 0
-OfEnd P None = Unit {0}
-OfEnd P (Some end) = P end
+-- the ends of a side, by handle: one of them is of this link, or none is
+pub data IsFound (ends : ℕ → Option End) (link : ℕ) : Type 0 where
+  Here : (handle : ℕ) (end : End) → ends handle ≡ Some end → end.link ≡ link → IsFound ends link
+  Nowhere : ((handle : ℕ) (end : End) → ends handle ≡ Some end → end.link ≢ link) → IsFound ends link
+
+abbrev NoneBelow : ℕ → (ℕ → Option End) → ℕ → Type 0
+NoneBelow many ends link = (handle : ℕ) (end : End) → handle < many → ends handle ≡ Some end → end.link ≢ link
+
+one_above : (handle many : ℕ) → handle < suc many → (handle == many) ≡ false → handle < many
+one_above handle many below differs = grind (arith, below, differs)
+
+find_end : (many : ℕ) (ends : ℕ → Option End) (link : ℕ) → IsFound ends link ⊎ NoneBelow many ends link
+find_end zero ends link = inr (λ handle end below is. absurd (omega (arith, below)))
+find_end (suc many) ends link = by (ends many) refl (find_end many ends link)
+  where
+    none_at : (place : Option End) → ends many ≡ place → ((end : End) → place ≡ Some end → end.link ≢ link) → NoneBelow many ends link → NoneBelow (suc many) ends link
+    none_at place is none below = λ handle end few at. here handle end few at (handle == many) refl
+      where
+        here : (handle : ℕ) (end : End) → handle < suc many → ends handle ≡ Some end → (same : Bool) → (handle == many) ≡ same → end.link ≢ link
+        here handle end few at true same = none end (sym is ∙ ap ends (sym (eqb-true handle many same)) ∙ at)
+        here handle end few at false differs = below handle end (one_above handle many few differs) at
+
+    by_link : (end : End) (same : Bool) → ends many ≡ Some end → (end.link == link) ≡ same → NoneBelow many ends link → IsFound ends link ⊎ NoneBelow (suc many) ends link
+    by_link end true is same below = inl (Here many end is (eqb-true end.link link same))
+    by_link end false is differs below =
+        inr (none_at (Some end) is (λ other equal. let one : Some end ≡ Some other = equal in let e : end ≡ other = cc in
+        subst (λ (x : End). x.link ≢ link) e (eqb-false end.link link differs)) below)
+
+    by : (place : Option End) → ends many ≡ place → IsFound ends link ⊎ NoneBelow many ends link → IsFound ends link ⊎ NoneBelow (suc many) ends link
+    by place is (inl found) = inl found
+    by None is (inr below) = inr (none_at None is (λ end equal. absurd (let h : None ≡ Some end = equal in absurd cc)) below)
+    by (Some end) is (inr below) = by_link end (end.link == link) is refl below
+
+-- where all ends are under handles below a number, one of the two holds
+pub found : (many : ℕ) (ends : ℕ → Option End) (link : ℕ) → ((handle : ℕ) (end : End) → ends handle ≡ Some end → handle < many) → IsFound ends link
+found many ends link few = by (find_end many ends link)
+  where
+    by : IsFound ends link ⊎ NoneBelow many ends link → IsFound ends link
+    by (inl is) = is
+    by (inr below) = Nowhere (λ handle end at. below handle end (few handle end at) at)
+
+-- what is acknowledged to these ends, the lines took
+abbrev pub AreAhead : (ℕ → Option End) → Lines → Type 0
+AreAhead ends lines = (handle : ℕ) (end : End) → ends handle ≡ Some end → IsAhead end.link end.facts.acknowledgement lines
 
 -- both directions of all links, and what is acknowledged to the open ends
-pub record AreArriving (one other : Lines) (own peer : Option End) : Type 0 where
+pub record AreArriving (one other : Lines) (own peer : ℕ → Option End) : Type 0 where
   pub out : (link : ℕ) → ArrivesInOrder link one other
   pub in_ : (link : ℕ) → ArrivesInOrder link other one
-  pub ahead : OfEnd (λ end. IsAhead end.link end.facts.acknowledgement other) own
-  pub behind : OfEnd (λ end. IsAhead end.link end.facts.acknowledgement one) peer
+  pub ahead : AreAhead own other
+  pub behind : AreAhead peer one
 
--- ---- a call that changes no open link of the lines
+-- ---- a link of which the lines say nothing more but what its host submits
 
 ahead_fed : (link : ℕ) (ack : Acknowledgement) (before after : Lines) → IsFed link before after → IsAhead link ack before → IsAhead link ack after
 ahead_fed link ack before after fed ahead =
@@ -50,106 +91,98 @@ ahead_fed link ack before after fed ahead =
       octets = subst (λ octets. length (data_of (take ack.acked ack.sent)) ≤ length octets) (sym took) ahead.octets;
     }
 
-behind_fed : (peer : Option End) (before after : Lines) → ((link : ℕ) → IsFed link before after)
-    → OfEnd (λ end. IsAhead end.link end.facts.acknowledgement before) peer → OfEnd (λ end. IsAhead end.link end.facts.acknowledgement after) peer
-behind_fed None before after fed behind = tt
-behind_fed (Some end) before after fed behind = ahead_fed end.link end.facts.acknowledgement before after (fed end.link) behind
-
--- what is acknowledged to it does not grow, or it is gone
-pub idle_arrives : (before after other : Lines) (own then_own peer : Option End) → ((link : ℕ) → IsFed link before after)
-    → OfEnd (λ end. IsAhead end.link end.facts.acknowledgement other) then_own
+-- what is acknowledged to its own ends does not grow, or they are gone
+pub idle_arrives : (before after other : Lines) (own then_own peer : ℕ → Option End) → ((link : ℕ) → IsFed link before after) → AreAhead then_own other
     → AreArriving before other own peer → AreArriving after other then_own peer
 idle_arrives before after other own then_own peer fed ahead arriving = record {
   out = λ link. from_fed link before after other (fed link) (arriving.out link);
   in_ = λ link. to_fed link before after other (fed link) (arriving.in_ link);
   ahead = ahead;
-  behind = behind_fed peer before after fed arriving.behind;
+  behind = λ handle end is. ahead_fed end.link end.facts.acknowledgement before after (fed end.link) (arriving.behind handle end is);
 }
 
--- ---- a call that changes the open link of its side
+-- ---- a link that changes
 
 -- where the other side has an open end of the same link, both are in agreement; else nothing is taken, and no more is
 -- acknowledged than the other side took
-pub record IsBusy (before after other : Lines) (end : End) (peer : Option End) : Type 0 where
-  pub others : (link : ℕ) → link ≢ end.link → IsFed link before after
+pub record IsBusy (before after other : Lines) (end : End) (peer : ℕ → Option End) : Type 0 where
   pub sound : IsSound end after
   pub sends : Grows (pdus_on end.link before.sent) (pdus_on end.link after.sent)
   pub submits : submitted_on end.link after ≡ submitted_on end.link before
-  pub both : (far : End) → peer ≡ Some far → far.link ≡ end.link
+  pub both : (handle : ℕ) (far : End) → peer handle ≡ Some far → far.link ≡ end.link
       → IsSound far other × AreInAgreement end.facts.acknowledgement far.facts.acknowledgement × AreInAgreement far.facts.acknowledgement end.facts.acknowledgement
-  pub alone : ((far : End) → peer ≡ Some far → far.link ≢ end.link)
+  pub alone : ((handle : ℕ) (far : End) → peer handle ≡ Some far → far.link ≢ end.link)
       → (pdus_on end.link after.taken ≡ pdus_on end.link before.taken) × IsAhead end.link end.facts.acknowledgement other
 
-module _ (before after other : Lines) (own : Option End) (end : End) (peer : Option End) (busy : IsBusy before after other end peer)
+-- both directions of it, and what is acknowledged to its ends
+record Arrived (link : ℕ) (after other : Lines) (ack : Acknowledgement) (peer : ℕ → Option End) : Type 0 where
+  out : ArrivesInOrder link after other
+  in_ : ArrivesInOrder link other after
+  ahead : IsAhead link ack other
+  behind : (handle : ℕ) (far : End) → peer handle ≡ Some far → far.link ≡ link → IsAhead link far.facts.acknowledgement after
+
+module _ (before after other : Lines) (own : ℕ → Option End) (end : End) (peer : ℕ → Option End) (busy : IsBusy before after other end peer)
     (arriving : AreArriving before other own peer) where
-  -- both ends of the link are open
-  module _ (far : End) (is : peer ≡ Some far) (same : far.link ≡ end.link) where
+  -- an end of it is open at the other side
+  module _ (handle : ℕ) (far : End) (is : peer handle ≡ Some far) (same : far.link ≡ end.link) where
     one_link : IsEndBooked end.link other far.facts far.waiting
-    one_link = subst (λ n. IsEndBooked n other far.facts far.waiting) same (busy.both far is same).0.booked
+    one_link = subst (λ n. IsEndBooked n other far.facts far.waiting) same (busy.both handle far is same).0.booked
 
     out_both : Arrives end.link after other end.facts.acknowledgement
-    out_both = both_open end.link after other end.facts far.facts end.waiting far.waiting busy.sound.booked one_link busy.sound.order (busy.both far is same).1
+    out_both = both_open end.link after other end.facts far.facts end.waiting far.waiting busy.sound.booked one_link busy.sound.order (busy.both handle far is same).1
 
     in_both : Arrives end.link other after far.facts.acknowledgement
-    in_both = both_open end.link other after far.facts end.facts far.waiting end.waiting one_link busy.sound.booked (busy.both far is same).0.order (busy.both far is same).2
-
-    out_with : (link : ℕ) (one : Bool) → (link == end.link) ≡ one → ArrivesInOrder link after other
-    out_with link true one = subst (λ n. ArrivesInOrder n after other) (sym (eqb-true link end.link one)) out_both.arrives
-    out_with link false one = from_fed link before after other (busy.others link (eqb-false link end.link one)) (arriving.out link)
-
-    in_with : (link : ℕ) (one : Bool) → (link == end.link) ≡ one → ArrivesInOrder link other after
-    in_with link true one = subst (λ n. ArrivesInOrder n other after) (sym (eqb-true link end.link one)) in_both.arrives
-    in_with link false one = to_fed link before after other (busy.others link (eqb-false link end.link one)) (arriving.in_ link)
-
-    arrives_with : AreArriving after other (Some end) peer
-    arrives_with = record {
-      out = λ link. out_with link (link == end.link) refl;
-      in_ = λ link. in_with link (link == end.link) refl;
-      ahead = out_both.ahead;
-      behind = subst (OfEnd (λ one. IsAhead one.link one.facts.acknowledgement after)) (sym is)
-          (subst (λ n. IsAhead n far.facts.acknowledgement after) (sym same) in_both.ahead);
-    }
+    in_both = both_open end.link other after far.facts end.facts far.waiting end.waiting one_link busy.sound.booked (busy.both handle far is same).0.order (busy.both handle far is same).2
 
   -- the other side has no open end of it
-  module _ (none : (far : End) → peer ≡ Some far → far.link ≢ end.link) where
+  module _ (none : (handle : ℕ) (far : End) → peer handle ≡ Some far → far.link ≢ end.link) where
     data_same : Grows (data_on end.link before) (data_on end.link after)
     data_same = record { more = []; is = ap (filter has_octets) busy.submits ∙ sym (append-nil (data_on end.link before)) }
 
-    out_alone : (link : ℕ) (one : Bool) → (link == end.link) ≡ one → ArrivesInOrder link after other
-    out_alone link true one =
-        subst (λ n. ArrivesInOrder n after other) (sym (eqb-true link end.link one))
-        (from_alone end.link before after other end.facts end.waiting (arriving.out end.link) busy.sound.booked busy.sound.order busy.sound.one_out
-        (busy.alone none).1 busy.sends data_same)
-    out_alone link false one = from_fed link before after other (busy.others link (eqb-false link end.link one)) (arriving.out link)
-
-    in_alone : (link : ℕ) (one : Bool) → (link == end.link) ≡ one → ArrivesInOrder link other after
-    in_alone link true one =
-        subst (λ n. ArrivesInOrder n other after) (sym (eqb-true link end.link one))
-        (to_alone end.link other before after end.facts end.waiting (arriving.in_ end.link) busy.sound.booked (busy.alone none).0)
-    in_alone link false one = to_fed link before after other (busy.others link (eqb-false link end.link one)) (arriving.in_ link)
-
-    behind_alone : (far : Option End) → peer ≡ far → OfEnd (λ one. IsAhead one.link one.facts.acknowledgement before) far
-        → OfEnd (λ one. IsAhead one.link one.facts.acknowledgement after) far
-    behind_alone None is behind = tt
-    behind_alone (Some far) is behind = ahead_fed far.link far.facts.acknowledgement before after (busy.others far.link (none far is)) behind
-
-    arrives_alone : AreArriving after other (Some end) peer
-    arrives_alone = record {
-      out = λ link. out_alone link (link == end.link) refl;
-      in_ = λ link. in_alone link (link == end.link) refl;
+    arrived_alone : Arrived end.link after other end.facts.acknowledgement peer
+    arrived_alone = record {
+      out = from_alone end.link before after other end.facts end.waiting (arriving.out end.link) busy.sound.booked busy.sound.order busy.sound.one_out
+          (busy.alone none).1 busy.sends data_same;
+      in_ = to_alone end.link other before after end.facts end.waiting (arriving.in_ end.link) busy.sound.booked (busy.alone none).0;
       ahead = (busy.alone none).1;
-      behind = behind_alone peer refl arriving.behind;
+      behind = λ handle far is same. absurd (none handle far is same);
     }
 
-  by_peer : (far : Option End) → peer ≡ far → AreArriving after other (Some end) peer
-  by_peer None is = arrives_alone (λ one some. absurd (let h : None ≡ Some one = sym is ∙ some in absurd cc))
-  by_peer (Some far) is = by_number far is (far.link == end.link) refl
-    where
-      by_number : (far : End) → peer ≡ Some far → (one : Bool) → (far.link == end.link) ≡ one → AreArriving after other (Some end) peer
-      by_number far is true one = arrives_with far is (eqb-true far.link end.link one)
-      by_number far is false one =
-          arrives_alone (λ other_far some same. let equal : Some far ≡ Some other_far = sym is ∙ some in let e : far ≡ other_far = cc in
-          eqb-false far.link end.link one (ap (λ (x : End). x.link) e ∙ same))
+  arrived : IsFound peer end.link → Arrived end.link after other end.facts.acknowledgement peer
+  arrived (Here handle far is same) = record {
+    out = (out_both handle far is same).arrives;
+    in_ = (in_both handle far is same).arrives;
+    ahead = (out_both handle far is same).ahead;
+    behind = λ one too is_too same_too. (in_both one too is_too same_too).ahead;
+  }
+  arrived (Nowhere none) = arrived_alone none
 
-  pub busy_arrives : AreArriving after other (Some end) peer
-  busy_arrives = by_peer peer refl
+-- ---- a call of a side
+
+-- each link of which it has an open end changes so, and of the others nothing is said
+pub call_arrives : (before after other : Lines) (own then_own peer : ℕ → Option End) → ((link : ℕ) → IsFound then_own link) → ((link : ℕ) → IsFound peer link)
+    → ((handle : ℕ) (end : End) → then_own handle ≡ Some end → IsBusy before after other end peer)
+    → ((link : ℕ) → ((handle : ℕ) (end : End) → then_own handle ≡ Some end → end.link ≢ link) → IsFed link before after)
+    → AreArriving before other own peer → AreArriving after other then_own peer
+call_arrives before after other own then_own peer finds peer_finds busy fed arriving = record {
+  out = λ link. out_by link (finds link);
+  in_ = λ link. in_by link (finds link);
+  ahead = λ handle end is. (one handle end is).ahead;
+  behind = λ handle far is. behind_by handle far is (finds far.link);
+}
+  where
+    one : (handle : ℕ) (end : End) → then_own handle ≡ Some end → Arrived end.link after other end.facts.acknowledgement peer
+    one handle end is = arrived before after other own end peer (busy handle end is) arriving (peer_finds end.link)
+
+    out_by : (link : ℕ) → IsFound then_own link → ArrivesInOrder link after other
+    out_by link (Here handle end is same) = subst (λ n. ArrivesInOrder n after other) same (one handle end is).out
+    out_by link (Nowhere none) = from_fed link before after other (fed link none) (arriving.out link)
+
+    in_by : (link : ℕ) → IsFound then_own link → ArrivesInOrder link other after
+    in_by link (Here handle end is same) = subst (λ n. ArrivesInOrder n other after) same (one handle end is).in_
+    in_by link (Nowhere none) = to_fed link before after other (fed link none) (arriving.in_ link)
+
+    behind_by : (handle : ℕ) (far : End) → peer handle ≡ Some far → IsFound then_own far.link → IsAhead far.link far.facts.acknowledgement after
+    behind_by handle far is (Here own_handle end at same) =
+        subst (λ n. IsAhead n far.facts.acknowledgement after) same ((one own_handle end at).behind handle far is (sym same))
+    behind_by handle far is (Nowhere none) = ahead_fed far.link far.facts.acknowledgement before after (fed far.link none) (arriving.behind handle far is)

@@ -1,55 +1,60 @@
--- The lines of a station say of the link under its handle 0 what it noted since that link was opened, and of any other
--- link what they said before.
-use Rattle.std.proofs.Common.{◌≡◌, ℕ, zero, suc, ◌<◌, ◌≤◌, ◌==◌, Bool, true, false, Option, Some, None, List, [], ◌∷◌, ◌++◌, map, cond, replicate, refl, ap, sym, subst, ◌∙◌, append-nil, append_assoc, arith}
-use Rattle.std.specs.Prelude.{◌&&◌, ◌||◌, IsSome, filter, fold, is_some, not, ⊤}
+-- The lines of a station say of each of its open links what it noted under the handle of that link since it was opened, and
+-- of any other link what they said before.
+use Rattle.std.proofs.Common.{◌≡◌, ℕ, zero, suc, ◌+◌, ◌<◌, ◌≤◌, ◌==◌, Bool, true, false, Option, Some, None, List, [], ◌∷◌, ◌++◌, map, cond, replicate, refl, ap, sym, subst, ◌∙◌, append-nil, append_assoc, arith}
+use Rattle.std.specs.Prelude.{◌&&◌, ◌||◌, drop, filter, fold, is_some, ⊤}
 use Rattle.std.specs.List.{AllByRecursion, Contains, flat_map, sum_by}
-use Rattle.std.specs.Option.{option_map}
-use Rattle.std.proofs.lemmas.Bool.{eq-eqb, eqb-true}
-use Rattle.std.proofs.lemmas.List.Elements.{All-contains_itself, recursion_from_All}
-use Rattle.std.proofs.lemmas.List.Sums.{fold-append}
+use Rattle.std.proofs.lemmas.Bool.{eq-eqb, eqb-true, false_from_ne_true}
+use Rattle.std.proofs.lemmas.List.Elements.{All-contains_itself, filter-append, recursion_from_All}
+use Rattle.std.proofs.lemmas.List.Sums.{fold-append, sum_by-append}
+use Rattle.std.proofs.lemmas.List.Concat.{flat_map-append}
 use Rattle.arrayvec.specs.ArrayVec.{ArrayVec}
+use Rattle.acl_banks.specs.Packets.{Marked, marked_octets}
 use Rattle.ble_base.specs.declared.addresses.Address.{Address}
 use Rattle.ble_base.specs.declared.roles.Role.{Role}
 use Rattle.ble_base.specs.declared.roles.Side.{Side}
 use Rattle.ble_base.specs.declared.roles.Side.TheVariants.{A, B}
 use Rattle.ble_base.specs.declared.notes.Note.{Note}
-use Rattle.ble_base.specs.declared.notes.Note.TheVariants.{Up, Opened, Shut, Sent, Took, Enter, Applied, Began, Refused, Done}
+use Rattle.ble_base.specs.declared.notes.Note.TheVariants.{Up, Opened, Shut, Sent, Took}
 use Rattle.host_view.specs.Noted.{acl_handle, is_acl_data, two_octets}
 use Rattle.journal.specs.declared.entries.Entry.TheVariants.{Fed as FedEntry}
-use Rattle.open_links.specs.OpenLinks.{OpenLink, link_at}
+use Rattle.open_links.specs.OpenLinks.{OpenLink, link_at, link_from}
 use Rattle.controller_model.specs.Step.{Step, HostOctet}
 use Rattle.controller_model.specs.Facts.{Setup, Facts}
 use Rattle.controller_model.specs.Notes.{HasHandleBelow, is_event, is_opening}
+use Rattle.controller_model.specs.Shutting.{IsShut, overdue, reset}
 use Rattle.controller_model.specs.Side.{facts_after, facts_of, notes_after}
+use Rattle.controller_model.specs.Since.{is_data_note, note_since, since_opened, starts_message}
 use Rattle.controller_model.proofs.NotedLinks.{step_names_links}
+use Rattle.controller_model.proofs.OpenNotes.{open_after, open_before}
 use Rattle.controller_model.proofs.Pasts.{facts_more}
+use Rattle.controller_model.proofs.Shuts.{shuts_with_reason}
 use Rattle.run_model.specs.History.{Event, TurnBegan, HostFed, Called, Noted, Transmitted, Hearing, noted_by, one_if, notes_in, past_of, steps_in}
 use Rattle.run_model.specs.Journal.{entry_of, journal_of, side_of}
 use Rattle.run_model.specs.Links.{Links, begins_link, links_after, links_of, with_link}
 use Rattle.run_model.specs.Run.{Given, setup_at, facts_at, after_call, after_octets, after_feed}
 use Rattle.run_model.proofs.Calls.{flat_event, flat_nothing, past_own, same_station, with_notes}
-use Rattle.run_model.proofs.LinksKnown.{links_event}
+use Rattle.run_model.proofs.LinksKnown.{link_by_own, links_event}
 use Rattle.run_model.proofs.OpenedNotes.{is_opened, outside_open}
 use Rattle.run_model.proofs.Walk.{is_outside}
 use Rattle.journal_packets.specs.Belonging.{is_side}
-use Rattle.controller_model.specs.Since.{is_data_note, note_since, since_opened}
-use Rattle.journal_data.proofs.HostPackets.{links_for}
-use Rattle.journal_data.proofs.EachLine.{number_of}
-use Rattle.journal_data.specs.HostLines.{OpenUnder}
-use Rattle.journal_data.specs.Lines.{Credited, Lines, Received, credited_on, line_after, lines_of, pdus_on, received_on}
-use Rattle.journal_data.proofs.Booked.{FitsLink, IsBook, IsFitting, IsOfOne, IsUnder, note_booked}
-use Rattle.journal_data.proofs.EachLine.{call_lines, fed_lines, fed_other, lines_at, note_lines, note_other, own_side, air_lines, turn_lines}
-use Rattle.journal_data.proofs.Openness.{AreNot, IsNotedAs, stays, shuts, opens_first, is_shutting, note_open, open_still, past_noted}
+use Rattle.journal_acks.specs.Exchange.{is_number}
+use Rattle.journal_acks.proofs.Counting.{HaveOwnNumbers}
+use Rattle.journal_acks.proofs.Exchanging.{number_at}
+use Rattle.journal_acks.proofs.UnderHandles.{octet_under}
+use Rattle.journal_data.specs.HostLines.{OpenUnder, link_under}
+use Rattle.journal_data.specs.Lines.{Credited, Lines, PduLine, Received, credited_in, credited_on, line_after, lines_of, pdus_on, received_in, received_on}
+use Rattle.journal_data.proofs.Booked.{FitsLink, IsBook, counts_on, credit_by, data_by, note_booked, octets_on}
+use Rattle.journal_data.proofs.EachLine.{call_lines, fed_lines, fed_other, lines_at, note_lines, note_other, numbers_at, own_side, air_lines, turn_lines}
+use Rattle.journal_data.proofs.HeldLinks.{HoldsLinks, holds_none, holds_same, opened_holds, shut_holds, under_is}
+use Rattle.journal_data.proofs.Openness.{AreNot, IsNotedAs, stays, shuts, opens_first, is_open, is_shutting, note_open, open_still, past_noted}
 
 -- ---- what the lines of a station are to say
 
-abbrev pub links_open : ℕ → Bool → List OpenUnder
-links_open link true = record { link = link; handle = 0 } ∷ []
-links_open link false = []
-
 pub record IsStationBooked (given : Given) (station : ℕ) (history : List Event) : Type 0 where
-  pub book : IsBook (number_of station history) (lines_at station history) (since_opened 0 (noted_by station history))
-  pub links : (lines_at station history).links ≡ links_for (number_of station history) (link_at 0 (facts_at given station history).links)
+  pub book : (handle : ℕ) (link : OpenLink) → link_at handle (facts_at given station history).links ≡ Some link
+      → IsBook handle (number_at station handle history) (lines_at station history) (since_opened handle (noted_by station history))
+  pub links : HoldsLinks (setup_at given station).links (lines_at station history).links (numbers_at station history)
+      (is_open (facts_at given station history).links)
 
 -- no line says anything of a link
 pub record IsUnused (link : ℕ) (lines : Lines) : Type 0 where
@@ -58,58 +63,76 @@ pub record IsUnused (link : ℕ) (lines : Lines) : Type 0 where
   pub received : received_on link lines ≡ []
   pub credited : credited_on link lines ≡ 0
 
--- the data of a link, and its complete packets, are noted in a step only where it is open before the step and after it
-pub record IsOfOpenLink (setup : Setup) (facts : Facts) (step : Step) : Type 0 where
-  pub before : (note : Note) → Contains (notes_after setup facts step) note → is_data_note 0 note ≡ true → IsSome (link_at 0 facts.links)
-  pub after : (note : Note) → Contains (notes_after setup facts step) note → is_data_note 0 note ≡ true
-      → IsSome (link_at 0 (facts_after setup facts step).links)
+-- the lines say the same of a link
+pub record IsSameOn (link : ℕ) (before after : Lines) : Type 0 where
+  pub sent : pdus_on link after.sent ≡ pdus_on link before.sent
+  pub taken : pdus_on link after.taken ≡ pdus_on link before.taken
+  pub received : received_on link after ≡ received_on link before
+  pub credited : credited_on link after ≡ credited_on link before
 
-abbrev pub OnlyOpenHaveNotes : Type 0
-OnlyOpenHaveNotes = (setup : Setup) (past : List Step) (step : Step) → setup.links ≤ 1 → IsOfOpenLink setup (facts_of setup past) step
+same_itself : (link : ℕ) (lines : Lines) → IsSameOn link lines lines
+same_itself link lines = record { sent = refl; taken = refl; received = refl; credited = refl }
 
-pub for_open : (link : ℕ) (place : Option OpenLink) → links_for link place ≡ links_open link (is_some place)
-for_open link None = refl
-for_open link (Some place) = refl
+pub same_then : (link : ℕ) (first second third : Lines) → IsSameOn link first second → IsSameOn link second third → IsSameOn link first third
+same_then link first second third one next = record {
+  sent = next.sent ∙ one.sent;
+  taken = next.taken ∙ one.taken;
+  received = next.received ∙ one.received;
+  credited = next.credited ∙ one.credited;
+}
+
+pub unused_still : (link : ℕ) (before after : Lines) → IsSameOn link before after → IsUnused link before → IsUnused link after
+unused_still link before after same unused = record {
+  sent = same.sent ∙ unused.sent;
+  taken = same.taken ∙ unused.taken;
+  received = same.received ∙ unused.received;
+  credited = same.credited ∙ unused.credited;
+}
+
+-- a place that has a link
+pub record IsLink (place : Option OpenLink) : Type 0 where
+  pub link : OpenLink
+  pub is : place ≡ Some link
+
+pub is_link : (place : Option OpenLink) → is_some place ≡ true → IsLink place
+is_link None is = absurd cc
+is_link (Some link) is = record { link = link; is = refl }
 
 -- ---- one note, over plain variables
 
--- the link has this number, and is open under the handle 0, or not
-record IsBookedAs (link : ℕ) (lines : Lines) (since : List Note) (linked : Bool) : Type 0 where
-  book : IsBook link lines since
-  links : lines.links ≡ links_open link linked
+record IsBookedAs (many : ℕ) (number : ℕ → ℕ) (lines : Lines) (since : ℕ → List Note) (opened : ℕ → Bool) : Type 0 where
+  book : (handle : ℕ) → opened handle ≡ true → IsBook handle (number handle) lines (since handle)
+  links : HoldsLinks many lines.links number opened
 
--- a note of the only handle; it is one of data only where the link is open
-record Fits (linked : Bool) (note : Note) : Type 0 where
-  named : HasHandleBelow 1 note
-  data_is : is_data_note 0 note ≡ true → linked ≡ true
+-- the numbers of the links under these handles differ
+abbrev AreApart : (ℕ → ℕ) → (ℕ → Bool) → Type 0
+AreApart number base = (one other : ℕ) → base one ≡ true → base other ≡ true → (one == other) ≡ false → (number one == number other) ≡ false
 
-pub zero_below : (n : ℕ) → n < 1 → n ≡ 0
-zero_below n below = omega (arith, below)
+-- a note of a PDU, or of the end of a link, is of one of these handles
+abbrev IsOfBase : (ℕ → Bool) → Note → Type 0
+IsOfBase base (Sent handle counted llid body) = base handle ≡ true
+IsOfBase base (Took handle counted llid body) = base handle ≡ true
+IsOfBase base (Shut handle reason) = base handle ≡ true
+IsOfBase base note = ⊤
 
-pub zero_swapped : (n : ℕ) → (0 == n) ≡ (n == 0)
-zero_swapped n = by (n == 0) refl
+-- a note is not of the data of the link with this number
+abbrev IsNotOf : ℕ → (ℕ → ℕ) → Note → Type 0
+IsNotOf other number note = (handle : ℕ) → is_data_note handle note ≡ true → (number handle == other) ≡ false
+
+pub swapped : (one other : ℕ) → (one == other) ≡ (other == one)
+swapped one other = by (other == one) refl
   where
-    by : (same : Bool) → (n == 0) ≡ same → (0 == n) ≡ same
-    by true is = eq-eqb 0 n (sym (eqb-true n 0 is))
+    by : (same : Bool) → (other == one) ≡ same → (one == other) ≡ same
+    by true is = eq-eqb one other (sym (eqb-true other one is))
     by false is = grind (arith, is)
 
-one_under : (link : ℕ) (same : Bool)
-    → option_map (λ (one : OpenUnder). one.link) (cond same (Some (record { link = link; handle = 0 })) None) ≡ cond same (Some link) None
-one_under link true = refl
-one_under link false = refl
-
-pub under_open : (link handle : ℕ) → IsUnder link (links_open link true) handle
-under_open link handle =
-    ap (λ (same : Bool). option_map (λ (one : OpenUnder). one.link) (cond same (Some (record { link = link; handle = 0 })) None)) (zero_swapped handle)
-    ∙ one_under link (handle == 0)
-
-none_under : (link : ℕ) (same : Bool) → (same ≡ true → false ≡ true) → None ≡ cond same (Some link) None
-none_under link true is = absurd (let h : false ≡ true = is refl in absurd cc)
-none_under link false is = refl
-
-under_is : (link handle : ℕ) (linked : Bool) → ((handle == 0) ≡ true → linked ≡ true) → IsUnder link (links_open link linked) handle
-under_is link handle true is = under_open link handle
-under_is link handle false is = none_under link (handle == 0) is
+same_number : (number : ℕ → ℕ) (base : ℕ → Bool) (one other : ℕ) → AreApart number base → base one ≡ true → base other ≡ true
+    → (number one == number other) ≡ (one == other)
+same_number number base one other apart is is_too = by (one == other) refl
+  where
+    by : (same : Bool) → (one == other) ≡ same → (number one == number other) ≡ same
+    by true same = eq-eqb (number one) (number other) (ap number (eqb-true one other same))
+    by false differs = apart one other is is_too differs
 
 or_one : (one other : Bool) → one ≡ true → (one || other) ≡ true
 or_one true other is = refl
@@ -123,157 +146,247 @@ and_both : (one other : Bool) → one ≡ true → other ≡ true → (one && ot
 and_both true other is also = also
 and_both false other is also = absurd cc
 
-fitting : (link : ℕ) (linked : Bool) (packet : ArrayVec ℕ) → (is_data_note 0 (Up packet) ≡ true → linked ≡ true)
-    → IsFitting link (links_open link linked) packet.items
-fitting link linked packet is =
+sent_data : (handle counted llid : ℕ) (body : ArrayVec ℕ) → is_data_note handle (Sent handle counted llid body) ≡ true
+sent_data handle counted llid body = ap (λ (b : Bool). (b || false) || (false || false)) (eq-eqb handle handle refl)
+
+took_data : (handle counted llid : ℕ) (body : ArrayVec ℕ) → is_data_note handle (Took handle counted llid body) ≡ true
+took_data handle counted llid body = ap (λ (b : Bool). (false || b) || (false || false)) (eq-eqb handle handle refl)
+
+received_data : (packet : ArrayVec ℕ) → is_acl_data packet.items ≡ true → is_data_note (acl_handle packet.items) (Up packet) ≡ true
+received_data packet acl =
     let octets = packet.items in
-    let one = is_acl_data octets && (acl_handle octets == 0) in
-    let other = is_event 0x13 octets && (two_octets 4 octets == 0) in
-    record {
-      data_of = λ acl. under_is link (acl_handle octets) linked
-          (λ zero. is (or_one one other (and_both (is_acl_data octets) (acl_handle octets == 0) acl zero)));
-      completed = λ event. under_is link (two_octets 4 octets) linked
-          (λ zero. is (or_other one other (and_both (is_event 0x13 octets) (two_octets 4 octets == 0) event zero)));
-    }
+    or_one (is_acl_data octets && (acl_handle octets == acl_handle octets)) (is_event 0x13 octets && (two_octets 4 octets == acl_handle octets))
+    (and_both (is_acl_data octets) (acl_handle octets == acl_handle octets) acl (eq-eqb (acl_handle octets) (acl_handle octets) refl))
 
-of_one : (note : Note) → HasHandleBelow 1 note → IsOfOne note
-of_one (Sent handle counted llid body) named = zero_below handle named
-of_one (Took handle counted llid body) named = zero_below handle named
-of_one (Up packet) named = tt
-of_one note named = tt
+completed_data : (packet : ArrayVec ℕ) → is_event 0x13 packet.items ≡ true → is_data_note (two_octets 4 packet.items) (Up packet) ≡ true
+completed_data packet event =
+    let octets = packet.items in
+    or_other (is_acl_data octets && (acl_handle octets == two_octets 4 octets)) (is_event 0x13 octets && (two_octets 4 octets == two_octets 4 octets))
+    (and_both (is_event 0x13 octets) (two_octets 4 octets == two_octets 4 octets) event (eq-eqb (two_octets 4 octets) (two_octets 4 octets) refl))
 
-fits_link : (link : ℕ) (links : List OpenUnder) (linked : Bool) (note : Note) → links ≡ links_open link linked
-    → (is_data_note 0 note ≡ true → linked ≡ true) → FitsLink link links note
-fits_link link links linked (Up packet) are is = subst (λ all. IsFitting link all packet.items) (sym are) (fitting link linked packet is)
-fits_link link links linked (Opened handle role own peer) are is = tt
-fits_link link links linked note are is = tt
+module _ (many : ℕ) (number : ℕ → ℕ) (lines : Lines) (opened : ℕ → Bool) (holds : HoldsLinks many lines.links number opened) where
+  -- what is under a handle has the number of its link
+  under_by : (other link : ℕ) (same : Bool) → (opened other ≡ true → (number other == link) ≡ same) → (opened other ≡ false → same ≡ false)
+      → is_number (link_under other lines.links) link ≡ same
+  under_by other link same is none = ap (λ (under : Option ℕ). is_number under link) (under_is many lines.links number opened holds other) ∙ by (opened other) refl
+    where
+      by : (on : Bool) → opened other ≡ on → is_number (cond on (Some (number other)) None) link ≡ same
+      by true on = is on
+      by false off = sym (none off)
 
--- the links of the lines after a note
-abbrev without : ℕ → List OpenUnder → List OpenUnder
-without link links = filter (λ (one : OpenUnder). not (one.link == link)) links
+  -- a note is of an open link just where it is of its handle
+  note_fits : (base : ℕ → Bool) (handle : ℕ) (note : Note) → AreApart number base → ((other : ℕ) → opened other ≡ true → base other ≡ true)
+      → opened handle ≡ true → IsOfBase base note → FitsLink handle (number handle) number lines.links note
+  note_fits base handle (Up packet) apart within on of = record { data_of = λ acl. under (acl_handle packet.items); completed = λ event. under (two_octets 4 packet.items) }
+    where
+      under : (other : ℕ) → is_number (link_under other lines.links) (number handle) ≡ (other == handle)
+      under other =
+          under_by other (number handle) (other == handle) (λ is. same_number number base other handle apart (within other is) (within handle on))
+          (λ off. false_from_ne_true (other == handle) (λ same. let h : true ≡ false = sym on ∙ ap opened (sym (eqb-true other handle same)) ∙ off in absurd cc))
+  note_fits base handle (Sent other counted llid body) apart within on of = same_number number base other handle apart of (within handle on)
+  note_fits base handle (Took other counted llid body) apart within on of = same_number number base other handle apart of (within handle on)
+  note_fits base handle (Opened other role own peer) apart within on of = tt
+  note_fits base handle (Shut other reason) apart within on of = tt
+  note_fits base handle note apart within on of = tt
 
-shut_links : (link : ℕ) (linked : Bool) → without link (links_open link linked) ≡ []
-shut_links link false = refl
-shut_links link true =
-    ap (λ (same : Bool). cond (not same) (record { link = link; handle = 0 } ∷ []) []) (eq-eqb link link refl)
+  note_links : (base : ℕ → Bool) (side : Side) (last : ℕ) (note : Note) → AreApart number base → ((other : ℕ) → opened other ≡ true → base other ≡ true)
+      → is_opening note ≡ false → IsOfBase base note
+      → HoldsLinks many (line_after 8 lines (entry_of side number last note)).links number (λ handle. note_open handle (opened handle) note)
+  note_links base side last (Opened other role own peer) apart within none of = absurd cc
+  note_links base side last (Shut other reason) apart within none of =
+      shut_holds many lines.links number opened other
+      (λ one on. same_number number base one other apart (within one on) of ∙ swapped one other) holds
+  note_links base side last (Up packet) apart within none of = holds
+  note_links base side last note apart within none of = holds
 
-pub note_links : (link : ℕ) (lines : Lines) (linked : Bool) (side : Side) (link_of : ℕ → ℕ) (last : ℕ) (note : Note) → link_of 0 ≡ link
-    → is_opening note ≡ false → HasHandleBelow 1 note → lines.links ≡ links_open link linked
-    → (line_after 8 lines (entry_of side link_of last note)).links ≡ links_open link (note_open linked note)
-note_links link lines linked side link_of last (Up packet) is none named are = are
-note_links link lines linked side link_of last (Opened handle role own peer) is none named are = absurd cc
-note_links link lines linked side link_of last (Shut handle reason) is none named are =
-    let zero = zero_below handle named in
-    ap (λ n. without (link_of n) lines.links) zero ∙ ap (λ n. without n lines.links) is ∙ ap (without link) are ∙ shut_links link linked
-    ∙ ap (λ n. links_open link (cond (n == 0) false linked)) (sym zero)
-note_links link lines linked side link_of last note is none named are = are
+  and_false : (one : Bool) → (one && false) ≡ false
+  and_false true = refl
+  and_false false = refl
 
--- what the notes since the last opening are after a note that opens none
-note_plain : (link : ℕ) (lines : Lines) (since : List Note) (linked : Bool) (side : Side) (link_of : ℕ → ℕ) (last : ℕ) (note : Note) → link_of 0 ≡ link
-    → is_opening note ≡ false → Fits linked note → IsBookedAs link lines since linked
-    → IsBookedAs link (line_after 8 lines (entry_of side link_of last note)) (note_since 0 since note) (note_open linked note)
-note_plain link lines since linked side link_of last note is none fits booked = record {
-  book = subst (λ (notes : List Note). IsBook link (line_after 8 lines (entry_of side link_of last note)) notes) (more note none)
-      (note_booked link lines since side link_of last note is (of_one note fits.named)
-      (fits_link link lines.links linked note booked.links fits.data_is) booked.book);
-  links = note_links link lines linked side link_of last note is none fits.named booked.links;
-}
+  pdu_apart : (other : ℕ) (all : List PduLine) (one : PduLine) → (one.link == other) ≡ false → pdus_on other (all ++ one ∷ []) ≡ pdus_on other all
+  pdu_apart other all one differs =
+      filter-append (λ (pdu : PduLine). pdu.link == other) all (one ∷ [])
+      ∙ ap (λ (same : Bool). pdus_on other all ++ cond same (one ∷ []) []) differs ∙ append-nil (pdus_on other all)
+
+  none_under : (other handle : ℕ) → (number handle == other) ≡ false → is_number (link_under handle lines.links) other ≡ false
+  none_under other handle differs = under_by handle other false (λ on. differs) (λ off. refl)
+
+  -- a note that is not of a link says nothing of it
+  same_note : (other : ℕ) (side : Side) (last : ℕ) (note : Note) → IsNotOf other number note → is_opening note ≡ false
+      → IsSameOn other lines (line_after 8 lines (entry_of side number last note))
+  same_note other side last (Sent handle counted llid body) apart none = record {
+    sent = pdu_apart other lines.sent _ (apart handle (sent_data handle counted llid body));
+    taken = refl;
+    received = refl;
+    credited = refl;
+  }
+  same_note other side last (Took handle counted llid body) apart none = record {
+    sent = refl;
+    taken = pdu_apart other lines.taken _ (apart handle (took_data handle counted llid body));
+    received = refl;
+    credited = refl;
+  }
+  same_note other side last (Up packet) apart none =
+      let octets = packet.items in
+      let parts = ap (sum_by (λ (one : Credited). one.count)) (filter-append (λ (one : Credited). one.link == other) lines.credited (credited_in lines.links octets))
+      ∙ sum_by-append (λ (one : Credited). one.count) (filter (λ (one : Credited). one.link == other) lines.credited)
+      (filter (λ (one : Credited). one.link == other) (credited_in lines.links octets)) in
+      let counts : counts_on other (credited_in lines.links octets) ≡ 0 =
+      credit_by (is_event 0x13 octets) false other (link_under (two_octets 4 octets) lines.links) octets
+      (λ event. none_under other (two_octets 4 octets) (apart (two_octets 4 octets) (completed_data packet event)))
+      ∙ ap (λ (b : Bool). cond b (two_octets 6 octets) 0) (and_false (is_event 0x13 octets)) in
+      record {
+        sent = refl;
+        taken = refl;
+        received =
+            ap (flat_map (λ (one : Received). one.octets)) (filter-append (λ (one : Received). one.link == other) lines.received (received_in lines.links octets))
+            ∙ flat_map-append (λ (one : Received). one.octets) (filter (λ (one : Received). one.link == other) lines.received)
+            (filter (λ (one : Received). one.link == other) (received_in lines.links octets))
+            ∙ ap (λ (all : List Marked). received_on other lines ++ all)
+            (data_by (is_acl_data octets) false other (link_under (acl_handle octets) lines.links) octets
+            (λ acl. none_under other (acl_handle octets) (apart (acl_handle octets) (received_data packet acl)))
+            ∙ ap (λ (b : Bool). cond b (marked_octets (starts_message octets) (drop 5 octets)) []) (and_false (is_acl_data octets)))
+            ∙ append-nil (received_on other lines);
+        credited = omega (arith, parts, counts);
+      }
+  same_note other side last (Opened handle role own peer) apart none = absurd cc
+  same_note other side last (Shut handle reason) apart none = record { sent = refl; taken = refl; received = refl; credited = refl }
+  same_note other side last note apart none = same_itself other lines
+
+-- it was open before a note that opens none
+still_open : (handle : ℕ) (linked : Bool) (note : Note) → is_opening note ≡ false → note_open handle linked note ≡ true → linked ≡ true
+still_open handle linked (Opened other role own peer) none on = absurd cc
+still_open handle linked (Shut other reason) none on = by (other == handle) on
   where
-    more : (note : Note) → is_opening note ≡ false → since ++ note ∷ [] ≡ note_since 0 since note
-    more (Opened handle role own peer) none = absurd cc
-    more (Up packet) none = refl
-    more note none = refl
+    by : (same : Bool) → cond same false linked ≡ true → linked ≡ true
+    by true on = absurd (let h : false ≡ true = on in absurd cc)
+    by false on = on
+still_open handle linked (Up packet) none on = on
+still_open handle linked note none on = on
 
--- the link under the handle 0 is opened
-opened_plain : (last : ℕ) (lines : Lines) (linked : Bool) (link : ℕ) (side : Side) (link_of : ℕ → ℕ) (role : Role) (own peer : Address)
-    → linked ≡ false → lines.links ≡ links_open link linked
-    → (line_after 8 lines (entry_of side link_of last (Opened 0 role own peer))).links ≡ links_open last true
-opened_plain last lines linked link side link_of role own peer free are =
-    ap (λ (links : List OpenUnder). links ++ record { link = last; handle = 0 } ∷ []) (are ∙ ap (links_open link) free)
+since_plain : (handle : ℕ) (since : List Note) (note : Note) → is_opening note ≡ false → since ++ note ∷ [] ≡ note_since handle since note
+since_plain handle since (Opened other role own peer) none = absurd cc
+since_plain handle since (Up packet) none = refl
+since_plain handle since note none = refl
 
-opened_book : (last : ℕ) (lines : Lines) (side : Side) (link_of : ℕ → ℕ) (role : Role) (own peer : Address) → IsUnused last lines
-    → IsBook last (line_after 8 lines (entry_of side link_of last (Opened 0 role own peer))) []
-opened_book last lines side link_of role own peer unused =
-    record { sent = unused.sent; taken = unused.taken; received = unused.received; credited = unused.credited }
+note_plain : (many : ℕ) (number : ℕ → ℕ) (lines : Lines) (since : ℕ → List Note) (opened base : ℕ → Bool) (side : Side) (last : ℕ) (note : Note) → AreApart number base
+    → ((other : ℕ) → opened other ≡ true → base other ≡ true) → is_opening note ≡ false → IsOfBase base note → IsBookedAs many number lines since opened
+    → IsBookedAs many number (line_after 8 lines (entry_of side number last note)) (λ handle. note_since handle (since handle) note)
+    (λ handle. note_open handle (opened handle) note)
+note_plain many number lines since opened base side last note apart within none of booked = record {
+  book = λ handle on.
+      let was = still_open handle (opened handle) note none on in
+      subst (IsBook handle (number handle) (line_after 8 lines (entry_of side number last note))) (since_plain handle (since handle) note none)
+      (note_booked handle (number handle) lines (since handle) side number last note
+      (note_fits many number lines opened booked.links base handle note apart within was of) (booked.book handle was));
+  links = note_links many number lines opened booked.links base side last note apart within none of;
+}
 
 -- ---- one note at a station
 
--- the same of a history, where the link is open under the handle 0, or not
-abbrev IsBookedSo : ℕ → List Event → Bool → Type 0
-IsBookedSo station history linked =
-    IsBookedAs (number_of station history) (lines_at station history) (since_opened 0 (noted_by station history)) linked
+abbrev IsBookedSo : ℕ → ℕ → List Event → (ℕ → Bool) → Type 0
+IsBookedSo many station history opened =
+    IsBookedAs many (numbers_at station history) (lines_at station history) (λ handle. since_opened handle (noted_by station history)) opened
 
-abbrev pub HasLinks : ℕ → List Event → Bool → Type 0
-HasLinks station history linked = (lines_at station history).links ≡ links_open (number_of station history) linked
+booked_along : (many : ℕ) (number next : ℕ → ℕ) (lines others : Lines) (since more : ℕ → List Note) (opened : ℕ → Bool) → next ≡ number → others ≡ lines
+    → ((handle : ℕ) → more handle ≡ since handle) → IsBookedAs many number lines since opened → IsBookedAs many next others more opened
+booked_along many number next lines others since more opened same is also booked =
+    subst (λ (of : ℕ → ℕ). IsBookedAs many of others more opened) (sym same)
+    (subst (λ (all : Lines). IsBookedAs many number all more opened) (sym is)
+    (record { book = λ handle on. subst (IsBook handle (number handle) lines) (sym (also handle)) (booked.book handle on); links = booked.links }))
 
-booked_along : (link next : ℕ) (lines others : Lines) (since more : List Note) (linked : Bool) → next ≡ link → others ≡ lines → more ≡ since
-    → IsBookedAs link lines since linked → IsBookedAs next others more linked
-booked_along link next lines others since more linked same is also booked =
-    subst (λ (n : ℕ). IsBookedAs n others more linked) (sym same)
-    (subst (λ (all : Lines). IsBookedAs link all more linked) (sym is)
-    (subst (λ (notes : List Note). IsBookedAs link lines notes linked) (sym also) booked))
+booked_where : (many : ℕ) (number : ℕ → ℕ) (lines : Lines) (since : ℕ → List Note) (opened after : ℕ → Bool) → ((handle : ℕ) → after handle ≡ opened handle)
+    → IsBookedAs many number lines since opened → IsBookedAs many number lines since after
+booked_where many number lines since opened after same booked = record {
+  book = λ handle on. booked.book handle (sym (same handle) ∙ on);
+  links = holds_same many lines.links number number opened after (λ handle. refl) same booked.links;
+}
 
 noted_more : (station : ℕ) (history : List Event) (note : Note) → noted_by station (history ++ Noted station note ∷ []) ≡ noted_by station history ++ note ∷ []
 noted_more station history note =
     flat_event (notes_in station) history (Noted station note)
     ∙ ap (λ (same : Bool). noted_by station history ++ one_if same note) (same_station station)
 
-since_more : (station : ℕ) (history : List Event) (note : Note)
-    → since_opened 0 (noted_by station (history ++ Noted station note ∷ [])) ≡ note_since 0 (since_opened 0 (noted_by station history)) note
-since_more station history note =
-    ap (since_opened 0) (noted_more station history note) ∙ fold-append (note_since 0) [] (noted_by station history) (note ∷ [])
+since_more : (station : ℕ) (history : List Event) (note : Note) (handle : ℕ)
+    → since_opened handle (noted_by station (history ++ Noted station note ∷ [])) ≡ note_since handle (since_opened handle (noted_by station history)) note
+since_more station history note handle =
+    ap (since_opened handle) (noted_more station history note) ∙ fold-append (note_since handle) [] (noted_by station history) (note ∷ [])
 
-pub number_noted : (station : ℕ) (history : List Event) (note : Note) → is_opening note ≡ false
-    → number_of station (history ++ Noted station note ∷ []) ≡ number_of station history
-number_noted station history note none = ap (λ (links : Links). links.link_of station 0) (links_event history (Noted station note)) ∙ by note none
+pub numbers_noted : (station : ℕ) (history : List Event) (note : Note) → is_opening note ≡ false
+    → numbers_at station (history ++ Noted station note ∷ []) ≡ numbers_at station history
+numbers_noted station history note none = ap (λ (links : Links). links.link_of station) (links_event history (Noted station note)) ∙ by note none
   where
-    by : (note : Note) → is_opening note ≡ false → (links_after (links_of history) (Noted station note)).link_of station 0 ≡ number_of station history
+    by : (note : Note) → is_opening note ≡ false → (links_after (links_of history) (Noted station note)).link_of station ≡ numbers_at station history
     by (Opened handle role own peer) none = absurd cc
     by (Up packet) none = refl
     by note none = refl
 
-pub number_opened : (station : ℕ) (history : List Event) (role : Role) (own peer : Address)
-    → number_of station (history ++ Noted station (Opened 0 role own peer) ∷ []) ≡ (links_of history).last_of station
-number_opened station history role own peer =
-    ap (λ (links : Links). links.link_of station 0) (links_event history (Noted station (Opened 0 role own peer)))
-    ∙ ap (λ (same : Bool). cond (same && true) ((links_of history).last_of station) (number_of station history)) (same_station station)
+number_opened : (station handle : ℕ) (history : List Event) (role : Role) (own peer : Address) (other : ℕ)
+    → number_at station other (history ++ Noted station (Opened handle role own peer) ∷ [])
+    ≡ cond (handle == other) ((links_of history).last_of station) (number_at station other history)
+number_opened station handle history role own peer other =
+    ap (λ (links : Links). links.link_of station other) (links_event history (Noted station (Opened handle role own peer)))
+    ∙ ap (λ (same : Bool). cond (same && (other == handle)) ((links_of history).last_of station) (number_at station other history)) (same_station station)
+    ∙ ap (λ (same : Bool). cond same ((links_of history).last_of station) (number_at station other history)) (swapped other handle)
 
-note_kept : (station : ℕ) (history : List Event) (linked : Bool) (note : Note) → is_opening note ≡ false → Fits linked note → IsBookedSo station history linked
-    → IsBookedSo station (history ++ Noted station note ∷ []) (note_open linked note)
-note_kept station history linked note none fits booked =
-    booked_along (number_of station history) _ _ _ _ _ (note_open linked note) (number_noted station history note none)
+note_kept : (many station : ℕ) (history : List Event) (opened base : ℕ → Bool) (note : Note) → AreApart (numbers_at station history) base
+    → ((other : ℕ) → opened other ≡ true → base other ≡ true) → is_opening note ≡ false → IsOfBase base note → IsBookedSo many station history opened
+    → IsBookedSo many station (history ++ Noted station note ∷ []) (λ handle. note_open handle (opened handle) note)
+note_kept many station history opened base note apart within none of booked =
+    booked_along many (numbers_at station history) _ _ _ _ _ (λ handle. note_open handle (opened handle) note) (numbers_noted station history note none)
     (note_lines station history note) (since_more station history note)
-    (note_plain (number_of station history) (lines_at station history) (since_opened 0 (noted_by station history)) linked (side_of station)
-    ((links_of history).link_of station) ((links_of history).last_of station) note refl none fits booked)
+    (note_plain many (numbers_at station history) (lines_at station history) (λ handle. since_opened handle (noted_by station history)) opened base (side_of station)
+    ((links_of history).last_of station) note apart within none of booked)
 
-pub links_kept : (station : ℕ) (history : List Event) (linked : Bool) (note : Note) → is_opening note ≡ false → HasHandleBelow 1 note → HasLinks station history linked
-    → HasLinks station (history ++ Noted station note ∷ []) (note_open linked note)
-links_kept station history linked note none named are =
-    ap (λ (lines : Lines). lines.links) (note_lines station history note)
-    ∙ note_links (number_of station history) (lines_at station history) linked (side_of station) ((links_of history).link_of station)
-    ((links_of history).last_of station) note refl none named are
-    ∙ ap (λ n. links_open n (note_open linked note)) (sym (number_noted station history note none))
-
-pub opening_links : (station : ℕ) (history : List Event) (linked : Bool) (role : Role) (own peer : Address) → linked ≡ false → HasLinks station history linked
-    → HasLinks station (history ++ Noted station (Opened 0 role own peer) ∷ []) true
-opening_links station history linked role own peer free are =
-    ap (λ (lines : Lines). lines.links) (note_lines station history (Opened 0 role own peer))
-    ∙ opened_plain ((links_of history).last_of station) (lines_at station history) linked (number_of station history) (side_of station)
-    ((links_of history).link_of station) role own peer free are
-    ∙ ap (λ n. links_open n true) (sym (number_opened station history role own peer))
-
-opening_kept : (station : ℕ) (history : List Event) (linked : Bool) (role : Role) (own peer : Address) → linked ≡ false
-    → IsUnused ((links_of history).last_of station) (lines_at station history) → IsBookedSo station history linked
-    → IsBookedSo station (history ++ Noted station (Opened 0 role own peer) ∷ []) true
-opening_kept station history linked role own peer free unused booked =
+-- a link is opened under a free handle
+opening_kept : (many station : ℕ) (history : List Event) (opened : ℕ → Bool) (handle : ℕ) (role : Role) (own peer : Address) → opened handle ≡ false → handle < many
+    → IsUnused ((links_of history).last_of station) (lines_at station history) → IsBookedSo many station history opened
+    → IsBookedSo many station (history ++ Noted station (Opened handle role own peer) ∷ []) (λ other. note_open other (opened other) (Opened handle role own peer))
+opening_kept many station history opened handle role own peer free few unused booked =
+    let note = Opened handle role own peer in
+    let next = history ++ Noted station note ∷ [] in
     let last = (links_of history).last_of station in
     let lines = lines_at station history in
-    booked_along last _ _ _ [] _ true (number_opened station history role own peer) (note_lines station history (Opened 0 role own peer))
-    (since_more station history (Opened 0 role own peer)) (record {
-      book = opened_book last lines (side_of station) ((links_of history).link_of station) role own peer unused;
-      links = opened_plain last lines linked (number_of station history) (side_of station) ((links_of history).link_of station) role own peer free
-          booked.links;
+    let after = line_after 8 lines (entry_of (side_of station) (numbers_at station history) last note) in
+    subst (λ (all : Lines). IsBookedAs many (numbers_at station next) all (λ other. since_opened other (noted_by station next))
+    (λ other. note_open other (opened other) note)) (sym (note_lines station history note)) (record {
+      book = λ other on. by other (handle == other) refl on;
+      links = opened_holds many lines.links (numbers_at station history) (numbers_at station next) opened (λ other. note_open other (opened other) note) handle last few free
+          (ap (λ (b : Bool). cond b true (opened handle)) (eq-eqb handle handle refl))
+          (number_opened station handle history role own peer handle ∙ ap (λ (b : Bool). cond b last (number_at station handle history)) (eq-eqb handle handle refl))
+          (λ other differs. number_opened station handle history role own peer other ∙ ap (λ (b : Bool). cond b last (number_at station other history)) differs)
+          (λ other differs. ap (λ (b : Bool). cond b true (opened other)) differs) booked.links;
     })
+  where
+    since_is : (other : ℕ) → since_opened other (noted_by station (history ++ Noted station (Opened handle role own peer) ∷ []))
+        ≡ cond (handle == other) [] (since_opened other (noted_by station history) ++ Opened handle role own peer ∷ [])
+    since_is other = since_more station history (Opened handle role own peer) other
+
+    by : (other : ℕ) (same : Bool) → (handle == other) ≡ same → cond (handle == other) true (opened other) ≡ true
+        → IsBook other (number_at station other (history ++ Noted station (Opened handle role own peer) ∷ []))
+        (line_after 8 (lines_at station history) (entry_of (side_of station) (numbers_at station history) ((links_of history).last_of station) (Opened handle role own peer)))
+        (since_opened other (noted_by station (history ++ Noted station (Opened handle role own peer) ∷ [])))
+    by other true same on =
+        let next = history ++ Noted station (Opened handle role own peer) ∷ [] in
+        let last = (links_of history).last_of station in
+        let lines = line_after 8 (lines_at station history) (entry_of (side_of station) (numbers_at station history) last (Opened handle role own peer)) in
+        let number = number_opened station handle history role own peer other ∙ ap (λ (b : Bool). cond b last (number_at station other history)) same in
+        let since = since_is other ∙ ap (λ (b : Bool). cond b [] (since_opened other (noted_by station history) ++ Opened handle role own peer ∷ [])) same in
+        subst (λ n. IsBook other n lines (since_opened other (noted_by station next))) (sym number)
+        (subst (IsBook other last lines) (sym since)
+        (record { sent = unused.sent; taken = unused.taken; received = unused.received; credited = unused.credited }))
+    by other false differs on =
+        let next = history ++ Noted station (Opened handle role own peer) ∷ [] in
+        let last = (links_of history).last_of station in
+        let was_number = number_at station other history in
+        let lines = line_after 8 (lines_at station history) (entry_of (side_of station) (numbers_at station history) last (Opened handle role own peer)) in
+        let number = number_opened station handle history role own peer other ∙ ap (λ (b : Bool). cond b last was_number) differs in
+        let since = since_is other ∙ ap (λ (b : Bool). cond b [] (since_opened other (noted_by station history) ++ Opened handle role own peer ∷ [])) differs in
+        let was : opened other ≡ true = sym (ap (λ (b : Bool). cond b true (opened other)) differs) ∙ on in
+        subst (λ n. IsBook other n lines (since_opened other (noted_by station next))) (sym number)
+        (subst (IsBook other was_number lines) (sym since)
+        (note_booked other was_number (lines_at station history) (since_opened other (noted_by station history)) (side_of station)
+        (numbers_at station history) last (Opened handle role own peer) tt (booked.book other was)))
 
 -- ---- the notes of a call
 
@@ -285,53 +398,41 @@ pub one_on : (station : ℕ) (history : List Event) (note : Note) (notes : List 
     → with_noted station (history ++ Noted station note ∷ []) notes ≡ with_noted station history (note ∷ notes)
 one_on station history note notes = append_assoc history (Noted station note ∷ []) (map (Noted station) notes)
 
-abbrev AllFit : Bool → List Note → Type 0
-AllFit linked [] = ⊤
-AllFit linked (note ∷ notes) = Fits linked note × AllFit (note_open linked note) notes
+numbers_quiet : (station : ℕ) (history : List Event) (notes : List Note) → AreNot is_opening notes
+    → numbers_at station (with_noted station history notes) ≡ numbers_at station history
+numbers_quiet station history [] none = ap (numbers_at station) (append-nil history)
+numbers_quiet station history (note ∷ notes) none =
+    ap (numbers_at station) (sym (one_on station history note notes)) ∙ numbers_quiet station (history ++ Noted station note ∷ []) notes none.1
+    ∙ numbers_noted station history note none.0
 
-abbrev pub AreNamed : List Note → Type 0
-AreNamed notes = AllByRecursion (HasHandleBelow 1) notes
+-- what notes that open no link keep, and what they say of other links
+record KeepsBook (many station : ℕ) (history after : List Event) (opened : ℕ → Bool) (notes : List Note) : Type 0 where
+  booked : IsBookedSo many station after opened
+  same : (other : ℕ) → AllByRecursion (IsNotOf other (numbers_at station history)) notes → IsSameOn other (lines_at station history) (lines_at station after)
 
-notes_kept : (station : ℕ) (history : List Event) (linked : Bool) (notes : List Note) → AreNot is_opening notes → AllFit linked notes
-    → IsBookedSo station history linked → IsBookedSo station (with_noted station history notes) (fold note_open linked notes)
-notes_kept station history linked [] none fit booked =
-    subst (λ (all : List Event). IsBookedSo station all linked) (sym (append-nil history)) booked
-notes_kept station history linked (note ∷ notes) none fit booked =
-    subst (λ (all : List Event). IsBookedSo station all (fold note_open linked (note ∷ notes))) (one_on station history note notes)
-    (notes_kept station (history ++ Noted station note ∷ []) (note_open linked note) notes none.1 fit.1
-    (note_kept station history linked note none.0 fit.0 booked))
-
--- where it is open at the end, and none is opened, it was open before
-pub shut_still : (notes : List Note) → AreNot is_opening notes → fold note_open false notes ≡ false
-shut_still [] none = refl
-shut_still (Opened handle role own peer ∷ notes) none = absurd (let h : true ≡ false = none.0 in absurd cc)
-shut_still (Shut handle reason ∷ notes) none =
-    ap (λ (linked : Bool). fold note_open linked notes) (same_shut (handle == 0)) ∙ shut_still notes none.1
-  where
-    same_shut : (same : Bool) → cond same false false ≡ false
-    same_shut true = refl
-    same_shut false = refl
-shut_still (note ∷ notes) none = shut_still notes none.1
-
-was_linked : (linked : Bool) (notes : List Note) → AreNot is_opening notes → fold note_open linked notes ≡ true → linked ≡ true
-was_linked true notes none is = refl
-was_linked false notes none is = sym (shut_still notes none) ∙ is
-
-all_fit : (linked after : Bool) (notes : List Note) → AreNot is_opening notes → AreNamed notes
-    → AllByRecursion (λ note. is_data_note 0 note ≡ true → after ≡ true) notes → fold note_open linked notes ≡ after → AllFit linked notes
-all_fit linked after [] none named data_is is = tt
-all_fit linked after (note ∷ notes) none named data_is is = (
-  record { named = named.0; data_is = λ one. was_linked linked (note ∷ notes) none (is ∙ data_is.0 one) },
-  all_fit (note_open linked note) after notes none.1 named.1 data_is.1 is,
-)
-
--- where it stays open
-fit_linked : (notes : List Note) → AreNot is_opening notes → AreNot is_shutting notes → AreNamed notes → AllFit true notes
-fit_linked notes none shut named = all_fit true true notes none named (any notes) (open_still true notes none shut)
-  where
-    any : (notes : List Note) → AllByRecursion (λ note. is_data_note 0 note ≡ true → true ≡ true) notes
-    any [] = tt
-    any (note ∷ notes) = (λ is. refl, any notes)
+notes_kept : (many station : ℕ) (history : List Event) (opened base : ℕ → Bool) (notes : List Note) → AreApart (numbers_at station history) base
+    → ((other : ℕ) → opened other ≡ true → base other ≡ true) → AreNot is_opening notes → AllByRecursion (IsOfBase base) notes → IsBookedSo many station history opened
+    → KeepsBook many station history (with_noted station history notes) (λ handle. fold (note_open handle) (opened handle) notes) notes
+notes_kept many station history opened base [] apart within none of booked =
+    subst (λ (all : List Event). KeepsBook many station history all opened []) (sym (append-nil history))
+    (record { booked = booked; same = λ other not_of. same_itself other (lines_at station history) })
+notes_kept many station history opened base (note ∷ notes) apart within none of booked =
+    let next = history ++ Noted station note ∷ [] in
+    let numbers = numbers_noted station history note none.0 in
+    let rest = notes_kept many station next (λ handle. note_open handle (opened handle) note) base notes
+    (subst (λ (number : ℕ → ℕ). AreApart number base) (sym numbers) apart)
+    (λ other on. within other (still_open other (opened other) note none.0 on)) none.1 of.1
+    (note_kept many station history opened base note apart within none.0 of.0 booked) in
+    subst (λ (all : List Event). KeepsBook many station history all (λ handle. fold (note_open handle) (opened handle) (note ∷ notes)) (note ∷ notes))
+    (one_on station history note notes)
+    (record {
+      booked = rest.booked;
+      same = λ other not_of. same_then other (lines_at station history) (lines_at station next) _
+          (subst (IsSameOn other (lines_at station history)) (sym (note_lines station history note))
+          (same_note many (numbers_at station history) (lines_at station history) opened booked.links other (side_of station) ((links_of history).last_of station) note
+          not_of.0 none.0))
+          (rest.same other (subst (λ (number : ℕ → ℕ). AllByRecursion (IsNotOf other number) notes) (sym numbers) not_of.1));
+    })
 
 -- ---- what a call notes
 
@@ -339,120 +440,8 @@ pub all_to : (P Q : Note → Type 0) → ((note : Note) → P note → Q note) �
 all_to P Q to [] all = tt
 all_to P Q to (note ∷ notes) all = (to note all.0, all_to P Q to notes all.1)
 
-named_one : (most : ℕ) → most ≤ 1 → (note : Note) → HasHandleBelow most note → HasHandleBelow 1 note
-named_one most few (Up packet) named = tt
-named_one most few (Opened handle role own peer) named = omega (arith, named, few)
-named_one most few (Shut handle reason) named = omega (arith, named, few)
-named_one most few (Sent handle counted llid body) named = omega (arith, named, few)
-named_one most few (Took handle counted llid body) named = omega (arith, named, few)
-named_one most few (Enter handle event channel) named = omega (arith, named, few)
-named_one most few (Applied handle counted event) named = omega (arith, named, few)
-named_one most few (Began handle kind) named = omega (arith, named, few)
-named_one most few (Refused handle kind code) named = omega (arith, named, few)
-named_one most few (Done handle kind) named = omega (arith, named, few)
-
 each_in : (P : Note → Type 0) (notes : List Note) → ((note : Note) → Contains notes note → P note) → AllByRecursion P notes
 each_in P notes is = all_to (Contains notes) P is notes (recursion_from_All (Contains notes) notes (All-contains_itself notes))
-
-module _ (setup : Setup) (past : List Step) (step : Step) (few : setup.links ≤ 1) where
-  abbrev facts_then : Facts
-  facts_then = facts_of setup past
-
-  abbrev notes_then : List Note
-  notes_then = notes_after setup facts_then step
-
-  pub names_one : AreNamed notes_then
-  names_one =
-      all_to (HasHandleBelow setup.links) (HasHandleBelow 1) (named_one setup.links few) notes_then
-      (recursion_from_All (HasHandleBelow setup.links) notes_then (step_names_links setup past step))
-
-  pub data_after : IsOfOpenLink setup facts_then step
-      → AllByRecursion (λ note. is_data_note 0 note ≡ true → is_some (link_at 0 (facts_after setup facts_then step).links) ≡ true) notes_then
-  data_after of =
-      each_in _ notes_then (λ note inside is. of.after note inside is)
-
-  pub data_before : IsOfOpenLink setup facts_then step
-      → AllByRecursion (λ note. is_data_note 0 note ≡ true → is_some (link_at 0 facts_then.links) ≡ true) notes_then
-  data_before of = each_in _ notes_then (λ note inside is. of.before note inside is)
-
--- ---- a call
-
--- a call without its notes
-called_so : (station : ℕ) (step : Step) (history : List Event) (linked : Bool) → IsBookedSo station history linked
-    → IsBookedSo station (history ++ Called station step ∷ []) linked
-called_so station step history linked booked =
-    booked_along (number_of station history) _ (lines_at station history) _ _ _ linked
-    (ap (λ (links : Links). links.link_of station 0) (links_event history (Called station step))) (call_lines station history station step)
-    (ap (since_opened 0) (flat_nothing (notes_in station) history (Called station step) refl)) booked
-
--- with the notes of the call after it
-pub called_then : (station : ℕ) (step : Step) (history : List Event) (notes : List Note)
-    → with_noted station (history ++ Called station step ∷ []) notes ≡ with_notes station step notes history
-called_then station step history notes = append_assoc history (Called station step ∷ []) (map (Noted station) notes)
-
-pub last_called : (station : ℕ) (step : Step) (history : List Event)
-    → (links_of (history ++ Called station step ∷ [])).last_of station ≡ (links_of history).last_of station
-last_called station step history = ap (λ (links : Links). links.last_of station) (links_event history (Called station step))
-
--- the notes open none
-plain_call : (station : ℕ) (step : Step) (history : List Event) (linked after : Bool) (notes : List Note) → AreNot is_opening notes → AreNamed notes
-    → AllByRecursion (λ note. is_data_note 0 note ≡ true → after ≡ true) notes → fold note_open linked notes ≡ after
-    → IsBookedSo station history linked → IsBookedSo station (with_notes station step notes history) after
-plain_call station step history linked after notes none named data_is is booked =
-    subst (λ (all : List Event). IsBookedSo station all after) (called_then station step history notes)
-    (subst (IsBookedSo station (with_noted station (history ++ Called station step ∷ []) notes)) is
-    (notes_kept station (history ++ Called station step ∷ []) linked notes none (all_fit linked after notes none named data_is is)
-    (called_so station step history linked booked)))
-
--- the first note opens the link
-opening_call : (station : ℕ) (step : Step) (history : List Event) (linked : Bool) (role : Role) (own peer : Address) (rest : List Note)
-    → AreNot is_opening rest → AreNot is_shutting rest → AreNamed rest → linked ≡ false
-    → IsUnused ((links_of history).last_of station) (lines_at station history) → IsBookedSo station history linked
-    → IsBookedSo station (with_notes station step (Opened 0 role own peer ∷ rest) history) true
-opening_call station step history linked role own peer rest none shut named free unused booked =
-    let called = history ++ Called station step ∷ [] in
-    let first = Opened 0 role own peer in
-    let unused_then : IsUnused ((links_of called).last_of station) (lines_at station called) =
-    subst (λ n. IsUnused n (lines_at station called)) (sym (last_called station step history))
-    (subst (IsUnused ((links_of history).last_of station)) (sym (call_lines station history station step)) unused) in
-    subst (λ (all : List Event). IsBookedSo station all true)
-    (one_on station called first rest ∙ called_then station step history (first ∷ rest))
-    (subst (IsBookedSo station (with_noted station (called ++ Noted station first ∷ []) rest)) (open_still true rest none shut)
-    (notes_kept station (called ++ Noted station first ∷ []) true rest none (fit_linked rest none shut named)
-    (opening_kept station called linked role own peer free unused_then (called_so station step history linked booked))))
-
-pub first_opens : (notes rest : List Note) (role : Role) (own peer : Address) → notes ≡ Opened 0 role own peer ∷ rest → is_opened 0 notes ≡ true
-first_opens notes rest role own peer is = ap (is_opened 0) is
-
-call_so : (station : ℕ) (step : Step) (history : List Event) (linked after : Bool) (notes : List Note) → IsNotedAs linked after notes → AreNamed notes
-    → AllByRecursion (λ note. is_data_note 0 note ≡ true → after ≡ true) notes
-    → (is_opened 0 notes ≡ true → IsUnused ((links_of history).last_of station) (lines_at station history))
-    → IsBookedSo station history linked → IsBookedSo station (with_notes station step notes history) after
-call_so station step history linked after notes (stays none shut same) named data_is unused booked =
-    plain_call station step history linked after notes none named data_is (open_still linked notes none shut ∙ sym same) booked
-call_so station step history linked after notes (shuts none reports is) named data_is unused booked =
-    plain_call station step history linked after notes none named data_is is booked
-call_so station step history linked after notes (opens_first role own peer rest is none shut reports free now) named data_is unused booked =
-    subst (λ (all : List Note). IsBookedSo station (with_notes station step all history) after) (sym is)
-    (subst (IsBookedSo station (with_notes station step (Opened 0 role own peer ∷ rest) history)) (sym now)
-    (opening_call station step history linked role own peer rest none shut (subst AreNamed is named).1 free
-    (unused (first_opens notes rest role own peer is)) booked))
-
--- ---- what a station holds
-
-so_booked : (given : Given) (station : ℕ) (history : List Event) → IsStationBooked given station history
-    → IsBookedSo station history (is_some (link_at 0 (facts_at given station history).links))
-so_booked given station history booked = record {
-  book = booked.book;
-  links = booked.links ∙ for_open (number_of station history) (link_at 0 (facts_at given station history).links);
-}
-
-booked_so : (given : Given) (station : ℕ) (history : List Event) → IsBookedSo station history (is_some (link_at 0 (facts_at given station history).links))
-    → IsStationBooked given station history
-booked_so given station history booked = record {
-  book = booked.book;
-  links = booked.links ∙ sym (for_open (number_of station history) (link_at 0 (facts_at given station history).links));
-}
 
 pub own_facts : (given : Given) (station : ℕ) (step : Step) (history : List Event)
     → facts_at given station (after_call given station step history) ≡ facts_after (setup_at given station) (facts_at given station history) step
@@ -461,45 +450,268 @@ own_facts given station step history =
     ap (facts_of setup) (past_own station step (notes_after setup (facts_at given station history) step) history)
     ∙ facts_more setup (past_of station history) step
 
--- the number of a link that is opened in a call is that of the link which the station knows last
+module _ (setup : Setup) (past : List Step) (step : Step) (few : setup.links ≤ 4096) where
+  abbrev notes_then : List Note
+  notes_then = notes_after setup (facts_of setup past) step
+
+  -- PDUs are noted, and links are shut, where they were open before the call
+  of_before : AllByRecursion (IsOfBase (is_open (facts_of setup past).links)) notes_then
+  of_before = each_in (IsOfBase (is_open (facts_of setup past).links)) notes_then by
+    where
+      was_shut : (handle reason : ℕ) → IsShut (facts_of setup past) step handle reason → is_open (facts_of setup past).links handle ≡ true
+      was_shut handle reason (overdue slot on link begins at due) = ap (λ (place : Option OpenLink). is_some place) at
+      was_shut handle reason (reset link completed at code) = ap (λ (place : Option OpenLink). is_some place) at
+
+      by : (note : Note) → Contains (notes_after setup (facts_of setup past) step) note → IsOfBase (is_open (facts_of setup past).links) note
+      by (Sent handle counted llid body) inside =
+          open_before setup past step (Sent handle counted llid body) handle few inside (sent_data handle counted llid body)
+      by (Took handle counted llid body) inside =
+          open_before setup past step (Took handle counted llid body) handle few inside (took_data handle counted llid body)
+      by (Shut handle reason) inside = was_shut handle reason.0 ((shuts_with_reason setup past step handle reason.0).0 inside)
+      by (Up packet) inside = tt
+      by note inside = tt
+
+  -- and PDUs where they are open after it
+  of_after : AllByRecursion (λ note. is_shutting note ≡ false → IsOfBase (is_open (facts_after setup (facts_of setup past) step).links) note) notes_then
+  of_after = each_in _ notes_then by
+    where
+      by : (note : Note) → Contains (notes_after setup (facts_of setup past) step) note → is_shutting note ≡ false
+          → IsOfBase (is_open (facts_after setup (facts_of setup past) step).links) note
+      by (Sent handle counted llid body) inside none =
+          open_after setup past step (Sent handle counted llid body) handle few inside (sent_data handle counted llid body)
+      by (Took handle counted llid body) inside none =
+          open_after setup past step (Took handle counted llid body) handle few inside (took_data handle counted llid body)
+      by (Shut handle reason) inside none = absurd cc
+      by (Up packet) inside none = tt
+      by note inside none = tt
+
+  names_few : AllByRecursion (HasHandleBelow setup.links) notes_then
+  names_few = recursion_from_All (HasHandleBelow setup.links) notes_then (step_names_links setup past step)
+
+-- none of the open links of a station has this number
+abbrev pub IsNoneOf : Given → ℕ → ℕ → List Event → Type 0
+IsNoneOf given station other history =
+    (handle : ℕ) (link : OpenLink) → link_at handle (facts_at given station history).links ≡ Some link → (number_at station handle history == other) ≡ false
+
+-- with the notes of the call after it
+pub called_then : (station : ℕ) (step : Step) (history : List Event) (notes : List Note)
+    → with_noted station (history ++ Called station step ∷ []) notes ≡ with_notes station step notes history
+called_then station step history notes = append_assoc history (Called station step ∷ []) (map (Noted station) notes)
+
+so_booked : (given : Given) (station : ℕ) (history : List Event) → IsStationBooked given station history
+    → IsBookedSo (setup_at given station).links station history (is_open (facts_at given station history).links)
+so_booked given station history booked = record {
+  book = λ handle on. let found = is_link (link_at handle (facts_at given station history).links) on in booked.book handle found.link found.is;
+  links = booked.links;
+}
+
+own_apart : (given : Given) (station : ℕ) (history : List Event) → HaveOwnNumbers given station history
+    → AreApart (numbers_at station history) (is_open (facts_at given station history).links)
+own_apart given station history own one other on on_too differs =
+    let a = is_link (link_at one (facts_at given station history).links) on in
+    let b = is_link (link_at other (facts_at given station history).links) on_too in
+    own one other a.link b.link a.is b.is differs
+
+-- ---- a call
+
+-- no line says anything of a link that is opened in a call
 abbrev pub UnusedWhereOpened : Given → ℕ → Step → List Event → Type 0
 UnusedWhereOpened given station step history =
-    is_opened 0 (notes_after (setup_at given station) (facts_at given station history) step) ≡ true
+    (handle : ℕ) → is_opened handle (notes_after (setup_at given station) (facts_at given station history) step) ≡ true
     → IsUnused ((links_of history).last_of station) (lines_at station history)
 
-pub call_booked : OnlyOpenHaveNotes → (given : Given) (station : ℕ) (step : Step) (history : List Event) → (setup_at given station).links ≤ 1
-    → UnusedWhereOpened given station step history → IsStationBooked given station history
-    → IsStationBooked given station (after_call given station step history)
-call_booked law given station step history few unused booked =
-    let setup = setup_at given station in
-    let past = past_of station history in
-    let facts = facts_at given station history in
-    let notes = notes_after setup facts step in
-    let after = is_some (link_at 0 (facts_after setup facts step).links) in
-    booked_so given station (after_call given station step history)
-    (subst (λ (held : Facts). IsBookedSo station (after_call given station step history) (is_some (link_at 0 held.links)))
-    (sym (own_facts given station step history))
-    (call_so station step history (is_some (link_at 0 facts.links)) after notes (past_noted setup past step few) (names_one setup past step few)
-    (data_after setup past step few (law setup past step few)) unused (so_booked given station history booked)))
+module _ (given : Given) (station : ℕ) (step : Step) (history : List Event) (few : (setup_at given station).links ≤ 4096) (own : HaveOwnNumbers given station history)
+    (own_after : HaveOwnNumbers given station (after_call given station step history)) (unused : UnusedWhereOpened given station step history)
+    (booked : IsStationBooked given station history) where
+  abbrev many : ℕ
+  many = (setup_at given station).links
+
+  abbrev notes : List Note
+  notes = notes_after (setup_at given station) (facts_at given station history) step
+
+  abbrev then_on : List Event
+  then_on = after_call given station step history
+
+  abbrev called : List Event
+  called = history ++ Called station step ∷ []
+
+  abbrev before_open : ℕ → Bool
+  before_open = is_open (facts_at given station history).links
+
+  abbrev after_open : ℕ → Bool
+  after_open = is_open (facts_after (setup_at given station) (facts_at given station history) step).links
+
+  record KeepsCall : Type 0 where
+    kept : IsBookedSo many station then_on after_open
+    same : (other : ℕ) → AllByRecursion (IsNotOf other (numbers_at station then_on)) notes → IsSameOn other (lines_at station history) (lines_at station then_on)
+
+  numbers_called : numbers_at station called ≡ numbers_at station history
+  numbers_called = ap (λ (links : Links). links.link_of station) (links_event history (Called station step))
+
+  called_so : IsBookedSo many station called before_open
+  called_so =
+      booked_along many (numbers_at station history) _ (lines_at station history) _ _ _ before_open numbers_called (call_lines station history station step)
+      (λ handle. ap (since_opened handle) (flat_nothing (notes_in station) history (Called station step) refl)) (so_booked given station history booked)
+
+  lines_called : lines_at station called ≡ lines_at station history
+  lines_called = call_lines station history station step
+
+  -- the notes open none
+  plain_call : AreNot is_opening notes → ((handle : ℕ) → fold (note_open handle) (before_open handle) notes ≡ after_open handle) → KeepsCall
+  plain_call none opens =
+      let kept = notes_kept many station called before_open before_open notes
+      (subst (λ (number : ℕ → ℕ). AreApart number before_open) (sym numbers_called) (own_apart given station history own)) (λ handle on. on) none
+      (of_before (setup_at given station) (past_of station history) step few) called_so in
+      let numbers : numbers_at station then_on ≡ numbers_at station called = ap (numbers_at station) (sym (called_then station step history notes)) ∙ numbers_quiet station called notes none in
+      record {
+        kept = booked_where many (numbers_at station then_on) (lines_at station then_on) (λ handle. since_opened handle (noted_by station then_on)) _ after_open (λ handle. sym (opens handle))
+            (subst (λ (all : List Event). IsBookedSo many station all (λ handle. fold (note_open handle) (before_open handle) notes)) (called_then station step history notes) kept.booked);
+        same = λ other not_of.
+            subst (λ (lines : Lines). IsSameOn other lines (lines_at station then_on)) lines_called
+            (subst (λ (all : List Event). IsSameOn other (lines_at station called) (lines_at station all)) (called_then station step history notes)
+            (kept.same other (subst (λ (number : ℕ → ℕ). AllByRecursion (IsNotOf other number) notes) numbers not_of)));
+      }
+
+  -- the first note opens a link
+  opening_call : (handle : ℕ) (role : Role) (first_own peer : Address) (rest : List Note) → notes ≡ Opened handle role first_own peer ∷ rest → AreNot is_opening rest
+      → AreNot is_shutting rest → before_open handle ≡ false → after_open handle ≡ true
+      → ((other : ℕ) → (handle == other) ≡ false → after_open other ≡ before_open other) → KeepsCall
+  opening_call handle role first_own peer rest is none shut free now opens =
+      let first = Opened handle role first_own peer in
+      let next = called ++ Noted station first ∷ [] in
+      let setup = setup_at given station in
+      let past = past_of station history in
+      let last_called : (links_of called).last_of station ≡ (links_of history).last_of station =
+      ap (λ (links : Links). links.last_of station) (links_event history (Called station step)) in
+      let unused_then : IsUnused ((links_of called).last_of station) (lines_at station called) =
+      subst (λ n. IsUnused n (lines_at station called)) (sym last_called)
+      (subst (IsUnused ((links_of history).last_of station)) (sym lines_called)
+      (unused handle (ap (is_opened handle) is ∙ ap (λ (b : Bool). b || is_opened handle rest) (eq-eqb handle handle refl)))) in
+      let below : handle < many = (subst (AllByRecursion (HasHandleBelow many)) is (names_few setup past step few)).0 in
+      let after_is : with_noted station next rest ≡ then_on =
+      one_on station called first rest ∙ called_then station step history (first ∷ rest) ∙ ap (λ (all : List Note). with_notes station step all history) (sym is) in
+      let numbers : numbers_at station then_on ≡ numbers_at station next = ap (numbers_at station) (sym after_is) ∙ numbers_quiet station next rest none in
+      let own_then : AreApart (numbers_at station next) after_open =
+      subst (λ (number : ℕ → ℕ). AreApart number after_open) numbers
+      (subst (λ (held : Facts). AreApart (numbers_at station then_on) (is_open held.links)) (own_facts given station step history) (own_apart given station then_on own_after)) in
+      let kept = notes_kept many station next (λ other. note_open other (before_open other) first) after_open rest own_then
+      (λ other on. within other (handle == other) refl on) none
+      (of_rest rest shut (subst (AllByRecursion (λ note. is_shutting note ≡ false → IsOfBase after_open note)) is (of_after setup past step few)).1)
+      (opening_kept many station called before_open handle role first_own peer free below unused_then called_so) in
+      record {
+        kept = booked_where many (numbers_at station then_on) (lines_at station then_on) (λ other. since_opened other (noted_by station then_on)) _ after_open
+            (λ other. sym (open_still other (note_open other (before_open other) first) rest none shut ∙ opened_is other (handle == other) refl))
+            (subst (λ (all : List Event). IsBookedSo many station all (λ other. fold (note_open other) (note_open other (before_open other) first) rest)) after_is kept.booked);
+        same = λ other not_of.
+            subst (λ (lines : Lines). IsSameOn other lines (lines_at station then_on)) lines_called
+            (same_then other (lines_at station called) (lines_at station next) (lines_at station then_on)
+            (subst (IsSameOn other (lines_at station called)) (sym (note_lines station called first)) (record { sent = refl; taken = refl; received = refl; credited = refl }))
+            (subst (λ (all : List Event). IsSameOn other (lines_at station next) (lines_at station all)) after_is
+            (kept.same other (subst (λ (number : ℕ → ℕ). AllByRecursion (IsNotOf other number) rest) numbers (subst (AllByRecursion (IsNotOf other (numbers_at station then_on))) is not_of).1))));
+      }
+    where
+      opened_is : (other : ℕ) (same : Bool) → (handle == other) ≡ same
+          → cond (handle == other) true (is_open (facts_at given station history).links other)
+          ≡ is_open (facts_after (setup_at given station) (facts_at given station history) step).links other
+      opened_is other true same =
+          ap (λ (b : Bool). cond b true (is_open (facts_at given station history).links other)) same ∙ sym now
+          ∙ ap (is_open (facts_after (setup_at given station) (facts_at given station history) step).links) (eqb-true handle other same)
+      opened_is other false differs =
+          ap (λ (b : Bool). cond b true (is_open (facts_at given station history).links other)) differs ∙ sym (opens other differs)
+
+      within : (other : ℕ) (same : Bool) → (handle == other) ≡ same → cond (handle == other) true (is_open (facts_at given station history).links other) ≡ true
+          → is_open (facts_after (setup_at given station) (facts_at given station history) step).links other ≡ true
+      within other same is_same on = sym (opened_is other same is_same) ∙ on
+
+      of_rest : (rest : List Note) → AreNot is_shutting rest
+          → AllByRecursion (λ note. is_shutting note ≡ false
+          → IsOfBase (is_open (facts_after (setup_at given station) (facts_at given station history) step).links) note) rest
+          → AllByRecursion (IsOfBase (is_open (facts_after (setup_at given station) (facts_at given station history) step).links)) rest
+      of_rest [] shut of = tt
+      of_rest (note ∷ rest) shut of = (of.0 shut.0, of_rest rest shut.1 of.1)
+
+  call_kept : KeepsCall
+  call_kept = by (past_noted (setup_at given station) (past_of station history) step)
+    where
+      by : IsNotedAs (is_open (facts_at given station history).links) (is_open (facts_after (setup_at given station) (facts_at given station history) step).links)
+          (notes_after (setup_at given station) (facts_at given station history) step) → KeepsCall
+      by (stays none shut same) = plain_call none (λ handle. open_still handle (before_open handle) notes none shut ∙ sym (same handle))
+      by (shuts none reports opens) = plain_call none opens
+      by (opens_first handle role first_own peer rest is none shut reports free now opens) = opening_call handle role first_own peer rest is none shut free now opens
+
+  pub call_booked : IsStationBooked given station (after_call given station step history)
+  call_booked =
+      let so = subst (λ (held : Facts). IsBookedSo many station then_on (is_open held.links)) (sym (own_facts given station step history)) call_kept.kept in record {
+        book = λ handle link at. so.book handle (ap (λ (place : Option OpenLink). is_some place) at);
+        links = so.links;
+      }
+
+  -- of a link that the station does not have open after the call
+  pub call_same_on : (other : ℕ) → IsNoneOf given station other (after_call given station step history)
+      → IsSameOn other (lines_at station history) (lines_at station (after_call given station step history))
+  call_same_on other none_of =
+      call_kept.same other (each_in (IsNotOf other (numbers_at station then_on)) notes (λ note inside handle is.
+      let now = is_link (link_at handle (facts_after (setup_at given station) (facts_at given station history) step).links)
+      (open_after (setup_at given station) (past_of station history) step note handle few inside is) in
+      none_of handle now.link (ap (λ (held : Facts). link_at handle held.links) (own_facts given station step history) ∙ now.is)))
 
 -- ---- what the host of the station sends
 
-pub octet_opens_none : (given : Given) (station octet : ℕ) (history : List Event)
-    → is_opened 0 (notes_after (setup_at given station) (facts_at given station history) (HostOctet octet)) ≡ false
-octet_opens_none given station octet history = outside_open 0 (setup_at given station) (facts_at given station history) (HostOctet octet) refl
+pub octet_opens_none : (given : Given) (station octet handle : ℕ) (history : List Event)
+    → is_opened handle (notes_after (setup_at given station) (facts_at given station history) (HostOctet octet)) ≡ false
+octet_opens_none given station octet handle history = outside_open handle (setup_at given station) (facts_at given station history) (HostOctet octet) refl
 
-pub octet_booked : OnlyOpenHaveNotes → (given : Given) (station octet : ℕ) (history : List Event) → (setup_at given station).links ≤ 1
-    → IsStationBooked given station history → IsStationBooked given station (after_call given station (HostOctet octet) history)
-octet_booked law given station octet history few booked =
-    call_booked law given station (HostOctet octet) history few
-    (λ opened. absurd (let h : true ≡ false = sym opened ∙ octet_opens_none given station octet history in absurd cc)) booked
+pub octet_number : (given : Given) (station octet handle : ℕ) (history : List Event)
+    → number_at station handle (after_call given station (HostOctet octet) history) ≡ number_at station handle history
+octet_number given station octet handle history =
+    link_by_own station (HostOctet octet) (notes_after (setup_at given station) (facts_at given station history) (HostOctet octet)) history handle
+    ∙ ap (λ (opened : Bool). cond opened ((links_of history).last_of station) (number_at station handle history)) (octet_opens_none given station octet handle history)
 
-octets_booked : OnlyOpenHaveNotes → (given : Given) (station : ℕ) (octets : List ℕ) (history : List Event) → (setup_at given station).links ≤ 1
-    → IsStationBooked given station history → IsStationBooked given station (after_octets given station octets history)
-octets_booked law given station [] history few booked = booked
-octets_booked law given station (octet ∷ octets) history few booked =
-    octets_booked law given station octets (after_call given station (HostOctet octet) history) few
-    (octet_booked law given station octet history few booked)
+-- a link that is open after an octet was open before it
+pub octet_was : (given : Given) (station octet handle : ℕ) (history : List Event) (link : OpenLink)
+    → link_at handle (facts_at given station (after_call given station (HostOctet octet) history)).links ≡ Some link
+    → IsLink (link_at handle (facts_at given station history).links)
+octet_was given station octet handle history link at =
+    let was = octet_under (setup_at given station) (facts_at given station history) octet handle link
+    (ap (λ (f : Facts). link_at handle f.links) (sym (own_facts given station (HostOctet octet) history)) ∙ at) in record { link = was.link; is = was.was }
+
+octet_own : (given : Given) (station octet : ℕ) (history : List Event) → HaveOwnNumbers given station history
+    → HaveOwnNumbers given station (after_call given station (HostOctet octet) history)
+octet_own given station octet history own one other a b at at_too differs =
+    let was = octet_was given station octet one history a at in
+    let was_too = octet_was given station octet other history b at_too in
+    (λ i. octet_number given station octet one history i == octet_number given station octet other history i) ∙ own one other was.link was_too.link was.is was_too.is differs
+
+octet_unused : (given : Given) (station octet : ℕ) (history : List Event) → UnusedWhereOpened given station (HostOctet octet) history
+octet_unused given station octet history handle opened =
+    absurd (let h : true ≡ false = sym opened ∙ octet_opens_none given station octet handle history in absurd cc)
+
+octet_none_of : (given : Given) (station octet other : ℕ) (history : List Event) → IsNoneOf given station other history
+    → IsNoneOf given station other (after_call given station (HostOctet octet) history)
+octet_none_of given station octet other history none handle link at =
+    let was = octet_was given station octet handle history link at in
+    ap (λ n. n == other) (octet_number given station octet handle history) ∙ none handle was.link was.is
+
+-- what a feed keeps
+pub record KeepsFeed (given : Given) (station : ℕ) (history after : List Event) : Type 0 where
+  pub booked : IsStationBooked given station after
+  pub same : (other : ℕ) → IsNoneOf given station other history → IsSameOn other (lines_at station history) (lines_at station after)
+
+octets_kept : (given : Given) (station : ℕ) (octets : List ℕ) (history : List Event) → (setup_at given station).links ≤ 4096 → HaveOwnNumbers given station history
+    → IsStationBooked given station history → KeepsFeed given station history (after_octets given station octets history)
+octets_kept given station [] history few own booked = record { booked = booked; same = λ other none. same_itself other (lines_at station history) }
+octets_kept given station (octet ∷ octets) history few own booked =
+    let next = after_call given station (HostOctet octet) history in
+    let own_next = octet_own given station octet history own in
+    let unused = octet_unused given station octet history in
+    let rest = octets_kept given station octets next few own_next (call_booked given station (HostOctet octet) history few own own_next unused booked) in
+    record {
+      booked = rest.booked;
+      same = λ other none.
+          let none_next = octet_none_of given station octet other history none in
+          same_then other (lines_at station history) (lines_at station next) _
+          (call_same_on given station (HostOctet octet) history few own own_next unused booked other none_next) (rest.same other none_next);
+    }
 
 -- ---- other events
 
@@ -520,48 +732,33 @@ same_lines before after is = record {
   credited = ap (λ (lines : Lines). lines.credited) is;
 }
 
-says_book : (link : ℕ) (before after : Lines) (since : List Note) → SaysSame before after → IsBook link before since → IsBook link after since
-says_book link before after since same book = record {
-  sent = ap (pdus_on link) same.sent ∙ book.sent;
-  taken = ap (pdus_on link) same.taken ∙ book.taken;
-  received =
-      ap (λ (all : List Received). flat_map (λ (one : Received). one.octets) (filter (λ (one : Received). one.link == link) all)) same.received
-      ∙ book.received;
-  credited =
-      ap (λ (all : List Credited). sum_by (λ (one : Credited). one.count) (filter (λ (one : Credited). one.link == link) all)) same.credited
-      ∙ book.credited;
+pub says_same : (link : ℕ) (before after : Lines) → SaysSame before after → IsSameOn link before after
+says_same link before after same = record {
+  sent = ap (pdus_on link) same.sent;
+  taken = ap (pdus_on link) same.taken;
+  received = ap (octets_on link) same.received;
+  credited = ap (counts_on link) same.credited;
 }
 
--- an event of which the lines of the station, its notes, its past and its links say nothing
-same_booked : (given : Given) (station : ℕ) (history more : List Event) → past_of station (history ++ more) ≡ past_of station history
-    → noted_by station (history ++ more) ≡ noted_by station history → number_of station (history ++ more) ≡ number_of station history
-    → SaysSame (lines_at station history) (lines_at station (history ++ more)) → IsStationBooked given station history
-    → IsStationBooked given station (history ++ more)
-same_booked given station history more past notes same says booked =
-    let held = link_at 0 (facts_at given station history).links in
-    let now = link_at 0 (facts_at given station (history ++ more)).links in
-    let held_is : now ≡ held = ap (λ (steps : List Step). link_at 0 (facts_of (setup_at given station) steps).links) past in
-    record {
-      book =
-          subst (λ n. IsBook n (lines_at station (history ++ more)) (since_opened 0 (noted_by station (history ++ more)))) (sym same)
-          (subst (λ (noted : List Note). IsBook (number_of station history) (lines_at station (history ++ more)) (since_opened 0 noted)) (sym notes)
-          (says_book (number_of station history) (lines_at station history) (lines_at station (history ++ more))
-          (since_opened 0 (noted_by station history)) says booked.book));
-      links =
-          says.links ∙ booked.links ∙ ap (λ n. links_for n held) (sym same)
-          ∙ ap (λ (place : Option OpenLink). links_for (number_of station (history ++ more)) place) (sym held_is);
-    }
+says_book : (handle link : ℕ) (before after : Lines) (since : List Note) → IsSameOn link before after → IsBook handle link before since
+    → IsBook handle link after since
+says_book handle link before after since same book = record {
+  sent = same.sent ∙ book.sent;
+  taken = same.taken ∙ book.taken;
+  received = same.received ∙ book.received;
+  credited = same.credited ∙ book.credited;
+}
 
-pub number_event : (station : ℕ) (history : List Event) (event : Event) → is_outside event ≡ true
-    → number_of station (history ++ event ∷ []) ≡ number_of station history
-number_event station history event outside = ap (λ (links : Links). links.link_of station 0) (links_event history event) ∙ by event outside
+pub numbers_event : (station : ℕ) (history : List Event) (event : Event) → is_outside event ≡ true
+    → numbers_at station (history ++ event ∷ []) ≡ numbers_at station history
+numbers_event station history event outside = ap (λ (links : Links). links.link_of station) (links_event history event) ∙ by event outside
   where
     begun : (begins : Bool) (sender : ℕ) (hearings : List Hearing)
-        → (cond begins (with_link sender hearings (links_of history)) (links_of history)).link_of station 0 ≡ number_of station history
+        → (cond begins (with_link sender hearings (links_of history)) (links_of history)).link_of station ≡ numbers_at station history
     begun true sender hearings = refl
     begun false sender hearings = refl
 
-    by : (event : Event) → is_outside event ≡ true → (links_after (links_of history) event).link_of station 0 ≡ number_of station history
+    by : (event : Event) → is_outside event ≡ true → (links_after (links_of history) event).link_of station ≡ numbers_at station history
     by (TurnBegan slot radios) outside = refl
     by (HostFed other octets) outside = refl
     by (Transmitted sender channel octets hearings) outside = begun (begins_link channel octets) sender hearings
@@ -618,19 +815,60 @@ event_says station history (Transmitted sender channel octets hearings) outside 
 event_says station history (Called other step) outside = absurd cc
 event_says station history (Noted other note) outside = absurd cc
 
+pub event_facts : (given : Given) (station : ℕ) (history : List Event) (event : Event) → is_outside event ≡ true
+    → facts_at given station (history ++ event ∷ []) ≡ facts_at given station history
+event_facts given station history event outside =
+    ap (facts_of (setup_at given station)) (flat_nothing (steps_in station) history event (no_steps station event outside))
+
 pub event_booked : (given : Given) (station : ℕ) (history : List Event) (event : Event) → is_outside event ≡ true → IsStationBooked given station history
     → IsStationBooked given station (history ++ event ∷ [])
 event_booked given station history event outside booked =
-    same_booked given station history (event ∷ []) (flat_nothing (steps_in station) history event (no_steps station event outside))
-    (flat_nothing (notes_in station) history event (no_notes station event outside)) (number_event station history event outside)
-    (event_says station history event outside) booked
+    let after = history ++ event ∷ [] in
+    let numbers = numbers_event station history event outside in
+    let facts = event_facts given station history event outside in
+    let notes = flat_nothing (notes_in station) history event (no_notes station event outside) in
+    let says = event_says station history event outside in
+    record {
+      book = λ handle link at.
+          subst (λ (number : ℕ → ℕ). IsBook handle (number handle) (lines_at station after) (since_opened handle (noted_by station after))) (sym numbers)
+          (subst (λ (noted : List Note). IsBook handle (number_at station handle history) (lines_at station after) (since_opened handle noted)) (sym notes)
+          (says_book handle (number_at station handle history) (lines_at station history) (lines_at station after) (since_opened handle (noted_by station history))
+          (says_same (number_at station handle history) (lines_at station history) (lines_at station after) says)
+          (booked.book handle link (ap (λ (f : Facts). link_at handle f.links) (sym facts) ∙ at))));
+      links =
+          subst (λ (links : List OpenUnder). HoldsLinks (setup_at given station).links links (numbers_at station after) (is_open (facts_at given station after).links)) (sym says.links)
+          (subst (λ (number : ℕ → ℕ). HoldsLinks (setup_at given station).links (lines_at station history).links number (is_open (facts_at given station after).links)) (sym numbers)
+          (subst (λ (f : Facts). HoldsLinks (setup_at given station).links (lines_at station history).links (numbers_at station history) (is_open f.links)) (sym facts) booked.links));
+    }
 
-pub feed_booked : OnlyOpenHaveNotes → (given : Given) (station : ℕ) (octets : List ℕ) (history : List Event) → (setup_at given station).links ≤ 1
-    → IsStationBooked given station history → IsStationBooked given station (after_feed given station octets history)
-feed_booked law given station [] history few booked = booked
-feed_booked law given station (octet ∷ octets) history few booked =
-    octets_booked law given station (octet ∷ octets) (history ++ HostFed station (octet ∷ octets) ∷ []) few
-    (event_booked given station history (HostFed station (octet ∷ octets)) refl booked)
+event_own : (given : Given) (station : ℕ) (history : List Event) (event : Event) → is_outside event ≡ true → HaveOwnNumbers given station history
+    → HaveOwnNumbers given station (history ++ event ∷ [])
+event_own given station history event outside own =
+    subst (λ (number : ℕ → ℕ). (one other : ℕ) (a b : OpenLink) → link_at one (facts_at given station (history ++ event ∷ [])).links ≡ Some a
+    → link_at other (facts_at given station (history ++ event ∷ [])).links ≡ Some b → (one == other) ≡ false → (number one == number other) ≡ false)
+    (sym (numbers_event station history event outside))
+    (subst (λ (f : Facts). (one other : ℕ) (a b : OpenLink) → link_at one f.links ≡ Some a → link_at other f.links ≡ Some b → (one == other) ≡ false
+    → (number_at station one history == number_at station other history) ≡ false) (sym (event_facts given station history event outside)) own)
+
+event_none_of : (given : Given) (station other : ℕ) (history : List Event) (event : Event) → is_outside event ≡ true → IsNoneOf given station other history
+    → IsNoneOf given station other (history ++ event ∷ [])
+event_none_of given station other history event outside none handle link at =
+    ap (λ (number : ℕ → ℕ). number handle == other) (numbers_event station history event outside)
+    ∙ none handle link (ap (λ (f : Facts). link_at handle f.links) (sym (event_facts given station history event outside)) ∙ at)
+
+pub feed_kept : (given : Given) (station : ℕ) (octets : List ℕ) (history : List Event) → (setup_at given station).links ≤ 4096 → HaveOwnNumbers given station history
+    → IsStationBooked given station history → KeepsFeed given station history (after_feed given station octets history)
+feed_kept given station [] history few own booked = record { booked = booked; same = λ other none. same_itself other (lines_at station history) }
+feed_kept given station (octet ∷ octets) history few own booked =
+    let event = HostFed station (octet ∷ octets) in
+    let fed = history ++ event ∷ [] in
+    let rest = octets_kept given station (octet ∷ octets) fed few (event_own given station history event refl own) (event_booked given station history event refl booked) in
+    record {
+      booked = rest.booked;
+      same = λ other none. same_then other (lines_at station history) (lines_at station fed) _
+          (says_same other (lines_at station history) (lines_at station fed) (event_says station history event refl))
+          (rest.same other (event_none_of given station other history event refl none));
+    }
 
 -- ---- the other station
 
@@ -658,13 +896,18 @@ not_one station other differs = by (station == other) refl
 
 -- ---- at first
 
-none_first : (n : ℕ) → link_at 0 (replicate n None) ≡ None
-none_first zero = refl
-none_first (suc n) = refl
+none_first : (first handle n : ℕ) → is_some (link_from first handle (replicate n None)) ≡ false
+none_first first handle zero = refl
+none_first first handle (suc n) = by (first == handle) (none_first (first + 1) handle n)
+  where
+    by : (own : Bool) → is_some (link_from (first + 1) handle (replicate n None)) ≡ false → is_some (cond own None (link_from (first + 1) handle (replicate n None))) ≡ false
+    by true rest = refl
+    by false rest = rest
 
 pub first_booked : (given : Given) (station : ℕ) → IsStationBooked given station []
 unfolding lines_of journal_of links_of facts_of
-first_booked given station = record {
-  book = record { sent = refl; taken = refl; received = refl; credited = refl };
-  links = ap (λ (place : Option OpenLink). links_for 0 place) (sym (none_first (setup_at given station).links));
-}
+first_booked given station =
+    let none = λ (handle : ℕ). none_first 0 handle (setup_at given station).links in record {
+      book = λ handle link at. absurd (let h : true ≡ false = sym (ap (λ (place : Option OpenLink). is_some place) at) ∙ none handle in absurd cc);
+      links = holds_none (setup_at given station).links (λ handle. 0) _ none;
+    }

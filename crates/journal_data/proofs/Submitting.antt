@@ -3,7 +3,6 @@ use Rattle.std.proofs.Common.{◌≡◌, ℕ, ◌+◌, ◌≤◌, ◌==◌, Bool
 use Rattle.std.specs.Prelude.{◌-◌, ◌&&◌, fold, map, if◌then◌else◌}
 use Rattle.std.specs.List.{sum_by}
 use Rattle.std.proofs.lemmas.Bool.{or_parts}
-use Rattle.std.proofs.lemmas.Bool.Decides.{nat_tests}
 use Rattle.std.proofs.lemmas.List.{length-append, length-map}
 use Rattle.std.proofs.lemmas.List.Filters.{length-filter_both}
 use Rattle.std.proofs.lemmas.List.Sums.{sum_by-cons}
@@ -32,6 +31,8 @@ use Rattle.run_model.specs.Run.{Given, after_call, after_feed, after_octets, fac
 use Rattle.run_model.proofs.Calls.{past_own, with_notes}
 use Rattle.run_model.proofs.LinksKnown.{link_by_own, links_event}
 use Rattle.run_model.proofs.OpenedNotes.{is_opened, outside_open}
+use Rattle.journal_acks.proofs.Exchanging.{number_at}
+use Rattle.journal_data.proofs.OneLink.{first_handle}
 use Rattle.run_laws.proofs.Hearings.{own_facts}
 use Rattle.run_laws.proofs.TurnPlaces.{event_past}
 use Rattle.controller_model.specs.Since.{count_fed, count_given, count_since, empties_from, empties_of}
@@ -112,36 +113,37 @@ unfolding empties_of facts_of
 empties_more setup handle past step = empties_on_from setup handle (first_facts setup) 0 past step
 
 -- they are not counted anew where no link is opened
-pub other_handle : (handle : ℕ) → (0 == handle) ≡ false → (handle == 0) ≡ false
-other_handle handle is = grind (arith, nat_tests)
-
-pub counted_on : (count : ℕ) (notes : List Note) → is_opened 0 notes ≡ false → fold (count_since 0) count notes ≡ count
-counted_on count [] none = refl
-counted_on count (Opened handle role own peer ∷ notes) none =
-    let parts = or_parts (0 == handle) (is_opened 0 notes) none in
-    ap (λ (b : Bool). fold (count_since 0) (if b then 0 else count) notes) (other_handle handle parts.0)
-    ∙ counted_on count notes parts.1
-counted_on count (note ∷ notes) none = counted_on count notes none
+pub counted_on : (handle count : ℕ) (notes : List Note) → is_opened handle notes ≡ false → fold (count_since handle) count notes ≡ count
+counted_on handle count [] none = refl
+counted_on handle count (Opened other role own peer ∷ notes) none =
+    let parts = or_parts (handle == other) (is_opened handle notes) none in
+    ap (λ (b : Bool). fold (count_since handle) (if b then 0 else count) notes) (other_handle handle other parts.0)
+    ∙ counted_on handle count notes parts.1
+  where
+    other_handle : (handle other : ℕ) → (handle == other) ≡ false → (other == handle) ≡ false
+    other_handle handle other is = grind (arith, is)
+counted_on handle count (note ∷ notes) none = counted_on handle count notes none
 
 -- this number more
-counted_fed : (fed : Fed) (count : ℕ) → count_fed 0 fed count ≡ count_fed 0 fed 0 + count
-counted_fed (Packet (Acl handle start octets body)) count = by ((handle == 0) && (octets == 0))
+counted_fed : (handle : ℕ) (fed : Fed) (count : ℕ) → count_fed handle fed count ≡ count_fed handle fed 0 + count
+counted_fed handle (Packet (Acl other start octets body)) count = by ((other == handle) && (octets == 0))
   where
     by : (is : Bool) → (if is then count + 1 else count) ≡ (if is then 0 + 1 else 0) + count
     by true = omega arith
     by false = omega arith
-counted_fed (Packet (Command opcode body)) count = omega arith
-counted_fed LostSync count = omega arith
-counted_fed More count = omega arith
+counted_fed handle (Packet (Command opcode body)) count = omega arith
+counted_fed handle LostSync count = omega arith
+counted_fed handle More count = omega arith
 
-empties_octet : (setup : Setup) (past : List Step) (octet : ℕ)
-    → empties_of setup 0 (past ++ HostOctet octet ∷ []) ≡ count_fed 0 (result_of (facts_of setup past).octets octet) 0 + empties_of setup 0 past
-empties_octet setup past octet =
+empties_octet : (setup : Setup) (handle : ℕ) (past : List Step) (octet : ℕ)
+    → empties_of setup handle (past ++ HostOctet octet ∷ [])
+    ≡ count_fed handle (result_of (facts_of setup past).octets octet) 0 + empties_of setup handle past
+empties_octet setup handle past octet =
     let facts = facts_of setup past in
-    empties_more setup 0 past (HostOctet octet)
-    ∙ ap (count_fed 0 (result_of facts.octets octet))
-    (counted_on (empties_of setup 0 past) (notes_after setup facts (HostOctet octet)) (outside_open 0 setup facts (HostOctet octet) refl))
-    ∙ counted_fed (result_of facts.octets octet) (empties_of setup 0 past)
+    empties_more setup handle past (HostOctet octet)
+    ∙ ap (count_fed handle (result_of facts.octets octet))
+    (counted_on handle (empties_of setup handle past) (notes_after setup facts (HostOctet octet)) (outside_open handle setup facts (HostOctet octet) refl))
+    ∙ counted_fed handle (result_of facts.octets octet) (empties_of setup handle past)
 
 -- ---- in the middle of what a turn feeds
 
@@ -223,7 +225,7 @@ call_ahead given station octet left history one eight ahead =
     (call_submits station (HostOctet octet) notes history)
     (call_leaves (λ lines. lines.fed) note_feeds station (HostOctet octet) notes history)
     (own_facts given station (HostOctet octet) history)
-    (ap (empties_of setup 0) (past_own station (HostOctet octet) notes history) ∙ empties_octet setup (past_of station history) octet)
+    (ap (empties_of setup 0) (past_own station (HostOctet octet) notes history) ∙ empties_octet setup 0 (past_of station history) octet)
     (octet_ahead (number_of station history) (lines_at station history).submitted (lines_at station history).fed setup (past_of station history)
     (empties_of setup 0 (past_of station history)) octet left one eight ahead)
 
@@ -247,13 +249,42 @@ pub record AreInStep (given : Given) (station : ℕ) (history : List Event) : Ty
       ≡ links_for ((links_of history).link_of station 0) (link_at 0 (facts_at given station history).links)
   pub taken : lines_taken (lines_at station history) ≡ buffers_taken (facts_at given station history).links
 
--- what the lines have of the link under the handle 0 is what the controller has
+-- what the lines have of each open link is what the controller has
 pub record IsSubmitted (given : Given) (station : ℕ) (history : List Event) : Type 0 where
+  pub data_is : (handle : ℕ) (link : OpenLink) → link_at handle (facts_at given station history).links ≡ Some link
+      → data_on (number_at station handle history) (lines_at station history) ≡ (facts_in link).outgoing.given
+  pub empties_are : (handle : ℕ) (link : OpenLink) → link_at handle (facts_at given station history).links ≡ Some link
+      → empties_on (number_at station handle history) (lines_at station history) ≡ empties_of (setup_at given station) handle (past_of station history)
+
+-- the same of the link under the handle 0
+pub record IsFirstSubmitted (given : Given) (station : ℕ) (history : List Event) : Type 0 where
   pub data_is : (link : OpenLink) → link_at 0 (facts_at given station history).links ≡ Some link
       → data_on ((links_of history).link_of station 0) (lines_at station history) ≡ (facts_in link).outgoing.given
   pub empties_are : (link : OpenLink) → link_at 0 (facts_at given station history).links ≡ Some link
       → empties_on ((links_of history).link_of station 0) (lines_at station history)
       ≡ empties_of (setup_at given station) 0 (past_of station history)
+
+pub first_submitted : (given : Given) (station : ℕ) (history : List Event) → IsSubmitted given station history → IsFirstSubmitted given station history
+first_submitted given station history submitted = record { data_is = submitted.data_is 0; empties_are = submitted.empties_are 0 }
+
+pub few_links : (given : Given) (station : ℕ) (history : List Event) → (setup_at given station).links ≤ 1 → length (facts_at given station history).links ≤ 1
+few_links given station history one =
+    let many = (own_handles (setup_at given station) (past_of station history)).many in omega (arith, many, one)
+
+pub all_submitted : (given : Given) (station : ℕ) (history : List Event) → (setup_at given station).links ≤ 1 → IsFirstSubmitted given station history
+    → IsSubmitted given station history
+all_submitted given station history one submitted = record {
+  data_is = λ handle link at.
+      subst (λ n. (link : OpenLink) → link_at n (facts_at given station history).links ≡ Some link
+      → data_on (number_at station n history) (lines_at station history) ≡ (facts_in link).outgoing.given) (sym (zero_at handle link at)) submitted.data_is link at;
+  empties_are = λ handle link at.
+      subst (λ n. (link : OpenLink) → link_at n (facts_at given station history).links ≡ Some link
+      → empties_on (number_at station n history) (lines_at station history) ≡ empties_of (setup_at given station) n (past_of station history)) (sym (zero_at handle link at))
+      submitted.empties_are link at;
+}
+  where
+    zero_at : (handle : ℕ) (link : OpenLink) → link_at handle (facts_at given station history).links ≡ Some link → handle ≡ 0
+    zero_at handle link at = first_handle (facts_at given station history).links handle link (few_links given station history one) at
 
 place_from : (number : ℕ) (submitted : List Submitted) (empties : ℕ) (place : Option OpenLink)
     → ((link : OpenLink) → place ≡ Some link → HasAll number submitted empties link) → PlaceHas number submitted empties place
@@ -267,7 +298,7 @@ place_to number submitted empties (Some one) has link is =
     subst (HasAll number submitted empties) (same_Some one link is) has
 
 pub fed_ahead : (given : Given) (station : ℕ) (octets : List ℕ) (history : List Event) → AreInStep given station history
-    → IsSubmitted given station history → AheadAt given station octets (history ++ HostFed station octets ∷ [])
+    → IsFirstSubmitted given station history → AheadAt given station octets (history ++ HostFed station octets ∷ [])
 fed_ahead given station octets history step submitted =
     let lines = lines_at station history in
     let facts = facts_at given station history in
@@ -287,7 +318,7 @@ fed_ahead given station octets history step submitted =
       fed_are = ap (λ (before : List ℕ). before ++ octets) step.fed;
     })
 
-none_ahead : (given : Given) (station : ℕ) (history : List Event) → AheadAt given station [] history → IsSubmitted given station history
+none_ahead : (given : Given) (station : ℕ) (history : List Event) → AheadAt given station [] history → IsFirstSubmitted given station history
 none_ahead given station history ahead =
     let lines = lines_at station history in
     let facts = facts_at given station history in
@@ -302,14 +333,21 @@ none_ahead given station history ahead =
       empties_are = λ link is. (place_to number lines.submitted empties (link_at 0 facts.links) has link is).empties_are;
     }
 
-pub feed_submitted : (given : Given) (station : ℕ) (octets : List ℕ) (history : List Event) → (setup_at given station).links ≤ 1
-    → (setup_at given station).host_buffers ≡ 8 → AreInStep given station history → IsSubmitted given station history
-    → IsSubmitted given station (after_feed given station octets history)
-feed_submitted given station [] history one eight step submitted = submitted
-feed_submitted given station (octet ∷ octets) history one eight step submitted =
+pub feed_first : (given : Given) (station : ℕ) (octets : List ℕ) (history : List Event) → (setup_at given station).links ≤ 1
+    → (setup_at given station).host_buffers ≡ 8 → AreInStep given station history → IsFirstSubmitted given station history
+    → IsFirstSubmitted given station (after_feed given station octets history)
+feed_first given station [] history one eight step submitted = submitted
+feed_first given station (octet ∷ octets) history one eight step submitted =
     none_ahead given station _
     (octets_ahead given station (octet ∷ octets) (history ++ HostFed station (octet ∷ octets) ∷ []) one eight
     (fed_ahead given station (octet ∷ octets) history step submitted))
+
+pub feed_submitted : (given : Given) (station : ℕ) (octets : List ℕ) (history : List Event) → (setup_at given station).links ≤ 1
+    → (setup_at given station).host_buffers ≡ 8 → AreInStep given station history → IsSubmitted given station history
+    → IsSubmitted given station (after_feed given station octets history)
+feed_submitted given station octets history one eight step submitted =
+    all_submitted given station (after_feed given station octets history) one
+    (feed_first given station octets history one eight step (first_submitted given station history submitted))
 
 -- ---- the octets that the lines have
 
@@ -406,7 +444,7 @@ pub taken_agree : (given : Given) (station : ℕ) (history : List Event) → (se
     lines.links ≡ links_for number (link_at 0 links)
     → ((link : OpenLink) → link_at 0 links ≡ Some link → complete_in link ≡ 0)
     → ((link : OpenLink) → link_at 0 links ≡ Some link → credited_on number lines ≡ (facts_in link).outgoing.reported + empties_on number lines)
-    → IsSubmitted given station history → lines_taken lines ≡ buffers_taken links
+    → IsFirstSubmitted given station history → lines_taken lines ≡ buffers_taken links
 taken_agree given station history one are none credited submitted =
     let number = (links_of history).link_of station 0 in
     let lines = lines_at station history in
@@ -424,7 +462,7 @@ pub in_step : (given : Given) (station : ℕ) (history : List Event) → (setup_
     HasFed given station history → lines.links ≡ links_for number (link_at 0 links)
     → ((link : OpenLink) → link_at 0 links ≡ Some link → complete_in link ≡ 0)
     → ((link : OpenLink) → link_at 0 links ≡ Some link → credited_on number lines ≡ (facts_in link).outgoing.reported + empties_on number lines)
-    → IsSubmitted given station history → AreInStep given station history
+    → IsFirstSubmitted given station history → AreInStep given station history
 in_step given station history one fed are none credited submitted = record {
   fed = fed;
   links = are;

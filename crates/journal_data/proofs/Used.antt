@@ -1,6 +1,7 @@
 -- A link of which the lines of a station say something began before this turn.
-use Rattle.std.proofs.Common.{◌≡◌, ℕ, ◌+◌, ◌<◌, Bool, true, false, Some, List, [], ◌∷◌, ◌++◌, refl, sym, ap, ◌∙◌, arith}
-use Rattle.std.specs.Prelude.{map}
+use Rattle.std.proofs.Common.{◌≡◌, ℕ, ◌+◌, ◌<◌, ◌==◌, Bool, true, false, Some, List, [], ◌∷◌, ◌++◌, refl, sym, ap, ◌∙◌, arith}
+use Rattle.std.specs.Prelude.{◌||◌, map}
+use Rattle.std.proofs.lemmas.Bool.{eqb-true}
 use Rattle.ble_base.specs.declared.notes.Note.{Note}
 use Rattle.ble_base.specs.declared.notes.Note.TheVariants.{Opened}
 use Rattle.controller_model.specs.Notes.{is_opening}
@@ -19,7 +20,7 @@ use Rattle.journal_acks.proofs.FirstCounts.{turns_grow}
 use Rattle.journal_data.specs.Lines.{Lines, submitted_on}
 use Rattle.journal_data.proofs.EachLine.{lines_at}
 use Rattle.journal_data.proofs.Openness.{AreNot, IsNotedAs, stays, shuts, opens_first}
-use Rattle.journal_data.proofs.StationLines.{IsUnused}
+use Rattle.journal_data.proofs.StationLines.{IsUnused, swapped}
 
 -- the link with this number began before this turn
 pub record IsOldLink (number : ℕ) (history : List Event) : Type 0 where
@@ -78,17 +79,26 @@ old_feed given station (octet ∷ octets) history number old =
 
 -- ---- which call opens a link
 
-pub none_opened : (notes : List Note) → AreNot is_opening notes → is_opened 0 notes ≡ false
-none_opened [] none = refl
-none_opened (Opened handle role own peer ∷ notes) none = absurd (let h : true ≡ false = none.0 in absurd cc)
-none_opened (note ∷ notes) none = none_opened notes none.1
+none_opened : (handle : ℕ) (notes : List Note) → AreNot is_opening notes → is_opened handle notes ≡ false
+none_opened handle [] none = refl
+none_opened handle (Opened other role own peer ∷ notes) none = absurd (let h : true ≡ false = none.0 in absurd cc)
+none_opened handle (note ∷ notes) none = none_opened handle notes none.1
 
--- it was not open before, and is open after
+-- none was open under a handle before, and one is after
 pub record OpensNow (before after : Bool) : Type 0 where
   pub free : before ≡ false
   pub now : after ≡ true
 
-pub opened_now : (before after : Bool) (notes : List Note) → IsNotedAs before after notes → is_opened 0 notes ≡ true → OpensNow before after
-opened_now before after notes (stays none shut same) opened = absurd (let h : true ≡ false = sym opened ∙ none_opened notes none in absurd cc)
-opened_now before after notes (shuts none reports is) opened = absurd (let h : true ≡ false = sym opened ∙ none_opened notes none in absurd cc)
-opened_now before after notes (opens_first role own peer rest is none shut reports free now) opened = record { free = free; now = now }
+pub opened_now : (handle : ℕ) (before after : ℕ → Bool) (notes : List Note) → IsNotedAs before after notes → is_opened handle notes ≡ true
+    → OpensNow (before handle) (after handle)
+opened_now handle before after notes (stays none shut same) opened =
+    absurd (let h : true ≡ false = sym opened ∙ none_opened handle notes none in absurd cc)
+opened_now handle before after notes (shuts none reports opens) opened =
+    absurd (let h : true ≡ false = sym opened ∙ none_opened handle notes none in absurd cc)
+opened_now handle before after notes (opens_first other role own peer rest is none shut reports free now opens) opened = by (other == handle) refl
+  where
+    by : (same : Bool) → (other == handle) ≡ same → OpensNow (before handle) (after handle)
+    by true same = let equal = eqb-true other handle same in record { free = ap before (sym equal) ∙ free; now = ap after (sym equal) ∙ now }
+    by false differs =
+        absurd (let h : true ≡ false = sym opened ∙ ap (is_opened handle) is ∙ ap (λ (b : Bool). b || is_opened handle rest) (swapped handle other ∙ differs)
+        ∙ none_opened handle rest none in absurd cc)

@@ -1,6 +1,6 @@
 -- Each line of a new PDU is of the next piece of what the host of its side submitted, with the next number.
 use Rattle.std.proofs.Common.{◌≡◌, ℕ, ◌+◌, ◌≤◌, ◌&&◌, not, Bool, true, false, Option, Some, None, List, [], ◌∷◌, ◌++◌, length, refl, sym, ap, subst, ◌∙◌, append-nil, append_assoc}
-use Rattle.std.specs.Prelude.{All, is_some, map}
+use Rattle.std.specs.Prelude.{All, map}
 use Rattle.std.proofs.lemmas.List.Elements.{All-head, All-tail}
 use Rattle.ble_base.specs.declared.notes.Note.{Note}
 use Rattle.ble_base.specs.declared.notes.Note.TheVariants.{Up as UpNote, Sent as SentNote}
@@ -58,15 +58,14 @@ use Rattle.journal_acks.proofs.TwoStations.{IsOfTwo, same_number}
 use Rattle.journal_data.specs.Lines.{Lines, PduLine, data_on, line_after, pdus_on}
 use Rattle.journal_data.proofs.Arriving.{data_nonempty, lines_data, lines_length, pdu_lines}
 use Rattle.journal_data.proofs.CallMiddle.{call_leaves}
-use Rattle.journal_data.proofs.EachLine.{lines_at, number_of}
+use Rattle.journal_data.proofs.EachLine.{lines_at}
 use Rattle.journal_data.proofs.Ends.{IsWell, sound}
 use Rattle.journal_data.proofs.KeptData.{IsDataAt, data_kept, pass_in_turn}
-use Rattle.journal_data.proofs.Law.{first_data, only_open}
-use Rattle.journal_data.proofs.OneLink.{HaveOneLink, few_links, first_handle}
+use Rattle.journal_data.proofs.Law.{first_data}
+use Rattle.journal_data.proofs.OneLink.{HaveOneLink}
 use Rattle.journal_data.proofs.Openness.{AreNot, opens_where_free}
 use Rattle.journal_data.proofs.SameGiven.{WasGiven, after_sent, given_in, turn_given}
 use Rattle.journal_data.proofs.Submitting.{call_submits}
-use Rattle.journal_data.proofs.Used.{none_opened}
 use Rattle.journal_pdus.specs.Exchanged.{AllAreNext}
 use Rattle.journal_pdus.specs.Waiting.{IsNextPdu, data_of_lines, next_pdu, octets_sent}
 use Rattle.journal_pdus.proofs.FixedNow.{AllSendFixed, IsFixed, fixed_first, fixed_kept, same_base}
@@ -163,31 +162,30 @@ sent_by P starts base none is = sent_if P starts base (is_acked (ack_of base) &&
 abbrev IsNextAt : ℕ → List Event → ℕ → ℕ → Pdu → Type 0
 IsNextAt number history station count pdu = IsNextPdu number (journal_of history) (side_of station) count pdu
 
--- the link as a call finds it, and as it sends
-record IsSendingIn (given : Given) (station : ℕ) (history : List Event) (step : Step) (base : OpenLink) : Type 0 where
+-- the link under a handle as a call finds it, and as it sends
+record IsSendingIn (given : Given) (station handle : ℕ) (history : List Event) (step : Step) (base : OpenLink) : Type 0 where
   in_turn : IsInTurn step
   old : OpenLink
-  was : link_at 0 (facts_at given station history).links ≡ Some old
+  was : link_at handle (facts_at given station history).links ≡ Some old
   slot : ℕ
-  now : link_at 0 (facts_after (setup_at given station) (facts_at given station history) step).links ≡ Some (link_after (PacketSent slot) base)
+  now : link_at handle (facts_after (setup_at given station) (facts_at given station history) step).links ≡ Some (link_after (PacketSent slot) base)
   sent : (ack_of base).sent ≡ (ack_of old).sent
   fixed : IsFixedNow (facts_in base).outgoing
 
-next_at : (given : Given) (station : ℕ) (history : List Event) (step : Step) (base : OpenLink) → (setup_at given station).links ≤ 1
-    → (setup_at given station).host_buffers ≡ 8 → IsWell given station history → IsSendingIn given station history step base
-    → IsNextAt (number_of station history) history station (numbered (ack_of base).sent + 1) (facts_in base).outgoing.fixed
-next_at given station history step base few eight well sending =
+next_at : (given : Given) (station handle : ℕ) (history : List Event) (step : Step) (base : OpenLink) → (setup_at given station).links ≤ 1
+    → (setup_at given station).host_buffers ≡ 8 → IsWell given station history → IsSendingIn given station handle history step base
+    → IsNextAt (number_at station handle history) history station (numbered (ack_of base).sent + 1) (facts_in base).outgoing.fixed
+next_at given station handle history step base few eight well sending =
     let setup = setup_at given station in
     let facts = facts_at given station history in
     let past = past_of station history in
-    let notes = notes_after setup facts step in
     let old = sending.old in
-    let number = number_of station history in
+    let number = number_at station handle history in
     let lines = lines_at station history in
-    let booked = (sound given station history old few eight well sending.was).booked in
-    let opens = none_opened notes (opens_where_free setup facts step few (own_handles setup past) (ap (λ (place : Option OpenLink). is_some place) sending.was)) in
-    let was : WasGiven (link_at 0 facts.links) (link_after (PacketSent sending.slot) base) =
-    turn_given setup past step sending.in_turn (link_after (PacketSent sending.slot) base) sending.now false opens in
+    let booked = (sound given station handle history old few eight well sending.was).booked in
+    let opens = opens_where_free setup past step handle old sending.was in
+    let was : WasGiven (link_at handle facts.links) (link_after (PacketSent sending.slot) base) =
+    turn_given handle setup past step sending.in_turn (link_after (PacketSent sending.slot) base) sending.now false opens in
     let same : was.old ≡ old = let some : Some was.old ≡ Some old = sym was.was ∙ sending.was in cc in
     let given_is : (facts_in base).outgoing.given ≡ data_on number lines =
     sym (after_sent sending.slot base) ∙ was.same ∙ ap given_in same ∙ sym booked.submitted in
@@ -240,13 +238,13 @@ fixed_base facts other slot base all sends at =
     let sending = all other (link_after (PacketSent slot) base) sends at in
     subst (λ (l : OpenLink). IsFixedNow (facts_in l).outgoing) (sym (same_base slot facts.turn.slot base sending.link sending.after_is)) sending.fixed
 
--- the note of it is under the handle 0
-under_first : (history : List Event) (station own count : ℕ) (pdu : Pdu) → own ≡ 0 → IsNextAt (number_of station history) history station count pdu
+-- the note of it is under the handle of its link
+under_own : (history : List Event) (station own handle count : ℕ) (pdu : Pdu) → own ≡ handle → IsNextNote history station handle count pdu
     → IsNextNote history station own count pdu
-under_first history station own count pdu zero is = subst (λ n. IsNextNote history station n count pdu) (sym zero) is
+under_own history station own handle count pdu same is = subst (λ n. IsNextNote history station n count pdu) (sym same) is
 
 module _ (given : Given) (pair : HaveOneLink given) (eight : (station : ℕ) → (setup_at given station).host_buffers ≡ 8) (station : ℕ) (history : List Event)
-    (in_it : is_in station given.stations ≡ true) (well : IsWell given station history) (few : length (facts_at given station history).links ≤ 1) where
+    (in_it : is_in station given.stations ≡ true) (well : IsWell given station history) where
   abbrev facts : Facts
   facts = facts_at given station history
 
@@ -271,19 +269,18 @@ module _ (given : Given) (pair : HaveOneLink given) (eight : (station : ℕ) →
           let next = facts_after setup facts (TurnBegins slot on) in
           let sent = sent_at now other outcome.next outcome.facts.links base sends found in
           let begun = begins_under setup facts slot on other after sent in
-          let zero = first_handle facts.links other begun.link few begun.was in
           let own = handle_is 0 other outcome.facts.links base (own_begun setup slot on facts (own_handles setup (past_of station history))).handles found in
           let base_is : begun.base ≡ base = let some : Some begun.base ≡ Some base = sym begun.found ∙ found in cc in
           let ack = base_ack facts slot on other _ after begun in
           subst (λ (more : List Note). IsSentLast (IsNextNote history station) (start ++ more)) (sym noted)
           (sent_by (IsNextNote history station) start base none
-          (under_first history station base.setup.link.handle (numbered (ack_of base).sent + 1) (facts_in base).outgoing.fixed (own ∙ zero)
-          (next_at given station history (TurnBegins slot on) base (pair.links station) (eight station) well (record {
+          (under_own history station base.setup.link.handle other (numbered (ack_of base).sent + 1) (facts_in base).outgoing.fixed own
+          (next_at given station other history (TurnBegins slot on) base (pair.links station) (eight station) well (record {
             in_turn = tt;
             old = begun.link;
-            was = subst (λ n. link_at n facts.links ≡ Some begun.link) zero begun.was;
+            was = begun.was;
             slot = now;
-            now = subst (λ n. link_at n next.links ≡ Some after) zero sent;
+            now = sent;
             sent = ap (λ (l : OpenLink). (ack_of l).sent) (sym base_is) ∙ ap (λ a. a.sent) ack;
             fixed = fixed_base next other now base all sends sent;
           }))))
@@ -306,17 +303,16 @@ module _ (given : Given) (pair : HaveOneLink given) (eight : (station : ℕ) →
       let here = received_at slot other octets room facts.links base was in
       let sends = same_number other in
       let sent = sent_at slot other (PeripheralSends other) links taken sends here in
-      let zero = first_handle facts.links other base few was in
       let own = handle_is 0 other facts.links base (own_handles setup (past_of station history)).handles was in
       subst (λ (more : List Note). IsSentLast (IsNextNote history station) (starts ++ more)) (sym (ap (notes_sent slot) here))
       (sent_by (IsNextNote history station) starts taken none
-      (under_first history station taken.setup.link.handle (numbered (ack_of taken).sent + 1) (facts_in taken).outgoing.fixed (own ∙ zero)
-      (next_at given station history (step_of (Some octets)) taken (pair.links station) (eight station) well (record {
+      (under_own history station taken.setup.link.handle other (numbered (ack_of taken).sent + 1) (facts_in taken).outgoing.fixed own
+      (next_at given station other history (step_of (Some octets)) taken (pair.links station) (eight station) well (record {
         in_turn = in_turn;
         old = base;
-        was = subst (λ n. link_at n facts.links ≡ Some base) zero was;
+        was = was;
         slot = slot;
-        now = ap (λ (f : Facts). link_at 0 f.links) after_is ∙ subst (λ n. link_at n next.links ≡ Some (link_after (PacketSent slot) taken)) zero sent;
+        now = ap (λ (f : Facts). link_at other f.links) after_is ∙ sent;
         sent = (sent_same slot octets room base).sent;
         fixed = fixed_base next other slot taken (subst AllSendFixed after_is all) sends sent;
       }))))
@@ -361,18 +357,16 @@ module _ (whole : IsHeardWhole) (given : Given) (Q : Place → List Event → Ty
     feeds = λ station octet history. octet_next given history station octet;
     begins = λ plan slot done left station history are is next.
         let on = plan.radio_of station in
-        let in_it = among given.stations done left station are in
-        let few = few_links given pair station (facts_at given station history) (is.counted.holds.so_far.last.each station in_it) in record {
-          last = begin_last given pair eight station history in_it (is.are.well station in_it) few slot on
+        let in_it = among given.stations done left station are in record {
+          last = begin_last given pair eight station history in_it (is.are.well station in_it) slot on
               (own_fixed (AtBegins (done ++ station ∷ []) left) station (TurnBegins slot on) history in_it next);
           of = begun_call whole given Q known are_two six distinct done left station slot on history are
               (between_turns given Q distinct done left station history are is.counted).uses.in_turn is.counted;
         };
     passes = λ phases done left station history are is next.
         let received = packet_received station history in
-        let in_it = among given.stations done left station are in
-        let few = few_links given pair station (facts_at given station history) (is.counted.holds.so_far.last.each station in_it) in record {
-          last = phase_last given pair eight station history in_it (is.are.well station in_it) few received
+        let in_it = among given.stations done left station are in record {
+          last = phase_last given pair eight station history in_it (is.are.well station in_it) received
               (own_fixed (AtListening phases (done ++ station ∷ []) left) station (step_of received) history in_it next);
           of = call_is given Q known distinct phases done left station history are is.counted next.counted.known next.counted.holds;
         };
@@ -423,6 +417,6 @@ next_of_lines whole understood taken nth apart given are_two pair six distinct e
     to_line (λ number entries one. IsNextPdu number entries one count (record { llid = llid; body = body })) given front side link count llid body call
     (next_before given call.station call.step call.base call.before call.earlier call.later call.handle count llid body call.notes_are call.before_is
     (each_at (OfCall given (IsNextCall given)) (history_of (run_of given)) call.base call.after (Called call.station call.step)
-    (run_calls given (IsNextCall given) (IsDataAt given Q) (data_kept only_open whole given Q known are_two pair six distinct eight)
+    (run_calls given (IsNextCall given) (IsDataAt given Q) (data_kept whole given Q known are_two pair six distinct eight)
     (have_next whole given Q known are_two pair six distinct eight) (first_data given).is)
     call.called))

@@ -1,9 +1,9 @@
 -- The end that is to transmit a packet on its link, by what the lines before it say.
-use Rattle.std.proofs.Common.{◌≡◌, ℕ, ◌+◌, true, false, Some, List, [], ◌∷◌, ◌++◌, length, sym, ap, subst, ◌∙◌}
+use Rattle.std.proofs.Common.{◌≡◌, ℕ, ◌+◌, true, false, List, [], ◌∷◌, ◌++◌, length, sym, ap, ◌∙◌}
 use Rattle.link_model.proofs.Received.{IsHeardWhole}
 use Rattle.link_model.specs.Acknowledgement.{Acknowledgement}
 use Rattle.link_model.specs.Step.{PacketSent}
-use Rattle.open_links.specs.OpenLinks.{OpenLink, facts_in, link_after, link_at}
+use Rattle.open_links.specs.OpenLinks.{OpenLink, facts_in, link_after}
 use Rattle.controller_model.specs.Facts.{Facts, Sends}
 use Rattle.controller_model.specs.Since.{data_waiting}
 use Rattle.run_model.specs.Feeding.{AreDistinct}
@@ -17,8 +17,7 @@ use Rattle.run_model.proofs.Walk.{Place, AtPackets}
 use Rattle.run_laws.proofs.Agreed.{ack_of, ack_sent, sent_ack}
 use Rattle.journal_packets.specs.Senders.{IsOfSendersLink}
 use Rattle.journal_acks.specs.Carried.{carried_of}
-use Rattle.journal_acks.specs.Counted.{IsCounted}
-use Rattle.journal_acks.specs.Exchange.{Exchanged, with_sent}
+use Rattle.journal_acks.specs.Exchange.{Exchanged}
 use Rattle.journal_acks.proofs.AirCounts.{sender_counted, sends_it}
 use Rattle.journal_acks.proofs.Counting.{AreKnown}
 use Rattle.journal_acks.proofs.Exchanging.{exchange_at, number_at}
@@ -29,7 +28,7 @@ use Rattle.journal_acks.proofs.TwoStations.{IsOfTwo}
 use Rattle.journal_data.proofs.Arriving.{IsEndBooked}
 use Rattle.journal_data.proofs.EachLine.{lines_at}
 use Rattle.journal_data.proofs.Ends.{sound}
-use Rattle.journal_data.proofs.OneLink.{HaveOneLink, few_links, first_handle}
+use Rattle.journal_data.proofs.OneLink.{HaveOneLink}
 use Rattle.journal_pdus.proofs.Together.{IsKnownAt}
 
 module _ (whole : IsHeardWhole) (given : Given) (Q : Place → List Event → Type 0) (known : AreKnown given Q) (are_two : IsOfTwo given) (pair : HaveOneLink given)
@@ -54,35 +53,26 @@ module _ (whole : IsHeardWhole) (given : Given) (Q : Place → List Event → Ty
   sent_end = link_after (PacketSent from.slot) from.link
 
   abbrev pub number : ℕ
-  number = number_at station 0 history
+  number = number_at station from.handle history
 
   abbrev pub end : Exchanged
   end = exchange_at number history (side_of station)
 
-  -- its station has no other link
-  pub first : from.handle ≡ 0
-  first = first_handle sender.links from.handle sent_end (few_links given pair station sender (counted.holds.so_far.last.each station in_it)) from.is_open
-
-  pub at_first : link_at 0 sender.links ≡ Some sent_end
-  at_first = subst (λ n. link_at n sender.links ≡ Some sent_end) first from.is_open
-
-  pub sends_first : sends_under 0 sender.turn.doing ≡ true
-  sends_first =
-      ap (λ n. sends_under n sender.turn.doing) (sym first)
-      ∙ sends_it whole given Q known are_two six distinct phases done left station channel octets [] history are wanted counted.known counted.holds counted.counted off
+  pub sends_on : sends_under from.handle sender.turn.doing ≡ true
+  sends_on =
+      sends_it whole given Q known are_two six distinct phases done left station channel octets [] history are wanted counted.known counted.holds counted.counted off
 
   pub acked_is : end.acked ≡ (ack_of from.link).acked
   acked_is =
-      (subst (λ h. IsCounted (with_sent (exchange_at (number_at station h history) history (side_of station))) (ack_of sent_end)) first
-      (sender_counted whole given Q known are_two six distinct phases done left station channel octets [] history are wanted counted.known counted.holds counted.counted off)).acked
+      (sender_counted whole given Q known are_two six distinct phases done left station channel octets [] history are wanted counted.known counted.holds counted.counted off).acked
       ∙ ap (λ (a : Acknowledgement). a.acked) (ack_sent from.slot from.link)
 
   -- the packet carries what it sent last
   pub carried_is : carried_of number (journal_of history) (side_of station) ≡ (sent_ack (facts_in from.link)).last
   carried_is =
-      sym ((has.lined.lines station 0 sent_end in_it at_first).last end.acked
+      sym ((has.lined.lines station from.handle sent_end in_it from.is_open).last end.acked
       (ap (λ n. n + 1) acked_is ∙ sent_out from.link ∙ ap (λ (a : Acknowledgement). length a.sent) (sym (ack_sent from.slot from.link))))
       ∙ ap (λ (a : Acknowledgement). a.last) (ack_sent from.slot from.link)
 
-  pub booked_is : IsEndBooked number (lines_at station history) (facts_in sent_end) (data_waiting 0 sender.received)
-  booked_is = (sound given station history sent_end (pair.links station) (eight station) (has.data_is.are.well station in_it) at_first).booked
+  pub booked_is : IsEndBooked number (lines_at station history) (facts_in sent_end) (data_waiting from.handle sender.received)
+  booked_is = (sound given station from.handle history sent_end (pair.links station) (eight station) (has.data_is.are.well station in_it) from.is_open).booked

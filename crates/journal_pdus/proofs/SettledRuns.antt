@@ -1,7 +1,6 @@
 -- Before each turn of a run of a pair, and at its end, each host has received all data that its side took, and is told of
 -- all its packets that are acknowledged.
-use Rattle.std.proofs.Common.{◌≡◌, ℕ, true, Bool, Option, Some, None, List, [], ◌∷◌, ◌++◌, refl, sym, ap, subst, ◌∙◌}
-use Rattle.std.specs.Prelude.{is_some}
+use Rattle.std.proofs.Common.{◌≡◌, ℕ, true, Bool, Option, Some, List, [], ◌∷◌, ◌++◌, refl, sym, ap, subst, ◌∙◌}
 use Rattle.ble_base.specs.declared.notes.Note.{Note}
 use Rattle.ble_base.specs.declared.notes.Note.TheVariants.{Up as UpNote}
 use Rattle.ble_base.specs.declared.roles.Side.{Side}
@@ -33,11 +32,14 @@ use Rattle.journal_acks.proofs.Seen.{IsSeen, seen_last, seen_turn}
 use Rattle.journal_acks.proofs.TwoStations.{IsOfTwo}
 use Rattle.journal_data.specs.HostLines.{OpenUnder}
 use Rattle.journal_data.specs.Lines.{lines_of}
-use Rattle.journal_data.proofs.EachLine.{number_of}
+use Rattle.journal_data.proofs.EachLine.{lines_at, numbers_at}
+use Rattle.journal_data.proofs.HeldLinks.{one_of}
+use Rattle.journal_data.proofs.Openness.{is_open}
+use Rattle.journal_acks.proofs.Exchanging.{number_at}
 use Rattle.journal_data.proofs.Ends.{sound}
 use Rattle.journal_data.proofs.FedInRuns.{between_standing}
 use Rattle.journal_data.proofs.OneLink.{HaveOneLink}
-use Rattle.journal_data.proofs.StationLines.{for_open, links_open}
+use Rattle.journal_data.proofs.StationLines.{IsStationBooked, is_link}
 use Rattle.journal_pdus.specs.Exchanged.{AllAreSettled}
 use Rattle.journal_pdus.specs.Settled.{AreSettled, IsSettled}
 use Rattle.journal_pdus.proofs.SettledEnds.{settled_end}
@@ -45,21 +47,20 @@ use Rattle.journal_pdus.proofs.Together.{IsKnownAt, known_first, known_kept}
 
 -- ---- the links that are open by the lines
 
--- it is the link in this place
-record IsOfPlace (number : ℕ) (place : Option OpenLink) (one : OpenUnder) : Type 0 where
+-- one of them is open under its handle, with its number
+record IsOfPlace (given : Given) (station : ℕ) (history : List Event) (one : OpenUnder) : Type 0 where
+  handle : ℕ
   link : OpenLink
-  at : place ≡ Some link
-  number_is : one.link ≡ number
+  at : link_at handle (facts_at given station history).links ≡ Some link
+  number_is : one.link ≡ number_at station handle history
 
-open_in : (number : ℕ) (place : Option OpenLink) (before after : List OpenUnder) (one : OpenUnder) → links_open number (is_some place) ≡ before ++ one ∷ after
-    → IsOfPlace number place one
-open_in number None [] after one are = absurd cc
-open_in number None (first ∷ before) after one are = absurd cc
-open_in number (Some link) [] after one are =
-    let same : record { link = number; handle = 0 } ≡ one = cc in
-    record { link = link; at = refl; number_is = sym (ap (λ (o : OpenUnder). o.link) same) }
-open_in number (Some link) (first ∷ []) after one are = absurd (let rest : [] ≡ one ∷ after = cc in absurd cc)
-open_in number (Some link) (first ∷ second ∷ before) after one are = absurd (let rest : [] ≡ second ∷ (before ++ one ∷ after) = cc in absurd cc)
+open_in : (given : Given) (station : ℕ) (history : List Event) (before after : List OpenUnder) (one : OpenUnder) → IsStationBooked given station history
+    → (lines_at station history).links ≡ before ++ one ∷ after → IsOfPlace given station history one
+open_in given station history before after one booked are =
+    let of = one_of (setup_at given station).links (lines_at station history).links (numbers_at station history) (is_open (facts_at given station history).links) booked.links
+    before after one are in
+    let found = is_link (link_at one.handle (facts_at given station history).links) of.is_open in
+    record { handle = one.handle; link = found.link; at = found.is; number_is = of.number_is }
 
 -- ---- between two turns
 
@@ -74,18 +75,18 @@ module _ (given : Given) (Q : Place → List Event → Type 0) (are_two : IsOfTw
   rests station in_it =
       between_standing (past_of station history) (stands_at NoTurn station (turns_begun history)) (is.data_is.counted.holds.hearing.stand station in_it)
 
-  settled_on : (station : ℕ) → is_in station given.stations ≡ true → (link : OpenLink) → link_at 0 (facts_at given station history).links ≡ Some link
-      → IsSettled (number_of station history) (side_of station) (journal_of history)
-  settled_on station in_it link at =
+  settled_on : (station handle : ℕ) → is_in station given.stations ≡ true → (link : OpenLink) → link_at handle (facts_at given station history).links ≡ Some link
+      → IsSettled (number_at station handle history) (side_of station) (journal_of history)
+  settled_on station handle in_it link at =
       let setup = setup_at given station in
       let past = past_of station history in
-      settled_end (number_of station history) (side_of station) (journal_of history) (facts_in link) (data_waiting 0 (facts_at given station history).received)
-      (sound given station history link (pair.links station) (eight station) (is.data_is.are.well station in_it) at).booked
-      (ap (data_waiting 0) (nothing_waits setup past (rests station in_it)))
+      settled_end (number_at station handle history) (side_of station) (journal_of history) (facts_in link) (data_waiting handle (facts_at given station history).received)
+      (sound given station handle history link (pair.links station) (eight station) (is.data_is.are.well station in_it) at).booked
+      (ap (data_waiting handle) (nothing_waits setup past (rests station in_it)))
       (past_holds link.setup link.past)
-      (none_complete setup past 0 link (rests station in_it) at)
-      (is.lined.lines station 0 link in_it at)
-      (between_turns given Q history is.data_is.counted station 0 link in_it at).acked
+      (none_complete setup past handle link (rests station in_it) at)
+      (is.lined.lines station handle link in_it at)
+      (between_turns given Q history is.data_is.counted station handle link in_it at).acked
 
   abbrev IsSettledSide : Side → Type 0
   IsSettledSide side = (before after : List OpenUnder) (one : OpenUnder) → (lines_of 8 side (journal_of history)).links ≡ before ++ one ∷ after
@@ -93,10 +94,8 @@ module _ (given : Given) (Q : Place → List Event → Type 0) (are_two : IsOfTw
 
   settled_side : (station : ℕ) → is_in station given.stations ≡ true → IsSettledSide (side_of station)
   settled_side station in_it = λ before after one are.
-      let number = number_of station history in
-      let found = open_in number (link_at 0 (facts_at given station history).links) before after one
-      (sym (for_open number (link_at 0 (facts_at given station history).links)) ∙ sym (is.data_is.are.well station in_it).booked.links ∙ are) in
-      subst (λ n. IsSettled n (side_of station) (journal_of history)) (sym found.number_is) (settled_on station in_it found.link found.at)
+      let found = open_in given station history before after one (is.data_is.are.well station in_it).booked are in
+      subst (λ n. IsSettled n (side_of station) (journal_of history)) (sym found.number_is) (settled_on station found.handle in_it found.link found.at)
 
   settled_between : AreSettled (journal_of history)
   settled_between = λ side before after one are. by_side given are_two IsSettledSide settled_side side before after one are

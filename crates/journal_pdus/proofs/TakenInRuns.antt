@@ -1,5 +1,5 @@
 -- In every run of a pair a side takes each PDU as the first good packet brings it: the next line of the side is that it takes it.
-use Rattle.std.proofs.Common.{◌≡◌, ℕ, zero, suc, ◌+◌, ◌<◌, ◌≤◌, ◌==◌, ◌&&◌, not, Bool, true, false, Option, Some, None, List, [], ◌∷◌, ◌++◌, length, refl, sym, ap, subst, ◌∙◌, nat_lt, arith}
+use Rattle.std.proofs.Common.{◌≡◌, ℕ, zero, suc, ◌+◌, ◌<◌, ◌==◌, ◌&&◌, not, Bool, true, false, Option, Some, None, List, [], ◌∷◌, ◌++◌, length, refl, sym, ap, subst, ◌∙◌, nat_lt, arith}
 use Rattle.std.specs.Prelude.{All, map, take, if◌then◌else◌}
 use Rattle.std.proofs.lemmas.Bool.{eqb-true}
 use Rattle.ack_bit.specs.Nonempty.{nonempty}
@@ -14,7 +14,7 @@ use Rattle.link_model.specs.Packets.{pdu_sent}
 use Rattle.link_model.specs.Pair.{AreInAgreement}
 use Rattle.link_model.specs.Step.{PacketSent}
 use Rattle.link_model.proofs.Received.{IsHeardWhole}
-use Rattle.open_links.specs.OpenLinks.{OpenLink, facts_in, link_after, link_at}
+use Rattle.open_links.specs.OpenLinks.{OpenLink, facts_in, link_after}
 use Rattle.open_links.proofs.Handles.{handle_is}
 use Rattle.controller_model.specs.Facts.{Facts, Sends, Listens}
 use Rattle.controller_model.specs.Heard.{has_room}
@@ -46,7 +46,6 @@ use Rattle.run_laws.proofs.Hearings.{other_facts, wanted_is}
 use Rattle.run_laws.proofs.InAgreement.{TakesShort, WithAll, differs_back}
 use Rattle.run_laws.proofs.OpenSteps.{open_has}
 use Rattle.run_laws.proofs.TurnPlaces.{Within, turned}
-use Rattle.journal_links.specs.Begun.{LinkBegun, link_numbered}
 use Rattle.journal_packets.specs.Belonging.{is_side, link_of_packet}
 use Rattle.journal_packets.specs.Senders.{IsOfSendersLink}
 use Rattle.journal_packets.proofs.AccessOrder.{AreNth}
@@ -54,9 +53,9 @@ use Rattle.journal_packets.proofs.SoFar.{IsBelongingSoFar}
 use Rattle.journal_acks.specs.Carried.{carried_of}
 use Rattle.journal_acks.specs.Counted.{IsCounted}
 use Rattle.journal_acks.specs.Exchange.{with_sent}
-use Rattle.journal_acks.proofs.AirCounts.{IsFar, packet_far, sender_counted}
+use Rattle.journal_acks.proofs.AirCounts.{sender_counted, one_number}
 use Rattle.journal_acks.proofs.CallNotes.{TakesNone, begin_noted, end_noted, none_taken, octet_noted}
-use Rattle.journal_acks.proofs.Counting.{AreKnown, facts_event}
+use Rattle.journal_acks.proofs.Counting.{AreKnown, facts_event, one_begun}
 use Rattle.journal_acks.proofs.Exchanging.{exchange_at, number_at, number_other, number_sent as sent_number}
 use Rattle.journal_acks.proofs.FixedPdus.{sent_out}
 use Rattle.journal_acks.proofs.KeptCounts.{AreCountedAt}
@@ -68,7 +67,7 @@ use Rattle.journal_data.specs.Lines.{PduLine}
 use Rattle.journal_data.proofs.Arriving.{lines_length}
 use Rattle.journal_data.proofs.Ends.{sound}
 use Rattle.journal_data.proofs.KeptData.{far_side, other_in}
-use Rattle.journal_data.proofs.OneLink.{HaveOneLink, few_links, first_handle}
+use Rattle.journal_data.proofs.OneLink.{HaveOneLink}
 use Rattle.journal_pdus.specs.Announced.{last_number_sent, pdu_line_if, side_of_line}
 use Rattle.journal_pdus.specs.Exchanged.{AllAreTakenAtOnce}
 use Rattle.journal_pdus.specs.Pending.{last_number_taken, pending_pdu, taken_pdu, untaken_pdu}
@@ -143,9 +142,6 @@ module _ (whole : IsHeardWhole) (given : Given) (Q : Place → List Event → Ty
 
   phased : (one : ℕ) → is_in one given.stations ≡ true → IsPhased (setup_at given one) (Within phases) (turns_begun history) (facts one)
   phased one is_one = phased_at given here history counted.holds.hearing.stand one is_one
-
-  few : (one : ℕ) → is_in one given.stations ≡ true → length (facts one).links ≤ 1
-  few one is_one = few_links given pair one (facts one) (counted.holds.so_far.last.each one is_one)
 
   silent : (one : ℕ) → is_in one given.stations ≡ true → (one == station) ≡ false → packet_received one history ≡ None
   silent one is_one apart = counted.silent one station is_one in_it apart (not_before given.stations done left station distinct are)
@@ -236,31 +232,17 @@ module _ (whole : IsHeardWhole) (given : Given) (Q : Place → List Event → Ty
     abbrev link : OpenLink
     link = listening.link
 
-    far : IsFar given history station other listening.handle
-    far =
-        packet_far whole given Q known are_two six distinct phases done left station channel octets fates history are wanted counted.known counted.holds counted.counted
-        is_too differs seen silent (heard_is ∙ good) listening.handle link listening.is_open listening.on
-
-    sender_handle : sent.handle ≡ 0
-    sender_handle = first_handle (facts station).links sent.handle sender (few station in_it) sent.is_open
-
-    own_handle : listening.handle ≡ 0
-    own_handle = first_handle (facts other).links listening.handle link (few other is_too) listening.is_open
-
     -- the journal has one number for both ends
-    one_number : number ≡ number_at other listening.handle history
-    one_number =
-        ap (λ h. number_at station h history) (sender_handle ∙ sym (first_handle (facts station).links far.far_handle far.far (few station in_it) far.is_open)) ∙ far.same
+    same_link : number ≡ number_at other listening.handle history
+    same_link =
+        one_number whole given Q known are_two six distinct phases done left station channel octets fates history are wanted counted.known counted.holds counted.counted off
+        is_too differs seen silent good listening.handle link listening.is_open listening.on
 
     connect_ind : HaveOneConnectInd sender.setup link.setup
     connect_ind =
-        let begun = known.begun here history counted.known station sent.handle sender in_it sent.is_open in
-        let begun_too = known.begun here history counted.known other listening.handle link is_too listening.is_open in
-        let links : Some begun.link ≡ Some begun_too.link = sym begun.is_link ∙ ap (λ n. link_numbered n front) one_number ∙ begun_too.is_link in
-        let equal : begun.link ≡ begun_too.link = cc in record {
-          fields = sym begun.fields ∙ ap (λ (l : LinkBegun). l.fields) equal ∙ begun_too.fields;
-          opened = sym begun.slot ∙ ap (λ (l : LinkBegun). l.slot) equal ∙ begun_too.slot;
-        }
+        one_begun history number (number_at other listening.handle history) station other sender link same_link
+        (known.begun here history counted.known station sent.handle sender in_it sent.is_open)
+        (known.begun here history counted.known other listening.handle link is_too listening.is_open)
 
     agreed : AreInAgreement (sent_ack (facts_in sent.link)) (ack_of link)
     agreed =
@@ -272,18 +254,16 @@ module _ (whole : IsHeardWhole) (given : Given) (Q : Place → List Event → Ty
     -- the counts of the lines of both sides
     sent_is : last_number_sent number front (side_of station) ≡ numbered (sent_ack (facts_in sent.link)).sent
     sent_is =
-        let booked = (sound given station history sender (pair.links station) (eight station) (is.data_is.are.well station in_it)
-        (ap (λ h. link_at h (facts station).links) (sym sender_handle) ∙ sent.is_open)).booked in
-        ap (λ h. last_number_sent (number_at station h history) front (side_of station)) sender_handle ∙ ap length booked.sent
-        ∙ lines_length (number_at station 0 history) 1 (nonempty is_empty (ack_of sender).sent) ∙ ap (λ (a : Acknowledgement). numbered a.sent) (ack_sent sent.slot sent.link)
+        let booked = (sound given station sent.handle history sender (pair.links station) (eight station) (is.data_is.are.well station in_it) sent.is_open).booked in
+        ap length booked.sent
+        ∙ lines_length number 1 (nonempty is_empty (ack_of sender).sent) ∙ ap (λ (a : Acknowledgement). numbered a.sent) (ack_sent sent.slot sent.link)
 
     taken_is : last_number_taken number front (other_side (side_of station)) ≡ numbered (ack_of link).accepted
     taken_is =
-        let booked = (sound given other history link (pair.links other) (eight other) (is.data_is.are.well other is_too)
-        (ap (λ h. link_at h (facts other).links) (sym own_handle) ∙ listening.is_open)).booked in
+        let booked = (sound given other listening.handle history link (pair.links other) (eight other) (is.data_is.are.well other is_too) listening.is_open).booked in
         ap (λ s. last_number_taken number front s) (sym (side_other station))
-        ∙ ap (λ n. last_number_taken n front (side_of other)) (one_number ∙ ap (λ h. number_at other h history) own_handle) ∙ ap length booked.taken
-        ∙ lines_length (number_at other 0 history) 1 (nonempty is_empty (ack_of link).accepted)
+        ∙ ap (λ n. last_number_taken n front (side_of other)) same_link ∙ ap length booked.taken
+        ∙ lines_length (number_at other listening.handle history) 1 (nonempty is_empty (ack_of link).accepted)
 
     carried_is : carried_of number front (side_of station) ≡ pdu_sent (facts_in sent.link)
     carried_is =
@@ -305,7 +285,7 @@ module _ (whole : IsHeardWhole) (given : Given) (Q : Place → List Event → Ty
     number_is : number_at other link.setup.link.handle history ≡ number
     number_is =
         ap (λ h. number_at other h history) (handle_is 0 listening.handle (facts other).links link (counted.holds.so_far.last.each other is_too).own.handles listening.is_open)
-        ∙ sym one_number
+        ∙ sym same_link
 
     brought : untaken_pdu (link_of_packet front (side_of station) octets) front (side_of station) ≡ to_take given other after
     brought =

@@ -12,7 +12,7 @@ use Rattle.journal_acks.proofs.KeptLines.{AreLinedAt, lines_kept}
 use Rattle.journal_acks.proofs.LinkPackets.{lines_first}
 use Rattle.journal_acks.proofs.TwoStations.{IsOfTwo}
 use Rattle.journal_data.proofs.KeptData.{IsDataAt, data_kept}
-use Rattle.journal_data.proofs.Law.{first_data, only_open}
+use Rattle.journal_data.proofs.Law.{first_data}
 use Rattle.journal_data.proofs.OneLink.{HaveOneLink}
 
 pub record IsKnownAt (given : Given) (Q : Place → List Event → Type 0) (place : Place) (history : List Event) : Type 0 where
@@ -26,7 +26,7 @@ module _ (whole : IsHeardWhole) (given : Given) (Q : Place → List Event → Ty
     (six : HaveAddresses given) (distinct : AreDistinct given.stations) (eight : (station : ℕ) → (setup_at given station).host_buffers ≡ 8) where
   pub known_kept : IsKept given (IsKnownAt given Q)
   known_kept =
-      let one = data_kept only_open whole given Q known are_two pair six distinct eight in
+      let one = data_kept whole given Q known are_two pair six distinct eight in
       let two = lines_kept whole given Q known are_two six distinct in record {
         on_turn = λ slot plan history begun at is. record { data_is = one.on_turn slot plan history begun at is.data_is; lined = two.on_turn slot plan history begun at is.lined };
         on_feed = λ plan done left station history are some now is.

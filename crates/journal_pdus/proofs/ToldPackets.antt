@@ -36,7 +36,7 @@ use Rattle.journal_pdus.specs.Announced.{last_number_sent, new_pdu_of}
 use Rattle.journal_pdus.proofs.Together.{IsKnownAt}
 use Rattle.journal_pdus.proofs.ToldLines.{told_at}
 use Rattle.journal_pdus.proofs.FixedNow.{same_base}
-use Rattle.journal_pdus.proofs.SendingEnd.{acked_is, at_first, booked_is, carried_is, first, from, sends_first}
+use Rattle.journal_pdus.proofs.SendingEnd.{acked_is, booked_is, carried_is, from, sends_on}
 use Rattle.journal_pdus.proofs.Told.{IsTold, Tells, TellsAt, TellsOn, brings_line, line_to_send, sent_under, tells_none}
 
 -- what a packet on this channel brings
@@ -59,9 +59,9 @@ open_tells given station handle history after on at told =
     (subst (λ may. TellsOn may (facts_at given station history).links station history) (sent_under handle (facts_at given station history).turn.doing on) told)
 
 -- what is told of the packet of this end
-pub record TellsOf (station : ℕ) (history : List Event) (link : OpenLink) : Type 0 where
-  pub sent : (exchange_at (number_at station 0 history) history (side_of station)).sent ≡ length (ack_of link).sent
-  pub told_is : told_at station history ≡ line_to_send (number_at station 0 history) (facts_in link)
+pub record TellsOf (station handle : ℕ) (history : List Event) (link : OpenLink) : Type 0 where
+  pub sent : (exchange_at (number_at station handle history) history (side_of station)).sent ≡ length (ack_of link).sent
+  pub told_is : told_at station history ≡ line_to_send (number_at station handle history) (facts_in link)
 
 module _ (whole : IsHeardWhole) (given : Given) (Q : Place → List Event → Type 0) (known : AreKnown given Q) (are_two : IsOfTwo given) (pair : HaveOneLink given) (six : HaveAddresses given)
     (distinct : AreDistinct given.stations) (eight : (station : ℕ) → (setup_at given station).host_buffers ≡ 8) (phases : ℕ) (done left : List ℕ) (station channel : ℕ) (octets : List ℕ)
@@ -81,13 +81,14 @@ module _ (whole : IsHeardWhole) (given : Given) (Q : Place → List Event → Ty
     sent_on = link_after (PacketSent sending.slot) sending.link
 
     abbrev number : ℕ
-    number = number_at station 0 history
+    number = number_at station sending.handle history
 
-    pub tells_of : TellsOf station history sending.link
+    pub tells_of : TellsOf station sending.handle history sending.link
     tells_of =
-        let tells = open_tells given station 0 history sent_on (sends_first whole given Q known are_two pair six distinct eight phases done left station channel octets history are wanted is off)
-        (at_first whole given Q known are_two pair six distinct eight phases done left station channel octets history are wanted is off) told_is in
-        subst (TellsOf station history) (sym (same_base sending.slot tells.slot sending.link tells.base tells.after_is)) (record { sent = tells.sent; told_is = tells.told_is })
+        let tells = open_tells given station sending.handle history sent_on
+        (sends_on whole given Q known are_two pair six distinct eight phases done left station channel octets history are wanted is off) sending.is_open told_is in
+        subst (TellsOf station sending.handle history) (sym (same_base sending.slot tells.slot sending.link tells.base tells.after_is))
+        (record { sent = tells.sent; told_is = tells.told_is })
 
     count_is : last_number_sent number front side ≡ numbered (sent_ack (facts_in sending.link)).sent
     count_is =
@@ -103,7 +104,7 @@ module _ (whole : IsHeardWhole) (given : Given) (Q : Place → List Event → Ty
         ∙ brings_line (is_acked ack) (is_empty base.outgoing.fixed) ack base.outgoing.fixed (carried_of number front side) (exchange_at number history side) number (last_number_sent number front side) refl
         (λ i. acked i == tells_of.sent i) (carried_is whole given Q known are_two pair six distinct eight phases done left station channel octets history are wanted is off) count_is
         ∙ ap (λ may. new_pdu_of may front side)
-        (sym (sending.belongs ∙ ap (λ h. Some (number_at station h history)) (first whole given Q known are_two pair six distinct eight phases done left station channel octets history are wanted is off)))
+        (sym sending.belongs)
 
   pub packet_brings : told_at station history ≡ brought_in history station channel octets
   packet_brings = by (is_advertising channel) refl

@@ -37,7 +37,6 @@ use Rattle.journal_acks.proofs.Counting.{AreKnown}
 use Rattle.journal_acks.proofs.Exchanging.{exchange_at, number_at}
 use Rattle.journal_acks.proofs.Known.{known_of}
 use Rattle.journal_acks.proofs.LinkPackets.{IsPacketOf, link_packet}
-use Rattle.journal_acks.proofs.LinkUses.{sends_under}
 use Rattle.journal_acks.proofs.Seen.{seen_packet}
 use Rattle.journal_acks.proofs.TwoStations.{IsOfTwo}
 use Rattle.journal_data.proofs.EachLine.{lines_at}
@@ -46,7 +45,7 @@ use Rattle.journal_pdus.specs.Exchanged.{AllTellWhatWaits}
 use Rattle.journal_pdus.specs.Waiting.{TellsWhatWaits, data_waits}
 use Rattle.journal_pdus.proofs.FixedNow.{IsFixed, fixed_first, fixed_kept, sender_fixed}
 use Rattle.journal_pdus.proofs.NextPieces.{IsFixedNow, empty_is_last, more_waits}
-use Rattle.journal_pdus.proofs.SendingEnd.{acked_is, booked_is, carried_is, first, from, sends_first}
+use Rattle.journal_pdus.proofs.SendingEnd.{acked_is, booked_is, carried_is, from, sends_on}
 use Rattle.journal_pdus.proofs.Together.{IsKnownAt}
 use Rattle.journal_pdus.proofs.Told.{IsTold}
 use Rattle.journal_pdus.proofs.ToldInRuns.{IsToldAt, still_unsent, told_first, told_kept}
@@ -73,14 +72,14 @@ module _ (whole : IsHeardWhole) (given : Given) (Q : Place → List Event → Ty
   base = facts_in sending.link
 
   abbrev number : ℕ
-  number = number_at station 0 history
+  number = number_at station sending.handle history
 
   abbrev end : Exchanged
   end = exchange_at number history (side_of station)
 
   waits : data_waits number (lines_at station history) ≡ nat_lt (length (data_of (sent_ack base).sent)) (length (octets_of base.outgoing.given))
   waits =
-      waits_after number (lines_at station history) sending.slot sending.link (data_waiting 0 (facts_at given station history).received)
+      waits_after number (lines_at station history) sending.slot sending.link (data_waiting sending.handle (facts_at given station history).received)
       (booked_is whole given Q known are_two pair six distinct eight phases done left station channel octets history are wanted has off)
 
   fixed : IsFixedNow base.outgoing
@@ -89,15 +88,12 @@ module _ (whole : IsHeardWhole) (given : Given) (Q : Place → List Event → Ty
       let stands = turned setup (IsFixed setup) (fixed_kept setup) (past_of station history) (record { stage = Within phases; begun = turns_begun history }) (fixed_first setup)
       (has.lined.channelled.is.holds.hearing.stand station (among given.stations done left station are)) in
       sender_fixed given history station channel octets sending stands.sends
-      (subst (λ h. sends_under h (facts_at given station history).turn.doing ≡ true)
-      (sym (first whole given Q known are_two pair six distinct eight phases done left station channel octets history are wanted has off))
-      (sends_first whole given Q known are_two pair six distinct eight phases done left station channel octets history are wanted has off))
+      (sends_on whole given Q known are_two pair six distinct eight phases done left station channel octets history are wanted has off)
 
   -- of the packet, whatever says that it is one of this link
   tells : (packet : IsPacketOf given history station channel octets sending) → TellsWhatWaits (journal_of history) (side_of station) channel octets
   tells packet =
-      let is = packet.number_is ∙ ap (λ h. number_at station h history)
-      (first whole given Q known are_two pair six distinct eight phases done left station channel octets history are wanted has off) in
+      let is = packet.number_is in
       let waits_it = ap (λ n. data_waits n (lines_at station history)) is ∙ waits in record {
         packet = packet.packet;
         more = packet.more_is ∙ more_waits sending.link.setup sending.link.past fixed ∙ sym waits_it;
