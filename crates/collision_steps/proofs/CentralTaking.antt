@@ -1,22 +1,22 @@
 -- A central takes a PDU.
 use Rattle.std.proofs.Common.{◌≡◌, ℕ, ◌⊎◌, inl, inr, Bool, true, false, not, ◌||◌, List, [], ◌∷◌, ◌++◌, Option, Some, None, is_some, append-nil, refl, ap, sym, ◌∙◌, subst}
 use Rattle.ble_base.specs.declared.error_codes.ErrCode.{ErrCode}
-use Rattle.procedures.specs.declared.drafts.Draft.{Draft}
-use Rattle.procedures.specs.declared.drafts.Rejection.{Rejection}
+use Rattle.procedure_stages.specs.declared.drafts.Draft.{Draft}
+use Rattle.procedure_stages.specs.declared.drafts.Rejection.{Rejection}
 use Rattle.collisions.specs.declared.pdus.Pdu.{Pdu}
 use Rattle.data_pdu.specs.declared.ctrl.Ctrl.{Ctrl}
 use Rattle.data_pdu.specs.declared.ctrl.Ctrl.TheVariants.{ConnectionUpdateInd, ChannelMapInd, TerminateInd, EncReq, EncRsp, StartEncReq, StartEncRsp, UnknownRsp, FeatureReq, FeatureRsp, PauseEncReq, PauseEncRsp, VersionInd, RejectInd, PeripheralFeatureReq, ConnectionParamReq, ConnectionParamRsp, RejectExtInd, LengthReq, LengthRsp, PhyReq, PhyRsp, PhyUpdateInd}
 use Rattle.data_pdu.specs.declared.ctrl.CtrlRead.{CtrlRead}
 use Rattle.data_pdu.specs.declared.ctrl.CtrlRead.TheVariants.{Known, Unknown, Bare}
 use Rattle.procedures.specs.declared.outcome.Outcome.{Outcome}
-use Rattle.procedures.specs.declared.stages.Exchange.TheVariants.{FeaturesUnsent, FeaturesSent, VersionUnsent, VersionSent, LengthUnsent, LengthSent}
-use Rattle.procedures.specs.declared.stages.OwnCentral.{OwnCentral}
-use Rattle.procedures.specs.declared.stages.OwnCentral.TheVariants.{Idle, Exchange as exchange, UpdateUnsent, UpdateSent, MapUnsent, MapSent, PhyUnsent, PhySent, PhyAnswered, PhyIndicated, EncryptUnsent, EncryptSent}
-use Rattle.procedures.specs.declared.stages.PeerAtCentral.{PeerAtCentral}
-use Rattle.procedures.specs.declared.stages.PeerAtCentral.TheVariants.{Absent, PhyIndUnsent}
-use Rattle.procedures.specs.declared.stages.Central.{Central}
+use Rattle.procedure_stages.specs.declared.stages.Exchange.TheVariants.{FeaturesUnsent, FeaturesSent, VersionUnsent, VersionSent, LengthUnsent, LengthSent}
+use Rattle.procedure_stages.specs.declared.stages.OwnCentral.{OwnCentral}
+use Rattle.procedure_stages.specs.declared.stages.OwnCentral.TheVariants.{Idle, Exchange as exchange, UpdateUnsent, UpdateSent, MapUnsent, MapSent, PhyUnsent, PhySent, PhyAnswered, PhyIndicated, EncryptUnsent, EncryptSent}
+use Rattle.procedure_stages.specs.declared.stages.PeerAtCentral.{PeerAtCentral}
+use Rattle.procedure_stages.specs.declared.stages.PeerAtCentral.TheVariants.{Absent, PhyIndUnsent}
+use Rattle.procedure_stages.specs.declared.stages.Central.{Central}
 use Rattle.ble_base.specs.declared.counters.EventNo.{EventNo}
-use Rattle.procedures.specs.declared.drafts.Draft.TheVariants.{PhyInd as PhyIndDraft, VersionInd as VersionDraft}
+use Rattle.procedure_stages.specs.declared.drafts.Draft.TheVariants.{PhyInd as PhyIndDraft, VersionInd as VersionDraft}
 use Rattle.procedures.specs.Outcomes.{moved_and_answered}
 use Rattle.procedures.specs.Phy.{phy_req_at_central, phy_rsp_taken}
 use Rattle.procedures.specs.Features.{features_taken}
@@ -24,15 +24,17 @@ use Rattle.procedures.specs.Version.{version_taken}
 use Rattle.procedures.specs.Termination.{terminate_taken}
 use Rattle.procedures.specs.Length.{length_taken}
 use Rattle.procedures.specs.Encryption.{cipher_at_central, start_rsp_at_central}
-use Rattle.procedures.specs.declared.stages.Progress.{Progress}
-use Rattle.procedures.specs.declared.stages.Progress.TheVariants.{Central as central, Peripheral as peripheral}
+use Rattle.procedure_stages.specs.declared.stages.Progress.{Progress}
+use Rattle.procedure_stages.specs.declared.stages.Progress.TheVariants.{Central as central, Peripheral as peripheral}
 use Rattle.procedures.specs.declared.table.Closing.{Closing}
 use Rattle.procedures.specs.declared.table.Closing.TheVariants.{Open, Closed, Disconnecting}
 use Rattle.procedures.specs.Table.{QueueFacts, TableFacts, is_open}
 use Rattle.procedures.specs.Queue.{with_draft, with_rejection}
-use Rattle.procedures.specs.Request.{are_valid, request_judged, request_taken}
+use Rattle.procedure_stages.specs.Values.{are_valid}
+use Rattle.procedures.specs.Request.{request_judged, request_taken}
 use Rattle.procedures.specs.Taking.{facts_with, lacks_room, outcome_of, settled, taken_by_central, took_step}
-use Rattle.procedures.specs.Refusals.{is_opcode, later_opcode_at_central, opcode_at_central, refused_if}
+use Rattle.procedure_stages.specs.Opcodes.{is_opcode, later_opcode_at_central, opcode_at_central}
+use Rattle.procedures.specs.Refusals.{refused_if}
 use Rattle.collisions.specs.declared.central.Central.{Central as CentralTableFacts}
 use Rattle.collisions.specs.declared.pdus.Reason.TheVariants.{SameKind, OtherKind, Other}
 use Rattle.collisions.specs.declared.pdus.Pdu.TheVariants.{ParamReq, PhyReq as PhyReqPdu, PhyRsp as PhyRspPdu, PhyInd, RejectParam, RejectPhy}

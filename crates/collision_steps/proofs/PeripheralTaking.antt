@@ -2,29 +2,30 @@
 use Rattle.std.proofs.Common.{◌≡◌, ℕ, ◌==◌, ◌⊎◌, inl, inr, Bool, true, false, [], ◌∷◌, ◌++◌, Some, None, is_some, append-nil, eqb-true, refl, ap, sym, ◌∙◌, subst}
 use Rattle.ble_base.specs.declared.error_codes.ErrCode.{ErrCode}
 use Rattle.instants.specs.declared.indications.Indication.{Indication}
-use Rattle.procedures.specs.declared.drafts.Draft.{Draft}
-use Rattle.procedures.specs.declared.drafts.Draft.TheVariants.{PhyRsp as PhyRspDraft, VersionInd as VersionDraft}
+use Rattle.procedure_stages.specs.declared.drafts.Draft.{Draft}
+use Rattle.procedure_stages.specs.declared.drafts.Draft.TheVariants.{PhyRsp as PhyRspDraft, VersionInd as VersionDraft}
 use Rattle.data_pdu.specs.declared.ctrl.Ctrl.{Ctrl}
 use Rattle.data_pdu.specs.declared.ctrl.Ctrl.TheVariants.{ConnectionUpdateInd, ChannelMapInd, TerminateInd, EncReq, EncRsp, StartEncReq, StartEncRsp, UnknownRsp, FeatureReq, FeatureRsp, PauseEncReq, PauseEncRsp, VersionInd, RejectInd, PeripheralFeatureReq, ConnectionParamReq, ConnectionParamRsp, RejectExtInd, LengthReq, LengthRsp, PhyReq, PhyRsp, PhyUpdateInd}
 use Rattle.data_pdu.specs.declared.ctrl.CtrlRead.{CtrlRead}
 use Rattle.data_pdu.specs.declared.ctrl.CtrlRead.TheVariants.{Known, Unknown, Bare}
 use Rattle.procedures.specs.declared.outcome.Outcome.{Outcome}
-use Rattle.procedures.specs.declared.stages.Ahead.{Ahead}
-use Rattle.procedures.specs.declared.stages.Ahead.TheVariants.{Nothing, Update, Map}
-use Rattle.procedures.specs.declared.stages.Exchange.{Exchange}
-use Rattle.procedures.specs.declared.stages.Exchange.TheVariants.{FeaturesSent, VersionUnsent, VersionSent, LengthSent}
-use Rattle.procedures.specs.declared.stages.OwnPeripheral.{OwnPeripheral}
-use Rattle.procedures.specs.declared.stages.OwnPeripheral.TheVariants.{Idle, Exchange as exchange, RequestUnsent, RequestSent, RequestAcknowledged, RequestGranted, PhyUnsent, PhySent}
-use Rattle.procedures.specs.declared.stages.PeerAtPeripheral.{PeerAtPeripheral}
-use Rattle.procedures.specs.declared.stages.PeerAtPeripheral.TheVariants.{PhyRspUnsent, PhyRspSent}
-use Rattle.procedures.specs.declared.stages.Peripheral.{Peripheral}
-use Rattle.procedures.specs.declared.stages.Progress.TheVariants.{Peripheral as peripheral}
+use Rattle.procedure_stages.specs.declared.stages.Ahead.{Ahead}
+use Rattle.procedure_stages.specs.declared.stages.Ahead.TheVariants.{Nothing, Update, Map}
+use Rattle.procedure_stages.specs.declared.stages.Exchange.{Exchange}
+use Rattle.procedure_stages.specs.declared.stages.Exchange.TheVariants.{FeaturesSent, VersionUnsent, VersionSent, LengthSent}
+use Rattle.procedure_stages.specs.declared.stages.OwnPeripheral.{OwnPeripheral}
+use Rattle.procedure_stages.specs.declared.stages.OwnPeripheral.TheVariants.{Idle, Exchange as exchange, RequestUnsent, RequestSent, RequestAcknowledged, RequestGranted, PhyUnsent, PhySent}
+use Rattle.procedure_stages.specs.declared.stages.PeerAtPeripheral.{PeerAtPeripheral}
+use Rattle.procedure_stages.specs.declared.stages.PeerAtPeripheral.TheVariants.{PhyRspUnsent, PhyRspSent}
+use Rattle.procedure_stages.specs.declared.stages.Peripheral.{Peripheral}
+use Rattle.procedure_stages.specs.declared.stages.Progress.TheVariants.{Peripheral as peripheral}
 use Rattle.procedures.specs.declared.table.Closing.{Closing}
 use Rattle.procedures.specs.declared.table.Closing.TheVariants.{Open, Closed, Disconnecting}
 use Rattle.procedures.specs.Table.{QueueFacts, TableFacts, is_open}
 use Rattle.procedures.specs.Queue.{with_draft}
 use Rattle.procedures.specs.Taking.{facts_with, lacks_room, outcome_of, settled, taken_by_peripheral, took_step}
-use Rattle.procedures.specs.Refusals.{is_opcode, opcode_at_peripheral, refused_if, reject_ext_taken}
+use Rattle.procedure_stages.specs.Opcodes.{is_opcode, opcode_at_peripheral}
+use Rattle.procedures.specs.Refusals.{refused_if, reject_ext_taken}
 use Rattle.procedures.specs.Update.{update_taken}
 use Rattle.procedures.specs.Map.{map_taken}
 use Rattle.procedures.specs.Phy.{phy_ind_taken, phy_req_at_peripheral}

@@ -5,21 +5,21 @@ use Rattle.data_pdu.specs.declared.ctrl.Ctrl.{Ctrl}
 use Rattle.data_pdu.specs.declared.ctrl.Ctrl.TheVariants.{ConnectionUpdateInd, ChannelMapInd, TerminateInd, UnknownRsp, RejectInd, RejectExtInd, PhyReq as phy_req, PhyUpdateInd as phy_ind}
 use Rattle.data_pdu.specs.declared.ctrl.CtrlRead.{CtrlRead}
 use Rattle.data_pdu.specs.declared.ctrl.CtrlRead.TheVariants.{Known, Unknown, Bare}
-use Rattle.procedures.specs.declared.asks.Ask.{Ask}
-use Rattle.procedures.specs.declared.asks.Ask.TheVariants.{Request as ask_request, Phy as ask_phy}
-use Rattle.procedures.specs.declared.drafts.Draft.{Draft}
-use Rattle.procedures.specs.declared.drafts.Outgoing.{Outgoing}
-use Rattle.procedures.specs.declared.drafts.Outgoing.TheVariants.{Other as outgoing_draft}
-use Rattle.procedures.specs.declared.stages.Ahead.{Ahead}
-use Rattle.procedures.specs.declared.stages.Ahead.TheVariants.{Nothing as nothing_ahead, Update as update_ahead, Map as map_ahead}
-use Rattle.procedures.specs.declared.stages.OwnPeripheral.{OwnPeripheral}
-use Rattle.procedures.specs.declared.stages.OwnPeripheral.TheVariants.{RequestUnsent as request_unsent, RequestSent as request_sent, RequestAcknowledged as request_acknowledged, RequestGranted as request_granted, PhyUnsent as phy_unsent, PhySent as phy_sent}
-use Rattle.procedures.specs.declared.stages.PeerAtPeripheral.{PeerAtPeripheral}
-use Rattle.procedures.specs.declared.stages.PeerAtPeripheral.TheVariants.{Absent as absent, UpdateTaken as update_taken, MapTaken as map_taken, PhyRspUnsent as phy_rsp_unsent, PhyRspSent as phy_rsp_sent}
-use Rattle.procedures.specs.declared.stages.Progress.{Progress}
-use Rattle.procedures.specs.declared.stages.Progress.TheVariants.{Central as central, Peripheral as peripheral}
+use Rattle.procedure_stages.specs.declared.asks.Ask.{Ask}
+use Rattle.procedure_stages.specs.declared.asks.Ask.TheVariants.{Request as ask_request, Phy as ask_phy}
+use Rattle.procedure_stages.specs.declared.drafts.Draft.{Draft}
+use Rattle.procedure_stages.specs.declared.drafts.Outgoing.{Outgoing}
+use Rattle.procedure_stages.specs.declared.drafts.Outgoing.TheVariants.{Other as outgoing_draft}
+use Rattle.procedure_stages.specs.declared.stages.Ahead.{Ahead}
+use Rattle.procedure_stages.specs.declared.stages.Ahead.TheVariants.{Nothing as nothing_ahead, Update as update_ahead, Map as map_ahead}
+use Rattle.procedure_stages.specs.declared.stages.OwnPeripheral.{OwnPeripheral}
+use Rattle.procedure_stages.specs.declared.stages.OwnPeripheral.TheVariants.{RequestUnsent as request_unsent, RequestSent as request_sent, RequestAcknowledged as request_acknowledged, RequestGranted as request_granted, PhyUnsent as phy_unsent, PhySent as phy_sent}
+use Rattle.procedure_stages.specs.declared.stages.PeerAtPeripheral.{PeerAtPeripheral}
+use Rattle.procedure_stages.specs.declared.stages.PeerAtPeripheral.TheVariants.{Absent as absent, UpdateTaken as update_taken, MapTaken as map_taken, PhyRspUnsent as phy_rsp_unsent, PhyRspSent as phy_rsp_sent}
+use Rattle.procedure_stages.specs.declared.stages.Progress.{Progress}
+use Rattle.procedure_stages.specs.declared.stages.Progress.TheVariants.{Central as central, Peripheral as peripheral}
 use Rattle.procedures.specs.Table.{TableFacts, is_open}
-use Rattle.procedures.specs.Refusals.{first_opcode, is_opcode}
+use Rattle.procedure_stages.specs.Opcodes.{first_opcode, is_opcode}
 use Rattle.collisions.specs.declared.pdus.Exclusive.{Exclusive}
 use Rattle.collisions.specs.declared.pdus.Exclusive.TheVariants.{Update, Request, Map, Phy}
 use Rattle.collisions.specs.declared.pdus.Pdu.{Pdu}

@@ -4,11 +4,11 @@ ghost use Rattle.std.specs.Prelude.{◌≡◌, ◌⊎◌, ℕ, Bool, true, List,
 ghost use Rattle.ble_base.specs.declared.error_codes.ErrCode.{ErrCode};
 ghost use Rattle.data_pdu.specs.declared.ctrl.Ctrl.{Ctrl};
 ghost use Rattle.data_pdu.specs.declared.ctrl.CtrlRead.{CtrlRead};
-ghost use Rattle.procedures.specs.declared.asks.Ask.{Ask};
-ghost use Rattle.procedures.specs.declared.stages.Central.{Central};
-ghost use Rattle.procedures.specs.declared.stages.Peripheral.{Peripheral};
-ghost use Rattle.procedures.specs.declared.stages.Progress.TheVariants.{Central as central};
-ghost use Rattle.procedures.specs.declared.stages.Progress.TheVariants.{Peripheral as peripheral};
+ghost use Rattle.procedure_stages.specs.declared.asks.Ask.{Ask};
+ghost use Rattle.procedure_stages.specs.declared.stages.Central.{Central};
+ghost use Rattle.procedure_stages.specs.declared.stages.Peripheral.{Peripheral};
+ghost use Rattle.procedure_stages.specs.declared.stages.Progress.TheVariants.{Central as central};
+ghost use Rattle.procedure_stages.specs.declared.Progress.TheVariants.{Peripheral as peripheral};
 ghost use Rattle.procedures.specs.Table.{TableFacts};
 ghost use Rattle.procedures.specs.Queue.{next_of};
 ghost use Rattle.procedures.specs.Taking.{took_step};

@@ -365,12 +365,12 @@ impl Plain {
         let ask = self.wanted.pop_at(place)?;
         self.own = Some(ask.kind());
         self.since = None;
-        if ask == Ask::Version && self.version {
+        if matches!(ask, Ask::Version) && self.version {
             self.sent = true;
             self.since = Some(slot);
             return Some(Kind::Version);
         }
-        if ask == Ask::Version {
+        if matches!(ask, Ask::Version) {
             self.version = true;
         }
         if let Some(ctrl) = self.first_pdu(&ask) {

@@ -172,7 +172,7 @@ impl Plain {
             .wanted
             .as_slice()
             .iter()
-            .position(|ask| *ask == Ask::Version)
+            .position(|ask| matches!(ask, Ask::Version))
         {
             self.wanted.pop_at(place);
             done = Some(Kind::Version);

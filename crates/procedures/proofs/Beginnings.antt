@@ -2,10 +2,11 @@
 use Rattle.std.proofs.Common.{◌≡◌, ℕ, suc, ◌+◌, Bool, true, false, not, cond, ◌&&◌, List, [], ◌∷◌, length, Option, Some, None, nat_lt, refl, arith, ◌∙◌, ap}
 use Rattle.std.specs.List.{position, position_or_len, find}
 use Rattle.std.specs.Option.{option_map, is_none}
-use Rattle.procedures.specs.declared.asks.Ask.{Ask}
-use Rattle.procedures.specs.Kinds.{kind_of_ask, own_kind, begins, role_of}
+use Rattle.procedure_stages.specs.declared.asks.Ask.{Ask}
+use Rattle.procedure_stages.specs.Kinds.{kind_of_ask, own_kind, begins, role_of}
 use Rattle.procedures.specs.Table.{TableFacts, is_open}
-use Rattle.procedures.specs.Beginning.{may_begin, place_to_begin, ask_at, begin_at, begin_step, peer_lets}
+use Rattle.procedures.specs.Beginning.{may_begin, place_to_begin, ask_at, begin_at, begin_step}
+use Rattle.procedure_stages.specs.Collisions.{peer_lets}
 
 lt_suc : (b : Bool) (n len m more : ℕ) → nat_lt n len ≡ b → m ≡ suc n → more ≡ suc len → nat_lt m more ≡ b
 lt_suc true n len m more is next long = grind arith

@@ -1,5 +1,5 @@
 -- A PDU that answers what no procedure awaits changes nothing.
-use Rattle.std.proofs.Common.{◌≡◌, ℕ, Bool, true, false, not, ◌&&◌, ◌||◌, if◌then◌else◌, Option, Some, None, refl, ap, ◌∙◌}
+use Rattle.std.proofs.Common.{◌≡◌, ℕ, Bool, true, false, not, ◌&&◌, ◌||◌, if◌then◌else◌, Option, Some, None, refl, ap, ◌∙◌, nat_le}
 use Rattle.std.specs.Option.{is_some, is_none}
 use Rattle.ble_base.specs.ErrorCodes.{unsupported_remote_feature}
 use Rattle.ble_base.specs.declared.procedure_kinds.Kind.TheVariants.{Phy, Features, Length}
@@ -7,24 +7,24 @@ use Rattle.data_pdu.specs.declared.ctrl.Ctrl.{Ctrl}
 use Rattle.data_pdu.specs.declared.ctrl.Ctrl.TheVariants.{UnknownRsp, FeatureRsp, RejectInd, RejectExtInd, LengthRsp, PhyRsp, PhyUpdateInd, EncRsp, StartEncReq, StartEncRsp, PauseEncRsp}
 use Rattle.data_pdu.specs.declared.ctrl.CtrlRead.TheVariants.{Known}
 use Rattle.procedures.specs.declared.outcome.Outcome.{Outcome}
-use Rattle.procedures.specs.declared.stages.OwnPeripheral.TheVariants.{Idle as idle}
-use Rattle.procedures.specs.declared.stages.PeerAtPeripheral.TheVariants.{Absent as absent}
-use Rattle.procedures.specs.declared.stages.Progress.{Progress}
-use Rattle.procedures.specs.declared.stages.Progress.TheVariants.{Central as central, Peripheral as peripheral}
+use Rattle.procedure_stages.specs.declared.stages.OwnPeripheral.TheVariants.{Idle as idle}
+use Rattle.procedure_stages.specs.declared.stages.PeerAtPeripheral.TheVariants.{Absent as absent}
+use Rattle.procedure_stages.specs.declared.stages.Progress.{Progress}
+use Rattle.procedure_stages.specs.declared.stages.Progress.TheVariants.{Central as central, Peripheral as peripheral}
 use Rattle.procedures.specs.declared.steps.Effect.TheVariants.{PeerFeatures}
 use Rattle.procedures.specs.declared.steps.Step.{Step}
-use Rattle.procedures.specs.Kinds.{own_exchange, without_own}
-use Rattle.procedures.specs.Limits.{with_peer}
+use Rattle.procedure_stages.specs.Kinds.{own_exchange, without_own}
+use Rattle.procedure_stages.specs.Limits.{with_peer}
 use Rattle.procedures.specs.Table.{TableFacts, is_open}
 use Rattle.procedures.specs.Queue.{waiting_in}
 use Rattle.procedures.specs.Outcomes.{unchanged, moved, with_effect, with_done, empty_step}
-use Rattle.procedures.specs.Phy.{awaits_phy_rsp, phy_answered, has_phy_of_central, awaits_phy_ind}
-use Rattle.procedures.specs.Features.{awaits_features}
-use Rattle.procedures.specs.Length.{awaits_lengths, with_lengths}
-use Rattle.procedures.specs.Refusals.{is_opcode, first_opcode, later_opcode, refused}
+use Rattle.procedure_stages.specs.Awaited.{awaits_phy_rsp, has_phy_of_central, awaits_phy_ind, awaits_features, awaits_lengths}
+use Rattle.procedures.specs.Phy.{phy_answered}
+use Rattle.procedures.specs.Length.{with_lengths}
+use Rattle.procedure_stages.specs.Opcodes.{is_opcode, first_opcode, later_opcode}
+use Rattle.procedures.specs.Refusals.{refused}
 use Rattle.procedures.specs.Taking.{taken_by, lacks_room, facts_with, settled, took_step}
 use Rattle.procedures.specs.Laws.{is_unawaited}
-use Rattle.std.proofs.Common.{nat_le}
 
 and_false : (a : Bool) → (a && false) ≡ false
 and_false true = refl

@@ -1,69 +1,30 @@
 -- What a host asks, and which of it begins (Core 5.2, volume 6 part B, section 5.1; the order is our choice).
-use Rattle.std.specs.Prelude.{ℕ, ◌||◌, ◌&&◌, Bool, true, false, not, List, [], ◌∷◌, ◌++◌, map, slice_set, position, remove, slice_get, Option, Some, None, is_none}
-use Rattle.ble_base.specs.declared.roles.Role.{Role}
-use Rattle.ble_base.specs.declared.roles.Role.TheVariants.{Central, Peripheral}
+use Rattle.std.specs.Prelude.{◌||◌, Bool, not, ◌&&◌, is_none, ℕ, position, Option, Some, None, true, false, List, remove, slice_get}
 use Rattle.ble_base.specs.declared.procedure_kinds.Kind.{Kind}
-use Rattle.ble_base.specs.declared.procedure_kinds.Kind.TheVariants.{Encrypt as encrypt_kind}
-use Rattle.procedures.specs.declared.asks.Ask.{Ask}
-use Rattle.procedures.specs.declared.asks.Ask.TheVariants.{Update, Request, Map, Phy, Features, Version, Length, Encrypt}
-use Rattle.procedures.specs.declared.drafts.Draft.{Draft}
-use Rattle.procedures.specs.declared.drafts.Draft.TheVariants.{Update as update_draft, Map as map_draft, Request as request_draft, PhyReq, FeatureReq, PeripheralFeatureReq, VersionInd, LengthReq}
-use Rattle.procedures.specs.declared.lengths.Lengths.{Lengths}
-use Rattle.procedures.specs.declared.stages.Exchange.{Exchange}
-use Rattle.procedures.specs.declared.stages.Exchange.TheVariants.{FeaturesUnsent, VersionUnsent, VersionSent, LengthUnsent}
-use Rattle.procedures.specs.declared.stages.OwnCentral.{OwnCentral}
-use Rattle.procedures.specs.declared.stages.OwnCentral.TheVariants.{Exchange as exchange, UpdateUnsent, MapUnsent, PhyUnsent, EncryptUnsent}
-use Rattle.procedures.specs.declared.stages.OwnPeripheral.{OwnPeripheral}
-use Rattle.procedures.specs.declared.stages.OwnPeripheral.TheVariants.{Exchange as exchange_p, RequestUnsent, PhyUnsent as phy_unsent}
-use Rattle.procedures.specs.declared.stages.Progress.{Progress}
-use Rattle.procedures.specs.declared.stages.Progress.TheVariants.{Central as central, Peripheral as peripheral}
+use Rattle.procedure_stages.specs.declared.asks.Ask.{Ask}
+use Rattle.procedure_stages.specs.declared.asks.Ask.TheVariants.{Update, Request, Map, Phy, Features, Version, Length, Encrypt}
+use Rattle.procedure_stages.specs.declared.drafts.Draft.{Draft}
+use Rattle.procedure_stages.specs.declared.drafts.Draft.TheVariants.{Update as update_draft, Map as map_draft, Request as request_draft, PhyReq, LengthReq}
+use Rattle.procedure_stages.specs.Kinds.{own_kind, is_kind, begins, role_of, kind_of_ask}
+use Rattle.procedure_stages.specs.Wants.{is_wanted, wanted_with}
+use Rattle.procedure_stages.specs.Limits.{lengths_asked}
+use Rattle.procedure_stages.specs.Collisions.{peer_lets}
+use Rattle.procedure_stages.specs.Begun.{feature_draft, version_draft, progress_begun}
 use Rattle.procedures.specs.declared.table.Closing.{Closing}
-use Rattle.procedures.specs.Kinds.{kind_of_ask, is_same_kind, begins, role_of, own_kind}
-use Rattle.procedures.specs.Collisions.{is_exclusive}
-use Rattle.procedures.specs.Limits.{with_own_tx}
-use Rattle.procedures.specs.Table.{TableFacts, QueueFacts, has_peer, is_encrypting, is_open}
+use Rattle.procedures.specs.Table.{TableFacts, is_open, QueueFacts}
 use Rattle.procedures.specs.Queue.{with_draft}
-use Rattle.procedures.specs.Version.{place_of, is_wanted}
 use Rattle.procedures.specs.Taking.{since_after}
 
 -- ---- what the host wants
-
-abbrev pub is_kind : Option Kind → Kind → Bool
-is_kind None kind = false
-is_kind (Some own) kind = is_same_kind own kind
 
 -- a kind may be asked for where it is neither wanted nor running
 abbrev pub may_ask_of : TableFacts → Kind → Bool
 may_ask_of f kind = not (is_wanted kind f.wanted || is_kind (own_kind f.progress) kind)
 
--- an ask takes the place of one of its kind, which only a map can do, or comes last
-abbrev pub wanted_at : Option ℕ → Ask → List Ask → List Ask
-wanted_at None ask wanted = wanted ++ ask ∷ []
-wanted_at (Some place) ask wanted = slice_set wanted place ask
-
-abbrev pub wanted_with : Ask → List Ask → List Ask
-wanted_with ask wanted = wanted_at (place_of (kind_of_ask ask) wanted) ask wanted
-
--- the limit that a host sets on what is transmitted holds at once (section 4.5.10)
-abbrev pub lengths_asked : Ask → Lengths → Lengths
-lengths_asked (Length tx) lengths = with_own_tx lengths tx
-lengths_asked other lengths = lengths
-
 abbrev pub ask_step : TableFacts → Ask → TableFacts
 ask_step f ask = record f { wanted = wanted_with ask f.wanted; lengths = lengths_asked ask f.lengths }
 
 -- ---- which of it may begin
-
--- the peer's procedures let a kind begin: for one that excludes others no such one is in progress, for an encryption
--- none at all (our choice)
-abbrev pub is_encrypt : Kind → Bool
-is_encrypt encrypt_kind = true
-is_encrypt other = false
-
-abbrev pub peer_lets : Progress → Kind → Bool
-peer_lets progress kind =
-    not (is_exclusive kind && has_peer progress)
-    && not (is_encrypt kind && (has_peer progress || is_encrypting progress))
 
 -- an end may begin something: it runs nothing of its own, the phase is Clear or Secure, and the link is not to end
 abbrev pub is_ready : TableFacts → Bool → Bool
@@ -78,43 +39,6 @@ abbrev pub place_to_begin : TableFacts → Bool → Option ℕ
 place_to_begin f quiet = position (λ ask. may_begin f quiet (kind_of_ask ask)) f.wanted
 
 -- ---- how it begins
-
--- LL_VERSION_IND is sent once: a second exchange of versions begins without it
-abbrev pub version_stage : Bool → Exchange
-version_stage false = VersionUnsent
-version_stage true = VersionSent
-
-abbrev pub stage_at_central : Ask → Bool → OwnCentral → OwnCentral
-stage_at_central (Update interval latency timeout) used own = UpdateUnsent
-stage_at_central (Request min max latency timeout) used own = own
-stage_at_central (Map map) used own = MapUnsent
-stage_at_central Phy used own = PhyUnsent
-stage_at_central Features used own = exchange FeaturesUnsent
-stage_at_central Version used own = exchange (version_stage used)
-stage_at_central (Length tx) used own = exchange LengthUnsent
-stage_at_central (Encrypt rand ediv ltk skd_m iv_m) used own = EncryptUnsent
-
-abbrev pub stage_at_peripheral : Ask → Bool → OwnPeripheral → OwnPeripheral
-stage_at_peripheral (Update interval latency timeout) used own = own
-stage_at_peripheral (Request min max latency timeout) used own = RequestUnsent
-stage_at_peripheral (Map map) used own = own
-stage_at_peripheral Phy used own = phy_unsent
-stage_at_peripheral Features used own = exchange_p FeaturesUnsent
-stage_at_peripheral Version used own = exchange_p (version_stage used)
-stage_at_peripheral (Length tx) used own = exchange_p LengthUnsent
-stage_at_peripheral (Encrypt rand ediv ltk skd_m iv_m) used own = own
-
-abbrev pub progress_begun : Ask → Bool → Progress → Progress
-progress_begun ask used (central c) = central (record c { own = stage_at_central ask used c.own })
-progress_begun ask used (peripheral p) = peripheral (record p { own = stage_at_peripheral ask used p.own })
-
-abbrev pub feature_draft : Role → Draft
-feature_draft Central = FeatureReq
-feature_draft Peripheral = PeripheralFeatureReq
-
-abbrev pub version_draft : Bool → Option Draft
-version_draft false = Some VersionInd
-version_draft true = None
 
 -- its first PDU; that of an encryption depends on the phase and is queued by the layer above
 abbrev pub first_draft : TableFacts → Ask → Option Draft

@@ -1,18 +1,18 @@
 -- The calls on a table, and what they make of it one after another (our choice).
-use Rattle.std.specs.Prelude.{ℕ, ◌+◌, Bool, List, [], ◌∷◌, Result}
+use Rattle.std.specs.Prelude.{ℕ, Bool, Result, List, [], ◌∷◌, ◌+◌}
 use Rattle.ble_base.specs.declared.error_codes.ErrCode.{ErrCode}
 use Rattle.data_pdu.specs.declared.ctrl.Ctrl.{Ctrl}
 use Rattle.data_pdu.specs.declared.ctrl.CtrlRead.{CtrlRead}
-use Rattle.procedures.specs.declared.asks.Ask.{Ask}
-use Rattle.procedures.specs.declared.drafts.Draft.TheVariants.{VersionInd}
-use Rattle.procedures.specs.declared.drafts.Outgoing.{Outgoing}
-use Rattle.procedures.specs.declared.drafts.Outgoing.TheVariants.{Nothing, Other}
+use Rattle.procedure_stages.specs.declared.asks.Ask.{Ask}
+use Rattle.procedure_stages.specs.declared.drafts.Outgoing.{Outgoing}
+use Rattle.procedure_stages.specs.declared.drafts.Outgoing.TheVariants.{Nothing, Other}
+use Rattle.procedure_stages.specs.declared.drafts.Draft.TheVariants.{VersionInd}
 use Rattle.procedures.specs.Table.{TableFacts}
-use Rattle.procedures.specs.Queue.{next_of}
 use Rattle.procedures.specs.Taking.{took_step}
 use Rattle.procedures.specs.Sending.{went_step, acked_step}
 use Rattle.procedures.specs.Beginning.{ask_step, begin_step}
 use Rattle.procedures.specs.Going.{entered_step, host_answer_step, terminate_step, owe_step}
+use Rattle.procedures.specs.Queue.{next_of}
 
 -- a call, with its arguments; event, latency, phase and slot in this order
 pub data Call : Type 0 where

@@ -1,25 +1,19 @@
 -- Encryption start and pause, as the table of procedures sees them (Core 5.2, volume 6 part B, section 5.1.3): the phases
 -- are kept by the layer above.
-use Rattle.std.specs.Prelude.{Bool, true, false, Option, Some, None, if◌then◌else◌}
+use Rattle.std.specs.Prelude.{Bool, if◌then◌else◌, true, false}
 use Rattle.ble_base.specs.declared.procedure_kinds.Kind.TheVariants.{Encrypt}
 use Rattle.data_pdu.specs.declared.ctrl.Ctrl.{Ctrl}
 use Rattle.data_pdu.specs.declared.ctrl.Ctrl.TheVariants.{RejectExtInd}
+use Rattle.procedure_stages.specs.declared.stages.Central.{Central}
+use Rattle.procedure_stages.specs.declared.stages.OwnCentral.TheVariants.{Idle}
+use Rattle.procedure_stages.specs.declared.stages.Progress.TheVariants.{Central as central, Peripheral as peripheral}
+use Rattle.procedure_stages.specs.declared.stages.Peripheral.{Peripheral}
+use Rattle.procedure_stages.specs.declared.stages.Progress.{Progress}
+use Rattle.procedure_stages.specs.Awaited.{is_own_encryption}
 use Rattle.procedures.specs.declared.outcome.Outcome.{Outcome}
-use Rattle.procedures.specs.declared.stages.Central.{Central}
-use Rattle.procedures.specs.declared.stages.OwnCentral.{OwnCentral}
-use Rattle.procedures.specs.declared.stages.OwnCentral.TheVariants.{Idle, EncryptUnsent, EncryptSent}
-use Rattle.procedures.specs.declared.stages.Peripheral.{Peripheral}
-use Rattle.procedures.specs.declared.stages.Progress.{Progress}
-use Rattle.procedures.specs.declared.stages.Progress.TheVariants.{Central as central, Peripheral as peripheral}
 use Rattle.procedures.specs.declared.steps.Effect.TheVariants.{Cipher}
 use Rattle.procedures.specs.Table.{TableFacts}
-use Rattle.procedures.specs.Outcomes.{unchanged, moved, with_effect, with_done}
-
--- the own encryption of a central is in progress
-abbrev pub is_own_encryption : OwnCentral → Bool
-is_own_encryption EncryptUnsent = true
-is_own_encryption EncryptSent = true
-is_own_encryption other = false
+use Rattle.procedures.specs.Outcomes.{unchanged, with_effect, moved, with_done}
 
 -- ---- at the central: in phase Clear or Secure no procedure awaits these PDUs, and they are ignored
 
@@ -36,12 +30,6 @@ secured f c =
 
 abbrev pub start_rsp_at_central : TableFacts → Central → Bool → Ctrl → Outcome
 start_rsp_at_central f c quiet ctrl = (if quiet then unchanged f else with_effect (Cipher ctrl) (secured f c))
-
--- a PDU of the central's own encryption is sent
-abbrev pub encryption_sent : OwnCentral → Option OwnCentral
-encryption_sent EncryptUnsent = Some EncryptSent
-encryption_sent EncryptSent = Some EncryptSent
-encryption_sent other = None
 
 -- ---- at the peripheral
 

@@ -1,89 +1,33 @@
 -- How procedures go on as an event is entered, as the host answers or ends the link, and as time passes (Core 5.2,
 -- volume 6 part B, sections 5.1 and 5.2).
-use Rattle.std.specs.Prelude.{ℕ, ◌+◌, nat_le, ◌&&◌, Bool, true, false, Option, Some, None, Result, Ok, Err, if◌then◌else◌}
-use Rattle.ble_base.specs.ErrorCodes.{ll_response_timeout}
+use Rattle.std.specs.Prelude.{Bool, Option, None, if◌then◌else◌, ℕ, Result, Ok, Err, true, false, ◌+◌, nat_le, Some, ◌&&◌}
+use Rattle.ble_base.specs.declared.procedure_kinds.Kind.{Kind}
 use Rattle.ble_base.specs.declared.error_codes.ErrCode.{ErrCode}
 use Rattle.ble_base.specs.declared.counters.SlotNo.{SlotNo}
-use Rattle.ble_base.specs.declared.procedure_kinds.Kind.{Kind}
-use Rattle.ble_base.specs.declared.procedure_kinds.Kind.TheVariants.{Update, Request, Map}
+use Rattle.ble_base.specs.ErrorCodes.{ll_response_timeout}
 use Rattle.data_pdu.specs.declared.ctrl.Ctrl.{Ctrl}
 use Rattle.data_pdu.specs.declared.ctrl.Ctrl.TheVariants.{TerminateInd}
-use Rattle.procedures.specs.declared.asks.Ask.{Ask}
-use Rattle.procedures.specs.declared.asks.Ask.TheVariants.{Update as ask_update}
-use Rattle.procedures.specs.declared.drafts.Draft.TheVariants.{Grant, Cipher}
-use Rattle.procedures.specs.Opcodes.{connection_param_req_opcode}
-use Rattle.procedures.specs.declared.stages.Ahead.TheVariants.{Nothing}
-use Rattle.procedures.specs.declared.stages.OwnCentral.{OwnCentral}
-use Rattle.procedures.specs.declared.stages.OwnCentral.TheVariants.{Idle, UpdateSent, MapSent}
-use Rattle.procedures.specs.declared.stages.PeerAtCentral.{PeerAtCentral}
-use Rattle.procedures.specs.declared.stages.PeerAtCentral.TheVariants.{Absent, GrantUnsent, GrantSent}
-use Rattle.procedures.specs.declared.stages.OwnPeripheral.{OwnPeripheral}
-use Rattle.procedures.specs.declared.stages.OwnPeripheral.TheVariants.{Idle as idle, RequestGranted}
-use Rattle.procedures.specs.declared.stages.PeerAtPeripheral.{PeerAtPeripheral}
-use Rattle.procedures.specs.declared.stages.PeerAtPeripheral.TheVariants.{Absent as absent, UpdateTaken, MapTaken}
-use Rattle.procedures.specs.declared.stages.Progress.{Progress}
-use Rattle.procedures.specs.declared.stages.Progress.TheVariants.{Central as central, Peripheral as peripheral}
-use Rattle.procedures.specs.declared.table.Closing.{Closing}
+use Rattle.procedure_stages.specs.declared.drafts.Draft.TheVariants.{Grant, Cipher}
+use Rattle.procedure_stages.specs.declared.stages.PeerAtCentral.TheVariants.{GrantUnsent, Absent}
+use Rattle.procedure_stages.specs.declared.asks.Ask.{Ask}
+use Rattle.procedure_stages.specs.declared.asks.Ask.TheVariants.{Update as ask_update}
+use Rattle.procedure_stages.specs.Held.{progress_held, done_held}
+use Rattle.procedure_stages.specs.InProgress.{peer_becomes}
+use Rattle.procedure_stages.specs.Opcodes.{connection_param_req_opcode}
+use Rattle.procedure_stages.specs.Kinds.{own_kind, is_timed}
 use Rattle.procedures.specs.declared.table.Closing.TheVariants.{Disconnecting}
-use Rattle.procedures.specs.Kinds.{own_kind}
+use Rattle.procedures.specs.declared.table.Closing.{Closing}
 use Rattle.procedures.specs.Table.{TableFacts, closed}
 use Rattle.procedures.specs.Queue.{with_draft, with_rejection, with_disconnect}
 use Rattle.procedures.specs.Encryption.{progress_given}
 
 -- ---- an event is entered, from which an indication holds
 
--- at the central that completes its own update or map, or the request of the peripheral
-abbrev pub own_held_at_central : OwnCentral → OwnCentral
-own_held_at_central UpdateSent = Idle
-own_held_at_central MapSent = Idle
-own_held_at_central other = other
-
-abbrev pub done_at_central : OwnCentral → Option Kind
-done_at_central UpdateSent = Some Update
-done_at_central MapSent = Some Map
-done_at_central other = None
-
-abbrev pub peer_held_at_central : PeerAtCentral → PeerAtCentral
-peer_held_at_central GrantSent = Absent
-peer_held_at_central other = other
-
--- at the peripheral its own request, or the update or map of the central
-abbrev pub own_held_at_peripheral : OwnPeripheral → OwnPeripheral
-own_held_at_peripheral RequestGranted = idle
-own_held_at_peripheral other = other
-
-abbrev pub done_at_peripheral : OwnPeripheral → Option Kind
-done_at_peripheral RequestGranted = Some Request
-done_at_peripheral other = None
-
-abbrev pub peer_held_at_peripheral : PeerAtPeripheral → PeerAtPeripheral
-peer_held_at_peripheral UpdateTaken = absent
-peer_held_at_peripheral MapTaken = absent
-peer_held_at_peripheral other = other
-
-abbrev pub progress_held : Progress → Progress
-progress_held (central c) =
-    central (record c { own = own_held_at_central c.own; peer = peer_held_at_central c.peer })
-progress_held (peripheral p) =
-    peripheral (record p {
-      own = own_held_at_peripheral p.own;
-      peer = peer_held_at_peripheral p.peer;
-      ahead = Nothing;
-    })
-
-abbrev pub done_held : Progress → Option Kind
-done_held (central c) = done_at_central c.own
-done_held (peripheral p) = done_at_peripheral p.own
-
 abbrev pub entered_step : TableFacts → Bool → TableFacts × Option Kind
 entered_step f applied =
     (if applied then (record f { progress = progress_held f.progress }, done_held f.progress) else (f, None))
 
 -- ---- the host of a central answers a request of the peripheral (section 5.1.7)
-
-abbrev pub peer_becomes : PeerAtCentral → Progress → Progress
-peer_becomes peer (central c) = central (record c { peer = peer })
-peer_becomes peer (peripheral p) = peripheral p
 
 -- it grants the request with these parameters, or refuses it
 abbrev pub request_granted : TableFacts → ℕ → ℕ → ℕ → TableFacts
@@ -139,13 +83,6 @@ owe_step f ctrl =
     }
 
 -- ---- the time in which the peer has to answer (section 5.2)
-
--- an update and a map have no such time, since no PDU of the peer is awaited
-abbrev pub is_timed : Option Kind → Bool
-is_timed None = false
-is_timed (Some Update) = false
-is_timed (Some Map) = false
-is_timed (Some other) = true
 
 -- 40 s (section 5.2), in slots
 abbrev pub response_slots : ℕ

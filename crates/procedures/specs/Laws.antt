@@ -1,20 +1,18 @@
 -- What the laws of one end speak of (Core 5.2, volume 6 part B, section 5).
-use Rattle.std.specs.Prelude.{◌||◌, Bool, true, false, not, Some, is_none, ⊤}
+use Rattle.std.specs.Prelude.{⊤, ◌||◌, Bool, true, false, not, is_none, Some}
 use Rattle.ble_base.specs.declared.error_codes.ErrCode.{ErrCode}
 use Rattle.ble_base.specs.declared.procedure_kinds.Kind.{Kind}
 use Rattle.data_pdu.specs.declared.ctrl.Ctrl.{Ctrl}
-use Rattle.data_pdu.specs.declared.ctrl.Ctrl.TheVariants.{UnknownRsp, FeatureRsp, LengthRsp, PhyRsp, PhyUpdateInd, RejectInd, RejectExtInd, EncRsp, StartEncReq, StartEncRsp, PauseEncRsp}
-use Rattle.procedures.specs.declared.drafts.Outgoing.{Outgoing}
-use Rattle.procedures.specs.declared.drafts.Outgoing.TheVariants.{Other}
-use Rattle.procedures.specs.declared.stages.Progress.{Progress}
-use Rattle.procedures.specs.declared.stages.Progress.TheVariants.{Central, Peripheral}
+use Rattle.data_pdu.specs.declared.ctrl.Ctrl.TheVariants.{PhyRsp, PhyUpdateInd, EncRsp, StartEncReq, StartEncRsp, PauseEncRsp, UnknownRsp, FeatureRsp, LengthRsp, RejectInd, RejectExtInd}
+use Rattle.procedure_stages.specs.declared.drafts.Outgoing.{Outgoing}
+use Rattle.procedure_stages.specs.declared.drafts.Outgoing.TheVariants.{Other}
+use Rattle.procedure_stages.specs.declared.stages.Progress.{Progress}
+use Rattle.procedure_stages.specs.declared.stages.Progress.TheVariants.{Central, Peripheral}
+use Rattle.procedure_stages.specs.Awaited.{awaits_phy_rsp, awaits_phy_ind, has_phy_of_central, awaits_features, awaits_lengths}
+use Rattle.procedure_stages.specs.Kinds.{own_exchange}
+use Rattle.procedure_stages.specs.Opcodes.{first_opcode, later_opcode, is_opcode}
 use Rattle.procedures.specs.declared.steps.Step.{Step}
-use Rattle.procedures.specs.Kinds.{own_exchange}
 use Rattle.procedures.specs.Outcomes.{empty_step}
-use Rattle.procedures.specs.Features.{awaits_features}
-use Rattle.procedures.specs.Length.{awaits_lengths}
-use Rattle.procedures.specs.Phy.{awaits_phy_rsp, awaits_phy_ind, has_phy_of_central}
-use Rattle.procedures.specs.Refusals.{first_opcode, later_opcode, is_opcode}
 
 -- rejections and LL_TERMINATE_IND of a Disconnect: what goes before the end of a link
 abbrev pub GoesBeforeTheEnd : Outgoing → Type 0

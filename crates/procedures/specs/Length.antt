@@ -1,17 +1,16 @@
 -- Data length update (Core 5.2, volume 6 part B, section 5.1.9).
-use Rattle.std.specs.Prelude.{ℕ, Bool, true, false, Option, Some, None, if◌then◌else◌}
+use Rattle.std.specs.Prelude.{ℕ, if◌then◌else◌}
 use Rattle.ble_base.specs.declared.procedure_kinds.Kind.TheVariants.{Length}
-use Rattle.procedures.specs.declared.drafts.Draft.{Draft}
-use Rattle.procedures.specs.declared.drafts.Draft.TheVariants.{LengthRsp}
-use Rattle.procedures.specs.declared.lengths.Lengths.{Lengths}
+use Rattle.procedure_stages.specs.declared.drafts.Draft.{Draft}
+use Rattle.procedure_stages.specs.declared.drafts.Draft.TheVariants.{LengthRsp}
+use Rattle.procedure_stages.specs.declared.lengths.Lengths.{Lengths}
+use Rattle.procedure_stages.specs.Limits.{rx_of, tx_of, with_peer}
+use Rattle.procedure_stages.specs.Kinds.{own_exchange, without_own}
+use Rattle.procedure_stages.specs.Awaited.{awaits_lengths}
 use Rattle.procedures.specs.declared.outcome.Outcome.{Outcome}
-use Rattle.procedures.specs.declared.stages.Exchange.{Exchange}
-use Rattle.procedures.specs.declared.stages.Exchange.TheVariants.{LengthUnsent, LengthSent}
 use Rattle.procedures.specs.declared.steps.Effect.TheVariants.{Lengths as effective_lengths}
-use Rattle.procedures.specs.Kinds.{own_exchange, without_own}
-use Rattle.procedures.specs.Limits.{rx_of, tx_of, with_peer}
 use Rattle.procedures.specs.Table.{TableFacts}
-use Rattle.procedures.specs.Outcomes.{unchanged, moved, answered, with_done}
+use Rattle.procedures.specs.Outcomes.{answered, unchanged, moved, with_done}
 
 -- this end's own limits, as LL_LENGTH_RSP gives them
 abbrev pub length_reply : Lengths → Draft
@@ -29,18 +28,9 @@ with_lengths lengths outcome =
 abbrev pub length_asked : TableFacts → ℕ → ℕ → Outcome
 length_asked f rx tx = with_lengths (with_peer f.lengths rx tx) (answered f (length_reply f.lengths))
 
-abbrev pub awaits_lengths : Option Exchange → Bool
-awaits_lengths (Some LengthSent) = true
-awaits_lengths other = false
-
 -- LL_LENGTH_RSP is taken
 abbrev pub length_taken : TableFacts → ℕ → ℕ → Outcome
 length_taken f rx tx =
     (if awaits_lengths (own_exchange f.progress)
     then with_done Length (with_lengths (with_peer f.lengths rx tx) (moved f (without_own f.progress)))
     else unchanged f)
-
--- LL_LENGTH_REQ is sent
-abbrev pub length_sent : Exchange → Option Exchange
-length_sent LengthUnsent = Some LengthSent
-length_sent other = None

@@ -1,12 +1,5 @@
 -- The definitions of this crate.
-pub mod Opcodes
-pub mod Kinds
-pub mod Values
-pub mod Collisions
-pub mod Wants
-pub mod Limits
 pub mod Length
-pub mod Drafts
 pub mod Table
 pub mod Queue
 pub mod Outcomes

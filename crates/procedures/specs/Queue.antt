@@ -1,18 +1,18 @@
 -- The control PDUs that wait to be sent (Core 5.2, volume 6 part B, sections 5.3 and 5.1.6; the order is our choice).
-use Rattle.std.specs.Prelude.{ℕ, ◌+◌, nat_lt, Bool, true, not, ◌&&◌, List, [], ◌∷◌, ◌++◌, length, map, remove, Option, Some, None, if◌then◌else◌}
+use Rattle.std.specs.Prelude.{ℕ, Option, Some, None, ◌+◌, length, List, [], ◌∷◌, ◌++◌, map, if◌then◌else◌, nat_lt, Bool, true, not, ◌&&◌, remove}
 use Rattle.ble_base.specs.declared.error_codes.ErrCode.{ErrCode}
 use Rattle.ble_base.specs.declared.counters.EventNo.{EventNo}
-use Rattle.procedures.specs.declared.drafts.Draft.{Draft}
-use Rattle.procedures.specs.declared.drafts.Rejection.{Rejection as TheRejection}
-use Rattle.procedures.specs.declared.drafts.Outgoing.{Outgoing}
-use Rattle.procedures.specs.declared.drafts.Outgoing.TheVariants.{Nothing, Rejection, Disconnect, Other}
+use Rattle.procedure_stages.specs.declared.drafts.Outgoing.{Outgoing}
+use Rattle.procedure_stages.specs.declared.drafts.Outgoing.TheVariants.{Disconnect, Rejection, Other, Nothing}
+use Rattle.procedure_stages.specs.declared.drafts.Draft.{Draft}
+use Rattle.procedure_stages.specs.declared.drafts.Rejection.{Rejection as TheRejection}
+use Rattle.procedure_stages.specs.declared.stages.Progress.{Progress}
+use Rattle.procedure_stages.specs.declared.stages.Progress.TheVariants.{Central, Peripheral}
+use Rattle.procedure_stages.specs.Drafts.{waits_for_instant}
+use Rattle.procedures.specs.declared.table.Closing.{Closing}
 use Rattle.procedures.specs.declared.outcome.Reply.{Reply}
 use Rattle.procedures.specs.declared.outcome.Reply.TheVariants.{Nothing as no_reply, Reject, Answer}
-use Rattle.procedures.specs.declared.stages.Progress.{Progress}
-use Rattle.procedures.specs.declared.stages.Progress.TheVariants.{Central, Peripheral}
-use Rattle.procedures.specs.declared.table.Closing.{Closing}
-use Rattle.procedures.specs.Table.{QueueFacts, TableFacts, is_open, is_disconnecting}
-use Rattle.procedures.specs.Drafts.{waits_for_instant}
+use Rattle.procedures.specs.Table.{QueueFacts, is_open, TableFacts, is_disconnecting}
 
 abbrev pub count_of_disconnect : Option ErrCode → ℕ
 count_of_disconnect None = 0

@@ -1,40 +1,41 @@
 -- What each control PDU of the peer does at an end, by its role (Core 5.2, volume 6 part B, sections 2.4.2 and 5).
-use Rattle.std.specs.Prelude.{ℕ, nat_le, ◌||◌, ◌&&◌, Bool, true, false, Option, Some, is_some, List, if◌then◌else◌}
-use Rattle.ble_base.specs.ErrorCodes.{memory_capacity_exceeded}
-use Rattle.ble_base.specs.declared.counters.SlotNo.{SlotNo}
+use Rattle.std.specs.Prelude.{Bool, true, false, nat_le, ◌||◌, ◌&&◌, List, if◌then◌else◌, ℕ, Option, Some, is_some}
 use Rattle.ble_base.specs.declared.procedure_kinds.Kind.TheVariants.{Version}
+use Rattle.ble_base.specs.declared.counters.SlotNo.{SlotNo}
+use Rattle.ble_base.specs.ErrorCodes.{memory_capacity_exceeded}
 use Rattle.data_pdu.specs.declared.ctrl.Ctrl.{Ctrl}
-use Rattle.data_pdu.specs.declared.ctrl.Ctrl.TheVariants.{ConnectionUpdateInd, ChannelMapInd, TerminateInd, EncReq, EncRsp, StartEncReq, StartEncRsp, UnknownRsp, FeatureReq, FeatureRsp, PauseEncReq, PauseEncRsp, VersionInd, RejectInd, PeripheralFeatureReq, ConnectionParamReq, ConnectionParamRsp, RejectExtInd, LengthReq, LengthRsp, PhyReq, PhyRsp, PhyUpdateInd}
+use Rattle.data_pdu.specs.declared.ctrl.Ctrl.TheVariants.{TerminateInd, UnknownRsp, FeatureRsp, VersionInd, RejectInd, ConnectionParamRsp, RejectExtInd, LengthReq, LengthRsp, ConnectionUpdateInd, ChannelMapInd, EncReq, EncRsp, StartEncReq, StartEncRsp, FeatureReq, PauseEncReq, PauseEncRsp, PeripheralFeatureReq, ConnectionParamReq, PhyReq, PhyRsp, PhyUpdateInd}
 use Rattle.data_pdu.specs.declared.ctrl.CtrlRead.{CtrlRead}
 use Rattle.data_pdu.specs.declared.ctrl.CtrlRead.TheVariants.{Known, Unknown, Bare}
 use Rattle.instants.specs.declared.indications.Indication.TheVariants.{Update as update_indication, Map as map_indication}
-use Rattle.procedures.specs.declared.asks.Ask.{Ask}
-use Rattle.procedures.specs.declared.drafts.Draft.TheVariants.{VersionInd as version_draft}
-use Rattle.procedures.specs.Opcodes.{connection_update_ind_opcode, channel_map_ind_opcode, enc_req_opcode, enc_rsp_opcode, start_enc_req_opcode, feature_req_opcode, pause_enc_req_opcode, peripheral_feature_req_opcode, connection_param_req_opcode, connection_param_rsp_opcode, phy_update_ind_opcode}
+use Rattle.procedure_stages.specs.declared.stages.Central.{Central}
+use Rattle.procedure_stages.specs.declared.stages.Peripheral.{Peripheral}
+use Rattle.procedure_stages.specs.declared.stages.Progress.{Progress}
+use Rattle.procedure_stages.specs.declared.stages.Progress.TheVariants.{Central as central, Peripheral as peripheral}
+use Rattle.procedure_stages.specs.declared.drafts.Draft.TheVariants.{VersionInd as version_draft}
+use Rattle.procedure_stages.specs.declared.asks.Ask.{Ask}
+use Rattle.procedure_stages.specs.Opcodes.{connection_param_rsp_opcode, connection_update_ind_opcode, channel_map_ind_opcode, enc_req_opcode, feature_req_opcode, pause_enc_req_opcode, phy_update_ind_opcode, enc_rsp_opcode, start_enc_req_opcode, peripheral_feature_req_opcode, connection_param_req_opcode}
+use Rattle.procedure_stages.specs.Wants.{place_of, without_place}
 use Rattle.procedures.specs.declared.outcome.Outcome.{Outcome}
 use Rattle.procedures.specs.declared.outcome.Reply.{Reply}
 use Rattle.procedures.specs.declared.outcome.Reply.TheVariants.{Nothing as no_reply, Answer}
-use Rattle.procedures.specs.declared.stages.Central.{Central}
-use Rattle.procedures.specs.declared.stages.Peripheral.{Peripheral}
-use Rattle.procedures.specs.declared.stages.Progress.{Progress}
-use Rattle.procedures.specs.declared.stages.Progress.TheVariants.{Central as central, Peripheral as peripheral}
 use Rattle.procedures.specs.declared.steps.Effect.{Effect}
-use Rattle.procedures.specs.declared.steps.Effect.TheVariants.{PeerVersion, AskHost, PeerEnds}
-use Rattle.procedures.specs.declared.steps.Step.{Step}
+use Rattle.procedures.specs.declared.steps.Effect.TheVariants.{AskHost, PeerEnds, PeerVersion}
 use Rattle.procedures.specs.declared.table.Closing.{Closing}
+use Rattle.procedures.specs.declared.steps.Step.{Step}
 use Rattle.procedures.specs.Table.{TableFacts, is_open, closed}
-use Rattle.procedures.specs.Queue.{waiting_in, with_reply}
 use Rattle.procedures.specs.Outcomes.{unchanged, unknown, empty_step}
 use Rattle.procedures.specs.Termination.{terminate_taken}
-use Rattle.procedures.specs.Update.{update_taken}
-use Rattle.procedures.specs.Map.{map_taken}
+use Rattle.procedures.specs.Features.{features_taken, features_asked}
+use Rattle.procedures.specs.Version.{version_taken}
+use Rattle.procedures.specs.Length.{length_asked, length_taken}
+use Rattle.procedures.specs.Refusals.{unknown_rsp_taken, reject_taken, reject_ext_taken}
 use Rattle.procedures.specs.Request.{request_taken}
 use Rattle.procedures.specs.Phy.{phy_req_at_central, phy_rsp_taken, phy_req_at_peripheral, phy_ind_taken}
-use Rattle.procedures.specs.Features.{features_asked, features_taken}
-use Rattle.procedures.specs.Version.{version_taken, place_of, without_place}
-use Rattle.procedures.specs.Length.{length_asked, length_taken}
 use Rattle.procedures.specs.Encryption.{cipher_at_central, start_rsp_at_central, encryption_begun, pause_rsp_at_peripheral, start_rsp_at_peripheral}
-use Rattle.procedures.specs.Refusals.{unknown_rsp_taken, reject_taken, reject_ext_taken}
+use Rattle.procedures.specs.Update.{update_taken}
+use Rattle.procedures.specs.Map.{map_taken}
+use Rattle.procedures.specs.Queue.{waiting_in, with_reply}
 
 -- ---- by PDU
 

@@ -1,21 +1,19 @@
 -- Connection update (Core 5.2, volume 6 part B, section 5.1.1), and the indications that a peripheral follows.
-use Rattle.std.specs.Prelude.{Bool, true, false, Option, Some, None, if◌then◌else◌}
+use Rattle.std.specs.Prelude.{true, if◌then◌else◌}
 use Rattle.ble_base.specs.ErrorCodes.{ll_procedure_collision, different_transaction_collision}
 use Rattle.ble_base.specs.declared.error_codes.ErrCode.{ErrCode}
 use Rattle.instants.specs.declared.indications.Indication.{Indication}
+use Rattle.procedure_stages.specs.declared.stages.Ahead.{Ahead}
+use Rattle.procedure_stages.specs.declared.stages.Ahead.TheVariants.{Update, Map, Nothing}
+use Rattle.procedure_stages.specs.declared.stages.Peripheral.{Peripheral}
+use Rattle.procedure_stages.specs.declared.stages.Progress.TheVariants.{Peripheral as peripheral}
+use Rattle.procedure_stages.specs.declared.stages.OwnPeripheral.TheVariants.{RequestGranted}
+use Rattle.procedure_stages.specs.declared.stages.PeerAtPeripheral.TheVariants.{UpdateTaken}
+use Rattle.procedure_stages.specs.Awaited.{reads_as_answer}
 use Rattle.procedures.specs.declared.outcome.Outcome.{Outcome}
-use Rattle.procedures.specs.declared.stages.Ahead.{Ahead}
-use Rattle.procedures.specs.declared.stages.Ahead.TheVariants.{Nothing, Update, Map}
-use Rattle.procedures.specs.declared.stages.OwnCentral.{OwnCentral}
-use Rattle.procedures.specs.declared.stages.OwnCentral.TheVariants.{UpdateUnsent, UpdateSent}
-use Rattle.procedures.specs.declared.stages.OwnPeripheral.{OwnPeripheral}
-use Rattle.procedures.specs.declared.stages.OwnPeripheral.TheVariants.{RequestAcknowledged, RequestGranted}
-use Rattle.procedures.specs.declared.stages.PeerAtPeripheral.TheVariants.{UpdateTaken}
-use Rattle.procedures.specs.declared.stages.Peripheral.{Peripheral}
-use Rattle.procedures.specs.declared.stages.Progress.TheVariants.{Peripheral as peripheral}
 use Rattle.procedures.specs.declared.steps.Effect.TheVariants.{Indicated}
 use Rattle.procedures.specs.Table.{TableFacts}
-use Rattle.procedures.specs.Outcomes.{moved, ended, with_effect}
+use Rattle.procedures.specs.Outcomes.{moved, with_effect, ended}
 
 -- the error of an indication that is taken while another waits: both may be of one kind or not (our choice)
 abbrev pub ahead_code : Ahead → Ahead → ErrCode
@@ -33,13 +31,6 @@ follow f Nothing new outcome = outcome
 follow f Update new outcome = ended f (ahead_code Update new)
 follow f Map new outcome = ended f (ahead_code Map new)
 
--- LL_CONNECTION_UPDATE_IND answers the request of the peripheral exactly where that was acknowledged (section 5.1.7;
--- the acknowledgement comes with the packet of the answer at the latest, by our choice)
-abbrev pub reads_as_answer : OwnPeripheral → Bool
-reads_as_answer RequestAcknowledged = true
-reads_as_answer RequestGranted = true
-reads_as_answer other = false
-
 -- the answer to a request is taken: the time of the request begins anew
 abbrev pub granted : TableFacts → Peripheral → Indication → Outcome
 granted f p indication =
@@ -53,8 +44,3 @@ update_begun f p indication = followed f (record p { peer = UpdateTaken }) Updat
 abbrev pub update_taken : TableFacts → Peripheral → Indication → Outcome
 update_taken f p indication =
     follow f p.ahead Update (if reads_as_answer p.own then granted f p indication else update_begun f p indication)
-
--- a central's LL_CONNECTION_UPDATE_IND of its own procedure is sent
-abbrev pub update_sent : OwnCentral → Option OwnCentral
-update_sent UpdateUnsent = Some UpdateSent
-update_sent other = None

@@ -1,137 +1,19 @@
 //! What a host asks, and which of it begins.
-ghost use Rattle.std.specs.Prelude.{◌≡◌, ◌<◌, ◌&&◌, ◌||◌};
-ghost use Rattle.procedures.specs.Table.{is_open};
+ghost use Rattle.std.specs.Prelude.{◌≡◌, ◌&&◌, ◌||◌, ◌<◌};
+ghost use Rattle.procedure_stages.specs.Wants.{IsAsk};
+ghost use Rattle.procedures.specs.Beginning.{is_version, may_ask_of, ask_step, is_ready, may_begin};
+ghost use Rattle.procedures.specs.Beginning.{place_to_begin, first_draft, with_first_draft};
+ghost use Rattle.procedures.specs.Beginning.{facts_begun, begin_step};
 ghost use Rattle.procedures.specs.Queue.{waiting_in};
-ghost use Rattle.procedures.specs.Wants.{IsAsk};
-ghost use Rattle.procedures.specs.Beginning.{is_kind, may_ask_of, lengths_asked, ask_step};
-ghost use Rattle.procedures.specs.Beginning.{is_encrypt, peer_lets, is_ready, may_begin};
-ghost use Rattle.procedures.specs.Beginning.{place_to_begin, version_stage, stage_at_central};
-ghost use Rattle.procedures.specs.Beginning.{stage_at_peripheral, progress_begun, feature_draft};
-ghost use Rattle.procedures.specs.Beginning.{version_draft, first_draft, with_first_draft};
-ghost use Rattle.procedures.specs.Beginning.{is_version, facts_begun, begin_step};
 
-use crate::asks::Ask;
-use crate::collisions::is_exclusive;
-use crate::drafts::Draft;
-use crate::kinds::{begins, is_same_kind};
-use crate::lengths::Lengths;
-use crate::stages::{Central, Exchange, OwnCentral, OwnPeripheral, Peripheral, Progress};
 use crate::table::ProcTable;
 use crate::taking::since_after;
-use crate::values::{NewParams, PayloadMax};
-use ble_base::{Kind, Role, SlotNo};
-
-/// Whether the own procedure is of this kind.
-fn is_kind(own: Option<Kind>, kind: Kind) -> bool
-    ensures { result ≡ is_kind own kind }
-{
-    match own {
-        Some(own) => is_same_kind(own, kind),
-        None => false,
-    }
-}
-
-/// The longest payloads after the host asked this.
-fn lengths_asked(ask: &Ask, lengths: Lengths) -> Lengths
-    requires { IsAsk ask.now }
-    ensures { result ≡ lengths_asked ask.now lengths }
-{
-    match *ask {
-        Ask::Length { tx } => lengths.with_own_tx(PayloadMax::new(tx)),
-        _ => lengths,
-    }
-}
-
-/// Whether the peer's procedures let a kind begin.
-fn peer_lets(progress: Progress, kind: Kind) -> bool
-    ensures { result ≡ peer_lets progress kind }
-{
-    let has_peer = progress.has_peer();
-    !(is_exclusive(kind) && has_peer)
-        && !(is_encrypt(kind) && (has_peer || progress.is_encrypting()))
-}
-
-/// Whether the kind is an encryption.
-fn is_encrypt(kind: Kind) -> bool
-    ensures { result ≡ is_encrypt kind }
-{
-    matches!(kind, Kind::Encrypt)
-}
-
-/// The stage of an exchange of versions as it begins: it waits for the peer at once if the own
-/// LL_VERSION_IND was queued before.
-fn version_stage(used: bool) -> Exchange
-    ensures { result ≡ version_stage used }
-{
-    if used {
-        Exchange::VersionSent
-    } else {
-        Exchange::VersionUnsent
-    }
-}
-
-/// The stage of a central's own procedure as it begins.
-fn stage_at_central(ask: &Ask, used: bool, own: OwnCentral) -> OwnCentral
-    ensures { result ≡ stage_at_central ask.now used own }
-{
-    match ask {
-        Ask::Update { .. } => OwnCentral::UpdateUnsent,
-        Ask::Request { .. } => own,
-        Ask::Map(_) => OwnCentral::MapUnsent,
-        Ask::Phy => OwnCentral::PhyUnsent,
-        Ask::Features => OwnCentral::Exchange(Exchange::FeaturesUnsent),
-        Ask::Version => OwnCentral::Exchange(version_stage(used)),
-        Ask::Length { .. } => OwnCentral::Exchange(Exchange::LengthUnsent),
-        Ask::Encrypt { .. } => OwnCentral::EncryptUnsent,
-    }
-}
-
-/// The stage of a peripheral's own procedure as it begins.
-fn stage_at_peripheral(ask: &Ask, used: bool, own: OwnPeripheral) -> OwnPeripheral
-    ensures { result ≡ stage_at_peripheral ask.now used own }
-{
-    match ask {
-        Ask::Update { .. } | Ask::Map(_) | Ask::Encrypt { .. } => own,
-        Ask::Request { .. } => OwnPeripheral::RequestUnsent,
-        Ask::Phy => OwnPeripheral::PhyUnsent,
-        Ask::Features => OwnPeripheral::Exchange(Exchange::FeaturesUnsent),
-        Ask::Version => OwnPeripheral::Exchange(version_stage(used)),
-        Ask::Length { .. } => OwnPeripheral::Exchange(Exchange::LengthUnsent),
-    }
-}
-
-/// The procedures after one of this end began.
-fn progress_begun(ask: &Ask, used: bool, progress: Progress) -> Progress
-    ensures { result ≡ progress_begun ask.now used progress }
-{
-    match progress {
-        Progress::Central(c) => Progress::Central(Central {
-            own: stage_at_central(ask, used, c.own),
-            ..c
-        }),
-        Progress::Peripheral(p) => Progress::Peripheral(Peripheral {
-            own: stage_at_peripheral(ask, used, p.own),
-            ..p
-        }),
-    }
-}
-
-/// The PDU that begins an exchange of features.
-fn feature_draft(role: Role) -> Draft
-    ensures { result ≡ feature_draft role }
-{
-    match role {
-        Role::Central => Draft::FeatureReq,
-        Role::Peripheral => Draft::PeripheralFeatureReq,
-    }
-}
-
-/// The PDU that begins an exchange of versions, unless it was queued before.
-fn version_draft(used: bool) -> Option<Draft>
-    ensures { result ≡ version_draft used }
-{
-    if used { None } else { Some(Draft::VersionInd) }
-}
+use ble_base::{Kind, SlotNo};
+use procedure_stages::begun::{feature_draft, progress_begun, version_draft};
+use procedure_stages::collisions::peer_lets;
+use procedure_stages::kinds::{begins, is_kind};
+use procedure_stages::lengths::lengths_asked;
+use procedure_stages::{Ask, Draft, NewParams};
 
 /// Whether an exchange of versions is asked for.
 fn is_version(ask: &Ask) -> bool

@@ -1,25 +1,18 @@
 //! Encryption start and pause, as the table of procedures sees them (Core 5.2, volume 6 part B,
 //! section 5.1.3): the phases are kept by the layer above.
 ghost use Rattle.std.specs.Prelude.{◌≡◌};
-ghost use Rattle.procedures.specs.Encryption.{is_own_encryption, cipher_at_central, secured};
-ghost use Rattle.procedures.specs.Encryption.{start_rsp_at_central, encryption_sent};
+ghost use Rattle.procedures.specs.Encryption.{cipher_at_central, secured, start_rsp_at_central};
 ghost use Rattle.procedures.specs.Encryption.{encryption_begun, pause_rsp_at_peripheral};
 ghost use Rattle.procedures.specs.Encryption.{start_rsp_at_peripheral, is_rejection};
 ghost use Rattle.procedures.specs.Encryption.{progress_given};
 
 use crate::outcome::{Outcome, moved, unchanged};
-use crate::stages::{Central, OwnCentral, Peripheral, Progress};
 use crate::steps::Effect;
 use crate::table::ProcTable;
 use ble_base::Kind;
 use data_pdu::Ctrl;
-
-/// Whether the own encryption of a central is in progress.
-fn is_own_encryption(own: OwnCentral) -> bool
-    ensures { result ≡ is_own_encryption own }
-{
-    matches!(own, OwnCentral::EncryptUnsent | OwnCentral::EncryptSent)
-}
+use procedure_stages::awaited::is_own_encryption;
+use procedure_stages::{Central, OwnCentral, Peripheral, Progress};
 
 /// LL_ENC_RSP, LL_START_ENC_REQ or LL_PAUSE_ENC_RSP is taken at a central.
 pub(crate) fn cipher_at_central(table: &ProcTable, c: Central, quiet: bool, ctrl: &Ctrl) -> Outcome
@@ -62,17 +55,6 @@ pub(crate) fn start_rsp_at_central(
         unchanged(table)
     } else {
         secured(table, c).with_effect(Effect::Cipher(*ctrl))
-    }
-}
-
-/// A PDU of an encryption is sent by a central: the stage of its own procedure after it, if it is
-/// of that.
-pub(crate) fn encryption_sent(own: OwnCentral) -> Option<OwnCentral>
-    ensures { result ≡ encryption_sent own }
-{
-    match own {
-        OwnCentral::EncryptUnsent | OwnCentral::EncryptSent => Some(OwnCentral::EncryptSent),
-        _ => None,
     }
 }
 

@@ -1,14 +1,13 @@
 //! Feature exchange (Core 5.2, volume 6 part B, section 5.1.4).
 ghost use Rattle.std.specs.Prelude.{◌≡◌};
-ghost use Rattle.procedures.specs.Features.{features_asked, awaits_features, features_taken};
-ghost use Rattle.procedures.specs.Features.{features_sent};
+ghost use Rattle.procedures.specs.Features.{features_asked, features_taken};
 
-use crate::drafts::Draft;
 use crate::outcome::{Outcome, answered, moved, unchanged};
-use crate::stages::Exchange;
 use crate::steps::Effect;
 use crate::table::ProcTable;
 use ble_base::Kind;
+use procedure_stages::Draft;
+use procedure_stages::awaited::awaits_features;
 
 /// The request of the peer is taken: LL_FEATURE_REQ at a peripheral, LL_PERIPHERAL_FEATURE_REQ at a
 /// central.
@@ -16,13 +15,6 @@ pub(crate) fn features_asked(table: &ProcTable, features: u64) -> Outcome
     ensures { result ≡ features_asked table.now features }
 {
     answered(table, Draft::FeatureRsp).with_effect(Effect::PeerFeatures(features))
-}
-
-/// Whether this end awaits LL_FEATURE_RSP.
-fn awaits_features(own: Option<Exchange>) -> bool
-    ensures { result ≡ awaits_features own }
-{
-    matches!(own, Some(Exchange::FeaturesSent))
 }
 
 /// LL_FEATURE_RSP is taken.
@@ -36,15 +28,5 @@ pub(crate) fn features_taken(table: &ProcTable, features: u64) -> Outcome
             .with_done(Kind::Features)
     } else {
         unchanged(table)
-    }
-}
-
-/// The request of this end is sent: the stage after it, if an exchange of features is under way.
-pub(crate) fn features_sent(stage: Exchange) -> Option<Exchange>
-    ensures { result ≡ features_sent stage }
-{
-    match stage {
-        Exchange::FeaturesUnsent => Some(Exchange::FeaturesSent),
-        _ => None,
     }
 }

@@ -1,146 +1,27 @@
 //! How procedures go on as an event is entered, as the host answers or ends the link, and as time
 //! passes.
-ghost use Rattle.std.specs.Prelude.{◌≡◌, ◌<◌, false, true, IsTrue};
+ghost use Rattle.std.specs.Prelude.{◌≡◌, ◌<◌, false, IsTrue};
 ghost use Rattle.std.specs.Result.{ForOk};
 ghost use Rattle.data_pdu.specs.Ranges.{IsInRange};
-ghost use Rattle.procedures.specs.Table.{is_host_asked, is_disconnecting};
+ghost use Rattle.procedure_stages.specs.InProgress.{is_host_asked};
+ghost use Rattle.procedure_stages.specs.Wants.{IsAsk};
+ghost use Rattle.procedures.specs.Going.{closing_given, is_over, entered_step, request_granted};
+ghost use Rattle.procedures.specs.Going.{request_refused, granted_by, host_answer_step, is_answer};
+ghost use Rattle.procedures.specs.Going.{terminate_step, owe_step, tick_of};
+ghost use Rattle.procedures.specs.Table.{is_disconnecting};
 ghost use Rattle.procedures.specs.Queue.{waiting_in};
-ghost use Rattle.procedures.specs.Wants.{IsAsk};
-ghost use Rattle.procedures.specs.Going.{own_held_at_central, done_at_central};
-ghost use Rattle.procedures.specs.Going.{peer_held_at_central, own_held_at_peripheral};
-ghost use Rattle.procedures.specs.Going.{done_at_peripheral, peer_held_at_peripheral};
-ghost use Rattle.procedures.specs.Going.{progress_held, done_held, entered_step, peer_becomes};
-ghost use Rattle.procedures.specs.Going.{request_granted, request_refused, granted_by};
-ghost use Rattle.procedures.specs.Going.{host_answer_step};
-ghost use Rattle.procedures.specs.Going.{is_answer, terminate_step, closing_given, owe_step};
-ghost use Rattle.procedures.specs.Going.{is_timed, is_over, tick_of};
 
-use crate::asks::Ask;
-use crate::drafts::{Draft, Rejection};
 use crate::encryption::progress_given;
-use crate::opcodes::CONNECTION_PARAM_REQ;
-use crate::stages::{
-    Ahead, Central, OwnCentral, OwnPeripheral, PeerAtCentral, PeerAtPeripheral, Peripheral,
-    Progress,
-};
 use crate::table::{Closing, ProcTable};
-use crate::values::{CipherPdu, NewParams};
 use ble_base::{ErrCode, Kind, SlotNo};
 use data_pdu::Ctrl;
+use procedure_stages::kinds::is_timed;
+use procedure_stages::opcodes::CONNECTION_PARAM_REQ;
+use procedure_stages::{Ask, CipherPdu, Draft, NewParams, PeerAtCentral, Progress, Rejection};
 
 /// The time in which the peer has to answer, 40 s (Core 5.2, volume 6 part B, section 5.2), in
 /// slots.
 const RESPONSE_SLOTS: u64 = 32000;
-
-impl OwnCentral {
-    /// The same after its indication holds.
-    fn held(self) -> Self
-        ensures { result ≡ own_held_at_central self }
-    {
-        match self {
-            OwnCentral::UpdateSent | OwnCentral::MapSent => OwnCentral::Idle,
-            _ => self,
-        }
-    }
-
-    /// The procedure that is completed as an indication holds.
-    fn done(self) -> Option<Kind>
-        ensures { result ≡ done_at_central self }
-    {
-        match self {
-            OwnCentral::UpdateSent => Some(Kind::Update),
-            OwnCentral::MapSent => Some(Kind::Map),
-            _ => None,
-        }
-    }
-}
-
-impl PeerAtCentral {
-    /// The same after an indication holds.
-    fn held(self) -> Self
-        ensures { result ≡ peer_held_at_central self }
-    {
-        match self {
-            PeerAtCentral::GrantSent => PeerAtCentral::Absent,
-            _ => self,
-        }
-    }
-}
-
-impl OwnPeripheral {
-    /// The same after an indication holds.
-    fn held(self) -> Self
-        ensures { result ≡ own_held_at_peripheral self }
-    {
-        match self {
-            OwnPeripheral::RequestGranted => OwnPeripheral::Idle,
-            _ => self,
-        }
-    }
-
-    /// The procedure that is completed as an indication holds.
-    fn done(self) -> Option<Kind>
-        ensures { result ≡ done_at_peripheral self }
-    {
-        match self {
-            OwnPeripheral::RequestGranted => Some(Kind::Request),
-            _ => None,
-        }
-    }
-}
-
-impl PeerAtPeripheral {
-    /// The same after an indication holds.
-    fn held(self) -> Self
-        ensures { result ≡ peer_held_at_peripheral self }
-    {
-        match self {
-            PeerAtPeripheral::UpdateTaken | PeerAtPeripheral::MapTaken => PeerAtPeripheral::Absent,
-            _ => self,
-        }
-    }
-}
-
-impl Progress {
-    /// The procedures after an indication holds.
-    fn held(self) -> Self
-        ensures { result ≡ progress_held self }
-    {
-        match self {
-            Progress::Central(c) => Progress::Central(Central {
-                own: c.own.held(),
-                peer: c.peer.held(),
-                ..c
-            }),
-            Progress::Peripheral(p) => Progress::Peripheral(Peripheral {
-                own: p.own.held(),
-                peer: p.peer.held(),
-                ahead: Ahead::Nothing,
-                ..p
-            }),
-        }
-    }
-
-    /// The procedure of this end that is completed as an indication holds.
-    fn done(self) -> Option<Kind>
-        ensures { result ≡ done_held self }
-    {
-        match self {
-            Progress::Central(c) => c.own.done(),
-            Progress::Peripheral(p) => p.own.done(),
-        }
-    }
-
-    /// The same with another stage of the peripheral's procedure, at a central.
-    fn with_peer(self, peer: PeerAtCentral) -> Self
-        ensures { result ≡ peer_becomes peer self }
-    {
-        match self {
-            Progress::Central(c) => Progress::Central(Central { peer, ..c }),
-            Progress::Peripheral(_) => self,
-        }
-    }
-}
 
 /// Whether the link is to end, after the layer above queued a PDU.
 fn closing_given(ctrl: &Ctrl, closing: Closing) -> Closing
@@ -152,17 +33,7 @@ fn closing_given(ctrl: &Ctrl, closing: Closing) -> Closing
     }
 }
 
-/// Whether the peer has a limited time to answer in a procedure of this kind.
-fn is_timed(own: Option<Kind>) -> bool
-    ensures { result ≡ is_timed own }
-{
-    match own {
-        None | Some(Kind::Update | Kind::Map) => false,
-        Some(_) => true,
-    }
-}
-
-/// Whether that time is over.
+/// Whether the time in which the peer has to answer is over.
 fn is_over(since: Option<SlotNo>, slot: SlotNo) -> bool
     ensures { result ≡ is_over since slot.0 }
 {

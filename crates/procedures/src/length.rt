@@ -1,15 +1,13 @@
 //! Data length update (Core 5.2, volume 6 part B, section 5.1.9).
 ghost use Rattle.std.specs.Prelude.{◌≡◌};
-ghost use Rattle.procedures.specs.Length.{length_reply, with_lengths, length_asked};
-ghost use Rattle.procedures.specs.Length.{awaits_lengths, length_taken, length_sent};
+ghost use Rattle.procedures.specs.Length.{length_reply, with_lengths, length_asked, length_taken};
 
-use crate::drafts::Draft;
-use crate::lengths::Lengths;
 use crate::outcome::{Outcome, answered, moved, unchanged};
-use crate::stages::Exchange;
 use crate::steps::{Effect, Step};
 use crate::table::ProcTable;
 use ble_base::Kind;
+use procedure_stages::awaited::awaits_lengths;
+use procedure_stages::{Draft, Lengths};
 
 /// LL_LENGTH_RSP of this end.
 fn length_reply(lengths: &Lengths) -> Draft
@@ -50,13 +48,6 @@ pub(crate) fn length_asked(table: &ProcTable, rx: u16, tx: u16) -> Outcome
     )
 }
 
-/// Whether this end awaits LL_LENGTH_RSP.
-fn awaits_lengths(own: Option<Exchange>) -> bool
-    ensures { result ≡ awaits_lengths own }
-{
-    matches!(own, Some(Exchange::LengthSent))
-}
-
 /// LL_LENGTH_RSP is taken, with the most octets that the peer receives and transmits.
 pub(crate) fn length_taken(table: &ProcTable, rx: u16, tx: u16) -> Outcome
     ensures { result ≡ length_taken table.now rx tx }
@@ -70,15 +61,5 @@ pub(crate) fn length_taken(table: &ProcTable, rx: u16, tx: u16) -> Outcome
         .with_done(Kind::Length)
     } else {
         unchanged(table)
-    }
-}
-
-/// LL_LENGTH_REQ is sent: the stage after it, if an exchange of lengths is under way.
-pub(crate) fn length_sent(stage: Exchange) -> Option<Exchange>
-    ensures { result ≡ length_sent stage }
-{
-    match stage {
-        Exchange::LengthUnsent => Some(Exchange::LengthSent),
-        _ => None,
     }
 }

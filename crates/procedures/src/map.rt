@@ -1,14 +1,14 @@
 //! Channel map update (Core 5.2, volume 6 part B, section 5.1.2).
 ghost use Rattle.std.specs.Prelude.{◌≡◌};
-ghost use Rattle.procedures.specs.Map.{map_taken, map_sent};
+ghost use Rattle.procedures.specs.Map.{map_taken};
 
 use crate::outcome::Outcome;
 use crate::request::after_grant;
-use crate::stages::{Ahead, OwnCentral, PeerAtPeripheral, Peripheral};
 use crate::table::ProcTable;
 use crate::update::{follow, followed};
 use ble_base::Kind;
 use instants::Indication;
+use procedure_stages::{Ahead, PeerAtPeripheral, Peripheral};
 
 /// LL_CHANNEL_MAP_IND is taken at a peripheral.
 pub(crate) fn map_taken(table: &ProcTable, p: Peripheral, indication: Indication) -> Outcome
@@ -25,14 +25,4 @@ pub(crate) fn map_taken(table: &ProcTable, p: Peripheral, indication: Indication
         Kind::Map,
         follow(table, p.ahead, Ahead::Map, outcome),
     )
-}
-
-/// LL_CHANNEL_MAP_IND is sent: the stage of the central's own procedure after it, if it is of that.
-pub(crate) fn map_sent(own: OwnCentral) -> Option<OwnCentral>
-    ensures { result ≡ map_sent own }
-{
-    match own {
-        OwnCentral::MapUnsent => Some(OwnCentral::MapSent),
-        _ => None,
-    }
 }

@@ -2,15 +2,14 @@
 ghost use Rattle.std.specs.Prelude.{◌≡◌, ◌<◌, true};
 ghost use Rattle.procedures.specs.Table.{is_open};
 ghost use Rattle.procedures.specs.Queue.{waiting_in, with_draft, with_rejection, with_reply};
-ghost use Rattle.procedures.specs.Queue.{is_past_instant, next_of, next_other, next_draft};
-ghost use Rattle.procedures.specs.Queue.{next_disconnect, without_next};
+ghost use Rattle.procedures.specs.Queue.{next_of, next_other, without_next, next_disconnect};
+ghost use Rattle.procedures.specs.Queue.{next_draft, is_past_instant};
 ghost use Rattle.procedures.specs.Taking.{has_reply};
 
-use crate::drafts::{Draft, Outgoing, Rejection};
 use crate::outcome::Reply;
-use crate::stages::Progress;
 use crate::table::ProcTable;
 use ble_base::{ErrCode, EventNo};
+use procedure_stages::{Draft, Outgoing, Progress, Rejection};
 
 impl ProcTable {
     /// How many control PDUs wait to be sent.

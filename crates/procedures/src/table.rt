@@ -1,21 +1,13 @@
 //! The procedures of one end of a link.
-ghost use Rattle.std.specs.Prelude.{◌≡◌, [], None};
-ghost use Rattle.procedures.specs.Table.{TableFacts, first_facts, first_progress};
-ghost use Rattle.procedures.specs.Table.{has_peer, is_encrypting, is_busy, is_host_asked};
-ghost use Rattle.procedures.specs.Table.{is_open, is_disconnecting, closed};
-ghost use Rattle.procedures.specs.Limits.{rx_of, tx_of};
-ghost use Rattle.procedures.specs.Values.{IsPayloadMax};
+ghost use Rattle.std.specs.Prelude.{◌≡◌};
+ghost use Rattle.procedure_stages.specs.InProgress.{is_busy};
+ghost use Rattle.procedure_stages.specs.Limits.{rx_of, tx_of};
+ghost use Rattle.procedure_stages.specs.Values.{IsPayloadMax};
+ghost use Rattle.procedures.specs.Table.{is_open, is_disconnecting, closed, first_facts};
 
-use crate::drafts::{Draft, Outgoing, Rejection};
-use crate::lengths::Lengths;
-use crate::stages::{
-    Ahead, Central, OwnCentral, OwnPeripheral, PeerAtCentral, PeerAtPeripheral, Peripheral,
-    Progress,
-};
-use crate::values::PayloadMax;
-use crate::wants::Wants;
 use arrayvec::ArrayVec;
 use ble_base::{ErrCode, Role, SlotNo};
+use procedure_stages::{Draft, Lengths, Outgoing, PayloadMax, Progress, Rejection, Wants};
 use std::marker::Model;
 
 /// Whether the link is to end (Core 5.2, volume 6 part B, section 5.1.6).
@@ -113,47 +105,6 @@ impl Closing {
         match self {
             Closing::Open => Closing::Closed,
             _ => self,
-        }
-    }
-}
-
-impl Progress {
-    /// Nothing is in progress.
-    fn first(role: Role) -> Self
-        ensures { result ≡ first_progress role }
-    {
-        match role {
-            Role::Central => Progress::Central(Central {
-                own: OwnCentral::Idle,
-                peer: PeerAtCentral::Absent,
-                last_instant: None,
-            }),
-            Role::Peripheral => Progress::Peripheral(Peripheral {
-                own: OwnPeripheral::Idle,
-                peer: PeerAtPeripheral::Absent,
-                ahead: Ahead::Nothing,
-                encrypting: false,
-            }),
-        }
-    }
-
-    /// Whether a procedure of the peer that excludes others is in progress here.
-    pub(crate) fn has_peer(self) -> bool
-        ensures { result ≡ has_peer self }
-    {
-        match self {
-            Progress::Central(c) => !matches!(c.peer, PeerAtCentral::Absent),
-            Progress::Peripheral(p) => !matches!(p.peer, PeerAtPeripheral::Absent),
-        }
-    }
-
-    /// Whether an encryption of the peer is in progress here.
-    pub(crate) fn is_encrypting(self) -> bool
-        ensures { result ≡ is_encrypting self }
-    {
-        match self {
-            Progress::Central(_) => false,
-            Progress::Peripheral(p) => p.encrypting,
         }
     }
 }

@@ -3,14 +3,12 @@ ghost use Rattle.std.specs.Prelude.{◌≡◌, false};
 ghost use Rattle.ble_base.specs.ChannelMap.{IsMap};
 ghost use Rattle.data_pdu.specs.Ranges.{IsInRange};
 ghost use Rattle.data_pdu.specs.Reading.{IfKnown};
-ghost use Rattle.procedures.specs.Map.{map_taken};
 ghost use Rattle.procedures.specs.Taking.{taken_by_either, taken_by_central, taken_by_peripheral};
-ghost use Rattle.procedures.specs.Taking.{taken_by, outcome_of, has_reply, asks_host, lacks_room};
-ghost use Rattle.procedures.specs.Taking.{is_version_reply, closing_after, since_after};
-ghost use Rattle.procedures.specs.Taking.{is_version_effect, wanted_after, facts_with, settled};
-ghost use Rattle.procedures.specs.Taking.{took_step};
+ghost use Rattle.procedures.specs.Taking.{taken_by, outcome_of, has_reply, is_version_reply};
+ghost use Rattle.procedures.specs.Taking.{asks_host, closing_after, is_version_effect, since_after};
+ghost use Rattle.procedures.specs.Taking.{lacks_room, wanted_after, facts_with, settled, took_step};
+ghost use Rattle.procedures.specs.Map.{map_taken};
 
-use crate::drafts::Draft;
 use crate::encryption::{
     cipher_at_central, encryption_begun, pause_rsp_at_peripheral, start_rsp_at_central,
     start_rsp_at_peripheral,
@@ -18,15 +16,10 @@ use crate::encryption::{
 use crate::features::{features_asked, features_taken};
 use crate::length::{length_asked, length_taken};
 use crate::map::map_taken;
-use crate::opcodes::{
-    CHANNEL_MAP_IND, CONNECTION_PARAM_REQ, CONNECTION_PARAM_RSP, CONNECTION_UPDATE_IND, ENC_REQ,
-    ENC_RSP, FEATURE_REQ, PAUSE_ENC_REQ, PERIPHERAL_FEATURE_REQ, PHY_UPDATE_IND, START_ENC_REQ,
-};
 use crate::outcome::{Outcome, Reply, empty_step, unchanged, unknown};
 use crate::phy::{phy_ind_taken, phy_req_at_central, phy_req_at_peripheral, phy_rsp_taken};
 use crate::refusals::{reject_ext_taken, reject_taken, unknown_rsp_taken};
 use crate::request::request_taken;
-use crate::stages::{Central, Peripheral, Progress};
 use crate::steps::{Effect, Step};
 use crate::table::{Closing, ProcTable};
 use crate::termination::terminate_taken;
@@ -35,6 +28,11 @@ use crate::version::version_taken;
 use ble_base::{ChannelMap, ErrCode, Kind, SlotNo};
 use data_pdu::{Ctrl, CtrlRead};
 use instants::Indication;
+use procedure_stages::opcodes::{
+    CHANNEL_MAP_IND, CONNECTION_PARAM_REQ, CONNECTION_PARAM_RSP, CONNECTION_UPDATE_IND, ENC_REQ,
+    ENC_RSP, FEATURE_REQ, PAUSE_ENC_REQ, PERIPHERAL_FEATURE_REQ, PHY_UPDATE_IND, START_ENC_REQ,
+};
+use procedure_stages::{Central, Draft, Peripheral, Progress};
 
 /// From this number of control PDUs on that wait, none is answered.
 const CROWD: usize = 16;

@@ -1,15 +1,16 @@
 //! Connection update (Core 5.2, volume 6 part B, section 5.1.1), and the indications that a
 //! peripheral follows.
 ghost use Rattle.std.specs.Prelude.{◌≡◌};
-ghost use Rattle.procedures.specs.Update.{ahead_code, followed, follow, reads_as_answer, granted};
-ghost use Rattle.procedures.specs.Update.{update_begun, update_taken, update_sent};
+ghost use Rattle.procedures.specs.Update.{ahead_code, followed, follow, granted, update_begun};
+ghost use Rattle.procedures.specs.Update.{update_taken};
 
 use crate::outcome::{Outcome, ended, moved};
-use crate::stages::{Ahead, OwnCentral, OwnPeripheral, PeerAtPeripheral, Peripheral, Progress};
 use crate::steps::Effect;
 use crate::table::ProcTable;
 use ble_base::ErrCode;
 use instants::Indication;
+use procedure_stages::awaited::reads_as_answer;
+use procedure_stages::{Ahead, OwnPeripheral, PeerAtPeripheral, Peripheral, Progress};
 
 /// The error of an indication of this kind that is taken while another waits.
 fn ahead_code(waiting: Ahead, new: Ahead) -> ErrCode
@@ -47,17 +48,6 @@ pub(crate) fn follow(table: &ProcTable, waiting: Ahead, new: Ahead, outcome: Out
     }
 }
 
-/// Whether LL_CONNECTION_UPDATE_IND answers the request of the peripheral, which is so exactly if
-/// that was acknowledged.
-fn reads_as_answer(own: OwnPeripheral) -> bool
-    ensures { result ≡ reads_as_answer own }
-{
-    matches!(
-        own,
-        OwnPeripheral::RequestAcknowledged | OwnPeripheral::RequestGranted
-    )
-}
-
 /// The answer to a request is taken.
 fn granted(table: &ProcTable, p: Peripheral, indication: Indication) -> Outcome
     ensures { result ≡ granted table.now p indication }
@@ -93,15 +83,4 @@ pub(crate) fn update_taken(table: &ProcTable, p: Peripheral, indication: Indicat
         update_begun(table, p, indication)
     };
     follow(table, p.ahead, Ahead::Update, outcome)
-}
-
-/// LL_CONNECTION_UPDATE_IND of a central's own procedure is sent: the stage after it, if it is of
-/// that procedure.
-pub(crate) fn update_sent(own: OwnCentral) -> Option<OwnCentral>
-    ensures { result ≡ update_sent own }
-{
-    match own {
-        OwnCentral::UpdateUnsent => Some(OwnCentral::UpdateSent),
-        _ => None,
-    }
 }

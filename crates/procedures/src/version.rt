@@ -1,15 +1,14 @@
 //! Version exchange (Core 5.2, volume 6 part B, section 5.1.5).
 ghost use Rattle.std.specs.Prelude.{◌≡◌};
-ghost use Rattle.procedures.specs.Version.{version_reply, is_version};
-ghost use Rattle.procedures.specs.Version.{progress_with_version, version_done, version_taken};
-ghost use Rattle.procedures.specs.Version.{version_sent};
+ghost use Rattle.procedures.specs.Version.{version_reply, progress_with_version, version_done};
+ghost use Rattle.procedures.specs.Version.{version_taken};
 
-use crate::drafts::Draft;
 use crate::outcome::{Outcome, Reply, moved};
-use crate::stages::{Exchange, Progress};
 use crate::steps::{Effect, Step};
 use crate::table::ProcTable;
 use ble_base::Kind;
+use procedure_stages::awaited::is_version;
+use procedure_stages::{Draft, Progress};
 
 /// What answers the peer's LL_VERSION_IND: the own one, unless it was queued already.
 fn version_reply(used: bool) -> Reply
@@ -20,13 +19,6 @@ fn version_reply(used: bool) -> Reply
     } else {
         Reply::Answer(Draft::VersionInd)
     }
-}
-
-/// Whether the own exchange of versions runs.
-fn is_version(own: Option<Exchange>) -> bool
-    ensures { result ≡ is_version own }
-{
-    matches!(own, Some(Exchange::VersionUnsent | Exchange::VersionSent))
 }
 
 /// The procedures after the peer's LL_VERSION_IND was taken.
@@ -69,15 +61,5 @@ pub(crate) fn version_taken(table: &ProcTable, version: u8, company: u16, sub: u
             ..outcome.step
         },
         ..outcome
-    }
-}
-
-/// The own LL_VERSION_IND is sent: the stage after it, if an exchange of versions is under way.
-pub(crate) fn version_sent(stage: Exchange) -> Option<Exchange>
-    ensures { result ≡ version_sent stage }
-{
-    match stage {
-        Exchange::VersionUnsent => Some(Exchange::VersionSent),
-        _ => None,
     }
 }

@@ -2,29 +2,30 @@
 use Rattle.std.proofs.Common.{◌≡◌, ℕ, ◌+◌, ◌≤◌, Bool, true, false, not, ◌&&◌, None, unwrap_or, refl, arith}
 use Rattle.data_pdu.specs.declared.ctrl.Ctrl.{Ctrl}
 use Rattle.data_pdu.specs.declared.ctrl.Ctrl.TheVariants.{TerminateInd, EncReq, PauseEncReq}
-use Rattle.procedures.specs.declared.drafts.Draft.{Draft}
-use Rattle.procedures.specs.declared.drafts.Draft.TheVariants.{Update, Grant, Map, Request, PhyReq, PhyRsp, PhyInd, FeatureReq, PeripheralFeatureReq, FeatureRsp, VersionInd, LengthReq, LengthRsp, UnknownRsp, Cipher}
-use Rattle.procedures.specs.declared.drafts.Outgoing.{Outgoing}
-use Rattle.procedures.specs.declared.drafts.Outgoing.TheVariants.{Nothing, Rejection, Disconnect, Other}
-use Rattle.procedures.specs.declared.stages.Exchange.TheVariants.{FeaturesUnsent, FeaturesSent, VersionUnsent, VersionSent, LengthUnsent, LengthSent}
-use Rattle.procedures.specs.declared.stages.OwnCentral.{OwnCentral}
-use Rattle.procedures.specs.declared.stages.OwnCentral.TheVariants.{Exchange as exchange, UpdateSent, MapSent, PhyAnswered, PhyIndicated, EncryptUnsent, EncryptSent}
-use Rattle.procedures.specs.declared.stages.OwnPeripheral.{OwnPeripheral}
-use Rattle.procedures.specs.declared.stages.OwnPeripheral.TheVariants.{Exchange as exchange_p, RequestSent, RequestGranted}
-use Rattle.procedures.specs.declared.stages.PeerAtCentral.{PeerAtCentral}
-use Rattle.procedures.specs.declared.stages.PeerAtCentral.TheVariants.{Absent, GrantUnsent, GrantSent, PhyIndUnsent, PhyIndSent}
-use Rattle.procedures.specs.declared.stages.PeerAtPeripheral.TheVariants.{Absent as absent}
-use Rattle.procedures.specs.declared.stages.Ahead.TheVariants.{Nothing as nothing_ahead}
-use Rattle.procedures.specs.declared.stages.Central.{Central}
-use Rattle.procedures.specs.declared.stages.Peripheral.{Peripheral}
-use Rattle.procedures.specs.declared.stages.Progress.{Progress}
-use Rattle.procedures.specs.declared.stages.Progress.TheVariants.{Central as central, Peripheral as peripheral}
-use Rattle.procedures.specs.Table.{TableFacts, is_host_asked_at_central, is_open}
+use Rattle.procedure_stages.specs.declared.drafts.Draft.{Draft}
+use Rattle.procedure_stages.specs.declared.drafts.Draft.TheVariants.{Update, Grant, Map, Request, PhyReq, PhyRsp, PhyInd, FeatureReq, PeripheralFeatureReq, FeatureRsp, VersionInd, LengthReq, LengthRsp, UnknownRsp, Cipher}
+use Rattle.procedure_stages.specs.declared.drafts.Outgoing.{Outgoing}
+use Rattle.procedure_stages.specs.declared.drafts.Outgoing.TheVariants.{Nothing, Rejection, Disconnect, Other}
+use Rattle.procedure_stages.specs.declared.stages.Exchange.TheVariants.{FeaturesUnsent, FeaturesSent, VersionUnsent, VersionSent, LengthUnsent, LengthSent}
+use Rattle.procedure_stages.specs.declared.stages.OwnCentral.{OwnCentral}
+use Rattle.procedure_stages.specs.declared.stages.OwnCentral.TheVariants.{Exchange as exchange, UpdateSent, MapSent, PhyAnswered, PhyIndicated, EncryptUnsent, EncryptSent}
+use Rattle.procedure_stages.specs.declared.stages.OwnPeripheral.{OwnPeripheral}
+use Rattle.procedure_stages.specs.declared.stages.OwnPeripheral.TheVariants.{Exchange as exchange_p, RequestSent, RequestGranted}
+use Rattle.procedure_stages.specs.declared.stages.PeerAtCentral.{PeerAtCentral}
+use Rattle.procedure_stages.specs.declared.stages.PeerAtCentral.TheVariants.{Absent, GrantUnsent, GrantSent, PhyIndUnsent, PhyIndSent}
+use Rattle.procedure_stages.specs.declared.stages.PeerAtPeripheral.TheVariants.{Absent as absent}
+use Rattle.procedure_stages.specs.declared.stages.Ahead.TheVariants.{Nothing as nothing_ahead}
+use Rattle.procedure_stages.specs.declared.stages.Central.{Central}
+use Rattle.procedure_stages.specs.declared.stages.Peripheral.{Peripheral}
+use Rattle.procedure_stages.specs.declared.stages.Progress.{Progress}
+use Rattle.procedure_stages.specs.declared.stages.Progress.TheVariants.{Central as central, Peripheral as peripheral}
+use Rattle.procedures.specs.Table.{TableFacts, is_open}
+use Rattle.procedure_stages.specs.InProgress.{is_host_asked_at_central}
 use Rattle.procedures.specs.Queue.{next_of}
-use Rattle.procedures.specs.Phy.{phy_ind_acknowledged, phy_ind_of_peer_acknowledged}
-use Rattle.procedures.specs.Request.{request_acknowledged}
-use Rattle.procedures.specs.Sending.{central_acked, facts_sent, is_phy_ind, is_request, own_sent_by_central, own_sent_by_peripheral, peer_sent_by_central, peripheral_acked, progress_acked, progress_after_sending}
-use Rattle.procedures.specs.Going.{own_held_at_central, own_held_at_peripheral, peer_held_at_central, progress_held}
+use Rattle.procedure_stages.specs.Acked.{phy_ind_acknowledged, phy_ind_of_peer_acknowledged, request_acknowledged, central_acked, is_phy_ind, is_request, peripheral_acked, progress_acked}
+use Rattle.procedures.specs.Sending.{facts_sent}
+use Rattle.procedure_stages.specs.Sent.{own_sent_by_central, own_sent_by_peripheral, peer_sent_by_central, progress_after_sending}
+use Rattle.procedure_stages.specs.Held.{own_held_at_central, own_held_at_peripheral, peer_held_at_central, progress_held}
 use Rattle.table_laws.specs.Waiting.{asked, is_asked, is_encryption_request, is_own_request, is_terminate_ind, count_if}
 use Rattle.table_laws.proofs.Numbers.{Counts, end_sent, next_goes, own_sent, same, sent, version_sent}
 use Rattle.table_laws.proofs.Outcomes.{own_room, room_at_central, room_at_peripheral}

@@ -1,12 +1,12 @@
 -- What holds of the numbers at an end after each list of calls, and how a call may change them.
 use Rattle.std.proofs.Common.{ℕ, ◌+◌, ◌≤◌, Bool, true, false, not, arith}
-use Rattle.procedures.specs.declared.stages.Exchange.TheVariants.{FeaturesUnsent, LengthUnsent}
-use Rattle.procedures.specs.declared.stages.OwnCentral.{OwnCentral}
-use Rattle.procedures.specs.declared.stages.OwnCentral.TheVariants.{Exchange as exchange, UpdateUnsent, MapUnsent, PhyUnsent, EncryptUnsent, EncryptSent}
-use Rattle.procedures.specs.declared.stages.OwnPeripheral.{OwnPeripheral}
-use Rattle.procedures.specs.declared.stages.OwnPeripheral.TheVariants.{Exchange as exchange_p, RequestUnsent, PhyUnsent as phy_unsent}
-use Rattle.procedures.specs.declared.stages.Progress.{Progress}
-use Rattle.procedures.specs.declared.stages.Progress.TheVariants.{Central as central, Peripheral as peripheral}
+use Rattle.procedure_stages.specs.declared.stages.Exchange.TheVariants.{FeaturesUnsent, LengthUnsent}
+use Rattle.procedure_stages.specs.declared.stages.OwnCentral.{OwnCentral}
+use Rattle.procedure_stages.specs.declared.stages.OwnCentral.TheVariants.{Exchange as exchange, UpdateUnsent, MapUnsent, PhyUnsent, EncryptUnsent, EncryptSent}
+use Rattle.procedure_stages.specs.declared.stages.OwnPeripheral.{OwnPeripheral}
+use Rattle.procedure_stages.specs.declared.stages.OwnPeripheral.TheVariants.{Exchange as exchange_p, RequestUnsent, PhyUnsent as phy_unsent}
+use Rattle.procedure_stages.specs.declared.stages.Progress.{Progress}
+use Rattle.procedure_stages.specs.declared.stages.Progress.TheVariants.{Central as central, Peripheral as peripheral}
 use Rattle.procedures.specs.Table.{TableFacts, is_open}
 use Rattle.procedures.specs.Queue.{waiting_in}
 use Rattle.table_laws.specs.Waiting.{asked, end_waiting, count_if, own_waiting, version_waiting}

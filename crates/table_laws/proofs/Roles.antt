@@ -7,30 +7,35 @@ use Rattle.ble_base.specs.declared.roles.Role.TheVariants.{Central as central_ro
 use Rattle.data_pdu.specs.declared.ctrl.Ctrl.{Ctrl}
 use Rattle.data_pdu.specs.declared.ctrl.Ctrl.TheVariants.{TerminateInd, EncReq, EncRsp, StartEncReq, StartEncRsp, PauseEncReq, PauseEncRsp, RejectExtInd}
 use Rattle.data_pdu.specs.declared.ctrl.CtrlRead.{CtrlRead}
-use Rattle.procedures.specs.declared.asks.Ask.{Ask}
-use Rattle.procedures.specs.declared.asks.Ask.TheVariants.{Update as ask_update, Request as ask_request, Map as ask_map, Phy as ask_phy, Features as ask_features, Version as ask_version, Length as ask_length, Encrypt as ask_encrypt}
-use Rattle.procedures.specs.declared.drafts.Draft.{Draft}
-use Rattle.procedures.specs.declared.drafts.Draft.TheVariants.{Grant, PhyRsp, PhyInd, FeatureReq, PeripheralFeatureReq, FeatureRsp, VersionInd, LengthRsp, UnknownRsp, Cipher}
-use Rattle.procedures.specs.declared.drafts.Rejection.{Rejection as TheRejection}
-use Rattle.procedures.specs.declared.drafts.Outgoing.{Outgoing}
-use Rattle.procedures.specs.declared.drafts.Outgoing.TheVariants.{Nothing, Rejection, Disconnect, Other}
+use Rattle.procedure_stages.specs.declared.asks.Ask.{Ask}
+use Rattle.procedure_stages.specs.declared.asks.Ask.TheVariants.{Update as ask_update, Request as ask_request, Map as ask_map, Phy as ask_phy, Features as ask_features, Version as ask_version, Length as ask_length, Encrypt as ask_encrypt}
+use Rattle.procedure_stages.specs.declared.drafts.Draft.{Draft}
+use Rattle.procedure_stages.specs.declared.drafts.Draft.TheVariants.{Grant, PhyRsp, PhyInd, FeatureReq, PeripheralFeatureReq, FeatureRsp, VersionInd, LengthRsp, UnknownRsp, Cipher}
+use Rattle.procedure_stages.specs.declared.drafts.Rejection.{Rejection as TheRejection}
+use Rattle.procedure_stages.specs.declared.drafts.Outgoing.{Outgoing}
+use Rattle.procedure_stages.specs.declared.drafts.Outgoing.TheVariants.{Nothing, Rejection, Disconnect, Other}
 use Rattle.procedures.specs.declared.outcome.Outcome.{Outcome}
 use Rattle.procedures.specs.declared.outcome.Reply.{Reply}
 use Rattle.procedures.specs.declared.outcome.Reply.TheVariants.{Nothing as no_reply, Reject, Answer}
-use Rattle.procedures.specs.declared.stages.Progress.{Progress}
-use Rattle.procedures.specs.declared.stages.Progress.TheVariants.{Central as central, Peripheral as peripheral}
+use Rattle.procedure_stages.specs.declared.stages.Progress.{Progress}
+use Rattle.procedure_stages.specs.declared.stages.Progress.TheVariants.{Central as central, Peripheral as peripheral}
 use Rattle.procedures.specs.declared.steps.Step.{Step}
-use Rattle.procedures.specs.Kinds.{begins, kind_of_ask, role_of}
-use Rattle.procedures.specs.Table.{QueueFacts, TableFacts, first_facts, is_host_asked, is_disconnecting, is_open}
-use Rattle.procedures.specs.Drafts.{ctrl_of_draft, ctrl_of_outgoing, waits_for_instant}
+use Rattle.procedure_stages.specs.Kinds.{begins, kind_of_ask, role_of}
+use Rattle.procedures.specs.Table.{QueueFacts, TableFacts, first_facts, is_disconnecting, is_open}
+use Rattle.procedure_stages.specs.InProgress.{is_host_asked}
+use Rattle.procedure_stages.specs.Drafts.{ctrl_of_draft, ctrl_of_outgoing, waits_for_instant}
 use Rattle.procedures.specs.Queue.{is_past_instant, next_by, next_disconnect, next_draft, next_of, with_draft, with_rejection, with_reply, without_next}
 use Rattle.procedures.specs.Encryption.{is_rejection, progress_given}
 use Rattle.procedures.specs.Taking.{facts_with, lacks_room, outcome_of, took_step}
-use Rattle.procedures.specs.Beginning.{ask_at, begin_at, facts_begun, first_draft, place_to_begin, progress_begun, version_draft, with_first_draft}
-use Rattle.procedures.specs.Sending.{next_ctrl_of, progress_acked, progress_after_sending}
-use Rattle.procedures.specs.Going.{host_answer_step, progress_held}
+use Rattle.procedures.specs.Beginning.{ask_at, begin_at, facts_begun, first_draft, place_to_begin, with_first_draft}
+use Rattle.procedure_stages.specs.Begun.{progress_begun, version_draft}
+use Rattle.procedures.specs.Sending.{next_ctrl_of}
+use Rattle.procedure_stages.specs.Acked.{progress_acked}
+use Rattle.procedure_stages.specs.Sent.{progress_after_sending}
+use Rattle.procedures.specs.Going.{host_answer_step}
+use Rattle.procedure_stages.specs.Held.{progress_held}
 use Rattle.procedures.specs.Calls.{Call, asks, begins_one, takes, sends, is_acked, enters, host_answers, disconnects, is_given, after_call, after_calls}
-use Rattle.procedures.specs.Opcodes.{connection_param_req_opcode}
+use Rattle.procedure_stages.specs.Opcodes.{connection_param_req_opcode}
 use Rattle.table_laws.specs.Pasts.{May, MayAll, MayGive, key_after_call}
 use Rattle.table_laws.specs.Sent.{is_sent_by}
 use Rattle.table_laws.proofs.Outcomes.{Took, is_answer, is_reply, took}

@@ -3,24 +3,24 @@ use Rattle.std.proofs.Common.{◌≡◌, ℕ, zero, suc, ◌+◌, ◌≤◌, Boo
 use Rattle.ble_base.specs.declared.roles.Role.{Role}
 use Rattle.ble_base.specs.declared.procedure_kinds.Kind.TheVariants.{Encrypt}
 use Rattle.data_pdu.specs.declared.ctrl.CtrlRead.{CtrlRead}
-use Rattle.procedures.specs.declared.drafts.Draft.{Draft}
-use Rattle.procedures.specs.declared.drafts.Draft.TheVariants.{PhyRsp, PhyInd, FeatureRsp, VersionInd, LengthRsp, UnknownRsp}
+use Rattle.procedure_stages.specs.declared.drafts.Draft.{Draft}
+use Rattle.procedure_stages.specs.declared.drafts.Draft.TheVariants.{PhyRsp, PhyInd, FeatureRsp, VersionInd, LengthRsp, UnknownRsp}
 use Rattle.procedures.specs.declared.outcome.Outcome.{Outcome}
 use Rattle.procedures.specs.declared.outcome.Reply.{Reply}
 use Rattle.procedures.specs.declared.outcome.Reply.TheVariants.{Nothing as no_reply, Reject, Answer}
-use Rattle.procedures.specs.declared.stages.Exchange.TheVariants.{FeaturesUnsent, FeaturesSent, VersionUnsent, VersionSent, LengthUnsent, LengthSent}
-use Rattle.procedures.specs.declared.stages.OwnCentral.{OwnCentral}
-use Rattle.procedures.specs.declared.stages.OwnCentral.TheVariants.{Exchange as exchange, EncryptUnsent, EncryptSent}
-use Rattle.procedures.specs.declared.stages.OwnPeripheral.{OwnPeripheral}
-use Rattle.procedures.specs.declared.stages.OwnPeripheral.TheVariants.{Exchange as exchange_p}
-use Rattle.procedures.specs.declared.stages.Progress.{Progress}
-use Rattle.procedures.specs.declared.stages.Progress.TheVariants.{Central as central, Peripheral as peripheral}
+use Rattle.procedure_stages.specs.declared.stages.Exchange.TheVariants.{FeaturesUnsent, FeaturesSent, VersionUnsent, VersionSent, LengthUnsent, LengthSent}
+use Rattle.procedure_stages.specs.declared.stages.OwnCentral.{OwnCentral}
+use Rattle.procedure_stages.specs.declared.stages.OwnCentral.TheVariants.{Exchange as exchange, EncryptUnsent, EncryptSent}
+use Rattle.procedure_stages.specs.declared.stages.OwnPeripheral.{OwnPeripheral}
+use Rattle.procedure_stages.specs.declared.stages.OwnPeripheral.TheVariants.{Exchange as exchange_p}
+use Rattle.procedure_stages.specs.declared.stages.Progress.{Progress}
+use Rattle.procedure_stages.specs.declared.stages.Progress.TheVariants.{Central as central, Peripheral as peripheral}
 use Rattle.procedures.specs.declared.steps.Effect.{Effect}
 use Rattle.procedures.specs.declared.steps.Effect.TheVariants.{PeerEnds}
 use Rattle.procedures.specs.declared.steps.Step.{Step}
 use Rattle.procedures.specs.declared.table.Closing.{Closing}
 use Rattle.procedures.specs.declared.table.Closing.TheVariants.{Open, Closed, Disconnecting}
-use Rattle.procedures.specs.Kinds.{kind_at_central, kind_at_peripheral, own_kind, role_of}
+use Rattle.procedure_stages.specs.Kinds.{kind_at_central, kind_at_peripheral, own_kind, role_of}
 use Rattle.procedures.specs.Table.{QueueFacts, TableFacts, is_open}
 use Rattle.procedures.specs.Queue.{waiting_in, with_reply}
 use Rattle.procedures.specs.Taking.{asks_host, closing_after, facts_with, has_reply, is_version_reply, lacks_room, outcome_of, took_step}

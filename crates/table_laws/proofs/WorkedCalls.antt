@@ -4,8 +4,9 @@ use Rattle.ble_base.specs.declared.procedure_kinds.Kind.{Kind}
 use Rattle.ble_base.specs.declared.procedure_kinds.Kind.TheVariants.{Encrypt}
 use Rattle.ble_base.specs.declared.roles.Role.{Role}
 use Rattle.ble_base.specs.declared.roles.Role.TheVariants.{Central}
-use Rattle.procedures.specs.Kinds.{own_kind}
-use Rattle.procedures.specs.Table.{first_facts, has_peer}
+use Rattle.procedure_stages.specs.Kinds.{own_kind}
+use Rattle.procedures.specs.Table.{first_facts}
+use Rattle.procedure_stages.specs.InProgress.{has_peer}
 use Rattle.procedures.specs.Queue.{waiting_in}
 use Rattle.procedures.specs.Calls.{Call, after_calls}
 use Rattle.table_laws.specs.Pasts.{MayAll}

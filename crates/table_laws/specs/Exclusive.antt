@@ -3,19 +3,17 @@ use Rattle.std.specs.Prelude.{◌≡◌, ℕ, Bool, true, false, List, [], ◌�
 use Rattle.data_pdu.specs.declared.ctrl.Ctrl.{Ctrl}
 use Rattle.data_pdu.specs.declared.ctrl.Ctrl.TheVariants.{EncReq, PauseEncReq, UnknownRsp, RejectInd, RejectExtInd, ConnectionParamReq, PhyReq as phy_req}
 use Rattle.data_pdu.specs.declared.ctrl.CtrlRead.TheVariants.{Known}
-use Rattle.procedures.specs.declared.drafts.Draft.{Draft}
-use Rattle.procedures.specs.declared.drafts.Draft.TheVariants.{Update, Grant, Map, PhyReq, PhyInd}
-use Rattle.procedures.specs.declared.stages.Ahead.{Ahead}
-use Rattle.procedures.specs.declared.stages.Ahead.TheVariants.{Nothing}
-use Rattle.procedures.specs.declared.stages.Central.{Central}
-use Rattle.procedures.specs.declared.stages.PeerAtCentral.TheVariants.{Absent}
-use Rattle.procedures.specs.declared.stages.Peripheral.{Peripheral}
-use Rattle.procedures.specs.declared.stages.Progress.{Progress}
-use Rattle.procedures.specs.declared.stages.Progress.TheVariants.{Central as central, Peripheral as peripheral}
+use Rattle.procedure_stages.specs.declared.drafts.Draft.{Draft}
+use Rattle.procedure_stages.specs.declared.drafts.Draft.TheVariants.{Update, Grant, Map, PhyReq, PhyInd}
+use Rattle.procedure_stages.specs.declared.stages.Ahead.{Ahead}
+use Rattle.procedure_stages.specs.declared.stages.Ahead.TheVariants.{Nothing}
+use Rattle.procedure_stages.specs.declared.stages.Central.{Central}
+use Rattle.procedure_stages.specs.declared.stages.PeerAtCentral.TheVariants.{Absent}
+use Rattle.procedure_stages.specs.declared.stages.Peripheral.{Peripheral}
+use Rattle.procedure_stages.specs.declared.stages.Progress.{Progress}
+use Rattle.procedure_stages.specs.declared.stages.Progress.TheVariants.{Central as central, Peripheral as peripheral}
 use Rattle.procedures.specs.Table.{TableFacts}
-use Rattle.procedures.specs.Phy.{has_phy_of_central}
-use Rattle.procedures.specs.Request.{peer_answered}
-use Rattle.procedures.specs.Encryption.{is_own_encryption}
+use Rattle.procedure_stages.specs.Awaited.{has_phy_of_central, peer_answered, is_own_encryption}
 use Rattle.procedures.specs.Calls.{Call, takes, after_call}
 use Rattle.table_laws.specs.Waiting.{number_of}
 

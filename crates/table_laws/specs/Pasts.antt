@@ -5,14 +5,15 @@ use Rattle.ble_base.specs.ErrorCodes.{pin_or_key_missing}
 use Rattle.ble_base.specs.declared.procedure_kinds.Kind.TheVariants.{Encrypt}
 use Rattle.data_pdu.specs.declared.ctrl.Ctrl.{Ctrl}
 use Rattle.data_pdu.specs.declared.ctrl.Ctrl.TheVariants.{TerminateInd, EncReq, EncRsp, StartEncReq, StartEncRsp, PauseEncReq, PauseEncRsp, RejectExtInd}
-use Rattle.procedures.specs.declared.stages.Progress.{Progress}
-use Rattle.procedures.specs.declared.stages.Progress.TheVariants.{Central, Peripheral}
-use Rattle.procedures.specs.Kinds.{own_kind}
-use Rattle.procedures.specs.Table.{TableFacts, is_host_asked, is_open}
+use Rattle.procedure_stages.specs.declared.stages.Progress.{Progress}
+use Rattle.procedure_stages.specs.declared.stages.Progress.TheVariants.{Central, Peripheral}
+use Rattle.procedure_stages.specs.Kinds.{own_kind}
+use Rattle.procedures.specs.Table.{TableFacts, is_open}
+use Rattle.procedure_stages.specs.InProgress.{is_host_asked}
 use Rattle.procedures.specs.Queue.{waiting_in}
 use Rattle.procedures.specs.Taking.{took_step}
 use Rattle.procedures.specs.Calls.{Call, takes, host_answers, is_given, after_call}
-use Rattle.procedures.specs.Opcodes.{enc_req_opcode}
+use Rattle.procedure_stages.specs.Opcodes.{enc_req_opcode}
 use Rattle.table_laws.specs.Waiting.{own_waiting}
 
 -- ---- whether the host of a peripheral is asked for a key: from LL_ENC_RSP on until it answers

@@ -1,13 +1,13 @@
 //! What a host asks of a link: the procedures that it wants, each with its values.
 ghost use Rattle.std.specs.Prelude.{◌≡◌};
-ghost use Rattle.procedures.specs.Kinds.{kind_of_ask};
+ghost use Rattle.procedure_stages.specs.Kinds.{kind_of_ask};
 
 use ble_base::{ChannelMap, Kind};
 
 /// A control procedure that the host of this end wants, with its values (Core 5.2, volume 6 part B,
 /// section 5.1). The central begins an update, a map and an encryption; the peripheral begins a
 /// request; either end begins the others.
-#[derive(Clone, Copy, Debug, PartialEq, Eq)]
+#[derive(Clone, Copy)]
 pub enum Ask {
     /// A connection update (section 5.1.1): interval in 1.25 ms, latency in connection events,
     /// timeout in 10 ms.
@@ -51,7 +51,7 @@ pub enum Ask {
 
 /// What is in the unused places of a list of wants, which no reader sees.
 impl Default for Ask {
-    ghost use Rattle.procedures.specs.declared.asks.Ask.TheVariants.{Features};
+    ghost use Rattle.procedure_stages.specs.declared.asks.Ask.TheVariants.{Features};
 
     ghost is_default = { λ ask. ask ≡ Features };
 

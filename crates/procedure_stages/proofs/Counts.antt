@@ -1,16 +1,14 @@
 -- A host wants each kind at most once, so that it never wants more than eight.
-use Rattle.std.proofs.Common.{◌≡◌, ℕ, zero, suc, ◌+◌, ◌<◌, ◌≤◌, if◌then◌else◌, Bool, true, false, not, cond, List, [], ◌∷◌, ◌++◌, length, take, drop, Option, Some, None, nat_lt, refl, arith}
+use Rattle.std.proofs.Common.{◌≡◌, ℕ, zero, suc, ◌+◌, ◌<◌, ◌≤◌, if◌then◌else◌, Bool, true, false, not, cond, List, [], ◌∷◌, ◌++◌, length, take, drop, Option, Some, None, nat_lt, refl, arith, subst}
 use Rattle.std.specs.List.{position_or_len, remove, slice_set, slice_index_or}
-use Rattle.std.proofs.Common.{subst}
 use Rattle.std.proofs.lemmas.List.Elements.{All-take, All-drop, All-append, All-push, All-set}
 use Rattle.std.proofs.lemmas.List.Quantifiers.{position-Some}
 use Rattle.ble_base.specs.declared.procedure_kinds.Kind.{Kind}
 use Rattle.ble_base.specs.declared.procedure_kinds.Kind.TheVariants.{Update, Request, Map, Phy, Features, Version, Length, Encrypt}
-use Rattle.procedures.specs.declared.asks.Ask.{Ask}
-use Rattle.procedures.specs.declared.asks.Ask.TheVariants.{Update as ask_update, Request as ask_request, Map as ask_map, Phy as ask_phy, Features as ask_features, Version as ask_version, Length as ask_length, Encrypt as ask_encrypt}
-use Rattle.procedures.specs.Kinds.{kind_of_ask, is_same_kind}
-use Rattle.procedures.specs.Version.{place_of}
-use Rattle.procedures.specs.Wants.{count_of, IsAsk, IsWants}
+use Rattle.procedure_stages.specs.declared.asks.Ask.{Ask}
+use Rattle.procedure_stages.specs.declared.asks.Ask.TheVariants.{Update as ask_update, Request as ask_request, Map as ask_map, Phy as ask_phy, Features as ask_features, Version as ask_version, Length as ask_length, Encrypt as ask_encrypt}
+use Rattle.procedure_stages.specs.Kinds.{kind_of_ask, is_same_kind}
+use Rattle.procedure_stages.specs.Wants.{place_of, count_of, IsAsk, IsWants}
 
 total : List Ask → ℕ
 total asks = count_of Update asks + count_of Request asks + count_of Map asks + count_of Phy asks + count_of Features asks + count_of Version asks + count_of Length asks + count_of Encrypt asks

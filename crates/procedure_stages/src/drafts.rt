@@ -1,12 +1,13 @@
 //! Control PDUs that wait to be sent. What is fixed as the PDU is first sent is left out: an
 //! Instant, or the reference of a request.
-ghost use Rattle.std.specs.Prelude.{◌≡◌, ◌<◌, ◌≤◌, ◌^◌, IfSome};
+ghost use Rattle.std.specs.Prelude.{◌≡◌, ◌<◌, ◌^◌, ◌≤◌, IfSome};
 ghost use Rattle.data_pdu.specs.Ranges.{IsInRange};
 ghost use Rattle.instants.specs.Track.{HasInterval};
-ghost use Rattle.procedures.specs.Drafts.{instant_event, instant_at, time_of};
-ghost use Rattle.procedures.specs.Drafts.{ctrl_of_draft, ctrl_of_outgoing, indication_of_draft};
-ghost use Rattle.procedures.specs.Drafts.{indication_of, waits_for_instant, no_offsets, is_out};
-ghost use Rattle.procedures.specs.Drafts.{own_version, own_company, own_sub, fixed_ctrl_of};
+ghost use Rattle.procedure_stages.specs.Drafts.{instant_event, instant_at, time_of, no_offsets};
+ghost use Rattle.procedure_stages.specs.Drafts.{own_version, own_company, own_sub, ctrl_of_draft};
+ghost use Rattle.procedure_stages.specs.Drafts.{indication_of_draft, waits_for_instant};
+ghost use Rattle.procedure_stages.specs.Drafts.{fixed_ctrl_of, ctrl_of_outgoing, indication_of};
+ghost use Rattle.procedure_stages.specs.Drafts.{is_out};
 
 use crate::values::{CipherPdu, NewParams, PayloadMax};
 use ble_base::{ChannelMap, ErrCode, EventNo};
@@ -94,7 +95,7 @@ pub enum Draft {
 
 /// What is in the unused places of a queue, which no reader sees.
 impl Default for Draft {
-    ghost use Rattle.procedures.specs.declared.drafts.Draft.TheVariants.{FeatureRsp};
+    ghost use Rattle.procedure_stages.specs.declared.drafts.Draft.TheVariants.{FeatureRsp};
 
     ghost is_default = { λ draft. draft ≡ FeatureRsp };
 
@@ -294,7 +295,7 @@ impl Draft {
     }
 
     /// Whether it waits until the event after the Instant of the indication before.
-    pub(crate) fn waits_for_instant(&self) -> bool
+    pub fn waits_for_instant(&self) -> bool
         ensures { result ≡ waits_for_instant self.now }
     {
         matches!(
@@ -313,7 +314,7 @@ impl Outgoing {
     }
 
     /// The PDU, as it is first sent in this event, if there is one.
-    pub(crate) fn ctrl(&self, event: EventNo, latency: u16) -> Option<Ctrl>
+    pub fn ctrl(&self, event: EventNo, latency: u16) -> Option<Ctrl>
         requires { event.0 < 2 ^ 32 }
         ensures value { result ≡ ctrl_of_outgoing self.now event.0 latency }
         ensures in_range { IfSome result IsInRange }
@@ -330,7 +331,7 @@ impl Outgoing {
     }
 
     /// The indication that the central follows, if it is one, as it is first sent in this event.
-    pub(crate) fn indication(&self, event: EventNo, latency: u16) -> Option<Indication>
+    pub fn indication(&self, event: EventNo, latency: u16) -> Option<Indication>
         requires { event.0 < 2 ^ 32 }
         ensures value { result ≡ indication_of self.now event.0 latency }
         ensures interval { IfSome result HasInterval }

@@ -1,7 +1,7 @@
 //! Values of the PDUs that this product sends, which are in their ranges.
-ghost use Rattle.std.specs.Prelude.{◌≡◌, ◌≤◌};
+ghost use Rattle.std.specs.Prelude.{◌≡◌, ◌+◌, ◌*◌, ◌<◌, ◌≤◌, ◌↔◌, IsTrue};
 ghost use Rattle.data_pdu.specs.Ranges.{IsInRange};
-ghost use Rattle.procedures.specs.Values.{ParamValues, IsParams, IsPayloadMax};
+ghost use Rattle.procedure_stages.specs.Values.{IsParams, IsPayloadMax, are_valid};
 
 use data_pdu::Ctrl;
 use std::marker::Model;
@@ -16,7 +16,7 @@ pub struct NewParams {
 }
 
 impl Model for NewParams {
-    ghost use Rattle.procedures.specs.Values.{ParamValues, IsParams};
+    ghost use Rattle.procedure_stages.specs.Values.{ParamValues, IsParams};
 
     ghost Value = { ParamValues };
 
@@ -33,7 +33,7 @@ impl Model for NewParams {
 
 impl NewParams {
     /// These parameters: interval in 1.25 ms, latency in connection events, timeout in 10 ms.
-    pub(crate) fn new(interval: u16, latency: u16, timeout: u16) -> Self
+    pub fn new(interval: u16, latency: u16, timeout: u16) -> Self
         requires { IsParams (record {
           interval = interval;
           latency = latency;
@@ -80,7 +80,7 @@ pub struct PayloadMax {
 
 impl Model for PayloadMax {
     ghost use Rattle.std.specs.Prelude.{ℕ};
-    ghost use Rattle.procedures.specs.Values.{IsPayloadMax};
+    ghost use Rattle.procedure_stages.specs.Values.{IsPayloadMax};
 
     ghost Value = { ℕ };
 
@@ -93,7 +93,7 @@ impl Model for PayloadMax {
 
 impl PayloadMax {
     /// This number of octets.
-    pub(crate) fn new(octets: u16) -> Self
+    pub fn new(octets: u16) -> Self
         requires { IsPayloadMax octets }
         ensures { result ≡ octets }
     {
@@ -133,7 +133,7 @@ impl Model for CipherPdu {
 
 impl CipherPdu {
     /// This PDU.
-    pub(crate) fn new(ctrl: Ctrl) -> Self
+    pub fn new(ctrl: Ctrl) -> Self
         requires { IsInRange ctrl }
         ensures { result ≡ ctrl }
     {
@@ -147,4 +147,25 @@ impl CipherPdu {
     {
         self.ctrl
     }
+}
+
+/// Whether the timeout is longer than two intervals with the latency between them.
+fn outlasts(timeout: u16, interval: u16, latency: u16) -> bool
+    requires { latency ≤ 499 }
+    ensures { IsTrue result ↔ ((1 + latency) * interval < timeout * 4) }
+{
+    u32::from(timeout) * 4 > (1 + u32::from(latency)) * u32::from(interval)
+}
+
+/// Whether a link may have these parameters (Core 5.2, volume 4 part E, section 7.8.18).
+pub fn are_valid(min: u16, max: u16, latency: u16, timeout: u16) -> bool
+    ensures { result ≡ are_valid min max latency timeout }
+{
+    6 <= min
+        && max <= 3200
+        && min <= max
+        && latency <= 499
+        && 10 <= timeout
+        && timeout <= 3200
+        && outlasts(timeout, max, latency)
 }

@@ -2,13 +2,13 @@
 -- 2.4.2).
 use Rattle.std.specs.Prelude.{ℕ, ◌+◌, ◌%◌, ◌^◌, ◌*◌, List, [], ◌∷◌, Bool, true, false, Option, Some, None}
 use Rattle.data_pdu.specs.declared.ctrl.Ctrl.{Ctrl}
-use Rattle.data_pdu.specs.declared.ctrl.Ctrl.TheVariants.{ConnectionUpdateInd, ChannelMapInd, TerminateInd, UnknownRsp, FeatureReq, FeatureRsp, VersionInd, PeripheralFeatureReq, ConnectionParamReq, RejectExtInd, LengthReq, LengthRsp, PhyReq, PhyRsp, PhyUpdateInd}
+use Rattle.data_pdu.specs.declared.ctrl.Ctrl.TheVariants.{UnknownRsp, FeatureReq, FeatureRsp, VersionInd, PeripheralFeatureReq, PhyReq, PhyRsp, PhyUpdateInd, ConnectionUpdateInd, ChannelMapInd, ConnectionParamReq, LengthReq, LengthRsp, TerminateInd, RejectExtInd}
 use Rattle.instants.specs.declared.indications.Indication.{Indication}
 use Rattle.instants.specs.declared.indications.Indication.TheVariants.{Update as update_indication, Map as map_indication}
-use Rattle.procedures.specs.declared.drafts.Draft.{Draft}
-use Rattle.procedures.specs.declared.drafts.Draft.TheVariants.{Update, Grant, Map, Request, PhyReq as phy_req, PhyRsp as phy_rsp, PhyInd, FeatureReq as feature_req, PeripheralFeatureReq as peripheral_feature_req, FeatureRsp as feature_rsp, LengthReq as length_req, LengthRsp as length_rsp, UnknownRsp as unknown_rsp, Cipher}
-use Rattle.procedures.specs.declared.drafts.Outgoing.{Outgoing}
-use Rattle.procedures.specs.declared.drafts.Outgoing.TheVariants.{Nothing, Rejection, Disconnect, Other}
+use Rattle.procedure_stages.specs.declared.drafts.Draft.{Draft}
+use Rattle.procedure_stages.specs.declared.drafts.Draft.TheVariants.{PhyReq as phy_req, PhyRsp as phy_rsp, PhyInd, FeatureReq as feature_req, PeripheralFeatureReq as peripheral_feature_req, FeatureRsp as feature_rsp, UnknownRsp as unknown_rsp, Update, Grant, Map, Request, LengthReq as length_req, LengthRsp as length_rsp, Cipher}
+use Rattle.procedure_stages.specs.declared.drafts.Outgoing.{Outgoing}
+use Rattle.procedure_stages.specs.declared.drafts.Outgoing.TheVariants.{Nothing, Rejection, Disconnect, Other}
 
 -- the own features (section 4.6; which of them is our choice): encryption, parameter request, extended reject,
 -- peripheral feature exchange, data length, channel selection algorithm 2

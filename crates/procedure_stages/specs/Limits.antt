@@ -1,7 +1,9 @@
 -- The longest payloads of a link (Core 5.2, volume 6 part B, section 4.5.10).
 use Rattle.std.specs.Prelude.{ℕ, min}
 use Rattle.ble_base.specs.Limits.{first_payload_octets}
-use Rattle.procedures.specs.declared.lengths.Lengths.{Lengths}
+use Rattle.procedure_stages.specs.declared.lengths.Lengths.{Lengths}
+use Rattle.procedure_stages.specs.declared.asks.Ask.{Ask}
+use Rattle.procedure_stages.specs.declared.asks.Ask.TheVariants.{Length}
 
 -- before any exchange: 27 octets each way but for what this end receives (section 4.5.10)
 abbrev pub first_lengths : ℕ → Lengths
@@ -24,3 +26,8 @@ with_own_tx lengths tx = record lengths { own_tx = tx }
 
 abbrev pub with_peer : Lengths → ℕ → ℕ → Lengths
 with_peer lengths rx tx = record lengths { peer_rx = rx; peer_tx = tx }
+
+-- the limit that a host sets on what is transmitted holds at once (section 4.5.10)
+abbrev pub lengths_asked : Ask → Lengths → Lengths
+lengths_asked (Length tx) lengths = with_own_tx lengths tx
+lengths_asked other lengths = lengths

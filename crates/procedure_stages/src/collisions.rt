@@ -1,12 +1,14 @@
 //! Procedures that exclude each other (Core 5.2, volume 6 part B, section 5.3).
 ghost use Rattle.std.specs.Prelude.{◌≡◌};
-ghost use Rattle.procedures.specs.Collisions.{is_exclusive, collision_code, collision};
+ghost use Rattle.procedure_stages.specs.Collisions.{is_exclusive, collision_code, collision};
+ghost use Rattle.procedure_stages.specs.Collisions.{is_encrypt, peer_lets};
 
 use crate::kinds::is_same_kind;
+use crate::stages::Progress;
 use ble_base::{ErrCode, Kind};
 
 /// Whether a procedure of this kind excludes the others of these kinds.
-pub(crate) fn is_exclusive(kind: Kind) -> bool
+fn is_exclusive(kind: Kind) -> bool
     ensures { result ≡ is_exclusive kind }
 {
     matches!(kind, Kind::Update | Kind::Request | Kind::Map | Kind::Phy)
@@ -24,7 +26,7 @@ fn collision_code(p: Kind, q: Kind) -> ErrCode
 }
 
 /// The error of a procedure of the peer that collides with that of this end, if it does.
-pub(crate) fn collision(own: Option<Kind>, peer: Kind) -> Option<ErrCode>
+pub fn collision(own: Option<Kind>, peer: Kind) -> Option<ErrCode>
     ensures { result ≡ collision own peer }
 {
     let own = own?;
@@ -33,4 +35,20 @@ pub(crate) fn collision(own: Option<Kind>, peer: Kind) -> Option<ErrCode>
     } else {
         None
     }
+}
+
+/// Whether the kind is an encryption.
+fn is_encrypt(kind: Kind) -> bool
+    ensures { result ≡ is_encrypt kind }
+{
+    matches!(kind, Kind::Encrypt)
+}
+
+/// Whether the peer's procedures let a kind begin.
+pub fn peer_lets(progress: Progress, kind: Kind) -> bool
+    ensures { result ≡ peer_lets progress kind }
+{
+    let has_peer = progress.has_peer();
+    !(is_exclusive(kind) && has_peer)
+        && !(is_encrypt(kind) && (has_peer || progress.is_encrypting()))
 }

@@ -1,7 +1,10 @@
 //! The longest payloads of a link (Core 5.2, volume 6 part B, section 4.5.10).
 ghost use Rattle.std.specs.Prelude.{◌≡◌};
-ghost use Rattle.procedures.specs.Limits.{first_lengths, rx_of, tx_of, with_own_tx, with_peer};
+ghost use Rattle.procedure_stages.specs.Limits.{first_lengths, rx_of, tx_of, with_own_tx};
+ghost use Rattle.procedure_stages.specs.Limits.{with_peer, lengths_asked};
+ghost use Rattle.procedure_stages.specs.Wants.{IsAsk};
 
+use crate::asks::Ask;
 use crate::values::PayloadMax;
 
 /// The most octets of a payload before any length exchange (Core 5.2, volume 6 part B, section
@@ -19,7 +22,7 @@ pub struct Lengths {
 
 impl Lengths {
     /// The lengths of a new link, of which this end receives at most `own_rx` octets.
-    pub(crate) fn first(own_rx: PayloadMax) -> Self
+    pub fn first(own_rx: PayloadMax) -> Self
         ensures { result ≡ first_lengths own_rx }
     {
         Lengths {
@@ -31,28 +34,28 @@ impl Lengths {
     }
 
     /// The most octets that this end receives: no more than the peer transmits.
-    pub(crate) fn rx(&self) -> u16
+    pub fn rx(&self) -> u16
         ensures { result ≡ rx_of self.now }
     {
         self.own_rx.octets().min(self.peer_tx)
     }
 
     /// The most octets that this end transmits: no more than the peer receives.
-    pub(crate) fn tx(&self) -> u16
+    pub fn tx(&self) -> u16
         ensures { result ≡ tx_of self.now }
     {
         self.own_tx.octets().min(self.peer_rx)
     }
 
     /// With another limit on what this end transmits.
-    pub(crate) fn with_own_tx(self, tx: PayloadMax) -> Self
+    fn with_own_tx(self, tx: PayloadMax) -> Self
         ensures { result ≡ with_own_tx self tx }
     {
         Lengths { own_tx: tx, ..self }
     }
 
     /// With the limits that the peer gave.
-    pub(crate) fn with_peer(self, rx: u16, tx: u16) -> Self
+    pub fn with_peer(self, rx: u16, tx: u16) -> Self
         ensures { result ≡ with_peer self rx tx }
     {
         Lengths {
@@ -60,5 +63,16 @@ impl Lengths {
             peer_tx: tx,
             ..self
         }
+    }
+}
+
+/// The longest payloads after the host asked this.
+pub fn lengths_asked(ask: &Ask, lengths: Lengths) -> Lengths
+    requires { IsAsk ask.now }
+    ensures { result ≡ lengths_asked ask.now lengths }
+{
+    match *ask {
+        Ask::Length { tx } => lengths.with_own_tx(PayloadMax::new(tx)),
+        _ => lengths,
     }
 }

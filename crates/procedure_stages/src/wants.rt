@@ -1,8 +1,6 @@
 //! What a host wants of a link: each kind at most once, in order.
-ghost use Rattle.std.specs.Prelude.{◌≡◌, ◌<◌, [], length, Some, slice_get, slice_set, remove};
-ghost use Rattle.procedures.specs.Version.{place_of, is_wanted};
-ghost use Rattle.procedures.specs.Wants.{IsAsk};
-ghost use Rattle.procedures.specs.Beginning.{wanted_with};
+ghost use Rattle.std.specs.Prelude.{◌≡◌, ◌<◌, [], length, Some, slice_get, remove, slice_set};
+ghost use Rattle.procedure_stages.specs.Wants.{place_of, is_wanted, IsAsk, wanted_with};
 
 use crate::asks::Ask;
 use crate::kinds::is_same_kind;
@@ -18,8 +16,8 @@ pub struct Wants {
 
 impl Model for Wants {
     ghost use Rattle.std.specs.Prelude.{List};
-    ghost use Rattle.procedures.specs.declared.asks.Ask.{Ask};
-    ghost use Rattle.procedures.specs.Wants.{IsWants};
+    ghost use Rattle.procedure_stages.specs.declared.asks.Ask.{Ask};
+    ghost use Rattle.procedure_stages.specs.Wants.{IsWants};
 
     ghost Value = { List Ask };
 
@@ -32,7 +30,7 @@ impl Model for Wants {
 
 impl Wants {
     /// Nothing is wanted.
-    pub(crate) fn new() -> Self
+    pub fn new() -> Self
         ensures { result ≡ [] }
     {
         Wants {
@@ -41,14 +39,14 @@ impl Wants {
     }
 
     /// What is wanted, in order.
-    pub(crate) fn as_slice(&self) -> &[Ask]
+    pub fn as_slice(&self) -> &[Ask]
         ensures { result.now ≡ self.now }
     {
         self.asks.as_slice()
     }
 
     /// The place of a kind, if it is wanted.
-    pub(crate) fn place_of(&self, kind: Kind) -> Option<usize>
+    pub fn place_of(&self, kind: Kind) -> Option<usize>
         ensures { result ≡ place_of kind self.now }
     {
         self.asks
@@ -58,14 +56,14 @@ impl Wants {
     }
 
     /// Whether a kind is wanted.
-    pub(crate) fn has(&self, kind: Kind) -> bool
+    pub fn has(&self, kind: Kind) -> bool
         ensures { result ≡ is_wanted kind self.now }
     {
         self.place_of(kind).is_some()
     }
 
     /// Adds an ask in the place of one of its kind, or after all others.
-    pub(crate) fn add(&mut self, ask: Ask)
+    pub fn add(&mut self, ask: Ask)
         requires { IsAsk ask }
         ensures { self.new ≡ wanted_with ask self.old }
     {
@@ -76,7 +74,7 @@ impl Wants {
     }
 
     /// The ask in a place.
-    pub(crate) fn get(&self, place: usize) -> Ask
+    pub fn get(&self, place: usize) -> Ask
         requires { place < length self.now }
         ensures value { slice_get self.now place ≡ Some result }
         ensures in_range { IsAsk result }
@@ -85,7 +83,7 @@ impl Wants {
     }
 
     /// Removes the ask in a place.
-    pub(crate) fn remove(&mut self, place: usize)
+    pub fn remove(&mut self, place: usize)
         requires { place < length self.old }
         ensures { self.new ≡ remove self.old place }
     {

@@ -1,19 +1,19 @@
 -- The kinds of control procedures, and the kind of each stage (Core 5.2, volume 6 part B, section 5.1).
 use Rattle.std.specs.Prelude.{Bool, true, false, Option, Some, None}
-use Rattle.ble_base.specs.declared.roles.Role.{Role}
-use Rattle.ble_base.specs.declared.roles.Role.TheVariants.{Central, Peripheral}
 use Rattle.ble_base.specs.declared.procedure_kinds.Kind.{Kind}
 use Rattle.ble_base.specs.declared.procedure_kinds.Kind.TheVariants.{Update, Request, Map, Phy, Features, Version, Length, Encrypt}
-use Rattle.procedures.specs.declared.asks.Ask.{Ask}
-use Rattle.procedures.specs.declared.asks.Ask.TheVariants.{Update as ask_update, Request as ask_request, Map as ask_map, Phy as ask_phy, Features as ask_features, Version as ask_version, Length as ask_length, Encrypt as ask_encrypt}
-use Rattle.procedures.specs.declared.stages.Exchange.{Exchange}
-use Rattle.procedures.specs.declared.stages.Exchange.TheVariants.{FeaturesUnsent, FeaturesSent, VersionUnsent, VersionSent, LengthUnsent, LengthSent}
-use Rattle.procedures.specs.declared.stages.OwnCentral.{OwnCentral}
-use Rattle.procedures.specs.declared.stages.OwnCentral.TheVariants.{Idle, Exchange as exchange, UpdateUnsent, UpdateSent, MapUnsent, MapSent, PhyUnsent, PhySent, PhyAnswered, PhyIndicated, EncryptUnsent, EncryptSent}
-use Rattle.procedures.specs.declared.stages.OwnPeripheral.{OwnPeripheral}
-use Rattle.procedures.specs.declared.stages.OwnPeripheral.TheVariants.{Idle as idle, Exchange as exchange_p, RequestUnsent, RequestSent, RequestAcknowledged, RequestGranted, PhyUnsent as phy_unsent, PhySent as phy_sent}
-use Rattle.procedures.specs.declared.stages.Progress.{Progress}
-use Rattle.procedures.specs.declared.stages.Progress.TheVariants.{Central as central, Peripheral as peripheral}
+use Rattle.ble_base.specs.declared.roles.Role.{Role}
+use Rattle.ble_base.specs.declared.roles.Role.TheVariants.{Central, Peripheral}
+use Rattle.procedure_stages.specs.declared.asks.Ask.{Ask}
+use Rattle.procedure_stages.specs.declared.asks.Ask.TheVariants.{Update as ask_update, Request as ask_request, Map as ask_map, Phy as ask_phy, Features as ask_features, Version as ask_version, Length as ask_length, Encrypt as ask_encrypt}
+use Rattle.procedure_stages.specs.declared.stages.Progress.{Progress}
+use Rattle.procedure_stages.specs.declared.stages.Progress.TheVariants.{Central as central, Peripheral as peripheral}
+use Rattle.procedure_stages.specs.declared.stages.Exchange.{Exchange}
+use Rattle.procedure_stages.specs.declared.stages.Exchange.TheVariants.{FeaturesUnsent, FeaturesSent, VersionUnsent, VersionSent, LengthUnsent, LengthSent}
+use Rattle.procedure_stages.specs.declared.stages.OwnCentral.{OwnCentral}
+use Rattle.procedure_stages.specs.declared.stages.OwnCentral.TheVariants.{Idle, Exchange as exchange, UpdateUnsent, UpdateSent, MapUnsent, MapSent, PhyUnsent, PhySent, PhyAnswered, PhyIndicated, EncryptUnsent, EncryptSent}
+use Rattle.procedure_stages.specs.declared.stages.OwnPeripheral.{OwnPeripheral}
+use Rattle.procedure_stages.specs.declared.stages.OwnPeripheral.TheVariants.{Idle as idle, Exchange as exchange_p, RequestUnsent, RequestSent, RequestAcknowledged, RequestGranted, PhyUnsent as phy_unsent, PhySent as phy_sent}
 
 abbrev pub kind_of_ask : Ask → Kind
 kind_of_ask (ask_update interval latency timeout) = Update
@@ -105,3 +105,17 @@ exchange_at_peripheral other = None
 abbrev pub own_exchange : Progress → Option Exchange
 own_exchange (central c) = exchange_at_central c.own
 own_exchange (peripheral p) = exchange_at_peripheral p.own
+
+-- ---- whether it is of a kind
+
+abbrev pub is_kind : Option Kind → Kind → Bool
+is_kind None kind = false
+is_kind (Some own) kind = is_same_kind own kind
+
+-- the peer has a limited time to answer (section 5.2): for an update and a map it has none, since no PDU of the peer is
+-- awaited
+abbrev pub is_timed : Option Kind → Bool
+is_timed None = false
+is_timed (Some Update) = false
+is_timed (Some Map) = false
+is_timed (Some other) = true

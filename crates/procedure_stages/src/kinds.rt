@@ -1,9 +1,10 @@
 //! The kinds of control procedures, and the kind of each stage.
 ghost use Rattle.std.specs.Prelude.{◌≡◌};
-ghost use Rattle.procedures.specs.Kinds.{is_same_kind, begins, role_of, kind_of_exchange};
-ghost use Rattle.procedures.specs.Kinds.{kind_at_central, kind_at_peripheral, own_kind};
-ghost use Rattle.procedures.specs.Kinds.{exchange_at_central, exchange_at_peripheral};
-ghost use Rattle.procedures.specs.Kinds.{own_exchange, without_own};
+ghost use Rattle.procedure_stages.specs.Kinds.{is_same_kind, begins, kind_of_exchange};
+ghost use Rattle.procedure_stages.specs.Kinds.{kind_at_central, exchange_at_central};
+ghost use Rattle.procedure_stages.specs.Kinds.{kind_at_peripheral, exchange_at_peripheral, role_of};
+ghost use Rattle.procedure_stages.specs.Kinds.{own_kind, own_exchange, without_own, is_kind};
+ghost use Rattle.procedure_stages.specs.Kinds.{is_timed};
 
 use crate::stages::{Central, Exchange, OwnCentral, OwnPeripheral, Peripheral, Progress};
 use ble_base::{Kind, Role};
@@ -17,7 +18,7 @@ pub(crate) fn is_same_kind(a: Kind, b: Kind) -> bool
 
 /// Whether an end of this role begins a procedure of this kind (Core 5.2, volume 6 part B, sections
 /// 5.1.1 to 5.1.10).
-pub(crate) fn begins(role: Role, kind: Kind) -> bool
+pub fn begins(role: Role, kind: Kind) -> bool
     ensures { result ≡ begins role kind }
 {
     match role {
@@ -41,7 +42,7 @@ impl Exchange {
 
 impl OwnCentral {
     /// The kind of the procedure that the central began, if it began one.
-    pub(crate) fn kind(self) -> Option<Kind>
+    pub fn kind(self) -> Option<Kind>
         ensures { result ≡ kind_at_central self }
     {
         match self {
@@ -70,7 +71,7 @@ impl OwnCentral {
 
 impl OwnPeripheral {
     /// The kind of the procedure that the peripheral began, if it began one.
-    pub(crate) fn kind(self) -> Option<Kind>
+    pub fn kind(self) -> Option<Kind>
         ensures { result ≡ kind_at_peripheral self }
     {
         match self {
@@ -97,7 +98,7 @@ impl OwnPeripheral {
 
 impl Progress {
     /// The role of the end.
-    pub(crate) fn role(self) -> Role
+    pub fn role(self) -> Role
         ensures { result ≡ role_of self }
     {
         match self {
@@ -107,7 +108,7 @@ impl Progress {
     }
 
     /// The kind of the procedure that this end began, if it began one.
-    pub(crate) fn own_kind(self) -> Option<Kind>
+    pub fn own_kind(self) -> Option<Kind>
         ensures { result ≡ own_kind self }
     {
         match self {
@@ -117,7 +118,7 @@ impl Progress {
     }
 
     /// The exchange that this end began, if it began one.
-    pub(crate) fn own_exchange(self) -> Option<Exchange>
+    pub fn own_exchange(self) -> Option<Exchange>
         ensures { result ≡ own_exchange self }
     {
         match self {
@@ -127,7 +128,7 @@ impl Progress {
     }
 
     /// The same after the procedure that this end began is over.
-    pub(crate) fn without_own(self) -> Self
+    pub fn without_own(self) -> Self
         ensures { result ≡ without_own self }
     {
         match self {
@@ -140,5 +141,25 @@ impl Progress {
                 ..p
             }),
         }
+    }
+}
+
+/// Whether the own procedure is of this kind.
+pub fn is_kind(own: Option<Kind>, kind: Kind) -> bool
+    ensures { result ≡ is_kind own kind }
+{
+    match own {
+        Some(own) => is_same_kind(own, kind),
+        None => false,
+    }
+}
+
+/// Whether the peer has a limited time to answer in a procedure of this kind.
+pub fn is_timed(own: Option<Kind>) -> bool
+    ensures { result ≡ is_timed own }
+{
+    match own {
+        None | Some(Kind::Update | Kind::Map) => false,
+        Some(_) => true,
     }
 }

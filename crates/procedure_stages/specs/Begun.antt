@@ -1,0 +1,53 @@
+-- The stage of a procedure as it begins, and its first PDU (Core 5.2, volume 6 part B, section 5.1).
+use Rattle.std.specs.Prelude.{Bool, true, false, Option, Some, None}
+use Rattle.ble_base.specs.declared.roles.Role.{Role}
+use Rattle.ble_base.specs.declared.roles.Role.TheVariants.{Central, Peripheral}
+use Rattle.procedure_stages.specs.declared.stages.Exchange.{Exchange}
+use Rattle.procedure_stages.specs.declared.stages.Exchange.TheVariants.{VersionUnsent, VersionSent, FeaturesUnsent, LengthUnsent}
+use Rattle.procedure_stages.specs.declared.asks.Ask.{Ask}
+use Rattle.procedure_stages.specs.declared.asks.Ask.TheVariants.{Update, Request, Map, Phy, Features, Version, Length, Encrypt}
+use Rattle.procedure_stages.specs.declared.stages.OwnCentral.{OwnCentral}
+use Rattle.procedure_stages.specs.declared.stages.OwnCentral.TheVariants.{Exchange as exchange, UpdateUnsent, MapUnsent, PhyUnsent, EncryptUnsent}
+use Rattle.procedure_stages.specs.declared.stages.OwnPeripheral.{OwnPeripheral}
+use Rattle.procedure_stages.specs.declared.stages.OwnPeripheral.TheVariants.{Exchange as exchange_p, RequestUnsent, PhyUnsent as phy_unsent}
+use Rattle.procedure_stages.specs.declared.stages.Progress.{Progress}
+use Rattle.procedure_stages.specs.declared.stages.Progress.TheVariants.{Central as central, Peripheral as peripheral}
+use Rattle.procedure_stages.specs.declared.drafts.Draft.{Draft}
+use Rattle.procedure_stages.specs.declared.drafts.Draft.TheVariants.{FeatureReq, PeripheralFeatureReq, VersionInd}
+
+-- LL_VERSION_IND is sent once: a second exchange of versions begins without it
+abbrev pub version_stage : Bool → Exchange
+version_stage false = VersionUnsent
+version_stage true = VersionSent
+
+abbrev pub stage_at_central : Ask → Bool → OwnCentral → OwnCentral
+stage_at_central (Update interval latency timeout) used own = UpdateUnsent
+stage_at_central (Request min max latency timeout) used own = own
+stage_at_central (Map map) used own = MapUnsent
+stage_at_central Phy used own = PhyUnsent
+stage_at_central Features used own = exchange FeaturesUnsent
+stage_at_central Version used own = exchange (version_stage used)
+stage_at_central (Length tx) used own = exchange LengthUnsent
+stage_at_central (Encrypt rand ediv ltk skd_m iv_m) used own = EncryptUnsent
+
+abbrev pub stage_at_peripheral : Ask → Bool → OwnPeripheral → OwnPeripheral
+stage_at_peripheral (Update interval latency timeout) used own = own
+stage_at_peripheral (Request min max latency timeout) used own = RequestUnsent
+stage_at_peripheral (Map map) used own = own
+stage_at_peripheral Phy used own = phy_unsent
+stage_at_peripheral Features used own = exchange_p FeaturesUnsent
+stage_at_peripheral Version used own = exchange_p (version_stage used)
+stage_at_peripheral (Length tx) used own = exchange_p LengthUnsent
+stage_at_peripheral (Encrypt rand ediv ltk skd_m iv_m) used own = own
+
+abbrev pub progress_begun : Ask → Bool → Progress → Progress
+progress_begun ask used (central c) = central (record c { own = stage_at_central ask used c.own })
+progress_begun ask used (peripheral p) = peripheral (record p { own = stage_at_peripheral ask used p.own })
+
+abbrev pub feature_draft : Role → Draft
+feature_draft Central = FeatureReq
+feature_draft Peripheral = PeripheralFeatureReq
+
+abbrev pub version_draft : Bool → Option Draft
+version_draft false = Some VersionInd
+version_draft true = None

@@ -1,0 +1,105 @@
+-- The opcodes of control PDUs that are named in an answer, and those of the PDUs that were sent of a procedure (Core
+-- 5.2, volume 6 part B, section 2.4.2).
+use Rattle.std.specs.Prelude.{ℕ, Option, Some, None, ◌==◌, Bool, false}
+use Rattle.ble_base.specs.declared.roles.Role.{Role}
+use Rattle.ble_base.specs.declared.roles.Role.TheVariants.{Central, Peripheral}
+use Rattle.procedure_stages.specs.declared.stages.Exchange.{Exchange}
+use Rattle.procedure_stages.specs.declared.stages.Exchange.TheVariants.{FeaturesSent, VersionSent, LengthSent}
+use Rattle.procedure_stages.specs.declared.stages.OwnCentral.{OwnCentral}
+use Rattle.procedure_stages.specs.declared.stages.OwnCentral.TheVariants.{Exchange as exchange, UpdateSent, MapSent, PhySent, PhyAnswered, PhyIndicated, EncryptSent}
+use Rattle.procedure_stages.specs.declared.stages.OwnPeripheral.{OwnPeripheral}
+use Rattle.procedure_stages.specs.declared.stages.OwnPeripheral.TheVariants.{Exchange as exchange_p, RequestSent, RequestAcknowledged, RequestGranted, PhySent as phy_sent}
+use Rattle.procedure_stages.specs.declared.stages.Progress.{Progress}
+use Rattle.procedure_stages.specs.declared.stages.Progress.TheVariants.{Central as central, Peripheral as peripheral}
+
+abbrev pub connection_update_ind_opcode : ℕ
+connection_update_ind_opcode = 0x00
+
+abbrev pub channel_map_ind_opcode : ℕ
+channel_map_ind_opcode = 0x01
+
+abbrev pub enc_req_opcode : ℕ
+enc_req_opcode = 0x03
+
+abbrev pub enc_rsp_opcode : ℕ
+enc_rsp_opcode = 0x04
+
+abbrev pub start_enc_req_opcode : ℕ
+start_enc_req_opcode = 0x05
+
+abbrev pub feature_req_opcode : ℕ
+feature_req_opcode = 0x08
+
+abbrev pub pause_enc_req_opcode : ℕ
+pause_enc_req_opcode = 0x0A
+
+abbrev pub version_ind_opcode : ℕ
+version_ind_opcode = 0x0C
+
+abbrev pub peripheral_feature_req_opcode : ℕ
+peripheral_feature_req_opcode = 0x0E
+
+abbrev pub connection_param_req_opcode : ℕ
+connection_param_req_opcode = 0x0F
+
+abbrev pub connection_param_rsp_opcode : ℕ
+connection_param_rsp_opcode = 0x10
+
+abbrev pub length_req_opcode : ℕ
+length_req_opcode = 0x14
+
+abbrev pub phy_req_opcode : ℕ
+phy_req_opcode = 0x16
+
+abbrev pub phy_update_ind_opcode : ℕ
+phy_update_ind_opcode = 0x18
+
+-- ---- the own procedure
+
+-- the PDU of a feature exchange that begins it, by the role of the end
+abbrev pub feature_opcode : Role → ℕ
+feature_opcode Central = feature_req_opcode
+feature_opcode Peripheral = peripheral_feature_req_opcode
+
+abbrev pub opcode_of_exchange : Role → Exchange → Option ℕ
+opcode_of_exchange role FeaturesSent = Some (feature_opcode role)
+opcode_of_exchange role VersionSent = Some version_ind_opcode
+opcode_of_exchange role LengthSent = Some length_req_opcode
+opcode_of_exchange role other = None
+
+abbrev pub opcode_at_central : OwnCentral → Option ℕ
+opcode_at_central (exchange stage) = opcode_of_exchange Central stage
+opcode_at_central UpdateSent = Some connection_update_ind_opcode
+opcode_at_central MapSent = Some channel_map_ind_opcode
+opcode_at_central PhySent = Some phy_req_opcode
+opcode_at_central PhyAnswered = Some phy_req_opcode
+opcode_at_central PhyIndicated = Some phy_req_opcode
+opcode_at_central EncryptSent = Some enc_req_opcode
+opcode_at_central other = None
+
+abbrev pub opcode_at_peripheral : OwnPeripheral → Option ℕ
+opcode_at_peripheral (exchange_p stage) = opcode_of_exchange Peripheral stage
+opcode_at_peripheral RequestSent = Some connection_param_req_opcode
+opcode_at_peripheral RequestAcknowledged = Some connection_param_req_opcode
+opcode_at_peripheral RequestGranted = Some connection_param_req_opcode
+opcode_at_peripheral phy_sent = Some phy_req_opcode
+opcode_at_peripheral other = None
+
+-- the opcode of the first PDU of the own procedure, once it was sent; of an encryption only a start that follows no
+-- pause can be refused, and its first PDU is LL_ENC_REQ
+abbrev pub first_opcode : Progress → Option ℕ
+first_opcode (central c) = opcode_at_central c.own
+first_opcode (peripheral p) = opcode_at_peripheral p.own
+
+-- the opcode of a later PDU of the own procedure that was sent: a central's PHY update has two
+abbrev pub later_opcode_at_central : OwnCentral → Option ℕ
+later_opcode_at_central PhyIndicated = Some phy_update_ind_opcode
+later_opcode_at_central other = None
+
+abbrev pub later_opcode : Progress → Option ℕ
+later_opcode (central c) = later_opcode_at_central c.own
+later_opcode (peripheral p) = None
+
+abbrev pub is_opcode : Option ℕ → ℕ → Bool
+is_opcode None opcode = false
+is_opcode (Some own) opcode = own == opcode

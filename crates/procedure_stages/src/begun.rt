@@ -1,0 +1,85 @@
+//! The stage of a procedure as it begins, and its first PDU.
+ghost use Rattle.std.specs.Prelude.{◌≡◌};
+ghost use Rattle.procedure_stages.specs.Begun.{version_stage, stage_at_central};
+ghost use Rattle.procedure_stages.specs.Begun.{stage_at_peripheral, progress_begun, feature_draft};
+ghost use Rattle.procedure_stages.specs.Begun.{version_draft};
+
+use crate::asks::Ask;
+use crate::drafts::Draft;
+use crate::stages::{Central, Exchange, OwnCentral, OwnPeripheral, Peripheral, Progress};
+use ble_base::Role;
+
+/// The stage of an exchange of versions as it begins: it waits for the peer at once if the own
+/// LL_VERSION_IND was queued before.
+fn version_stage(used: bool) -> Exchange
+    ensures { result ≡ version_stage used }
+{
+    if used {
+        Exchange::VersionSent
+    } else {
+        Exchange::VersionUnsent
+    }
+}
+
+/// The stage of a central's own procedure as it begins.
+fn stage_at_central(ask: &Ask, used: bool, own: OwnCentral) -> OwnCentral
+    ensures { result ≡ stage_at_central ask.now used own }
+{
+    match ask {
+        Ask::Update { .. } => OwnCentral::UpdateUnsent,
+        Ask::Request { .. } => own,
+        Ask::Map(_) => OwnCentral::MapUnsent,
+        Ask::Phy => OwnCentral::PhyUnsent,
+        Ask::Features => OwnCentral::Exchange(Exchange::FeaturesUnsent),
+        Ask::Version => OwnCentral::Exchange(version_stage(used)),
+        Ask::Length { .. } => OwnCentral::Exchange(Exchange::LengthUnsent),
+        Ask::Encrypt { .. } => OwnCentral::EncryptUnsent,
+    }
+}
+
+/// The stage of a peripheral's own procedure as it begins.
+fn stage_at_peripheral(ask: &Ask, used: bool, own: OwnPeripheral) -> OwnPeripheral
+    ensures { result ≡ stage_at_peripheral ask.now used own }
+{
+    match ask {
+        Ask::Update { .. } | Ask::Map(_) | Ask::Encrypt { .. } => own,
+        Ask::Request { .. } => OwnPeripheral::RequestUnsent,
+        Ask::Phy => OwnPeripheral::PhyUnsent,
+        Ask::Features => OwnPeripheral::Exchange(Exchange::FeaturesUnsent),
+        Ask::Version => OwnPeripheral::Exchange(version_stage(used)),
+        Ask::Length { .. } => OwnPeripheral::Exchange(Exchange::LengthUnsent),
+    }
+}
+
+/// The procedures after one of this end began.
+pub fn progress_begun(ask: &Ask, used: bool, progress: Progress) -> Progress
+    ensures { result ≡ progress_begun ask.now used progress }
+{
+    match progress {
+        Progress::Central(c) => Progress::Central(Central {
+            own: stage_at_central(ask, used, c.own),
+            ..c
+        }),
+        Progress::Peripheral(p) => Progress::Peripheral(Peripheral {
+            own: stage_at_peripheral(ask, used, p.own),
+            ..p
+        }),
+    }
+}
+
+/// The PDU that begins an exchange of features.
+pub fn feature_draft(role: Role) -> Draft
+    ensures { result ≡ feature_draft role }
+{
+    match role {
+        Role::Central => Draft::FeatureReq,
+        Role::Peripheral => Draft::PeripheralFeatureReq,
+    }
+}
+
+/// The PDU that begins an exchange of versions, unless it was queued before.
+pub fn version_draft(used: bool) -> Option<Draft>
+    ensures { result ≡ version_draft used }
+{
+    if used { None } else { Some(Draft::VersionInd) }
+}

@@ -1,0 +1,61 @@
+//! What is in progress at an end.
+ghost use Rattle.std.specs.Prelude.{◌≡◌};
+ghost use Rattle.procedure_stages.specs.InProgress.{first_progress, has_peer, is_encrypting};
+ghost use Rattle.procedure_stages.specs.InProgress.{peer_becomes};
+
+use crate::stages::{
+    Ahead, Central, OwnCentral, OwnPeripheral, PeerAtCentral, PeerAtPeripheral, Peripheral,
+    Progress,
+};
+use ble_base::Role;
+
+impl Progress {
+    /// Nothing is in progress.
+    pub fn first(role: Role) -> Self
+        ensures { result ≡ first_progress role }
+    {
+        match role {
+            Role::Central => Progress::Central(Central {
+                own: OwnCentral::Idle,
+                peer: PeerAtCentral::Absent,
+                last_instant: None,
+            }),
+            Role::Peripheral => Progress::Peripheral(Peripheral {
+                own: OwnPeripheral::Idle,
+                peer: PeerAtPeripheral::Absent,
+                ahead: Ahead::Nothing,
+                encrypting: false,
+            }),
+        }
+    }
+
+    /// Whether a procedure of the peer that excludes others is in progress here.
+    pub fn has_peer(self) -> bool
+        ensures { result ≡ has_peer self }
+    {
+        match self {
+            Progress::Central(c) => !matches!(c.peer, PeerAtCentral::Absent),
+            Progress::Peripheral(p) => !matches!(p.peer, PeerAtPeripheral::Absent),
+        }
+    }
+
+    /// Whether an encryption of the peer is in progress here.
+    pub fn is_encrypting(self) -> bool
+        ensures { result ≡ is_encrypting self }
+    {
+        match self {
+            Progress::Central(_) => false,
+            Progress::Peripheral(p) => p.encrypting,
+        }
+    }
+
+    /// The same with another stage of the peripheral's procedure, at a central.
+    pub fn with_peer(self, peer: PeerAtCentral) -> Self
+        ensures { result ≡ peer_becomes peer self }
+    {
+        match self {
+            Progress::Central(c) => Progress::Central(Central { peer, ..c }),
+            Progress::Peripheral(_) => self,
+        }
+    }
+}
