@@ -1,7 +1,7 @@
 //! Files that calls are given, and octets of captures.
 use outside::{MemFiles, MemSink};
 use std::alloc::{AllocError, Global};
-use test_words::octets_of;
+use test_words::{octets_of, push_lines};
 
 /// What is given to calls.
 #[derive(Clone, Copy)]
@@ -67,14 +67,6 @@ fn push_piece(octets: &mut Vec<u8>, piece: &str) -> Result<(), AllocError> {
     let octet = octets_of(*octets.allocator(), piece.get(..2).unwrap_or(""));
     octets.extend_from_slice(&octet)?;
     push_lines(octets, piece.get(2..).unwrap_or(""))
-}
-
-/// Appends lines, each of which ends at "|".
-fn push_lines(octets: &mut Vec<u8>, lines: &str) -> Result<(), AllocError> {
-    for octet in lines.as_bytes() {
-        octets.push(if *octet == b'|' { b'\n' } else { *octet })?;
-    }
-    Ok(())
 }
 
 /// The octets of the file.

@@ -4,7 +4,7 @@ use crate::calls::{Ending, captured, charted, refused};
 use crate::files::{Given, has_packets, text_of};
 use std::alloc::{AllocError, Global};
 use std::process::Abort;
-use test_words::{Call, call_of, parts_of, put_answer, put_number, slot};
+use test_words::{Call, call_of, parts_of, put_answer, put_number, put_text, rest_of, slot};
 
 /// The file is empty, and nothing is planned to fail.
 const NOTHING: Given<'static> = Given {
@@ -25,12 +25,6 @@ pub(crate) fn check(rt: &impl Abort, alloc: Global, script: &str) -> Result<(), 
         assert_eq!(rt; told.as_str(), want, "{line}");
     }
     Ok(())
-}
-
-/// What comes after the name of a call and a space.
-fn rest_of<'a>(text: &'a str, name: &str) -> &'a str {
-    let rest = text.get(name.len().saturating_add(1)..);
-    rest.unwrap_or("")
 }
 
 impl<'a> Given<'a> {
@@ -69,19 +63,6 @@ impl<'a> Given<'a> {
             _ => told.push_str(" which call?"),
         }
     }
-}
-
-/// Writes octets as a text in brackets, in which "|" ends a line.
-fn put_text(told: &mut String, octets: &[u8]) -> Result<(), AllocError> {
-    told.push_str(" [")?;
-    for octet in octets {
-        told.push(if *octet == b'\n' {
-            '|'
-        } else {
-            char::from(*octet)
-        })?;
-    }
-    told.push(']')
 }
 
 /// Writes a status, the size of the output, and the error line.
