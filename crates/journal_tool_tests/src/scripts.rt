@@ -1,5 +1,6 @@
 //! Scripts: a file with the name `journal`, and calls of the programs over it, each with what it
-//! leaves: its status, its output and its error line. In a text "|" ends a line.
+//! leaves: its status, its output and its error line. In a text "|" ends a line. A line that begins
+//! with "#" says what follows: before it nothing is given.
 use crate::calls::{Ending, captured, charted, refused};
 use crate::files::{Given, has_packets, text_of};
 use std::alloc::{AllocError, Global};
@@ -40,6 +41,7 @@ impl<'a> Given<'a> {
     fn take(&mut self, call: Call<'_>, rest: &'a str, told: &mut String) -> Result<(), AllocError> {
         let number = slot(call.words[0]);
         match call.name {
+            "#" => *self = NOTHING,
             "file" => self.text = rest,
             "lines" => self.lines = number,
             "zeros" => self.zeros = number,
