@@ -11,7 +11,8 @@ turn 0 ++
 in a 01030c00
 up a 040e0401030c00
 air b 37 d6be898eadd45ca13d499970ede427 . good
-air a 37 d6be898ea8f05da13d4999707e3111a669b7d1a23098aad09e5233d8a2980824833b038e5c0b4a6dc6c387 . good
+air a 37 d6be898ea8f05da13d4999707e3111a669b7d1a23098aad09e5233d8a2980824833b038e5c0b4a6dc6c387 . \
+    good
 open a 1 0 central
 open b 1 0 peripheral
 turn 1 ++

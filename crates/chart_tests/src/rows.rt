@@ -59,11 +59,14 @@ const EVENT_ROWS: &[u8] = b"\
 <rect x=\"104\" y=\"124\" width=\"1068\" height=\"24\" class=\"event\"></rect>
 <text x=\"872\" y=\"139\" class=\"note-b\">event 0: link 1, channel 25</text>
 <rect x=\"104\" y=\"148\" width=\"1068\" height=\"24\" class=\"event\"></rect>
-<path d=\"M420 166h440m-9 -4l9 4l-9 4\" class=\"pass good\" aria-label=\"air a 25 2941767150fa1ee550 . good\"></path>
+<path d=\"M420 166h440m-9 -4l9 4l-9 4\" class=\"pass good\" aria-label=\"air a 25 \
+    2941767150fa1ee550 . good\"></path>
 <text x=\"640\" y=\"158\" class=\"packet\">channel 25: empty SN 0 NESN 0 MD 0, 0 octets, good</text>
 <rect x=\"104\" y=\"172\" width=\"1068\" height=\"24\" class=\"event\"></rect>
-<path d=\"M860 190h-60m-5 -5l10 10m0 -10l-10 10\" class=\"lost missed\" aria-label=\"air b 25 2941767154facde350 x missed\"></path>
-<text x=\"640\" y=\"182\" class=\"packet\">channel 25: empty SN 0 NESN 1 MD 0, 0 octets, lost, missed</text>
+<path d=\"M860 190h-60m-5 -5l10 10m0 -10l-10 10\" class=\"lost missed\" aria-label=\"air b 25 \
+    2941767154facde350 x missed\"></path>
+<text x=\"640\" y=\"182\" class=\"packet\">channel 25: empty SN 0 NESN 1 MD 0, 0 octets, lost, \
+    missed</text>
 ";
 
 #[test]
@@ -78,9 +81,11 @@ up b 040e04010a200000112233
 ";
 
 const NO_HEADERS_ROWS: &[u8] = b"\
-<path d=\"M420 94h60m-5 -5l10 10m0 -10l-10 10m5 -5h380m-9 -4l9 4l-9 4\" class=\"damaged broken\" aria-label=\"air a 200 d6be898e8fd45da13d499970f84ada e6:01 broken\"></path>
+<path d=\"M420 94h60m-5 -5l10 10m0 -10l-10 10m5 -5h380m-9 -4l9 4l-9 4\" class=\"damaged broken\" \
+    aria-label=\"air a 200 d6be898e8fd45da13d499970f84ada e6:01 broken\"></path>
 <text x=\"640\" y=\"86\" class=\"packet\">channel 200: no PDU, damaged, broken</text>
-<path d=\"M860 118h-440m9 -4l-9 4l9 4\" class=\"pass forged\" aria-label=\"air b 37 d6be89 . forged\"></path>
+<path d=\"M860 118h-440m9 -4l-9 4l9 4\" class=\"pass forged\" aria-label=\"air b 37 d6be89 . \
+    forged\"></path>
 <text x=\"640\" y=\"110\" class=\"packet\">channel 37: no PDU, forged</text>
 <text x=\"872\" y=\"139\" class=\"note-b\">up 040e04010a2000001122.., 11 octets</text>
 ";
