@@ -43,11 +43,11 @@ fn push_copies(octets: &mut Vec<u8>, copied: &[u8], count: u32) -> Result<(), Al
     Ok(())
 }
 
-/// Whether octets are the start of a capture and this number of its packets.
-pub(crate) fn has_packets(alloc: Global, octets: &[u8], count: u32) -> Result<bool, AllocError> {
-    let mut capture = Vec::from_slice(alloc, START)?;
-    push_copies(&mut capture, PACKET, count)?;
-    Ok(octets == capture.as_slice())
+/// The start of a capture and this number of its packets.
+pub(crate) fn packets_of(alloc: Global, count: u32) -> Result<Vec<u8>, AllocError> {
+    let mut octets = Vec::from_slice(alloc, START)?;
+    push_copies(&mut octets, PACKET, count)?;
+    Ok(octets)
 }
 
 /// The octets of a text in which "|" ends a line, and two hexadecimal digits after "~" spell one

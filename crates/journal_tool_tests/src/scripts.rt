@@ -1,8 +1,8 @@
 //! Scripts: a file with the name `journal`, and calls of the programs over it, each with what it
 //! leaves: its status, its output and its error line. In a text "|" ends a line. A line that begins
 //! with "#" says what follows: before it nothing is given.
-use crate::calls::{Ending, captured, charted, refused};
-use crate::files::{Given, has_packets, text_of};
+use crate::calls::ending_of;
+use crate::files::{Given, packets_of, text_of};
 use std::alloc::{AllocError, Global};
 use std::process::Abort;
 use test_words::{Call, call_of, parts_of, put_answer, put_number, put_text, rest_of, slot};
@@ -53,52 +53,36 @@ impl<'a> Given<'a> {
         Ok(())
     }
 
-    /// Makes a call. After "capture" come the words of `ble_capture`. After "packets" comes the
-    /// number of packets that its output must have, and after "chart" the text in which the output
-    /// of `ble_chart` must end. With "refuse" its files are too long, or there is no memory.
+    /// Makes a call, and writes what it leaves. After "capture" come the words of `ble_capture`.
+    /// After "packets" comes the number of packets that its output must have, and after "chart" the
+    /// text in which the output of `ble_chart` must end. With "refuse" its files are too long, or
+    /// there is no memory.
     fn call(&self, name: &str, rest: &str, told: &mut String) -> Result<(), AllocError> {
-        match name {
-            "capture" => put_capture(self, rest, told),
-            "packets" => put_packets(self, slot(rest), told),
-            "chart" => put_chart(self, rest, told),
-            "refuse" => put_refused(rest == "long", told),
-            _ => told.push_str(" which call?"),
-        }
+        let ending = ending_of(*told.allocator(), self, name, rest)?;
+        put_number(told, u64::from(ending.status))?;
+        put_output(told, ending.out.octets(), name, rest)?;
+        put_text(told, ending.err.octets())
     }
 }
 
-/// Writes a status, the size of the output, and the error line.
-fn put_sizes(told: &mut String, ending: &Ending) -> Result<(), AllocError> {
-    put_number(told, u64::from(ending.status))?;
-    put_number(told, ending.out.octets().len() as u64)?;
-    put_text(told, ending.err.octets())
+/// Writes the size of an output, or whether it is as it must be.
+fn put_output(told: &mut String, out: &[u8], name: &str, rest: &str) -> Result<(), AllocError> {
+    match name {
+        "capture" | "refuse" => put_number(told, out.len() as u64),
+        "packets" => put_packets(told, out, slot(rest)),
+        "chart" => put_end(told, out, rest),
+        _ => told.push_str(" which call?"),
+    }
 }
 
-fn put_capture(given: &Given<'_>, words: &str, told: &mut String) -> Result<(), AllocError> {
-    let ending = captured(*told.allocator(), given, words)?;
-    put_sizes(told, &ending)
+/// Writes whether an output is a capture with this number of packets.
+fn put_packets(told: &mut String, out: &[u8], count: u32) -> Result<(), AllocError> {
+    let capture = packets_of(*told.allocator(), count)?;
+    put_answer(told, out == capture.as_slice())
 }
 
-fn put_refused(are_long: bool, told: &mut String) -> Result<(), AllocError> {
-    let ending = refused(*told.allocator(), are_long)?;
-    put_sizes(told, &ending)
-}
-
-/// Writes a status, whether something is so of the output, and the error line.
-fn put_whether(told: &mut String, ending: &Ending, is_so: bool) -> Result<(), AllocError> {
-    put_number(told, u64::from(ending.status))?;
-    put_answer(told, is_so)?;
-    put_text(told, ending.err.octets())
-}
-
-fn put_packets(given: &Given<'_>, count: u32, told: &mut String) -> Result<(), AllocError> {
-    let ending = captured(*told.allocator(), given, "journal")?;
-    let is_so = has_packets(*told.allocator(), ending.out.octets(), count)?;
-    put_whether(told, &ending, is_so)
-}
-
-fn put_chart(given: &Given<'_>, end: &str, told: &mut String) -> Result<(), AllocError> {
-    let ending = charted(*told.allocator(), given)?;
-    let end = text_of(*told.allocator(), end)?;
-    put_whether(told, &ending, ending.out.octets().ends_with(&end))
+/// Writes whether an output ends in a text.
+fn put_end(told: &mut String, out: &[u8], text: &str) -> Result<(), AllocError> {
+    let end = text_of(*told.allocator(), text)?;
+    put_answer(told, out.ends_with(&end))
 }
