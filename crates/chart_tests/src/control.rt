@@ -1,8 +1,7 @@
 //! The names of control PDUs: their octets are by hand from their layouts (Core 5.2, volume 6 part
 //! B, section 2.4.2), and a second program made the expected rows.
-use chart::{Place, chart_rows};
-use journal::Journal;
-use std::test::Fail;
+use crate::rows::check;
+use std::alloc::AllocError;
 
 /// Each control PDU, five payloads that are none, and payloads of data.
 const TEXT: &[u8] = b"\
@@ -105,10 +104,6 @@ const ROWS: &[u8] = b"\
 ";
 
 #[test]
-fn control_pdus_have_their_names(rt: HostRuntime) -> Result<(), Fail> {
-    let journal = Journal::read(rt.alloc(), TEXT)?;
-    assert_eq!(rt; journal.len(), 31);
-    let (rows, _) = chart_rows(rt.alloc(), Place::first(), journal.as_slice())?;
-    assert_eq!(rt; rows.as_slice(), ROWS);
-    Ok(())
+fn control_pdus_have_their_names(rt: HostRuntime) -> Result<(), AllocError> {
+    check(&rt, rt.alloc(), TEXT, 31, ROWS)
 }

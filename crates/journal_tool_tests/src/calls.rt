@@ -24,15 +24,40 @@ fn words_of(alloc: Global, line: &str) -> Result<Vec<String>, AllocError> {
     Ok(words)
 }
 
-/// Calls `ble_capture` with these words.
-pub(crate) fn captured(alloc: Global, given: &Given<'_>, line: &str) -> Result<Ending, AllocError> {
+/// Makes a call: with the words after "capture", and else with the word `journal`.
+pub(crate) fn ending_of(
+    alloc: Global,
+    given: &Given<'_>,
+    name: &str,
+    rest: &str,
+) -> Result<Ending, AllocError> {
+    let line = if name == "capture" { rest } else { "journal" };
     let words = words_of(alloc, line)?;
+    if name == "refuse" {
+        let are_long = rest == "long";
+        return Ok(refuse(alloc, &words, RefusedFiles { are_long }));
+    }
+    called(alloc, given, &words, name == "chart")
+}
+
+/// Calls `ble_chart` or `ble_capture` with these words.
+fn called(
+    alloc: Global,
+    given: &Given<'_>,
+    words: &Vec<String>,
+    is_chart: bool,
+) -> Result<Ending, AllocError> {
     let mut files = files_of(alloc, given)?;
     let out = sink_failing(alloc, given.failing_write)?;
     let err = sink_failing(alloc, given.failing_error)?;
-    Ok(capture(alloc, &words, &mut files, (out, err)))
+    Ok(if is_chart {
+        chart(alloc, words, &mut files, (out, err))
+    } else {
+        capture(alloc, words, &mut files, (out, err))
+    })
 }
 
+/// Calls `ble_capture`.
 fn capture(
     alloc: Global,
     words: &Vec<String>,
@@ -51,16 +76,13 @@ fn capture(
     Ending { status, out, err }
 }
 
-/// Calls `ble_chart` with the word `journal`.
-pub(crate) fn charted(alloc: Global, given: &Given<'_>) -> Result<Ending, AllocError> {
-    let words = words_of(alloc, "journal")?;
-    let mut files = files_of(alloc, given)?;
-    let out = sink_failing(alloc, given.failing_write)?;
-    Ok(chart(alloc, &words, &mut files, out))
-}
-
-fn chart(alloc: Global, words: &Vec<String>, files: &mut MemFiles, mut out: MemSink) -> Ending {
-    let mut err = MemSink::new(alloc);
+/// Calls `ble_chart`.
+fn chart(
+    alloc: Global,
+    words: &Vec<String>,
+    files: &mut MemFiles,
+    (mut out, mut err): (MemSink, MemSink),
+) -> Ending {
     let status = journal_tool(
         alloc,
         "ble_chart",
@@ -100,12 +122,7 @@ impl Files for RefusedFiles {
     }
 }
 
-/// Calls `ble_capture` with the word `journal` over files that are refused.
-pub(crate) fn refused(alloc: Global, are_long: bool) -> Result<Ending, AllocError> {
-    let words = words_of(alloc, "journal")?;
-    Ok(refuse(alloc, &words, RefusedFiles { are_long }))
-}
-
+/// Calls `ble_capture` over files that are refused.
 fn refuse(alloc: Global, words: &Vec<String>, mut files: RefusedFiles) -> Ending {
     let (mut out, mut err) = (MemSink::new(alloc), MemSink::new(alloc));
     let status = journal_tool(

@@ -1,7 +1,7 @@
 //! Files that calls are given, and octets of captures.
 use outside::{MemFiles, MemSink};
 use std::alloc::{AllocError, Global};
-use test_words::octets_of;
+use test_words::{octets_of, push_lines};
 
 /// What is given to calls.
 #[derive(Clone, Copy)]
@@ -43,11 +43,11 @@ fn push_copies(octets: &mut Vec<u8>, copied: &[u8], count: u32) -> Result<(), Al
     Ok(())
 }
 
-/// Whether octets are the start of a capture and this number of its packets.
-pub(crate) fn has_packets(alloc: Global, octets: &[u8], count: u32) -> Result<bool, AllocError> {
-    let mut capture = Vec::from_slice(alloc, START)?;
-    push_copies(&mut capture, PACKET, count)?;
-    Ok(octets == capture.as_slice())
+/// The start of a capture and this number of its packets.
+pub(crate) fn packets_of(alloc: Global, count: u32) -> Result<Vec<u8>, AllocError> {
+    let mut octets = Vec::from_slice(alloc, START)?;
+    push_copies(&mut octets, PACKET, count)?;
+    Ok(octets)
 }
 
 /// The octets of a text in which "|" ends a line, and two hexadecimal digits after "~" spell one
@@ -67,14 +67,6 @@ fn push_piece(octets: &mut Vec<u8>, piece: &str) -> Result<(), AllocError> {
     let octet = octets_of(*octets.allocator(), piece.get(..2).unwrap_or(""));
     octets.extend_from_slice(&octet)?;
     push_lines(octets, piece.get(2..).unwrap_or(""))
-}
-
-/// Appends lines, each of which ends at "|".
-fn push_lines(octets: &mut Vec<u8>, lines: &str) -> Result<(), AllocError> {
-    for octet in lines.as_bytes() {
-        octets.push(if *octet == b'|' { b'\n' } else { *octet })?;
-    }
-    Ok(())
 }
 
 /// The octets of the file.

@@ -2,9 +2,9 @@
 use crate::scripts::check;
 use std::alloc::AllocError;
 
-/// Bad lines at the start, between others, at the end and without a newline; signs, octets and
-/// numbers that no line has.
-const BAD_LINES: &str = "\
+const LINES: &str = "\
+# Bad lines at the start, between others, at the end and without a newline; signs, octets and \
+    numbers that no line has.
 file turn +|turn 1 ++|
 capture journal = 3 0 [journal line 1|]
 file |turn 0 ++|
@@ -43,16 +43,8 @@ file turn 0 ++|up a 04~ff|
 capture journal = 3 0 [journal line 2|]
 file ~ef~bb~bfturn 0 ++|
 capture journal = 3 0 [journal line 1|]
-";
-
-#[test]
-fn the_first_bad_line_is_named(rt: HostRuntime) -> Result<(), AllocError> {
-    check(&rt, rt.alloc(), BAD_LINES)
-}
-
-/// A line of a million octets is one of a journal where it has an even number of digits. Its
-/// capture has 132 octets of the start, 32 of a block, and 500,004 of the packet.
-const LONG_LINES: &str = "\
+# A line of a million octets is one of a journal where it has an even number of digits. Its \
+    capture has 132 octets of the start, 32 of a block, and 500,004 of the packet.
 file up a~20
 zeros 1000000
 capture journal = 0 500168 []
@@ -62,6 +54,6 @@ capture journal = 3 0 [journal line 2|]
 ";
 
 #[test]
-fn long_lines_are_read(rt: HostRuntime) -> Result<(), AllocError> {
-    check(&rt, rt.alloc(), LONG_LINES)
+fn the_first_bad_line_is_named(rt: HostRuntime) -> Result<(), AllocError> {
+    check(&rt, rt.alloc(), LINES)
 }

@@ -1,10 +1,11 @@
 //! Scripts: a file with the name `journal`, and calls of the programs over it, each with what it
-//! leaves: its status, its output and its error line. In a text "|" ends a line.
-use crate::calls::{Ending, captured, charted, refused};
-use crate::files::{Given, has_packets, text_of};
+//! leaves: its status, its output and its error line. In a text "|" ends a line. A line that begins
+//! with "#" says what follows: before it nothing is given.
+use crate::calls::ending_of;
+use crate::files::{Given, packets_of, text_of};
 use std::alloc::{AllocError, Global};
 use std::process::Abort;
-use test_words::{Call, call_of, parts_of, put_answer, put_number, slot};
+use test_words::{Call, call_of, parts_of, put_answer, put_number, put_text, rest_of, slot};
 
 /// The file is empty, and nothing is planned to fail.
 const NOTHING: Given<'static> = Given {
@@ -27,12 +28,6 @@ pub(crate) fn check(rt: &impl Abort, alloc: Global, script: &str) -> Result<(), 
     Ok(())
 }
 
-/// What comes after the name of a call and a space.
-fn rest_of<'a>(text: &'a str, name: &str) -> &'a str {
-    let rest = text.get(name.len().saturating_add(1)..);
-    rest.unwrap_or("")
-}
-
 impl<'a> Given<'a> {
     /// What a line leaves.
     fn told_of(&mut self, alloc: Global, text: &'a str) -> Result<String, AllocError> {
@@ -46,6 +41,7 @@ impl<'a> Given<'a> {
     fn take(&mut self, call: Call<'_>, rest: &'a str, told: &mut String) -> Result<(), AllocError> {
         let number = slot(call.words[0]);
         match call.name {
+            "#" => *self = NOTHING,
             "file" => self.text = rest,
             "lines" => self.lines = number,
             "zeros" => self.zeros = number,
@@ -57,65 +53,36 @@ impl<'a> Given<'a> {
         Ok(())
     }
 
-    /// Makes a call. After "capture" come the words of `ble_capture`. After "packets" comes the
-    /// number of packets that its output must have, and after "chart" the text in which the output
-    /// of `ble_chart` must end. With "refuse" its files are too long, or there is no memory.
+    /// Makes a call, and writes what it leaves. After "capture" come the words of `ble_capture`.
+    /// After "packets" comes the number of packets that its output must have, and after "chart" the
+    /// text in which the output of `ble_chart` must end. With "refuse" its files are too long, or
+    /// there is no memory.
     fn call(&self, name: &str, rest: &str, told: &mut String) -> Result<(), AllocError> {
-        match name {
-            "capture" => put_capture(self, rest, told),
-            "packets" => put_packets(self, slot(rest), told),
-            "chart" => put_chart(self, rest, told),
-            "refuse" => put_refused(rest == "long", told),
-            _ => told.push_str(" which call?"),
-        }
+        let ending = ending_of(*told.allocator(), self, name, rest)?;
+        put_number(told, u64::from(ending.status))?;
+        put_output(told, ending.out.octets(), name, rest)?;
+        put_text(told, ending.err.octets())
     }
 }
 
-/// Writes octets as a text in brackets, in which "|" ends a line.
-fn put_text(told: &mut String, octets: &[u8]) -> Result<(), AllocError> {
-    told.push_str(" [")?;
-    for octet in octets {
-        told.push(if *octet == b'\n' {
-            '|'
-        } else {
-            char::from(*octet)
-        })?;
+/// Writes the size of an output, or whether it is as it must be.
+fn put_output(told: &mut String, out: &[u8], name: &str, rest: &str) -> Result<(), AllocError> {
+    match name {
+        "capture" | "refuse" => put_number(told, out.len() as u64),
+        "packets" => put_packets(told, out, slot(rest)),
+        "chart" => put_end(told, out, rest),
+        _ => told.push_str(" which call?"),
     }
-    told.push(']')
 }
 
-/// Writes a status, the size of the output, and the error line.
-fn put_sizes(told: &mut String, ending: &Ending) -> Result<(), AllocError> {
-    put_number(told, u64::from(ending.status))?;
-    put_number(told, ending.out.octets().len() as u64)?;
-    put_text(told, ending.err.octets())
+/// Writes whether an output is a capture with this number of packets.
+fn put_packets(told: &mut String, out: &[u8], count: u32) -> Result<(), AllocError> {
+    let capture = packets_of(*told.allocator(), count)?;
+    put_answer(told, out == capture.as_slice())
 }
 
-fn put_capture(given: &Given<'_>, words: &str, told: &mut String) -> Result<(), AllocError> {
-    let ending = captured(*told.allocator(), given, words)?;
-    put_sizes(told, &ending)
-}
-
-fn put_refused(are_long: bool, told: &mut String) -> Result<(), AllocError> {
-    let ending = refused(*told.allocator(), are_long)?;
-    put_sizes(told, &ending)
-}
-
-/// Writes a status, whether something is so of the output, and the error line.
-fn put_whether(told: &mut String, ending: &Ending, is_so: bool) -> Result<(), AllocError> {
-    put_number(told, u64::from(ending.status))?;
-    put_answer(told, is_so)?;
-    put_text(told, ending.err.octets())
-}
-
-fn put_packets(given: &Given<'_>, count: u32, told: &mut String) -> Result<(), AllocError> {
-    let ending = captured(*told.allocator(), given, "journal")?;
-    let is_so = has_packets(*told.allocator(), ending.out.octets(), count)?;
-    put_whether(told, &ending, is_so)
-}
-
-fn put_chart(given: &Given<'_>, end: &str, told: &mut String) -> Result<(), AllocError> {
-    let ending = charted(*told.allocator(), given)?;
-    let end = text_of(*told.allocator(), end)?;
-    put_whether(told, &ending, ending.out.octets().ends_with(&end))
+/// Writes whether an output ends in a text.
+fn put_end(told: &mut String, out: &[u8], text: &str) -> Result<(), AllocError> {
+    let end = text_of(*told.allocator(), text)?;
+    put_answer(told, out.ends_with(&end))
 }

@@ -3,20 +3,7 @@ use outside::{FileFault, SinkFault, read_whole};
 use std::alloc::AllocError;
 use std::io;
 use std::io::{Error, ErrorKind, Read};
-use test_words::{put_number, put_value};
-
-/// Writes octets as a text in brackets, in which "|" ends a line.
-pub(crate) fn put_text(told: &mut String, octets: &[u8]) -> Result<(), AllocError> {
-    told.push_str(" [")?;
-    for octet in octets {
-        told.push(if *octet == b'\n' {
-            '|'
-        } else {
-            char::from(*octet)
-        })?;
-    }
-    told.push(']')
-}
+use test_words::{put_number, put_text, put_value};
 
 /// Writes the octets that were read, or the fault.
 pub(crate) fn put_read(

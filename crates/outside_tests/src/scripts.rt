@@ -1,9 +1,9 @@
 //! Scripts: calls on files and sinks in memory and of the system, each with what it gives.
-use crate::reads::{put_breaking, put_endless, put_fault, put_read, put_text};
+use crate::reads::{put_breaking, put_endless, put_fault, put_read};
 use crate::streams::{Narrow, stream_with};
 use outside::{Files, MemFiles, MemSink, RealFiles, RealSink, Sink};
 use std::alloc::{AllocError, Global};
-use test_words::{Call, call_of, parts_of, put_number, put_value, slot};
+use test_words::{Call, call_of, parts_of, put_number, put_text, put_value, rest_of, slot};
 
 /// Files and a sink in memory, and a stream.
 #[derive(Drop)]
@@ -28,12 +28,6 @@ fn start(alloc: Global) -> Scene {
         sink: MemSink::new(alloc),
         stream: stream_with(alloc, 0, ""),
     }
-}
-
-/// What comes after the name of a call and a space.
-fn rest_of<'a>(text: &'a str, name: &str) -> &'a [u8] {
-    let rest = text.get(name.len().saturating_add(1)..);
-    rest.unwrap_or("").as_bytes()
 }
 
 impl Scene {
@@ -61,7 +55,7 @@ impl Scene {
         let call = call_of(text);
         played.push_str(text)?;
         played.push_str(" =")?;
-        self.take(rt, call, rest_of(text, call.name), played)?;
+        self.take(rt, call, rest_of(text, call.name).as_bytes(), played)?;
         played.push('\n')
     }
 
