@@ -111,12 +111,7 @@ fn put_shut(told: &mut String, handle: u16, reason: u8) -> Result<(), AllocError
 }
 
 /// Writes that a link entered an event, and on which channel.
-fn put_entered(
-    told: &mut String,
-    handle: u16,
-    event: u64,
-    channel: u8,
-) -> Result<(), AllocError> {
+fn put_entered(told: &mut String, handle: u16, event: u64, channel: u8) -> Result<(), AllocError> {
     told.push_str(" enter")?;
     put_number(told, u64::from(handle))?;
     put_number(told, event)?;
