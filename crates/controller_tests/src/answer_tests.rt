@@ -3,8 +3,9 @@
 use crate::scripts::check;
 use std::alloc::AllocError;
 
-/// Commands that return a status alone.
-const COMPLETED: &str = "\
+const ANSWERS: &str = "\
+start
+# Commands that return a status alone.
 a host 01010c08ffffffffffffffff = up 040e0401010c00
 start
 a host 01030c00 = up 040e0401030c00
@@ -46,16 +47,9 @@ start
 a host 01312003000101 = up 040e0401312000
 start
 a host 01312003000201 = up 040e0401312011
-";
-
-#[test]
-fn commands_that_return_a_status(rt: HostRuntime) -> Result<(), AllocError> {
-    check(&rt, rt.alloc(), &[], COMPLETED)
-}
-
-/// Commands that have a Command Status: those that start something, and those that this controller
-/// does not know.
-const STARTED: &str = "\
+start
+# Commands that have a Command Status: those that start something, and those that this controller
+# does not know.
 a host 01060403000013 = up 040f0402010604
 start
 a host 011d04020000 = up 040f0402011d04
@@ -82,15 +76,8 @@ a host 011720200000000000000000000000000000000000000000000000000000000000000000 
     040f0401011720
 start
 a host 01ffff00 = up 040f040101ffff
-";
-
-#[test]
-fn commands_that_have_a_command_status(rt: HostRuntime) -> Result<(), AllocError> {
-    check(&rt, rt.alloc(), &[], STARTED)
-}
-
-/// Commands that return more.
-const RETURNING: &str = "\
+start
+# Commands that return more.
 a host 01011000 = up 040e0c010110000b01000bffff0100
 start
 a host 01031000 = up 040e0c010310000000000060000000
@@ -125,6 +112,6 @@ a host 01302002ffff = up 040e0801302002ffff0000
 ";
 
 #[test]
-fn commands_that_return_more(rt: HostRuntime) -> Result<(), AllocError> {
-    check(&rt, rt.alloc(), &[], RETURNING)
+fn each_command_is_answered(rt: HostRuntime) -> Result<(), AllocError> {
+    check(&rt, rt.alloc(), ANSWERS)
 }

@@ -1,26 +1,25 @@
 //! Calls on a controller, and what each gives, as words: what is wanted of the radio, and then what
 //! is noted.
-use crate::words::{Call, put_intent, put_notes, put_number, put_verdict, slot};
 use ble_base::{Outbox, SlotNo};
 use controller::{Controller, Intent};
 use std::alloc::AllocError;
+use test_words::{Call, octets_of, put_notes, put_number, put_octets, put_verdict, slot};
 
 /// What a turn gives in which a controller does nothing.
 const REST: &str = " idle idle idle idle";
 
-/// Makes a call with octets, if that is what it takes.
+/// Makes a call with octets.
 pub(crate) fn take<const L: usize>(
     controller: &mut Controller<L, 8, 8>,
     call: Call<'_>,
     told: &mut String,
 ) -> Result<(), AllocError> {
-    let Ok(octets) = hex::decode(*told.allocator(), call.first) else {
-        return take_slot(controller, call, told);
-    };
+    let octets = octets_of(*told.allocator(), call.words[0]);
+    let octets = octets.as_slice();
     match call.name {
-        "host" => feed(controller, octets.as_slice(), told),
-        "hear" => hear(controller, octets.as_slice(), told),
-        "judge" => put_verdict(told, controller.judge(octets.as_slice())),
+        "host" => feed(controller, octets, told),
+        "hear" => hear(controller, octets, told),
+        "judge" => put_verdict(told, controller.judge(octets)),
         _ => take_slot(controller, call, told),
     }
 }
@@ -31,15 +30,16 @@ fn take_slot<const L: usize>(
     call: Call<'_>,
     told: &mut String,
 ) -> Result<(), AllocError> {
+    let (first, end) = (slot(call.words[0]), slot(call.words[1]));
     match call.name {
-        "begin" => begin(controller, slot(call.first), true, told),
-        "off" => begin(controller, slot(call.first), false, told),
+        "begin" => begin(controller, first, true, told),
+        "off" => begin(controller, first, false, told),
         "unheard" => unheard(controller, told),
-        "end" => end(controller, told),
+        "end" => end_turn(controller, told),
         "rest" => rest(controller, told),
-        "turn" => turn(controller, slot(call.first), told),
-        "turns" => turns(controller, slot(call.first), slot(call.second), told),
-        "pass" => pass(controller, slot(call.first), slot(call.second), told),
+        "turn" => turn(controller, first, told),
+        "turns" => turns(controller, first, end, told),
+        "pass" => pass(controller, first, end, told),
         _ => told.push_str(" which call?"),
     }
 }
@@ -96,7 +96,7 @@ fn unheard<const L: usize>(
 }
 
 /// A turn ends.
-fn end<const L: usize>(
+fn end_turn<const L: usize>(
     controller: &mut Controller<L, 8, 8>,
     told: &mut String,
 ) -> Result<(), AllocError> {
@@ -112,7 +112,7 @@ fn rest<const L: usize>(
 ) -> Result<(), AllocError> {
     unheard(controller, told)?;
     unheard(controller, told)?;
-    end(controller, told)
+    end_turn(controller, told)
 }
 
 /// A turn with the radio on, in which nothing is heard.
@@ -150,6 +150,28 @@ fn pass<const L: usize>(
     told: &String,
 ) -> Result<(), AllocError> {
     turns(controller, first, end, &mut String::new(*told.allocator()))
+}
+
+/// Writes what is wanted of the radio.
+fn put_intent(told: &mut String, intent: &Intent) -> Result<(), AllocError> {
+    match intent {
+        Intent::Send { channel, octets } => put_sent(told, *channel, octets.as_slice()),
+        Intent::Listen { channel } => put_listening(told, *channel),
+        Intent::Idle => told.push_str(" idle"),
+    }
+}
+
+/// Writes that a packet is sent on a channel.
+fn put_sent(told: &mut String, channel: u8, packet: &[u8]) -> Result<(), AllocError> {
+    told.push_str(" send")?;
+    put_number(told, u64::from(channel))?;
+    put_octets(told, packet)
+}
+
+/// Writes that a channel is listened on.
+fn put_listening(told: &mut String, channel: u8) -> Result<(), AllocError> {
+    told.push_str(" listen")?;
+    put_number(told, u64::from(channel))
 }
 
 /// Writes what was done in a turn, if anything was.

@@ -2,9 +2,10 @@
 use crate::scripts::check;
 use std::alloc::AllocError;
 
-/// Both ends over six events, of which nothing is heard. A device with ChSel 0 asks for algorithm
-/// #1. The channels and the packets are those of another program, which goes by single bits.
 const CHANNELS: &str = "\
+start 1d123456
+# Both ends over six events, of which nothing is heard. A device with ChSel 0 asks for algorithm
+# #1. The channels and the packets are those of another program, which goes by single bits.
 # Algorithm #2 on all channels
 a host 01010c08ffffffffff1f0020 = up 040e0401010c00
 a host 010d20196000600000000b0000eeffc000180018000000480000000000 = up 040f0400010d20
@@ -34,7 +35,7 @@ a turns 1 144 = 2 send 25 2941767150fa1ee550 enter 0 0 25 listen 25 idle idle 26
 b turns 1 144 = 2 listen 25 enter 0 0 25 idle idle idle 26 listen 20 enter 0 1 20 idle idle idle \
     50 listen 6 enter 0 2 6 idle idle idle 74 listen 21 enter 0 3 21 idle idle idle 98 listen 34 \
     enter 0 4 34 idle idle idle 122 listen 36 enter 0 5 36 idle idle idle
-start
+start 1d123456
 # Algorithm #2 on the channels 9, 10, 21, 22, 23, 33, 34, 35 and 36
 a host 01010c08ffffffffff1f0020 = up 040e0401010c00
 a host 010d20196000600000000b0000eeffc000180018000000480000000000 = up 040f0400010d20
@@ -65,7 +66,7 @@ a turns 1 144 = 2 send 35 294176713afc45f243 enter 0 0 35 listen 35 idle idle 26
 b turns 1 144 = 2 listen 35 enter 0 0 35 idle idle idle 26 listen 9 enter 0 1 9 idle idle idle \
     50 listen 33 enter 0 2 33 idle idle idle 74 listen 21 enter 0 3 21 idle idle idle 98 listen \
     34 enter 0 4 34 idle idle idle 122 listen 36 enter 0 5 36 idle idle idle
-start
+start 1d123456
 # Algorithm #1 on all channels
 a host 01010c08ffffffffff1f0020 = up 040e0401010c00
 a host 010d20196000600000000b0000eeffc000180018000000480000000000 = up 040f0400010d20
@@ -95,7 +96,7 @@ a turns 1 144 = 2 send 5 29417671ac8bbd1105 enter 0 0 5 listen 5 idle idle 26 se
 b turns 1 144 = 2 listen 5 enter 0 0 5 idle idle idle 26 listen 10 enter 0 1 10 idle idle idle \
     50 listen 15 enter 0 2 15 idle idle idle 74 listen 20 enter 0 3 20 idle idle idle 98 listen \
     25 enter 0 4 25 idle idle idle 122 listen 30 enter 0 5 30 idle idle idle
-start
+start 1d123456
 # Algorithm #1 on the channels 9, 10, 21, 22, 23, 33, 34, 35 and 36
 a host 01010c08ffffffffff1f0020 = up 040e0401010c00
 a host 010d20196000600000000b0000eeffc000180018000000480000000000 = up 040f0400010d20
@@ -130,5 +131,5 @@ b turns 1 144 = 2 listen 33 enter 0 0 33 idle idle idle 26 listen 10 enter 0 1 1
 
 #[test]
 fn both_ends_change_channels(rt: HostRuntime) -> Result<(), AllocError> {
-    check(&rt, rt.alloc(), &[0x1D12_3456], CHANNELS)
+    check(&rt, rt.alloc(), CHANNELS)
 }

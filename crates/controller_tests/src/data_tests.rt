@@ -2,9 +2,11 @@
 use crate::scripts::check;
 use std::alloc::AllocError;
 
-/// A packet of 30 octets is sent in two pieces. The other host receives each as its turn ends, and
-/// the packet is complete when the second one is acknowledged.
-const TWO_PIECES: &str = "\
+const DATA: &str = "\
+start 1d123456
+# A packet is sent in two pieces.
+# A packet of 30 octets is sent in two pieces. The other host receives each as its turn ends, and
+# the packet is complete when the second one is acknowledged.
 a host 01010c08ffffffffff1f0020 = up 040e0401010c00
 a host 010d20196000600000000b0000eeffc000180018000000480000000000 = up 040f0400010d20
 b host 01010c08ffffffffff1f0020 = up 040e0401010c00
@@ -71,15 +73,9 @@ a end = up 0413050100000100
 b end = up 02001003001c1d1e
 a turns 27 50 =
 b turns 27 50 =
-";
-
-#[test]
-fn a_packet_is_sent_in_two_pieces(rt: HostRuntime) -> Result<(), AllocError> {
-    check(&rt, rt.alloc(), &[0x1D12_3456], TWO_PIECES)
-}
-
-/// A peripheral continues a message in its answer, and has its credit after the next event.
-const ANSWERED: &str = "\
+start 1d123456
+# A peripheral answers with data.
+# A peripheral continues a message in its answer, and has its credit after the next event.
 a host 01010c08ffffffffff1f0020 = up 040e0401010c00
 a host 010d20196000600000000b0000eeffc000180018000000480000000000 = up 040f0400010d20
 b host 01010c08ffffffffff1f0020 = up 040e0401010c00
@@ -142,16 +138,10 @@ a unheard = idle
 b unheard = idle
 a end
 b end = up 0413050100000100
-";
-
-#[test]
-fn a_peripheral_answers_with_data(rt: HostRuntime) -> Result<(), AllocError> {
-    check(&rt, rt.alloc(), &[0x1D12_3456], ANSWERED)
-}
-
-/// An empty packet is complete at once. One of 252 octets is lost, and so is one that comes while
-/// all eight buffers are taken. One for a link that is not open is ignored.
-const NOT_KEPT: &str = "\
+start 1d123456
+# Packets that are not kept.
+# An empty packet is complete at once. One of 252 octets is lost, and so is one that comes while
+# all eight buffers are taken. One for a link that is not open is ignored.
 a host 01010c08ffffffffff1f0020 = up 040e0401010c00
 a host 010d20196000600000000b0000eeffc000180018000000480000000000 = up 040f0400010d20
 b host 01010c08ffffffffff1f0020 = up 040e0401010c00
@@ -195,6 +185,6 @@ a turns 1 2 =
 ";
 
 #[test]
-fn packets_that_are_not_kept(rt: HostRuntime) -> Result<(), AllocError> {
-    check(&rt, rt.alloc(), &[0x1D12_3456], NOT_KEPT)
+fn data_of_links(rt: HostRuntime) -> Result<(), AllocError> {
+    check(&rt, rt.alloc(), DATA)
 }

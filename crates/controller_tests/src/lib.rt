@@ -19,5 +19,3 @@ mod link_tests;
 mod scanning_tests;
 #[cfg(test)]
 mod scripts;
-#[cfg(test)]
-mod words;

@@ -2,9 +2,11 @@
 use crate::scripts::check;
 use std::alloc::AllocError;
 
-/// 30 ms from one event to the next, no latency, and a supervision timeout of 720 ms. After the
-/// link is made, the one no longer initiates, and the other no longer advertises.
-const SERVED: &str = "\
+const LINKS: &str = "\
+start 1d123456
+# A link is made and served.
+# 30 ms from one event to the next, no latency, and a supervision timeout of 720 ms. After the
+# link is made, the one no longer initiates, and the other no longer advertises.
 a host 01010c08ffffffffff1f0020 = up 040e0401010c00
 a host 010d20196000600000000b0000eeffc000180018000000480000000000 = up 040f0400010d20
 b host 01010c08ffffffffff1f0020 = up 040e0401010c00
@@ -54,16 +56,10 @@ b hear 29417671f95529951e = send 20 29417671fd55fa931e
 b unheard = idle
 b unheard = idle
 b end
-";
-
-#[test]
-fn a_link_is_made_and_served(rt: HostRuntime) -> Result<(), AllocError> {
-    check(&rt, rt.alloc(), &[0x1D12_3456], SERVED)
-}
-
-/// The mask of LE events decides which events are reported of a link: none, LE Connection Complete
-/// and LE Channel Selection Algorithm, or LE Enhanced Connection Complete.
-const MASKS: &str = "\
+start 1d123456
+# Masks of the events of a link.
+# The mask of LE events decides which events are reported of a link: none, LE Connection Complete
+# and LE Channel Selection Algorithm, or LE Enhanced Connection Complete.
 a host 01010c08ffffffffff1f0020 = up 040e0401010c00
 a host 010d20196000600000000b0000eeffc000180018000000480000000000 = up 040f0400010d20
 b host 01010c08ffffffffff1f0020 = up 040e0401010c00
@@ -85,7 +81,7 @@ b hear d6be898ea8f05da13d4999707e3111a669b7d1a23098aad09e5233d8a2980824833b038e5
     idle open 0 peripheral public 0b0000eeffc0 public 0a0000eeffc0
 b unheard = idle
 b end
-start
+start 1d123456
 a host 01010c08ffffffffff1f0020 = up 040e0401010c00
 a host 010d20196000600000000b0000eeffc000180018000000480000000000 = up 040f0400010d20
 b host 01010c08ffffffffff1f0020 = up 040e0401010c00
@@ -109,7 +105,7 @@ b hear d6be898ea8f05da13d4999707e3111a669b7d1a23098aad09e5233d8a2980824833b038e5
     043e130100000001000a0000eeffc018000000480000 up 043e0414000001
 b unheard = idle
 b end
-start
+start 1d123456
 a host 01010c08ffffffffff1f0020 = up 040e0401010c00
 a host 010d20196000600000000b0000eeffc000180018000000480000000000 = up 040f0400010d20
 b host 01010c08ffffffffff1f0020 = up 040e0401010c00
@@ -133,16 +129,10 @@ b hear d6be898ea8f05da13d4999707e3111a669b7d1a23098aad09e5233d8a2980824833b038e5
     043e1f0a00000001000a0000eeffc000000000000000000000000018000000480000
 b unheard = idle
 b end
-";
-
-#[test]
-fn masks_of_the_events_of_a_link(rt: HostRuntime) -> Result<(), AllocError> {
-    check(&rt, rt.alloc(), &[0x1D12_3456], MASKS)
-}
-
-/// No end hears anything: six intervals after the CONNECT_IND the link ends, and its handle is
-/// free.
-const NOT_ANSWERED: &str = "\
+start 1d123456
+# A link that is not answered ends.
+# No end hears anything: six intervals after the CONNECT_IND the link ends, and its handle is
+# free.
 a host 01010c08ffffffffff1f0020 = up 040e0401010c00
 a host 010d20196000600000000b0000eeffc000180018000000480000000000 = up 040f0400010d20
 b host 01010c08ffffffffff1f0020 = up 040e0401010c00
@@ -172,16 +162,10 @@ b pass 1 143
 b turns 143 144 =
 b turns 144 150 = 144 idle shut 0 3e up 0405040000003e idle idle idle
 b host 013020020000 = up 040e080130200200000000
-";
-
-#[test]
-fn a_link_that_is_not_answered_ends(rt: HostRuntime) -> Result<(), AllocError> {
-    check(&rt, rt.alloc(), &[0x1D12_3456], NOT_ANSWERED)
-}
-
-/// After an exchange in slot 2 nothing is heard: the link ends when the supervision timeout of 576
-/// slots has passed.
-const SILENT: &str = "\
+start 1d123456
+# A silent link times out.
+# After an exchange in slot 2 nothing is heard: the link ends when the supervision timeout of 576
+# slots has passed.
 a host 01010c08ffffffffff1f0020 = up 040e0401010c00
 a host 010d20196000600000000b0000eeffc000180018000000480000000000 = up 040f0400010d20
 b host 01010c08ffffffffff1f0020 = up 040e0401010c00
@@ -223,16 +207,10 @@ a turns 578 650 = 578 idle shut 0 08 up 04050400000008 idle idle idle
 b pass 3 577
 b turns 577 578 =
 b turns 578 650 = 578 idle shut 0 08 up 04050400000008 idle idle idle
-";
-
-#[test]
-fn a_silent_link_times_out(rt: HostRuntime) -> Result<(), AllocError> {
-    check(&rt, rt.alloc(), &[0x1D12_3456], SILENT)
-}
-
-/// A Reset shuts the link without an event. The next link has the next access address and the next
-/// random word.
-const RESET_LINK: &str = "\
+start 1d123456
+# A reset shuts the link.
+# A Reset shuts the link without an event. The next link has the next access address and the next
+# random word.
 a host 01010c08ffffffffff1f0020 = up 040e0401010c00
 a host 010d20196000600000000b0000eeffc000180018000000480000000000 = up 040f0400010d20
 b host 01010c08ffffffffff1f0020 = up 040e0401010c00
@@ -270,15 +248,9 @@ a unheard = idle open 0 central public 0a0000eeffc0 public 0b0000eeffc0 up \
     043e130100000000000b0000eeffc018000000480000
 a unheard = idle
 a end
-";
-
-#[test]
-fn a_reset_shuts_the_link(rt: HostRuntime) -> Result<(), AllocError> {
-    check(&rt, rt.alloc(), &[0x1D12_3456], RESET_LINK)
-}
-
-/// LE Create Connection Cancel is followed by the event of a connection that was not made.
-const CANCELLED: &str = "\
+start 1d123456
+# A connection is cancelled.
+# LE Create Connection Cancel is followed by the event of a connection that was not made.
 a host 01010c08ffffffffff1f0020 = up 040e0401010c00
 a host 010d20196000600000000b0000eeffc000180018000000480000000000 = up 040f0400010d20
 b host 01010c08ffffffffff1f0020 = up 040e0401010c00
@@ -288,16 +260,10 @@ a rest = idle idle
 a host 010e2000 = up 040e04010e2000 up 043e1301020000000000000000000000000000000000
 a host 010e2000 = up 040e04010e200c
 a turns 1 9 =
-";
-
-#[test]
-fn a_connection_is_cancelled(rt: HostRuntime) -> Result<(), AllocError> {
-    check(&rt, rt.alloc(), &[0x1D12_3456], CANCELLED)
-}
-
-/// Commands on an open link: LE Read Channel Map, LE Read PHY and LE Create Connection to the same
-/// device.
-const READS: &str = "\
+start 1d123456
+# Reads of a link.
+# Commands on an open link: LE Read Channel Map, LE Read PHY and LE Create Connection to the same
+# device.
 a host 01010c08ffffffffff1f0020 = up 040e0401010c00
 a host 010d20196000600000000b0000eeffc000180018000000480000000000 = up 040f0400010d20
 b host 01010c08ffffffffff1f0020 = up 040e0401010c00
@@ -322,16 +288,10 @@ b end
 a host 011520020000 = up 040e0b011520000000ffffffff1f
 a host 013020020000 = up 040e080130200000000101
 a host 010d20196000600000000b0000eeffc000180018000000480000000000 = up 040f040b010d20
-";
-
-#[test]
-fn reads_of_a_link(rt: HostRuntime) -> Result<(), AllocError> {
-    check(&rt, rt.alloc(), &[0x1D12_3456], READS)
-}
-
-/// A controller of one link: a second one is not asked for while the first is open, or while an
-/// advertiser may take one.
-const ONE_LINK: &str = "\
+start
+# One link is the limit.
+# A controller of one link: a second one is not asked for while the first is open, or while an
+# advertiser may take one.
 single host 01010c08ffffffffff1f0020 = up 040e0401010c00
 single host 010d20196000600000000b0000eeffc000180018000000480000000000 = up 040f0400010d20
 single begin 0 = listen 37
@@ -347,15 +307,9 @@ single host 010a200101 = up 040e04010a2009
 start
 single host 010a200101 = up 040e04010a2000
 single host 010d20196000600000000b0000eeffc000180018000000480000000000 = up 040f0409010d20
-";
-
-#[test]
-fn one_link_is_the_limit(rt: HostRuntime) -> Result<(), AllocError> {
-    check(&rt, rt.alloc(), &[], ONE_LINK)
-}
-
-/// With the radio off an event is entered, and nothing is sent. A broken packet has no answer.
-const NO_GOOD_PACKET: &str = "\
+start 1d123456
+# Events without a good packet.
+# With the radio off an event is entered, and nothing is sent. A broken packet has no answer.
 a host 01010c08ffffffffff1f0020 = up 040e0401010c00
 a host 010d20196000600000000b0000eeffc000180018000000480000000000 = up 040f0400010d20
 b host 01010c08ffffffffff1f0020 = up 040e0401010c00
@@ -386,6 +340,6 @@ b hear 2941767150fa1ee551 = idle
 ";
 
 #[test]
-fn events_without_a_good_packet(rt: HostRuntime) -> Result<(), AllocError> {
-    check(&rt, rt.alloc(), &[0x1D12_3456], NO_GOOD_PACKET)
+fn links(rt: HostRuntime) -> Result<(), AllocError> {
+    check(&rt, rt.alloc(), LINKS)
 }

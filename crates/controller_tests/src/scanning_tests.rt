@@ -2,9 +2,11 @@
 use crate::scripts::check;
 use std::alloc::AllocError;
 
-/// Nothing is reported before the mask has the LE events, nor what is directed to another device.
-/// A damaged packet is broken or missed, and after the turn every packet is missed.
-const REPORTED: &str = "\
+const SCANNING: &str = "\
+start
+# Reports what it scans.
+# Nothing is reported before the mask has the LE events, nor what is directed to another device. A
+# damaged packet is broken or missed, and after the turn every packet is missed.
 b host 010c20020100 = up 040e04010c2000
 b begin 0 = listen 37
 b judge d6be898e8fd45da13d499970f84ada = good
@@ -37,15 +39,9 @@ b judge d6be898e8fd45ca13d499970f84ada = broken
 b judge d7be898e8fd45ca13d499970f84ada = missed
 b end
 b judge d6be898e8fd45da13d499970f84ada = missed
-";
-
-#[test]
-fn reports_what_it_scans(rt: HostRuntime) -> Result<(), AllocError> {
-    check(&rt, rt.alloc(), &[], REPORTED)
-}
-
-/// ADV_IND from a random address, and ADV_SCAN_IND from a public one.
-const SENDERS: &str = "\
+start
+# Reports the type and the address of the sender.
+# ADV_IND from a random address, and ADV_SCAN_IND from a public one.
 b host 01010c08ffffffffff1f0020 = up 040e0401010c00
 b host 010c20020100 = up 040e04010c2000
 b begin 0 = listen 37
@@ -58,15 +54,9 @@ b judge d6be898e8bd55da13d4999702ff4df65 = good
 b hear d6be898e8bd55da13d4999702ff4df65 = idle up 043e0d020102000a0000eeffc0015a7f
 b judge d6be898e8bd55da13d4999702ff4df65 = missed
 b rest = idle idle
-";
-
-#[test]
-fn reports_the_type_and_the_address_of_the_sender(rt: HostRuntime) -> Result<(), AllocError> {
-    check(&rt, rt.alloc(), &[], SENDERS)
-}
-
-/// An advertisement is reported once, and after a Reset once again.
-const DUPLICATES: &str = "\
+start
+# Withholds duplicates until a reset.
+# An advertisement is reported once, and after a Reset once again.
 b host 01010c08ffffffffff1f0020 = up 040e0401010c00
 b host 010c20020101 = up 040e04010c2000
 b begin 0 = listen 37
@@ -88,15 +78,9 @@ b judge d6be898e8fd45da13d499970f84ada = good
 b hear d6be898e8fd45da13d499970f84ada = idle up 043e0c020103000a0000eeffc0007f
 b judge d6be898e8fd45da13d499970f84ada = missed
 b rest = idle idle
-";
-
-#[test]
-fn withholds_duplicates_until_a_reset(rt: HostRuntime) -> Result<(), AllocError> {
-    check(&rt, rt.alloc(), &[], DUPLICATES)
-}
-
-/// An interval is 10 ms, which are eight slots.
-const INTERVALS: &str = "\
+start
+# Scans on one channel an interval.
+# An interval is 10 ms, which are eight slots.
 b host 010c20020100 = up 040e04010c2000
 b turns 0 8 = 0 listen 37 idle idle idle 1 listen 37 idle idle idle 2 listen 37 idle idle idle 3 \
     listen 37 idle idle idle 4 listen 37 idle idle idle 5 listen 37 idle idle idle 6 listen 37 \
@@ -108,16 +92,10 @@ b turns 16 24 = 16 listen 39 idle idle idle 17 listen 39 idle idle idle 18 liste
     idle 19 listen 39 idle idle idle 20 listen 39 idle idle idle 21 listen 39 idle idle idle 22 \
     listen 39 idle idle idle 23 listen 39 idle idle idle
 b turns 24 26 = 24 listen 37 idle idle idle 25 listen 37 idle idle idle
-";
-
-#[test]
-fn scans_on_one_channel_an_interval(rt: HostRuntime) -> Result<(), AllocError> {
-    check(&rt, rt.alloc(), &[], INTERVALS)
-}
-
-/// Advertisements of devices whose addresses differ in the last octet, each in a turn. The 17th
-/// report displaces the first.
-const SIXTEEN: &str = "\
+start
+# Remembers 16 reports.
+# Advertisements of devices whose addresses differ in the last octet, each in a turn. The 17th
+# report displaces the first.
 b host 01010c08ffffffffff1f0020 = up 040e0401010c00
 b host 010c20020101 = up 040e04010c2000
 b begin 0 = listen 37
@@ -183,15 +161,9 @@ b rest = idle idle
 b begin 20 = listen 39
 b hear d6be898e1d314b5f8518635a98e4d6 = idle up 043e0c02010300010000eeffc0007f
 b rest = idle idle
-";
-
-#[test]
-fn remembers_16_reports(rt: HostRuntime) -> Result<(), AllocError> {
-    check(&rt, rt.alloc(), &[], SIXTEEN)
-}
-
-/// It is turned off and on again before slot 10, in its second interval.
-const ANEW: &str = "\
+start
+# A scanner begins anew.
+# It is turned off and on again before slot 10, in its second interval.
 b host 010c20020100 = up 040e04010c2000
 b pass 0 10
 b host 010c20020000 = up 040e04010c2000
@@ -200,15 +172,9 @@ b turns 10 18 = 10 listen 37 idle idle idle 11 listen 37 idle idle idle 12 liste
     idle 13 listen 37 idle idle idle 14 listen 37 idle idle idle 15 listen 37 idle idle idle 16 \
     listen 37 idle idle idle 17 listen 37 idle idle idle
 b turns 18 20 = 18 listen 38 idle idle idle 19 listen 38 idle idle idle
-";
-
-#[test]
-fn a_scanner_begins_anew(rt: HostRuntime) -> Result<(), AllocError> {
-    check(&rt, rt.alloc(), &[], ANEW)
-}
-
-/// A scanner that is active asks for the scan response in the same slot, and reports that too.
-const SCAN_RESPONSE: &str = "\
+start
+# Asks for a scan response.
+# A scanner that is active asks for the scan response in the same slot, and reports that too.
 a host 01010c08ffffffffff1f0020 = up 040e0401010c00
 a host 010b200701100010000000 = up 040e04010b2000
 a host 010c20020100 = up 040e04010c2000
@@ -221,6 +187,6 @@ a end
 ";
 
 #[test]
-fn asks_for_a_scan_response(rt: HostRuntime) -> Result<(), AllocError> {
-    check(&rt, rt.alloc(), &[], SCAN_RESPONSE)
+fn scanning(rt: HostRuntime) -> Result<(), AllocError> {
+    check(&rt, rt.alloc(), SCANNING)
 }

@@ -1,22 +1,21 @@
 //! Scripts: calls on controllers, each with what it gives.
-ghost use Rattle.std.specs.Prelude.{◌≤◌, length};
+ghost use Rattle.std.specs.Prelude.{◌≤◌, ◌+◌, ◌*◌, length};
 
 use crate::calls::take;
-use crate::words::{Call, call_of};
 use arrayvec::ArrayVec;
 use ble_base::Config;
 use controller::Controller;
 use std::alloc::{AllocError, Global};
 use std::process::Abort;
+use test_words::{Call, hex_number, parts_of, side_and_call};
 
 /// A device A with the address C0FFEE00000A and a device B with the address C0FFEE00000B, each of
 /// three links, eight packets of its host and eight pieces from the air; and A once more, with one
 /// link.
 #[derive(Drop)]
 struct Scene {
-    a: Controller<3, 8, 8>,
-    b: Controller<3, 8, 8>,
-    single: Controller<1, 8, 8>,
+    pair: Vec<Controller<3, 8, 8>>,
+    single: Vec<Controller<1, 8, 8>>,
 }
 
 /// The settings of the device whose public address ends in this octet. It draws these random words,
@@ -34,52 +33,94 @@ fn settings(last: u8, word: u64, more: &[u64]) -> Config
     }
 }
 
-/// All controllers, before the first call. Device A draws 1 and then these random words, and device
-/// B draws 2.
-fn start(alloc: Global, more: &[u64]) -> Result<Scene, AllocError> {
-    Ok(Scene {
-        a: Controller::start(alloc, settings(0x0A, 1, more))?,
-        b: Controller::start(alloc, settings(0x0B, 2, &[]))?,
-        single: Controller::start(alloc, settings(0x0A, 1, &[]))?,
-    })
-}
-
-/// Each line has a call, and after " =" what it gives. At a line "start" all controllers start
-/// again, and a line that begins with "#" says what follows. Device A draws 1 and then these random
-/// words.
-pub(crate) fn check(
-    rt: &impl Abort,
-    alloc: Global,
+/// Adds a controller before its first call. It draws these random words, the first of which is 1 or
+/// 2.
+fn add<const L: usize>(
+    controllers: &mut Vec<Controller<L, 8, 8>>,
+    last: u8,
+    word: u64,
     more: &[u64],
-    script: &str,
-) -> Result<(), AllocError> {
-    let mut scene = start(alloc, more)?;
-    for line in script.lines() {
-        let mut told = String::new(alloc);
-        let mut parts = line.split(" =");
-        let call = call_of(parts.next().unwrap_or(""));
-        scene.take(call, more, &mut told)?;
-        assert_eq!(rt; told.as_str(), parts.next().unwrap_or(""), "{line}");
-    }
+) -> Result<(), AllocError>
+    requires { (1 ≤ L) × (8 * L + 8 + 8 ≤ 64) }
+{
+    let alloc = *controllers.allocator();
+    let controller = Controller::start(alloc, settings(last, word, more))?;
+    controllers.push(controller)?;
     Ok(())
 }
 
+/// Each line has a call, and after " =" what it gives. At a line "start" all controllers start, and
+/// device A draws 1 and then the random words of that line, of which there are up to two. A line
+/// that begins with "#" says what follows.
+pub(crate) fn check(rt: &impl Abort, alloc: Global, script: &str) -> Result<(), AllocError> {
+    let mut scene = Scene {
+        pair: Vec::new(alloc),
+        single: Vec::new(alloc),
+    };
+    scene.run(rt, alloc, script)
+}
+
+/// The random words of a line "start".
+fn random_words(alloc: Global, call: Call<'_>) -> ArrayVec<u64, 2> {
+    let mut words = ArrayVec::new();
+    for word in [call.name, call.words[0]] {
+        if !word.is_empty() {
+            let _ = words.try_push(hex_number(alloc, word));
+        }
+    }
+    words
+}
+
 impl Scene {
+    /// All controllers start. Device A draws 1 and then these random words, and device B draws 2.
+    fn start(&mut self, more: &[u64]) -> Result<(), AllocError> {
+        self.pair.clear();
+        self.single.clear();
+        add(&mut self.pair, 0x0A, 1, more)?;
+        add(&mut self.pair, 0x0B, 2, &[])?;
+        add(&mut self.single, 0x0A, 1, &[])
+    }
+
+    /// Makes each call of a script, and compares what it gives.
+    fn run(&mut self, rt: &impl Abort, alloc: Global, script: &str) -> Result<(), AllocError> {
+        for line in script.lines() {
+            let (call, want) = parts_of(line);
+            let told = self.told_of(alloc, call)?;
+            assert_eq!(rt; told.as_str(), want, "{line}");
+        }
+        Ok(())
+    }
+
+    /// What a call gives.
+    fn told_of(&mut self, alloc: Global, text: &str) -> Result<String, AllocError> {
+        let mut told = String::new(alloc);
+        let (side, call) = side_and_call(text);
+        self.take(side, call, &mut told)?;
+        Ok(told)
+    }
+
     /// Makes a call, and writes what it gives.
-    fn take(&mut self, call: Call<'_>, more: &[u64], told: &mut String) -> Result<(), AllocError> {
-        match call.side {
-            "a" => take(&mut self.a, call, told),
-            "b" => take(&mut self.b, call, told),
-            "single" => take(&mut self.single, call, told),
-            "start" => self.start_again(*told.allocator(), more),
+    fn take(&mut self, side: &str, call: Call<'_>, told: &mut String) -> Result<(), AllocError> {
+        match side {
+            "a" => take_at(self.pair.as_mut_slice(), 0, call, told),
+            "b" => take_at(self.pair.as_mut_slice(), 1, call, told),
+            "single" => take_at(self.single.as_mut_slice(), 0, call, told),
+            "start" => self.start(random_words(*told.allocator(), call).as_slice()),
             "#" => Ok(()),
             _ => told.push_str(" which controller?"),
         }
     }
+}
 
-    /// All controllers start again.
-    fn start_again(&mut self, alloc: Global, more: &[u64]) -> Result<(), AllocError> {
-        *self = start(alloc, more)?;
-        Ok(())
+/// Makes a call on the controller at this place.
+fn take_at<const L: usize>(
+    controllers: &mut [Controller<L, 8, 8>],
+    place: usize,
+    call: Call<'_>,
+    told: &mut String,
+) -> Result<(), AllocError> {
+    match controllers.get_mut(place) {
+        None => told.push_str(" which controller?"),
+        Some(controller) => take(controller, call, told),
     }
 }
