@@ -37,7 +37,7 @@ use Rattle.journal_data.proofs.Mine.{AreMine, other_back, packet_mine}
 use Rattle.journal_data.proofs.MineKept.{heard_none_mine, hearing_mine}
 use Rattle.journal_data.proofs.Moves.{alike_aged, begin_moves, end_moves, phase_moves, station_aged}
 use Rattle.journal_data.proofs.OneCall.{EachAt, HasMoved, IsAged, IsCallMade, arriving_after, used_after, well_after}
-use Rattle.journal_data.proofs.OneLink.{HaveOneLink}
+use Rattle.journal_data.proofs.FewLinks.{HaveFewLinks}
 use Rattle.journal_data.proofs.SameView.{SeesSame, same_end, same_used, same_well, sees_other_call, sees_other_feed, sees_packet, sees_turn}
 use Rattle.journal_data.proofs.Sides.{AreArriving}
 use Rattle.journal_data.proofs.Used.{AreUsed, IsOldLink, old_call, old_event, old_feed}
@@ -140,7 +140,7 @@ pass_in_turn (Some octets) = tt
 
 -- ---- each step
 
-module _ (whole : IsHeardWhole) (given : Given) (Q : Place → List Event → Type 0) (known : AreKnown given Q) (are_two : IsOfTwo given) (pair : HaveOneLink given)
+module _ (whole : IsHeardWhole) (given : Given) (Q : Place → List Event → Type 0) (known : AreKnown given Q) (are_two : IsOfTwo given) (pair : HaveFewLinks given)
     (six : HaveAddresses given) (distinct : AreDistinct given.stations) (eight : (station : ℕ) → (setup_at given station).host_buffers ≡ 8) where
   abbrev P : Place → List Event → Type 0
   P place history = IsDataAt given Q place history

@@ -33,7 +33,7 @@ use Rattle.journal_data.proofs.Ends.{IsWell, end_at, from_end}
 use Rattle.journal_data.proofs.Fronts.{AreAlways, always_first}
 use Rattle.journal_data.proofs.KeptData.{AreWell}
 use Rattle.journal_data.proofs.MineKept.{heard_none_mine}
-use Rattle.journal_data.proofs.OneLink.{HaveOneLink, pair_links}
+use Rattle.journal_data.proofs.FewLinks.{HaveFewLinks, pair_links}
 use Rattle.journal_data.proofs.Sides.{AreAhead, AreArriving}
 use Rattle.journal_data.proofs.StationLines.{first_booked}
 use Rattle.journal_data.proofs.Submitting.{HasFed}
@@ -116,7 +116,7 @@ first_data given = let counted = counts_first given in record {
 
 -- ---- in a whole run
 
-module _ (whole : IsHeardWhole) (understood : IsUnderstood) (taken : AreTaken) (nth : AreNth) (apart : AreApart) (given : Given) (are_two : IsOfTwo given) (pair : HaveOneLink given)
+module _ (whole : IsHeardWhole) (understood : IsUnderstood) (taken : AreTaken) (nth : AreNth) (apart : AreApart) (given : Given) (are_two : IsOfTwo given) (pair : HaveFewLinks given)
     (six : HaveAddresses given) (distinct : AreDistinct given.stations) (eight : (station : ℕ) → (setup_at given station).host_buffers ≡ 8) where
   run_arrives : AreAlways (AllArrive given) (history_of (run_of given))
   run_arrives =

@@ -1,5 +1,5 @@
 -- The lemmas of this crate.
-pub mod OneLink
+pub mod FewLinks
 pub mod EachLine
 pub mod HeldLinks
 pub mod Booked

@@ -1,6 +1,6 @@
 -- The lines of a station say of each of its open links what it noted under the handle of that link since it was opened, and
 -- of any other link what they said before.
-use Rattle.std.proofs.Common.{◌≡◌, ℕ, zero, suc, ◌+◌, ◌<◌, ◌≤◌, ◌==◌, Bool, true, false, Option, Some, None, List, [], ◌∷◌, ◌++◌, map, cond, replicate, refl, ap, sym, subst, ◌∙◌, append-nil, append_assoc, arith}
+use Rattle.std.proofs.Common.{length, if◌then◌else◌, ◌≡◌, ℕ, zero, suc, ◌+◌, ◌<◌, ◌≤◌, ◌==◌, Bool, true, false, Option, Some, None, List, [], ◌∷◌, ◌++◌, map, cond, replicate, refl, ap, sym, subst, ◌∙◌, append-nil, append_assoc, arith}
 use Rattle.std.specs.Prelude.{◌&&◌, ◌||◌, drop, filter, fold, is_some, ⊤}
 use Rattle.std.specs.List.{AllByRecursion, Contains, flat_map, sum_by}
 use Rattle.std.proofs.lemmas.Bool.{eq-eqb, eqb-true, false_from_ne_true}
@@ -17,7 +17,7 @@ use Rattle.ble_base.specs.declared.notes.Note.{Note}
 use Rattle.ble_base.specs.declared.notes.Note.TheVariants.{Up, Opened, Shut, Sent, Took}
 use Rattle.host_view.specs.Noted.{acl_handle, is_acl_data, two_octets}
 use Rattle.journal.specs.declared.entries.Entry.TheVariants.{Fed as FedEntry}
-use Rattle.open_links.specs.OpenLinks.{OpenLink, link_at, link_from}
+use Rattle.open_links.specs.OpenLinks.{Links as OpenLinks, OpenLink, link_at, link_from}
 use Rattle.controller_model.specs.Step.{Step, HostOctet}
 use Rattle.controller_model.specs.Facts.{Setup, Facts}
 use Rattle.controller_model.specs.Notes.{HasHandleBelow, is_event, is_opening}
@@ -97,6 +97,16 @@ pub record IsLink (place : Option OpenLink) : Type 0 where
 pub is_link : (place : Option OpenLink) → is_some place ≡ true → IsLink place
 is_link None is = absurd cc
 is_link (Some link) is = record { link = link; is = refl }
+
+-- links are under handles below the number of places
+pub below_from : (first handle : ℕ) (links : OpenLinks) (link : OpenLink) → link_from first handle links ≡ Some link → handle < first + length links
+below_from first handle [] link at = absurd (let h : None ≡ Some link = at in absurd cc)
+below_from first handle (place ∷ links) link at = by (first == handle) refl at (below_from (first + 1) handle links link)
+  where
+    by : (own : Bool) → (first == handle) ≡ own → (if own then place else link_from (first + 1) handle links) ≡ Some link
+        → (link_from (first + 1) handle links ≡ Some link → handle < first + 1 + length links) → handle < first + suc (length links)
+    by true is found rest = let equal = eqb-true first handle is in omega (arith, equal)
+    by false is found rest = let below = rest found in omega (arith, below)
 
 -- ---- one note, over plain variables
 
@@ -675,7 +685,7 @@ octet_was given station octet handle history link at =
     let was = octet_under (setup_at given station) (facts_at given station history) octet handle link
     (ap (λ (f : Facts). link_at handle f.links) (sym (own_facts given station (HostOctet octet) history)) ∙ at) in record { link = was.link; is = was.was }
 
-octet_own : (given : Given) (station octet : ℕ) (history : List Event) → HaveOwnNumbers given station history
+pub octet_own : (given : Given) (station octet : ℕ) (history : List Event) → HaveOwnNumbers given station history
     → HaveOwnNumbers given station (after_call given station (HostOctet octet) history)
 octet_own given station octet history own one other a b at at_too differs =
     let was = octet_was given station octet one history a at in
@@ -841,7 +851,7 @@ event_booked given station history event outside booked =
           (subst (λ (f : Facts). HoldsLinks (setup_at given station).links (lines_at station history).links (numbers_at station history) (is_open f.links)) (sym facts) booked.links));
     }
 
-event_own : (given : Given) (station : ℕ) (history : List Event) (event : Event) → is_outside event ≡ true → HaveOwnNumbers given station history
+pub event_own : (given : Given) (station : ℕ) (history : List Event) (event : Event) → is_outside event ≡ true → HaveOwnNumbers given station history
     → HaveOwnNumbers given station (history ++ event ∷ [])
 event_own given station history event outside own =
     subst (λ (number : ℕ → ℕ). (one other : ℕ) (a b : OpenLink) → link_at one (facts_at given station (history ++ event ∷ [])).links ≡ Some a

@@ -62,7 +62,7 @@ use Rattle.journal_data.proofs.EachLine.{lines_at}
 use Rattle.journal_data.proofs.Ends.{IsWell, sound}
 use Rattle.journal_data.proofs.KeptData.{IsDataAt, data_kept, pass_in_turn}
 use Rattle.journal_data.proofs.Law.{first_data}
-use Rattle.journal_data.proofs.OneLink.{HaveOneLink}
+use Rattle.journal_data.proofs.FewLinks.{HaveFewLinks}
 use Rattle.journal_data.proofs.Openness.{AreNot, opens_where_free}
 use Rattle.journal_data.proofs.SameGiven.{WasGiven, after_sent, given_in, turn_given}
 use Rattle.journal_data.proofs.Submitting.{call_submits}
@@ -172,7 +172,7 @@ record IsSendingIn (given : Given) (station handle : ℕ) (history : List Event)
   sent : (ack_of base).sent ≡ (ack_of old).sent
   fixed : IsFixedNow (facts_in base).outgoing
 
-next_at : (given : Given) (station handle : ℕ) (history : List Event) (step : Step) (base : OpenLink) → (setup_at given station).links ≤ 1
+next_at : (given : Given) (station handle : ℕ) (history : List Event) (step : Step) (base : OpenLink) → (setup_at given station).links ≤ 4096
     → (setup_at given station).host_buffers ≡ 8 → IsWell given station history → IsSendingIn given station handle history step base
     → IsNextAt (number_at station handle history) history station (numbered (ack_of base).sent + 1) (facts_in base).outgoing.fixed
 next_at given station handle history step base few eight well sending =
@@ -243,7 +243,7 @@ under_own : (history : List Event) (station own handle count : ℕ) (pdu : Pdu) 
     → IsNextNote history station own count pdu
 under_own history station own handle count pdu same is = subst (λ n. IsNextNote history station n count pdu) (sym same) is
 
-module _ (given : Given) (pair : HaveOneLink given) (eight : (station : ℕ) → (setup_at given station).host_buffers ≡ 8) (station : ℕ) (history : List Event)
+module _ (given : Given) (pair : HaveFewLinks given) (eight : (station : ℕ) → (setup_at given station).host_buffers ≡ 8) (station : ℕ) (history : List Event)
     (in_it : is_in station given.stations ≡ true) (well : IsWell given station history) where
   abbrev facts : Facts
   facts = facts_at given station history
@@ -343,7 +343,7 @@ module _ (given : Given) (pair : HaveOneLink given) (eight : (station : ℕ) →
 
 -- ---- at each place of a run
 
-module _ (whole : IsHeardWhole) (given : Given) (Q : Place → List Event → Type 0) (known : AreKnown given Q) (are_two : IsOfTwo given) (pair : HaveOneLink given) (six : HaveAddresses given)
+module _ (whole : IsHeardWhole) (given : Given) (Q : Place → List Event → Type 0) (known : AreKnown given Q) (are_two : IsOfTwo given) (pair : HaveFewLinks given) (six : HaveAddresses given)
     (distinct : AreDistinct given.stations) (eight : (station : ℕ) → (setup_at given station).host_buffers ≡ 8) where
   -- what a station sends after a call
   own_fixed : (place : Place) (station : ℕ) (step : Step) (history : List Event) → is_in station given.stations ≡ true → IsDataAt given Q place (after_call given station step history)
@@ -408,7 +408,7 @@ next_before given station step base before earlier later handle count llid body 
     (same_next (number_at station handle base) station count pdu base mid (call_submits station step earlier base)
     (call_leaves is_sending (λ lines. lines.sent) sending_leaves station step earlier base found.none) found.is))
 
-pub next_of_lines : IsHeardWhole → IsUnderstood → AreTaken → AreNth → AreApart → (given : Given) → IsOfTwo given → HaveOneLink given → HaveAddresses given → AreDistinct given.stations
+pub next_of_lines : IsHeardWhole → IsUnderstood → AreTaken → AreNth → AreApart → (given : Given) → IsOfTwo given → HaveFewLinks given → HaveAddresses given → AreDistinct given.stations
     → ((station : ℕ) → (setup_at given station).host_buffers ≡ 8) → AllAreNext (journal_of (history_of (run_of given)))
 next_of_lines whole understood taken nth apart given are_two pair six distinct eight front rest side link count llid body is =
     let Q = IsBelongingSoFar given in

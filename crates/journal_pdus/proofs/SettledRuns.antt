@@ -38,7 +38,7 @@ use Rattle.journal_data.proofs.Openness.{is_open}
 use Rattle.journal_acks.proofs.Exchanging.{number_at}
 use Rattle.journal_data.proofs.Ends.{sound}
 use Rattle.journal_data.proofs.FedInRuns.{between_standing}
-use Rattle.journal_data.proofs.OneLink.{HaveOneLink}
+use Rattle.journal_data.proofs.FewLinks.{HaveFewLinks}
 use Rattle.journal_data.proofs.StationLines.{IsStationBooked, is_link}
 use Rattle.journal_pdus.specs.Exchanged.{AllAreSettled}
 use Rattle.journal_pdus.specs.Settled.{AreSettled, IsSettled}
@@ -69,7 +69,7 @@ pub by_side : (given : Given) → IsOfTwo given → (T : Side → Type 0) → ((
 by_side given are_two T all A = all 0 (ap (is_in 0) are_two)
 by_side given are_two T all B = all 1 (ap (is_in 1) are_two)
 
-module _ (given : Given) (Q : Place → List Event → Type 0) (are_two : IsOfTwo given) (pair : HaveOneLink given) (eight : (station : ℕ) → (setup_at given station).host_buffers ≡ 8)
+module _ (given : Given) (Q : Place → List Event → Type 0) (are_two : IsOfTwo given) (pair : HaveFewLinks given) (eight : (station : ℕ) → (setup_at given station).host_buffers ≡ 8)
     (history : List Event) (is : IsKnownAt given Q NoTurn history) where
   rests : (station : ℕ) → is_in station given.stations ≡ true → is_between_turns (past_of station history) ≡ true
   rests station in_it =
@@ -123,7 +123,7 @@ turn_event links (Transmitted station channel octets (hearing ∷ hearings)) slo
 
 -- ---- in a run
 
-module _ (whole : IsHeardWhole) (understood : IsUnderstood) (taken : AreTaken) (nth : AreNth) (apart : AreApart) (given : Given) (are_two : IsOfTwo given) (pair : HaveOneLink given)
+module _ (whole : IsHeardWhole) (understood : IsUnderstood) (taken : AreTaken) (nth : AreNth) (apart : AreApart) (given : Given) (are_two : IsOfTwo given) (pair : HaveFewLinks given)
     (six : HaveAddresses given) (distinct : AreDistinct given.stations) (eight : (station : ℕ) → (setup_at given station).host_buffers ≡ 8) where
   abbrev P : Place → List Event → Type 0
   P place history = IsKnownAt given (IsBelongingSoFar given) place history

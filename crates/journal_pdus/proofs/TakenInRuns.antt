@@ -67,7 +67,7 @@ use Rattle.journal_data.specs.Lines.{PduLine}
 use Rattle.journal_data.proofs.Arriving.{lines_length}
 use Rattle.journal_data.proofs.Ends.{sound}
 use Rattle.journal_data.proofs.KeptData.{far_side, other_in}
-use Rattle.journal_data.proofs.OneLink.{HaveOneLink}
+use Rattle.journal_data.proofs.FewLinks.{HaveFewLinks}
 use Rattle.journal_pdus.specs.Announced.{last_number_sent, pdu_line_if, side_of_line}
 use Rattle.journal_pdus.specs.Exchanged.{AllAreTakenAtOnce}
 use Rattle.journal_pdus.specs.Pending.{last_number_taken, pending_pdu, taken_pdu, untaken_pdu}
@@ -94,7 +94,7 @@ same_to_take given station history after received facts heard numbers =
 
 -- ---- a packet is on the air
 
-module _ (whole : IsHeardWhole) (given : Given) (Q : Place → List Event → Type 0) (known : AreKnown given Q) (are_two : IsOfTwo given) (pair : HaveOneLink given)
+module _ (whole : IsHeardWhole) (given : Given) (Q : Place → List Event → Type 0) (known : AreKnown given Q) (are_two : IsOfTwo given) (pair : HaveFewLinks given)
     (six : HaveAddresses given) (distinct : AreDistinct given.stations) (eight : (station : ℕ) → (setup_at given station).host_buffers ≡ 8)
     (some : (station : ℕ) → 0 < (setup_at given station).air_buffers)
     (phases : ℕ) (done left : List ℕ) (station channel : ℕ) (octets : List ℕ) (fates : List Fate) (history : List Event)
@@ -406,7 +406,7 @@ module _ (given : Given) (are_two : IsOfTwo given) where
         call_other given one station step history (apart station one is is_one differs) ∙ pending_pdu one is_one
         ∙ (λ i. if sym (in_more_other one station done differs) i then None else sym (still one differs) i)
 
-module _ (whole : IsHeardWhole) (given : Given) (Q : Place → List Event → Type 0) (known : AreKnown given Q) (are_two : IsOfTwo given) (pair : HaveOneLink given)
+module _ (whole : IsHeardWhole) (given : Given) (Q : Place → List Event → Type 0) (known : AreKnown given Q) (are_two : IsOfTwo given) (pair : HaveFewLinks given)
     (six : HaveAddresses given) (distinct : AreDistinct given.stations) (eight : (station : ℕ) → (setup_at given station).host_buffers ≡ 8)
     (some : (station : ℕ) → 0 < (setup_at given station).air_buffers) where
   pub taken_kept : IsKept given (IsTakenAt given Q)
@@ -486,7 +486,7 @@ nothing_first station = refl
 pub taken_first : (given : Given) → IsTakenAt given (IsBelongingSoFar given) NoTurn []
 taken_first given = record { is = known_first given; pending_pdu = λ station in_it. nothing_first station; each = tt }
 
-run_taken : IsHeardWhole → IsUnderstood → AreTaken → AreNth → AreApart → (given : Given) → IsOfTwo given → HaveOneLink given → HaveAddresses given → AreDistinct given.stations
+run_taken : IsHeardWhole → IsUnderstood → AreTaken → AreNth → AreApart → (given : Given) → IsOfTwo given → HaveFewLinks given → HaveAddresses given → AreDistinct given.stations
     → ((station : ℕ) → (setup_at given station).host_buffers ≡ 8) → ((station : ℕ) → 0 < (setup_at given station).air_buffers) → Each IsTakenEvent [] (history_of (run_of given))
 run_taken whole understood taken nth separate given are_two pair six distinct eight some =
     let Q = IsBelongingSoFar given in
@@ -528,7 +528,7 @@ line_by before (Transmitted station channel octets []) entry side is side_is tak
 line_by before (Transmitted station channel octets (hearing ∷ hearings)) entry side is side_is takes =
     of_event before entry _ side (side_of station) is refl (sym takes) side_is
 
-pub taken_lines : IsHeardWhole → IsUnderstood → AreTaken → AreNth → AreApart → (given : Given) → IsOfTwo given → HaveOneLink given → HaveAddresses given → AreDistinct given.stations
+pub taken_lines : IsHeardWhole → IsUnderstood → AreTaken → AreNth → AreApart → (given : Given) → IsOfTwo given → HaveFewLinks given → HaveAddresses given → AreDistinct given.stations
     → ((station : ℕ) → (setup_at given station).host_buffers ≡ 8) → ((station : ℕ) → 0 < (setup_at given station).air_buffers)
     → AllAreTakenAtOnce (journal_of (history_of (run_of given)))
 taken_lines whole understood taken nth separate given are_two pair six distinct eight some = λ front rest entry side is side_is.

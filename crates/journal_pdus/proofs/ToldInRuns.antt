@@ -56,7 +56,7 @@ use Rattle.journal_acks.proofs.RunCounts.{counts_first}
 use Rattle.journal_acks.proofs.PhaseNotes.{IsOnLink, IsPhaseOf, IsPlainPhase, phase_of}
 use Rattle.journal_acks.proofs.Standing.{PhasedBy, last_phase, phased_at, silent_sends}
 use Rattle.journal_acks.proofs.TwoStations.{IsOfTwo, hearing_of, one_hearing, same_number}
-use Rattle.journal_data.proofs.OneLink.{HaveOneLink}
+use Rattle.journal_data.proofs.FewLinks.{HaveFewLinks}
 use Rattle.journal_pdus.specs.Announced.{announced_pdu, new_pdu_in, side_of_line}
 use Rattle.journal_pdus.specs.Exchanged.{AllGoOutAtOnce}
 use Rattle.journal_pdus.proofs.Together.{IsKnownAt, known_first, known_kept}
@@ -188,7 +188,7 @@ module _ (given : Given) where
       (not_before given.stations done left station distinct are)
       (phased_at given (AtEnds done (station ∷ left)) history counted.holds.hearing.stand station (among given.stations done left station are))
 
-  module _ (whole : IsHeardWhole) (Q : Place → List Event → Type 0) (known : AreKnown given Q) (are_two : IsOfTwo given) (pair : HaveOneLink given) (six : HaveAddresses given)
+  module _ (whole : IsHeardWhole) (Q : Place → List Event → Type 0) (known : AreKnown given Q) (are_two : IsOfTwo given) (pair : HaveFewLinks given) (six : HaveAddresses given)
       (distinct : AreDistinct given.stations) (eight : (station : ℕ) → (setup_at given station).host_buffers ≡ 8) where
     -- the packet of a station was on the air, or it has none
     aired_step : (phases : ℕ) (done left : List ℕ) (station : ℕ) (history after : List Event) → given.stations ≡ done ++ station ∷ left → told_at station after ≡ None
@@ -434,7 +434,7 @@ line_goes links before (Transmitted station channel octets (hearing ∷ hearings
     let same : made ≡ entry = cc in
     own_line (journal_of before) (side_of station) side made entry same refl side_is now
 
-pub told_lines : IsHeardWhole → IsUnderstood → AreTaken → AreNth → AreApart → (given : Given) → IsOfTwo given → HaveOneLink given → HaveAddresses given → AreDistinct given.stations
+pub told_lines : IsHeardWhole → IsUnderstood → AreTaken → AreNth → AreApart → (given : Given) → IsOfTwo given → HaveFewLinks given → HaveAddresses given → AreDistinct given.stations
     → ((station : ℕ) → (setup_at given station).host_buffers ≡ 8) → AllGoOutAtOnce (journal_of (history_of (run_of given)))
 told_lines whole understood taken nth apart given are_two pair six distinct eight = λ front rest entry side is side_is.
     let known = known_of understood taken nth apart given are_two six in

@@ -40,7 +40,7 @@ use Rattle.journal_acks.proofs.LinkPackets.{IsPacketOf, link_packet}
 use Rattle.journal_acks.proofs.Seen.{seen_packet}
 use Rattle.journal_acks.proofs.TwoStations.{IsOfTwo}
 use Rattle.journal_data.proofs.EachLine.{lines_at}
-use Rattle.journal_data.proofs.OneLink.{HaveOneLink}
+use Rattle.journal_data.proofs.FewLinks.{HaveFewLinks}
 use Rattle.journal_pdus.specs.Exchanged.{AllTellWhatWaits}
 use Rattle.journal_pdus.specs.Waiting.{TellsWhatWaits, data_waits}
 use Rattle.journal_pdus.proofs.FixedNow.{IsFixed, fixed_first, fixed_kept, sender_fixed}
@@ -60,7 +60,7 @@ last_fixed false fixed last is = absurd cc
 all_acked : (end : Exchanged) (ack : Acknowledgement) → end.acked ≡ ack.acked → end.sent ≡ length ack.sent → end.acked ≡ end.sent → is_acked ack ≡ true
 all_acked end ack acked sent all = eq-eqb ack.acked (length ack.sent) (sym acked ∙ all ∙ sent)
 
-module _ (whole : IsHeardWhole) (given : Given) (Q : Place → List Event → Type 0) (known : AreKnown given Q) (are_two : IsOfTwo given) (pair : HaveOneLink given)
+module _ (whole : IsHeardWhole) (given : Given) (Q : Place → List Event → Type 0) (known : AreKnown given Q) (are_two : IsOfTwo given) (pair : HaveFewLinks given)
     (six : HaveAddresses given) (distinct : AreDistinct given.stations) (eight : (station : ℕ) → (setup_at given station).host_buffers ≡ 8)
     (phases : ℕ) (done left : List ℕ) (station channel : ℕ) (octets : List ℕ) (history : List Event) (are : given.stations ≡ done ++ station ∷ left)
     (wanted : use_at given station history ≡ Sends channel octets) (has : IsKnownAt given Q (AtPackets phases done (station ∷ left)) history)
@@ -121,7 +121,7 @@ abbrev pub AreAired : Given → Type 0
 AreAired given = (front rest : List Entry) (side : Side) (channel : ℕ) (octets : List ℕ) (fate : Mark) (verdict : Verdict)
     → journal_of (history_of (run_of given)) ≡ front ++ Air side channel octets fate verdict ∷ rest → IsAired given front side channel octets fate verdict
 
-pub waits_of_lines : IsHeardWhole → IsUnderstood → AreTaken → AreNth → AreApart → (given : Given) → IsOfTwo given → HaveOneLink given → HaveAddresses given → AreDistinct given.stations
+pub waits_of_lines : IsHeardWhole → IsUnderstood → AreTaken → AreNth → AreApart → (given : Given) → IsOfTwo given → HaveFewLinks given → HaveAddresses given → AreDistinct given.stations
     → ((station : ℕ) → (setup_at given station).host_buffers ≡ 8) → AreAired given → AllTellWhatWaits (journal_of (history_of (run_of given)))
 waits_of_lines whole understood taken nth apart given are_two pair six distinct eight all front rest side channel octets fate verdict is off =
     let Q = IsBelongingSoFar given in
