@@ -146,10 +146,10 @@ pub record IsDataSoFar (given : Given) (Q : Place → List Event → Type 0) (pl
   pub is : IsDataAt given Q place history
   pub always : AreAlways (AllArrive given) history
 
-module _ (whole : IsHeardWhole) (given : Given) (Q : Place → List Event → Type 0) (known : AreKnown given Q) (are_two : IsOfTwo given) (pair : HaveFewLinks given)
+module _ (whole : IsHeardWhole) (given : Given) (Q : Place → List Event → Type 0) (known : AreKnown given Q) (are_two : IsOfTwo given) (few_links : HaveFewLinks given)
     (six : HaveAddresses given) (distinct : AreDistinct given.stations) (eight : (station : ℕ) → (setup_at given station).host_buffers ≡ 8) where
   pub so_far_kept : IsKept given (IsDataSoFar given Q)
-  so_far_kept = let kept = data_kept whole given Q known are_two pair six distinct eight in record {
+  so_far_kept = let kept = data_kept whole given Q known are_two few_links six distinct eight in record {
     on_turn = λ slot plan history begun at has.
         let next = kept.on_turn slot plan history begun at has.is in
         let event = TurnBegan slot (map plan.radio_of given.stations) in record {
@@ -159,7 +159,7 @@ module _ (whole : IsHeardWhole) (given : Given) (Q : Place → List Event → Ty
     on_feed = λ plan done left station history are some now has.
         let in_it = among given.stations done left station are in record {
           is = kept.on_feed plan done left station history are some now has.is;
-          always = whole_feed given are_two pair.links eight station (take (plan.feed_of station) (octets_left given station history)) history in_it has.is.are
+          always = whole_feed given are_two few_links.links eight station (take (plan.feed_of station) (octets_left given station history)) history in_it has.is.are
               (own_numbers given Q known (AtFeeds done (station ∷ left)) history station in_it has.is.counted.known)
               (between_standing (past_of station history) (at_stage Between (turns_begun history - 1)) (has.is.counted.holds.hearing.stand station in_it)) has.always;
         };

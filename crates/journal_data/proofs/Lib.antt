@@ -17,7 +17,7 @@ pub mod Mine
 pub mod MineKept
 pub mod Openness
 pub mod StationLines
-pub mod StationAdds
+pub mod LinesGrow
 mod FewComplete
 mod Credits
 pub mod FedInRuns

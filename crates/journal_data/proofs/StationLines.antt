@@ -733,7 +733,7 @@ pub record SaysSame (before after : Lines) : Type 0 where
   pub received : after.received ≡ before.received
   pub credited : after.credited ≡ before.credited
 
-same_lines : (before after : Lines) → after ≡ before → SaysSame before after
+pub same_lines : (before after : Lines) → after ≡ before → SaysSame before after
 same_lines before after is = record {
   links = ap (λ (lines : Lines). lines.links) is;
   sent = ap (λ (lines : Lines). lines.sent) is;
@@ -830,26 +830,30 @@ pub event_facts : (given : Given) (station : ℕ) (history : List Event) (event 
 event_facts given station history event outside =
     ap (facts_of (setup_at given station)) (flat_nothing (steps_in station) history event (no_steps station event outside))
 
+-- where its notes, its past and its links stay, and its lines say the same of its links
+pub same_booked : (given : Given) (station : ℕ) (history after : List Event) → numbers_at station after ≡ numbers_at station history
+    → facts_at given station after ≡ facts_at given station history → noted_by station after ≡ noted_by station history
+    → SaysSame (lines_at station history) (lines_at station after) → IsStationBooked given station history → IsStationBooked given station after
+same_booked given station history after numbers facts notes says booked =
+    let many = (setup_at given station).links in record {
+      book = λ handle link at.
+          let number = number_at station handle history in
+          subst (λ (of : ℕ → ℕ). IsBook handle (of handle) (lines_at station after) (since_opened handle (noted_by station after))) (sym numbers)
+          (subst (λ (noted : List Note). IsBook handle number (lines_at station after) (since_opened handle noted)) (sym notes)
+          (says_book handle number (lines_at station history) (lines_at station after) (since_opened handle (noted_by station history))
+          (says_same number (lines_at station history) (lines_at station after) says)
+          (booked.book handle link (ap (λ (f : Facts). link_at handle f.links) (sym facts) ∙ at))));
+      links =
+          subst (λ (links : List OpenUnder). HoldsLinks many links (numbers_at station after) (is_open (facts_at given station after).links)) (sym says.links)
+          (subst (λ (of : ℕ → ℕ). HoldsLinks many (lines_at station history).links of (is_open (facts_at given station after).links)) (sym numbers)
+          (subst (λ (f : Facts). HoldsLinks many (lines_at station history).links (numbers_at station history) (is_open f.links)) (sym facts) booked.links));
+    }
+
 pub event_booked : (given : Given) (station : ℕ) (history : List Event) (event : Event) → is_outside event ≡ true → IsStationBooked given station history
     → IsStationBooked given station (history ++ event ∷ [])
 event_booked given station history event outside booked =
-    let after = history ++ event ∷ [] in
-    let numbers = numbers_event station history event outside in
-    let facts = event_facts given station history event outside in
-    let notes = flat_nothing (notes_in station) history event (no_notes station event outside) in
-    let says = event_says station history event outside in
-    record {
-      book = λ handle link at.
-          subst (λ (number : ℕ → ℕ). IsBook handle (number handle) (lines_at station after) (since_opened handle (noted_by station after))) (sym numbers)
-          (subst (λ (noted : List Note). IsBook handle (number_at station handle history) (lines_at station after) (since_opened handle noted)) (sym notes)
-          (says_book handle (number_at station handle history) (lines_at station history) (lines_at station after) (since_opened handle (noted_by station history))
-          (says_same (number_at station handle history) (lines_at station history) (lines_at station after) says)
-          (booked.book handle link (ap (λ (f : Facts). link_at handle f.links) (sym facts) ∙ at))));
-      links =
-          subst (λ (links : List OpenUnder). HoldsLinks (setup_at given station).links links (numbers_at station after) (is_open (facts_at given station after).links)) (sym says.links)
-          (subst (λ (number : ℕ → ℕ). HoldsLinks (setup_at given station).links (lines_at station history).links number (is_open (facts_at given station after).links)) (sym numbers)
-          (subst (λ (f : Facts). HoldsLinks (setup_at given station).links (lines_at station history).links (numbers_at station history) (is_open f.links)) (sym facts) booked.links));
-    }
+    same_booked given station history (history ++ event ∷ []) (numbers_event station history event outside) (event_facts given station history event outside)
+    (flat_nothing (notes_in station) history event (no_notes station event outside)) (event_says station history event outside) booked
 
 pub event_own : (given : Given) (station : ℕ) (history : List Event) (event : Event) → is_outside event ≡ true → HaveOwnNumbers given station history
     → HaveOwnNumbers given station (history ++ event ∷ [])

@@ -29,7 +29,7 @@ use Rattle.journal_pdus.proofs.TakenInRuns.{IsTakenAt, taken_first, taken_kept}
 use Rattle.journal_pdus.proofs.Told.{off_told}
 use Rattle.journal_pdus.proofs.ToldInRuns.{IsToldAt, told_first, told_kept}
 
-module _ (whole : IsHeardWhole) (understood : IsUnderstood) (taken : AreTaken) (nth : AreNth) (apart : AreApart) (given : Given) (are_two : IsOfTwo given) (pair : HaveFewLinks given)
+module _ (whole : IsHeardWhole) (understood : IsUnderstood) (taken : AreTaken) (nth : AreNth) (apart : AreApart) (given : Given) (are_two : IsOfTwo given) (few_links : HaveFewLinks given)
     (six : HaveAddresses given) (distinct : AreDistinct given.stations) (eight : (station : ℕ) → (setup_at given station).host_buffers ≡ 8)
     (some : (station : ℕ) → 0 < (setup_at given station).air_buffers) where
   abbrev Q : Place → List Event → Type 0
@@ -50,7 +50,7 @@ module _ (whole : IsHeardWhole) (understood : IsUnderstood) (taken : AreTaken) (
   }
 
   keeps_told : IsKept given (IsToldAt given Q)
-  keeps_told = told_kept given whole Q (known_of understood taken nth apart given are_two six) are_two pair six distinct eight
+  keeps_told = told_kept given whole Q (known_of understood taken nth apart given are_two six) are_two few_links six distinct eight
 
   -- ---- none is to be taken
 
@@ -64,7 +64,7 @@ module _ (whole : IsHeardWhole) (understood : IsUnderstood) (taken : AreTaken) (
   }
 
   keeps_taken : IsKept given (IsTakenAt given Q)
-  keeps_taken = taken_kept whole given Q (known_of understood taken nth apart given are_two six) are_two pair six distinct eight some
+  keeps_taken = taken_kept whole given Q (known_of understood taken nth apart given are_two six) are_two few_links six distinct eight some
 
   -- ---- in a run
 
