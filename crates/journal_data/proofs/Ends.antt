@@ -17,7 +17,8 @@ use Rattle.journal_data.proofs.Credits.{AreFew, credited}
 use Rattle.journal_data.proofs.EachLine.{lines_at}
 use Rattle.journal_data.proofs.Middle.{IsFed}
 use Rattle.journal_data.proofs.Sides.{End, IsFound, IsSound, found}
-use Rattle.journal_data.proofs.StationLines.{IsSameOn, IsStationBooked, below_from}
+use Rattle.journal_data.proofs.NotedLines.{IsSameOn, below_from}
+use Rattle.journal_data.proofs.StationLines.{IsStationBooked}
 use Rattle.journal_data.proofs.Submitting.{HasFed, IsSubmitted}
 use Rattle.journal_data.proofs.Tied.{tied}
 

@@ -27,7 +27,8 @@ use Rattle.journal_data.proofs.FedOthers.{others_submit}
 use Rattle.journal_data.proofs.Feeds.{feed_is_fed}
 use Rattle.journal_data.proofs.NotedStays.{noted_feed}
 use Rattle.journal_data.proofs.Sides.{AreAhead, AreArriving, End, Here, IsFound, Nowhere, idle_arrives}
-use Rattle.journal_data.proofs.StationLines.{IsNoneOf, KeepsFeed, feed_kept, numbers_event, octet_number, unused_still}
+use Rattle.journal_data.proofs.NotedLines.{unused_still}
+use Rattle.journal_data.proofs.StationLines.{IsNoneOf, KeepsFeed, feed_kept, numbers_event, octet_number}
 use Rattle.journal_data.proofs.Submitting.{AreInStep, feed_fed, feed_submitted, in_step}
 use Rattle.journal_data.proofs.Used.{AreUsed, IsClear, IsOld, IsOldLink, IsUsed, old_feed}
 

@@ -49,7 +49,8 @@ use Rattle.journal_data.proofs.Submitting.{AheadAt, AreInStep, IsSubmitted, call
 use Rattle.journal_data.proofs.Credits.{count_octets}
 use Rattle.journal_data.proofs.HeldLinks.{all_numbered}
 use Rattle.journal_data.proofs.Openness.{is_open}
-use Rattle.journal_data.proofs.StationLines.{IsStationBooked, below_from, octet_own}
+use Rattle.journal_data.proofs.NotedLines.{below_from}
+use Rattle.journal_data.proofs.StationLines.{IsStationBooked, octet_own}
 use Rattle.journal_acks.proofs.Counting.{HaveOwnNumbers}
 
 -- ---- the notes of a feed

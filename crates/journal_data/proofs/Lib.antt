@@ -16,6 +16,7 @@ pub mod Sides
 pub mod Mine
 pub mod MineKept
 pub mod Openness
+pub mod NotedLines
 pub mod StationLines
 pub mod LinesGrow
 mod FewComplete

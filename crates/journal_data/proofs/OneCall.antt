@@ -43,7 +43,8 @@ use Rattle.journal_data.proofs.Mine.{HasFarEnd, IsTaking}
 use Rattle.journal_data.proofs.Openness.{opens_where_free, past_noted}
 use Rattle.journal_data.proofs.Sides.{AreArriving, End, Here, IsBusy, IsFound, IsSound, Nowhere, call_arrives}
 use Rattle.journal_data.proofs.LinesGrow.{call_grows}
-use Rattle.journal_data.proofs.StationLines.{IsNoneOf, IsSameOn, UnusedWhereOpened, call_booked, call_same_on, is_link, other_lines, unused_still}
+use Rattle.journal_data.proofs.NotedLines.{IsSameOn, is_link, unused_still}
+use Rattle.journal_data.proofs.StationLines.{IsNoneOf, UnusedWhereOpened, call_booked, call_same_on, other_lines}
 use Rattle.journal_data.proofs.KeptSubmitted.{turn_submitted}
 use Rattle.journal_data.proofs.Submitting.{call_submits, turn_fed}
 use Rattle.journal_data.proofs.Used.{AreUsed, IsClear, IsClearOn, IsOld, IsUsed, old_call, opened_now}

@@ -39,7 +39,8 @@ use Rattle.journal_acks.proofs.Exchanging.{number_at}
 use Rattle.journal_data.proofs.Ends.{sound}
 use Rattle.journal_data.proofs.FedInRuns.{between_standing}
 use Rattle.journal_data.proofs.FewLinks.{HaveFewLinks}
-use Rattle.journal_data.proofs.StationLines.{IsStationBooked, is_link}
+use Rattle.journal_data.proofs.NotedLines.{is_link}
+use Rattle.journal_data.proofs.StationLines.{IsStationBooked}
 use Rattle.journal_pdus.specs.Exchanged.{AllAreSettled}
 use Rattle.journal_pdus.specs.Settled.{AreSettled, IsSettled}
 use Rattle.journal_pdus.proofs.SettledEnds.{settled_end}
