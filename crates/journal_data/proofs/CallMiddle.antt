@@ -21,7 +21,7 @@ use Rattle.journal_data.proofs.Arriving.{Grows}
 use Rattle.journal_data.proofs.EachLine.{call_lines, lines_at, note_lines}
 use Rattle.journal_data.proofs.Middle.{IsBetween}
 use Rattle.journal_data.proofs.Openness.{AreNot, is_report, turn_kinds}
-use Rattle.journal_data.proofs.StationAdds.{GrowsOn, IsLonger, lines_grow}
+use Rattle.journal_data.proofs.LinesGrow.{GrowsOn, IsLonger, lines_grow}
 use Rattle.journal_data.proofs.Submitting.{call_submits}
 
 -- ---- a front of the notes of a call

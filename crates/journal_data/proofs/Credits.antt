@@ -47,7 +47,7 @@ plain_up handle note is = refl
 abbrev octets_completed : ℕ → ℕ → List ℕ
 octets_completed handle count = written (CompletedPackets handle count)
 
-count_octets : (handle count : ℕ) → count < 65536 → two_octets 6 (octets_completed handle count) ≡ count
+pub count_octets : (handle count : ℕ) → count < 65536 → two_octets 6 (octets_completed handle count) ≡ count
 unfolding little_endian
 count_octets handle count few = two_octets_hold count ∙ mod-eq_of_lt few
 

@@ -25,7 +25,7 @@ use Rattle.journal_data.proofs.Fronts.{AreAlways, HasMore, always_event, always_
 use Rattle.journal_data.proofs.KeptData.{AreWell, own_numbers, IsBetween, IsDataAt, data_kept, far_side, other_in, pass_in_turn}
 use Rattle.journal_data.proofs.Middle.{from_fed, from_middle, to_fed, to_middle}
 use Rattle.journal_data.proofs.Mine.{other_back}
-use Rattle.journal_data.proofs.OneLink.{HaveOneLink}
+use Rattle.journal_data.proofs.FewLinks.{HaveFewLinks}
 use Rattle.journal_data.proofs.Submitting.{AreInStep}
 
 -- on each link, of what each side sends
@@ -82,7 +82,7 @@ module _ (given : Given) (are_two : IsOfTwo given) where
           (all (other_of station) (other_in given are_two station is) link)
 
   -- in the middle of a feed
-  module _ (one : (station : ℕ) → (setup_at given station).links ≤ 1) (eight : (station : ℕ) → (setup_at given station).host_buffers ≡ 8)
+  module _ (few : (station : ℕ) → (setup_at given station).links ≤ 4096) (eight : (station : ℕ) → (setup_at given station).host_buffers ≡ 8)
       (station octet : ℕ) (octets : List ℕ) (history : List Event) (is : is_in station given.stations ≡ true) (are : AreWell given history)
       (own : HaveOwnNumbers given station history) (between : IsBetween given station history) where
     abbrev fed : List ℕ
@@ -105,7 +105,7 @@ module _ (given : Given) (are_two : IsOfTwo given) where
         let whole : after_feed given station fed history ≡ history ++ event ∷ (mid ++ rest) =
         added.is ∙ append_assoc history (event ∷ []) added.more ∙ ap (λ more. history ++ event ∷ more) mid_is in
         let far = mid_same other history (event ∷ added.more) (event ∷ mid) rest (far_side station, added.outside) (ap (λ more. event ∷ more) mid_is) in
-        let front = feed_front given station fed history mid rest (one station) (eight station) feed_well_step (are.well station is).submitted whole in
+        let front = feed_front given station fed history mid rest (few station) (eight station) feed_well_step (are.well station is).booked (are.well station is).submitted whole in
         by_one station middle is
         (λ link. subst (ArrivesInOrder link (lines_at station middle)) (sym far)
         (from_fed link (lines_at station history) (lines_at station middle) (lines_at other history) (front link).fed (before station is link)))
@@ -115,7 +115,7 @@ module _ (given : Given) (are_two : IsOfTwo given) where
         (before other (other_in given are_two station is) link))))
       where
         feed_well_step : AreInStep given station history
-        feed_well_step = feed_step given one eight station fed history own (are.well station is) between
+        feed_well_step = feed_step given few eight station fed history own (are.well station is) between
 
     feed_always : AreAlways (AllArrive given) history → AreAlways (AllArrive given) (after_feed given station fed history)
     feed_always always =
@@ -125,12 +125,12 @@ module _ (given : Given) (are_two : IsOfTwo given) where
         (λ mid rest mid_is. subst (AllArrive given) (sym (append_assoc history (HostFed station fed ∷ []) mid)) (feed_middle mid rest mid_is)))
 
   -- in a whole feed
-  whole_feed : ((station : ℕ) → (setup_at given station).links ≤ 1) → ((station : ℕ) → (setup_at given station).host_buffers ≡ 8)
+  whole_feed : ((station : ℕ) → (setup_at given station).links ≤ 4096) → ((station : ℕ) → (setup_at given station).host_buffers ≡ 8)
       → (station : ℕ) (octets : List ℕ) (history : List Event) → is_in station given.stations ≡ true → AreWell given history → HaveOwnNumbers given station history
       → IsBetween given station history
       → AreAlways (AllArrive given) history → AreAlways (AllArrive given) (after_feed given station octets history)
-  whole_feed one eight station [] history is are own between always = always
-  whole_feed one eight station (octet ∷ octets) history is are own between always = feed_always one eight station octet octets history is are own between always
+  whole_feed few eight station [] history is are own between always = always
+  whole_feed few eight station (octet ∷ octets) history is are own between always = feed_always few eight station octet octets history is are own between always
 
   -- in a whole call
   whole_call : (station : ℕ) (step : Step) (history : List Event) → is_in station given.stations ≡ true → IsInTurn step
@@ -146,10 +146,10 @@ pub record IsDataSoFar (given : Given) (Q : Place → List Event → Type 0) (pl
   pub is : IsDataAt given Q place history
   pub always : AreAlways (AllArrive given) history
 
-module _ (whole : IsHeardWhole) (given : Given) (Q : Place → List Event → Type 0) (known : AreKnown given Q) (are_two : IsOfTwo given) (pair : HaveOneLink given)
+module _ (whole : IsHeardWhole) (given : Given) (Q : Place → List Event → Type 0) (known : AreKnown given Q) (are_two : IsOfTwo given) (few_links : HaveFewLinks given)
     (six : HaveAddresses given) (distinct : AreDistinct given.stations) (eight : (station : ℕ) → (setup_at given station).host_buffers ≡ 8) where
   pub so_far_kept : IsKept given (IsDataSoFar given Q)
-  so_far_kept = let kept = data_kept whole given Q known are_two pair six distinct eight in record {
+  so_far_kept = let kept = data_kept whole given Q known are_two few_links six distinct eight in record {
     on_turn = λ slot plan history begun at has.
         let next = kept.on_turn slot plan history begun at has.is in
         let event = TurnBegan slot (map plan.radio_of given.stations) in record {
@@ -159,7 +159,7 @@ module _ (whole : IsHeardWhole) (given : Given) (Q : Place → List Event → Ty
     on_feed = λ plan done left station history are some now has.
         let in_it = among given.stations done left station are in record {
           is = kept.on_feed plan done left station history are some now has.is;
-          always = whole_feed given are_two pair.links eight station (take (plan.feed_of station) (octets_left given station history)) history in_it has.is.are
+          always = whole_feed given are_two few_links.links eight station (take (plan.feed_of station) (octets_left given station history)) history in_it has.is.are
               (own_numbers given Q known (AtFeeds done (station ∷ left)) history station in_it has.is.counted.known)
               (between_standing (past_of station history) (at_stage Between (turns_begun history - 1)) (has.is.counted.holds.hearing.stand station in_it)) has.always;
         };

@@ -14,10 +14,6 @@ use Rattle.run_model.proofs.Parts.{journal_event}
 use Rattle.journal_packets.specs.Belonging.{is_side}
 use Rattle.journal_data.specs.Lines.{Lines, line_after, lines_after, lines_of, no_lines}
 
--- the number of the link that a station opened last under the handle 0
-abbrev pub number_of : ℕ → List Event → ℕ
-number_of station history = (links_of history).link_of station 0
-
 -- the numbers of the links that a station opened last, by handle
 abbrev pub numbers_at : ℕ → List Event → ℕ → ℕ
 numbers_at station history = (links_of history).link_of station

@@ -1,13 +1,12 @@
 -- The ends that a station has of its links, and what is known of its lines.
-use Rattle.std.proofs.Common.{◌≡◌, ℕ, suc, ◌+◌, ◌<◌, ◌≤◌, ◌==◌, Bool, true, false, ◌∷◌, if◌then◌else◌, Option, Some, None, List, [], length, refl, sym, ap, ◌∙◌, append-nil, arith}
+use Rattle.std.proofs.Common.{◌≡◌, ℕ, ◌≤◌, Option, Some, None, List, [], length, refl, sym, ap, ◌∙◌, append-nil, arith}
 use Rattle.std.specs.Option.{option_map}
-use Rattle.std.proofs.lemmas.Bool.{eqb-true}
 use Rattle.std.specs.Prelude.{not}
 use Rattle.std.specs.List.{filter}
 use Rattle.acl_banks.specs.History.{HostData}
 use Rattle.journal_data.specs.HostLines.{has_octets}
 use Rattle.link_model.proofs.Sending.{past_counted, past_in_order}
-use Rattle.open_links.specs.OpenLinks.{Links, OpenLink, facts_in, link_at, link_from}
+use Rattle.open_links.specs.OpenLinks.{OpenLink, facts_in, link_at}
 use Rattle.controller_model.specs.Since.{data_waiting}
 use Rattle.run_model.specs.Feeding.{HasNoted}
 use Rattle.run_model.specs.History.{Event}
@@ -18,7 +17,8 @@ use Rattle.journal_data.proofs.Credits.{AreFew, credited}
 use Rattle.journal_data.proofs.EachLine.{lines_at}
 use Rattle.journal_data.proofs.Middle.{IsFed}
 use Rattle.journal_data.proofs.Sides.{End, IsFound, IsSound, found}
-use Rattle.journal_data.proofs.StationLines.{IsSameOn, IsStationBooked}
+use Rattle.journal_data.proofs.NotedLines.{IsSameOn, below_from}
+use Rattle.journal_data.proofs.StationLines.{IsStationBooked}
 use Rattle.journal_data.proofs.Submitting.{HasFed, IsSubmitted}
 use Rattle.journal_data.proofs.Tied.{tied}
 
@@ -38,12 +38,12 @@ pub record IsWell (given : Given) (station : ℕ) (history : List Event) : Type 
   pub fed : HasFed given station history
   pub few : AreFew given station history
 
-pub sound : (given : Given) (station handle : ℕ) (history : List Event) (link : OpenLink) → (setup_at given station).links ≤ 1
+pub sound : (given : Given) (station handle : ℕ) (history : List Event) (link : OpenLink) → (setup_at given station).links ≤ 4096
     → (setup_at given station).host_buffers ≡ 8 → IsWell given station history → link_at handle (facts_at given station history).links ≡ Some link
     → IsSound (end_of station handle history given link) (lines_at station history)
-sound given station handle history link one eight well at = record {
-  booked = tied given station handle history link (omega (arith, one)) well.noted at (well.booked.book handle link at)
-      (credited given station handle history link (omega (arith, one)) eight well.noted well.few at)
+sound given station handle history link few eight well at = record {
+  booked = tied given station handle history link few well.noted at (well.booked.book handle link at)
+      (credited given station handle history link few eight well.noted well.few at)
       (well.submitted.data_is handle link at) (well.submitted.empties_are handle link at);
   order = past_in_order link.setup link.past;
   one_out = (past_counted link.setup link.past).1;
@@ -65,16 +65,6 @@ from_end given station history handle end is = by (link_at handle (facts_at give
     by (Some link) at is =
         let equal : Some (end_of station handle history given link) ≡ Some end = is in
         record { link = link; at = at; is = cc }
-
--- ends are under handles below the number of places
-below_from : (first handle : ℕ) (links : Links) (link : OpenLink) → link_from first handle links ≡ Some link → handle < first + length links
-below_from first handle [] link at = absurd (let h : None ≡ Some link = at in absurd cc)
-below_from first handle (place ∷ links) link at = by (first == handle) refl at (below_from (first + 1) handle links link)
-  where
-    by : (own : Bool) → (first == handle) ≡ own → (if own then place else link_from (first + 1) handle links) ≡ Some link
-        → (link_from (first + 1) handle links ≡ Some link → handle < first + 1 + length links) → handle < first + suc (length links)
-    by true is found rest = let equal = eqb-true first handle is in omega (arith, equal)
-    by false is found rest = let below = rest found in omega (arith, below)
 
 pub found_at : (given : Given) (station : ℕ) (history : List Event) (link : ℕ) → IsFound (end_at given station history) link
 found_at given station history link =

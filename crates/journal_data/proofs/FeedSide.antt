@@ -1,5 +1,5 @@
 -- A feed keeps that the data of both sides arrives in order.
-use Rattle.std.proofs.Common.{arith, ◌≡◌, ℕ, ◌≤◌, ◌==◌, true, Option, Some, List, [], ◌∷◌, ◌++◌, refl, sym, ap, subst, ◌∙◌}
+use Rattle.std.proofs.Common.{◌≡◌, ℕ, ◌≤◌, ◌==◌, true, Option, Some, List, [], ◌∷◌, ◌++◌, refl, sym, ap, subst, ◌∙◌}
 use Rattle.std.specs.Option.{option_map}
 use Rattle.std.proofs.lemmas.Bool.{eqb-true, false_from_ne_true}
 use Rattle.link_model.specs.Acknowledgement.{Acknowledgement}
@@ -18,18 +18,18 @@ use Rattle.run_laws.proofs.Hearings.{own_facts}
 use Rattle.journal_acks.proofs.Counting.{HaveOwnNumbers}
 use Rattle.journal_acks.proofs.Exchanging.{number_at}
 use Rattle.journal_acks.proofs.UnderHandles.{octet_under}
-use Rattle.journal_data.proofs.HeldLinks.{one_held}
 use Rattle.journal_data.specs.Lines.{Lines}
 use Rattle.journal_data.proofs.Arriving.{IsAhead}
 use Rattle.journal_data.proofs.Credits.{few_feed}
-use Rattle.journal_data.proofs.EachLine.{lines_at, numbers_at}
+use Rattle.journal_data.proofs.EachLine.{lines_at}
 use Rattle.journal_data.proofs.Ends.{IsWell, end_at, end_of, found_at, from_end, sound}
 use Rattle.journal_data.proofs.FedOthers.{others_submit}
 use Rattle.journal_data.proofs.Feeds.{feed_is_fed}
 use Rattle.journal_data.proofs.NotedStays.{noted_feed}
 use Rattle.journal_data.proofs.Sides.{AreAhead, AreArriving, End, Here, IsFound, Nowhere, idle_arrives}
-use Rattle.journal_data.proofs.StationLines.{IsNoneOf, KeepsFeed, feed_kept, numbers_event, octet_number, unused_still}
-use Rattle.journal_data.proofs.Submitting.{AreInStep, first_submitted, feed_fed, feed_submitted, in_step}
+use Rattle.journal_data.proofs.NotedLines.{unused_still}
+use Rattle.journal_data.proofs.StationLines.{IsNoneOf, KeepsFeed, feed_kept, numbers_event, octet_number}
+use Rattle.journal_data.proofs.Submitting.{AreInStep, feed_fed, feed_submitted, in_step}
 use Rattle.journal_data.proofs.Used.{AreUsed, IsClear, IsOld, IsOldLink, IsUsed, old_feed}
 
 -- ---- what a feed does to the links of its station
@@ -77,7 +77,7 @@ feed_number given station (octet ∷ octets) history handle =
     octets_number given station (octet ∷ octets) (history ++ HostFed station (octet ∷ octets) ∷ []) handle
     ∙ ap (λ (number : ℕ → ℕ). number handle) (numbers_event station history (HostFed station (octet ∷ octets)) refl)
 
-module _ (given : Given) (one : (station : ℕ) → (setup_at given station).links ≤ 1) (eight : (station : ℕ) → (setup_at given station).host_buffers ≡ 8)
+module _ (given : Given) (few : (station : ℕ) → (setup_at given station).links ≤ 4096) (eight : (station : ℕ) → (setup_at given station).host_buffers ≡ 8)
     (station : ℕ) (octets : List ℕ) (history : List Event) (own : HaveOwnNumbers given station history) (well : IsWell given station history)
     (between : is_between_turns (past_of station history) ≡ true) where
   abbrev then_on : List Event
@@ -85,19 +85,18 @@ module _ (given : Given) (one : (station : ℕ) → (setup_at given station).lin
 
   pub feed_step : AreInStep given station history
   feed_step =
-      in_step given station history (one station) well.fed
-      (one_held (lines_at station history).links (setup_at given station).links (numbers_at station history) (facts_at given station history).links (one station) well.booked.links)
-      (λ link at. none_complete (setup_at given station) (past_of station history) 0 link between at)
-      (λ link at. (sound given station 0 history link (one station) (eight station) well at).booked.credited) (first_submitted given station history well.submitted)
+      in_step given station history well.fed own well.booked
+      (λ handle link at. none_complete (setup_at given station) (past_of station history) handle link between at)
+      (λ handle link at. (sound given station handle history link (few station) (eight station) well at).booked.credited) well.submitted
 
   kept : KeepsFeed given station history then_on
-  kept = feed_kept given station octets history (let few = one station in omega (arith, few)) own well.booked
+  kept = feed_kept given station octets history (few station) own well.booked
 
   pub feed_well : IsWell given station then_on
   feed_well = record {
     noted = noted_feed given station octets history well.noted;
     booked = kept.booked;
-    submitted = feed_submitted given station octets history (one station) (eight station) feed_step well.submitted;
+    submitted = feed_submitted given station octets history (eight station) feed_step well.submitted;
     fed = feed_fed given station octets history well.fed;
     few = few_feed given station octets history between well.few;
   }
@@ -140,4 +139,4 @@ module _ (given : Given) (one : (station : ℕ) → (setup_at given station).lin
       → AreArriving (lines_at station then_on) far_lines (end_at given station then_on) peer
   feed_arrives far_lines peer arriving =
       idle_arrives (lines_at station history) (lines_at station then_on) far_lines (end_at given station history) (end_at given station then_on) peer
-      (feed_is_fed given station octets history (one station) (eight station) feed_step well.submitted) (ahead_after far_lines arriving.ahead) arriving
+      (feed_is_fed given station octets history (few station) (eight station) feed_step well.booked well.submitted) (ahead_after far_lines arriving.ahead) arriving

@@ -1,5 +1,5 @@
 -- What a feed changes of the lines of its station: its host submits packets, and those of no octet are credited.
-use Rattle.std.proofs.Common.{◌≡◌, ℕ, ◌+◌, ◌≤◌, ◌==◌, ◌||◌, ◌⊎◌, inl, inr, nat_lt, Bool, true, false, cond, Option, Some, None, List, [], ◌∷◌, ◌++◌, length, refl, sym, ap, subst, ◌∙◌, append-nil, append_assoc, arith, if◌then◌else◌}
+use Rattle.std.proofs.Common.{◌≡◌, ℕ, ◌+◌, ◌<◌, ◌≤◌, ◌==◌, ◌||◌, ◌⊎◌, inl, inr, nat_lt, Bool, true, false, cond, Option, Some, None, List, [], ◌∷◌, ◌++◌, length, refl, sym, ap, subst, ◌∙◌, append-nil, append_assoc, arith, if◌then◌else◌}
 use Rattle.std.specs.Prelude.{◌&&◌, filter, map, ⊤}
 use Rattle.std.specs.List.{AllByRecursion, find, flat_map, sum_by}
 use Rattle.std.specs.Option.{option_map}
@@ -22,7 +22,7 @@ use Rattle.wire_fields.specs.Field.{little_endian}
 use Rattle.open_links.specs.declared.offers.Offer.{Offer}
 use Rattle.open_links.specs.declared.offers.Offer.TheVariants.{NoLink, Empty, Overflow, Kept}
 use Rattle.open_links.specs.Data.{offer_by}
-use Rattle.open_links.specs.OpenLinks.{Links as OpenLinks, OpenLink, link_at}
+use Rattle.open_links.specs.OpenLinks.{OpenLink, link_at}
 use Rattle.controller_model.specs.Data.{facts_offered, notes_offered, offer_of}
 use Rattle.controller_model.specs.Facts.{Setup, Facts}
 use Rattle.controller_model.specs.Notes.{is_event}
@@ -30,7 +30,7 @@ use Rattle.controller_model.specs.Side.{facts_after, facts_fed, facts_of, notes_
 use Rattle.controller_model.specs.Since.{count_fed, empties_of, note_completed}
 use Rattle.controller_model.specs.Step.{Step, HostOctet}
 use Rattle.controller_model.proofs.Handles.{own_handles}
-use Rattle.controller_model.proofs.OtherNotes.{AreOther, IsOther, command_other, events_other}
+use Rattle.controller_model.proofs.OtherNotes.{AreOther, IsOther, command_other, event_handle_is, events_other}
 use Rattle.run_model.specs.History.{Event, TurnBegan, HostFed, Called, Noted, Transmitted, past_of}
 use Rattle.run_model.specs.Journal.{entry_of, side_of}
 use Rattle.run_model.specs.Links.{Links, links_of}
@@ -41,11 +41,17 @@ use Rattle.run_laws.proofs.Hearings.{own_facts}
 use Rattle.run_laws.proofs.TurnPlaces.{event_past}
 use Rattle.journal_data.specs.HostLines.{OpenUnder, Submitted, kept_of, link_under, packets_framed}
 use Rattle.journal_data.specs.Lines.{Credited, Lines, Received, credit_up, credited_in, credited_on, data_received, empties_on, line_after, pdus_on, submitted_on}
-use Rattle.journal_data.proofs.EachLine.{number_of}
+use Rattle.journal_data.proofs.EachLine.{numbers_at}
 use Rattle.journal_data.proofs.EachLine.{call_lines, fed_lines, lines_at, note_lines}
-use Rattle.journal_data.proofs.HostPackets.{PlaceHas, has_none, links_for, octet_taken, on_link, on_link-append, passing-append}
+use Rattle.journal_data.proofs.HostPackets.{HasAll, has_none, octet_taken, on_link, on_link-append, passing-append}
 use Rattle.journal_data.proofs.Middle.{IsFed}
-use Rattle.journal_data.proofs.Submitting.{AheadAt, AreInStep, IsFirstSubmitted, IsSubmitted, first_submitted, few_links, call_ahead, fed_ahead, kept_left, octet_left, same_number}
+use Rattle.journal_data.proofs.Submitting.{AheadAt, AreInStep, IsSubmitted, call_ahead, come_own, fed_ahead, held_then, kept_left, octet_left, same_numbers}
+use Rattle.journal_data.proofs.Credits.{count_octets}
+use Rattle.journal_data.proofs.HeldLinks.{all_numbered}
+use Rattle.journal_data.proofs.Openness.{is_open}
+use Rattle.journal_data.proofs.NotedLines.{below_from}
+use Rattle.journal_data.proofs.StationLines.{IsStationBooked, octet_own}
+use Rattle.journal_acks.proofs.Counting.{HaveOwnNumbers}
 
 -- ---- the notes of a feed
 
@@ -100,12 +106,13 @@ all_of_feed : (notes : List Note) → AllByRecursion IsQuiet notes → AllByRecu
 all_of_feed [] are = tt
 all_of_feed (note ∷ notes) are = (are.0.0, all_of_feed notes are.1)
 
--- a packet of no octet for the open link is complete at once
+-- a packet of no octet for an open link is complete at once
 record IsEmptyPacket (setup : Setup) (facts : Facts) (fed : Fed) : Type 0 where
+  handle : ℕ
   link : OpenLink
-  found : link_at 0 facts.links ≡ Some link
-  notes_are : notes_fed setup facts fed ≡ note_completed 0 1 ∷ []
-  counts : count_fed 0 fed 0 ≡ 1
+  found : link_at handle facts.links ≡ Some link
+  notes_are : notes_fed setup facts fed ≡ note_completed handle 1 ∷ []
+  counts : count_fed handle fed 0 ≡ 1
   links_are : (facts_fed setup facts fed).links ≡ facts.links
 
 record IsOffered (place : Option OpenLink) (count : ℕ) : Type 0 where
@@ -122,26 +129,16 @@ empty_offer (Some link) count full is = by (count == 0) (nat_lt 251 count || ful
     by false true same empty = absurd cc
     by false false same empty = absurd cc
 
-only_handle : (links : OpenLinks) (handle : ℕ) (link : OpenLink) → length links ≤ 1 → link_at handle links ≡ Some link → (0 == handle) ≡ true
-only_handle [] handle link few is = absurd cc
-only_handle (place ∷ []) handle link few is = by (0 == handle) is
-  where
-    by : (own : Bool) → (if own then place else None) ≡ Some link → own ≡ true
-    by true found = refl
-    by false found = absurd cc
-only_handle (place ∷ other ∷ links) handle link few is = absurd (omega (arith, few))
-
-empty_packet : (setup : Setup) (facts : Facts) (handle count : ℕ) (start : Bool) (body : ArrayVec ℕ) → length facts.links ≤ 1
+empty_packet : (setup : Setup) (facts : Facts) (handle count : ℕ) (start : Bool) (body : ArrayVec ℕ)
     → offer_of setup facts handle count ≡ Empty → IsEmptyPacket setup facts (Packet (Acl handle start count body))
-empty_packet setup facts handle count start body few is =
+empty_packet setup facts handle count start body is =
     let offered = empty_offer (link_at handle facts.links) count _ is in
-    let own : 0 ≡ handle = eqb-true 0 handle (only_handle facts.links handle offered.link few offered.found) in
-    let zero : handle ≡ 0 = sym own in
     record {
+      handle = handle;
       link = offered.link;
-      found = ap (λ n. link_at n facts.links) own ∙ offered.found;
-      notes_are = (λ i. notes_offered facts.view (is i) (zero i));
-      counts = ap (λ b. if b && (count == 0) then 0 + 1 else 0) (eq-eqb handle 0 zero) ∙ ap (λ b. if b then 0 + 1 else 0) offered.none;
+      found = offered.found;
+      notes_are = ap (λ (offer : Offer). notes_offered facts.view offer handle) is;
+      counts = ap (λ b. if b && (count == 0) then 0 + 1 else 0) (eq-eqb handle handle refl) ∙ ap (λ b. if b then 0 + 1 else 0) offered.none;
       links_are = ap (λ (offer : Offer). (facts_offered offer handle start body.items facts).links) is;
     }
 
@@ -149,26 +146,26 @@ empty_packet setup facts handle count start body few is =
 abbrev OctetBrings : Setup → Facts → Fed → Type 0
 OctetBrings setup facts fed = AllByRecursion IsQuiet (notes_fed setup facts fed) ⊎ IsEmptyPacket setup facts fed
 
-offer_brings : (setup : Setup) (facts : Facts) (handle count : ℕ) (start : Bool) (body : ArrayVec ℕ) → length facts.links ≤ 1
+offer_brings : (setup : Setup) (facts : Facts) (handle count : ℕ) (start : Bool) (body : ArrayVec ℕ)
     → (offer : Offer) → offer_of setup facts handle count ≡ offer → OctetBrings setup facts (Packet (Acl handle start count body))
-offer_brings setup facts handle count start body few NoLink is =
+offer_brings setup facts handle count start body NoLink is =
     inl (subst (λ offer. AllByRecursion IsQuiet (notes_offered facts.view offer handle)) (sym is) tt)
-offer_brings setup facts handle count start body few Kept is =
+offer_brings setup facts handle count start body Kept is =
     inl (subst (λ offer. AllByRecursion IsQuiet (notes_offered facts.view offer handle)) (sym is) tt)
-offer_brings setup facts handle count start body few Overflow is =
+offer_brings setup facts handle count start body Overflow is =
     inl (subst (λ offer. AllByRecursion IsQuiet (notes_offered facts.view offer handle)) (sym is)
     (all_quiet (notes_offered facts.view Overflow handle) (λ other. events_other 0 other facts.view (BufferOverflow 1 ∷ []) (tt, tt))))
-offer_brings setup facts handle count start body few Empty is = inr (empty_packet setup facts handle count start body few is)
+offer_brings setup facts handle count start body Empty is = inr (empty_packet setup facts handle count start body is)
 
-fed_brings : (setup : Setup) (facts : Facts) (fed : Fed) → length facts.links ≤ 1 → OctetBrings setup facts fed
-fed_brings setup facts (Packet (Command opcode body)) few =
+fed_brings : (setup : Setup) (facts : Facts) (fed : Fed) → OctetBrings setup facts fed
+fed_brings setup facts (Packet (Command opcode body)) =
     inl (all_quiet (notes_fed setup facts (Packet (Command opcode body)))
     (λ other. command_other 0 other setup facts opcode (command_of opcode body.items)))
-fed_brings setup facts (Packet (Acl handle start count body)) few =
-    offer_brings setup facts handle count start body few (offer_of setup facts handle count) refl
-fed_brings setup facts LostSync few =
+fed_brings setup facts (Packet (Acl handle start count body)) =
+    offer_brings setup facts handle count start body (offer_of setup facts handle count) refl
+fed_brings setup facts LostSync =
     inl (all_quiet (notes_fed setup facts LostSync) (λ other. events_other 0 other facts.view (HardwareError 0x01 ∷ []) (tt, tt)))
-fed_brings setup facts More few = inl tt
+fed_brings setup facts More = inl tt
 
 brings_of_feed : (setup : Setup) (facts : Facts) (fed : Fed) → OctetBrings setup facts fed → AllByRecursion IsOfFeed (notes_fed setup facts fed)
 unfolding little_endian
@@ -177,8 +174,9 @@ brings_of_feed setup facts fed (inr empty) = subst (AllByRecursion IsOfFeed) (sy
 
 -- ---- what such notes change of the lines
 
-abbrev pub AreOf : ℕ → List OpenUnder → Type 0
-AreOf number links = AllByRecursion (λ (one : OpenUnder). one.link ≡ number) links
+-- each link has the number of the link under its handle
+abbrev pub AreOf : (ℕ → ℕ) → List OpenUnder → Type 0
+AreOf number links = AllByRecursion (λ (one : OpenUnder). one.link ≡ number one.handle) links
 
 abbrev credits_on : ℕ → List Credited → ℕ
 credits_on link credited = sum_by (λ (one : Credited). one.count) (filter (λ (one : Credited). one.link == link) credited)
@@ -195,7 +193,7 @@ pub record Goes (before after : Lines) : Type 0 where
   pub received : after.received ≡ before.received
   pub submitted : after.submitted ≡ before.submitted
   pub credited : (link : ℕ) → credited_on link before ≤ credited_on link after
-  pub links : (number : ℕ) → AreOf number before.links → AreOf number after.links
+  pub links : (number : ℕ → ℕ) → AreOf number before.links → AreOf number after.links
 
 goes_same : (before after : Lines) → after ≡ before → Goes before after
 goes_same before after same = record {
@@ -229,7 +227,7 @@ goes_up lines side packet link_of last none = record {
   links = λ number are. are;
 }
 
-left_of : (number : ℕ) (test : OpenUnder → Bool) (links : List OpenUnder) → AreOf number links → AreOf number (filter test links)
+left_of : (number : ℕ → ℕ) (test : OpenUnder → Bool) (links : List OpenUnder) → AreOf number links → AreOf number (filter test links)
 left_of number test [] are = tt
 left_of number test (one ∷ links) are = by (test one) (left_of number test links are.1)
   where
@@ -309,15 +307,15 @@ noted_are : (station : ℕ) (notes : List Note) → AllByRecursion IsOfFeed note
 noted_are station [] are = tt
 noted_are station (note ∷ notes) are = ((refl, are.0), noted_are station notes are.1)
 
-call_brings : (given : Given) (station octet : ℕ) (history : List Event) → (setup_at given station).links ≤ 1
+call_brings : (given : Given) (station octet : ℕ) (history : List Event)
     → let facts = facts_at given station history in OctetBrings (setup_at given station) facts (result_of facts.octets octet)
-call_brings given station octet history one =
+call_brings given station octet history =
     let facts = facts_at given station history in
-    fed_brings (setup_at given station) facts (result_of facts.octets octet) (few_links given station history one)
+    fed_brings (setup_at given station) facts (result_of facts.octets octet)
 
-call_adds : (given : Given) (station octet : ℕ) (history : List Event) → (setup_at given station).links ≤ 1
+call_adds : (given : Given) (station octet : ℕ) (history : List Event)
     → Adds station history (after_call given station (HostOctet octet) history)
-call_adds given station octet history one =
+call_adds given station octet history =
     let setup = setup_at given station in
     let facts = facts_at given station history in
     let notes = notes_after setup facts (HostOctet octet) in
@@ -327,17 +325,17 @@ call_adds given station octet history one =
       are = (
         tt,
         noted_are station notes
-            (brings_of_feed setup facts (result_of facts.octets octet) (call_brings given station octet history one)),
+            (brings_of_feed setup facts (result_of facts.octets octet) (call_brings given station octet history)),
       );
     }
 
-octets_add : (given : Given) (station : ℕ) (octets : List ℕ) (history : List Event) → (setup_at given station).links ≤ 1
+octets_add : (given : Given) (station : ℕ) (octets : List ℕ) (history : List Event)
     → Adds station history (after_octets given station octets history)
-octets_add given station [] history one = adds_none station history
-octets_add given station (octet ∷ octets) history one =
+octets_add given station [] history = adds_none station history
+octets_add given station (octet ∷ octets) history =
     let next = after_call given station (HostOctet octet) history in
-    adds_then station history next (after_octets given station octets next) (call_adds given station octet history one)
-    (octets_add given station octets next one)
+    adds_then station history next (after_octets given station octets next) (call_adds given station octet history)
+    (octets_add given station octets next)
 
 adds_go : (station : ℕ) (history after : List Event) → Adds station history after → Goes (lines_at station history) (lines_at station after)
 adds_go station history after adds =
@@ -383,28 +381,29 @@ quiet_call station step notes history are =
     noted_credits station step notes history ∙ quiet_notes station notes (history ++ Called station step ∷ []) are
     ∙ ap (λ (lines : Lines). lines.credited) (call_lines station history station step)
 
-one_credited : List OpenUnder → List Credited
-one_credited links = credited_in links (written (CompletedPackets 0 1))
+one_credited : ℕ → List OpenUnder → List Credited
+one_credited handle links = credited_in links (written (CompletedPackets handle 1))
 
-one_call : (station : ℕ) (step : Step) (notes : List Note) (history : List Event) → notes ≡ note_completed 0 1 ∷ []
+one_call : (station : ℕ) (step : Step) (notes : List Note) (history : List Event) (handle : ℕ) → notes ≡ note_completed handle 1 ∷ []
     → (lines_at station (with_notes station step notes history)).credited
-    ≡ (lines_at station history).credited ++ one_credited (lines_at station history).links
+    ≡ (lines_at station history).credited ++ one_credited handle (lines_at station history).links
 unfolding one_credited
-one_call station step notes history are =
+one_call station step notes history handle are =
     let called = history ++ Called station step ∷ [] in
     noted_credits station step notes history
     ∙ ap (λ (all : List Note). (lines_at station (called ++ map (Noted station) all)).credited) are
-    ∙ ap (λ (lines : Lines). lines.credited) (note_lines station called (note_completed 0 1))
-    ∙ ap (λ (lines : Lines). lines.credited ++ credited_in lines.links (written (CompletedPackets 0 1))) (call_lines station history station step)
+    ∙ ap (λ (lines : Lines). lines.credited) (note_lines station called (note_completed handle 1))
+    ∙ ap (λ (lines : Lines). lines.credited ++ credited_in lines.links (written (CompletedPackets handle 1))) (call_lines station history station step)
 
-under_of : (number handle : ℕ) (links : List OpenUnder) (link : ℕ) → AreOf number links → link_under handle links ≡ Some link → link ≡ number
+under_of : (number : ℕ → ℕ) (handle : ℕ) (links : List OpenUnder) (link : ℕ) → AreOf number links → link_under handle links ≡ Some link → link ≡ number handle
 under_of number handle [] link are is = absurd cc
-under_of number handle (one ∷ links) link are is = by (one.handle == handle) is (under_of number handle links link are.1)
+under_of number handle (one ∷ links) link are is = by (one.handle == handle) refl is (under_of number handle links link are.1)
   where
-    by : (own : Bool) → option_map (λ (x : OpenUnder). x.link) (if own then Some one else find (λ (x : OpenUnder). x.handle == handle) links) ≡ Some link
-        → (link_under handle links ≡ Some link → link ≡ number) → link ≡ number
-    by true found rest = let same : one.link ≡ link = cc in sym same ∙ are.0
-    by false found rest = rest found
+    by : (own : Bool) → (one.handle == handle) ≡ own
+        → option_map (λ (x : OpenUnder). x.link) (if own then Some one else find (λ (x : OpenUnder). x.handle == handle) links) ≡ Some link
+        → (link_under handle links ≡ Some link → link ≡ number handle) → link ≡ number handle
+    by true same found rest = let is_one : one.link ≡ link = cc in sym is_one ∙ are.0 ∙ ap number (eqb-true one.handle handle same)
+    by false same found rest = rest found
 
 count_one : (link number : ℕ) (under : Option ℕ) → ((one : ℕ) → under ≡ Some one → one ≡ number) → (own : Bool) → (number == link) ≡ own
     → credits_on link (credit_up under 1) ≤ cond own 1 0
@@ -419,10 +418,16 @@ count_one link number (Some one) of own is =
     counts true = refl
     counts false = refl
 
-one_counted : (link number : ℕ) (links : List OpenUnder) → AreOf number links → (own : Bool) → (number == link) ≡ own
-    → credits_on link (one_credited links) ≤ cond own 1 0
+credited_one : (handle : ℕ) (links : List OpenUnder) → handle < 65536 → one_credited handle links ≡ credit_up (link_under handle links) 1
 unfolding one_credited little_endian
-one_counted link number links are own is = count_one link number (link_under 0 links) (λ one under. under_of number 0 links one are under) own is
+credited_one handle links few =
+    (λ i. credit_up (link_under (event_handle_is handle 1 few i) links) (count_octets handle 1 (omega arith) i))
+
+one_counted : (link handle : ℕ) (number : ℕ → ℕ) (links : List OpenUnder) → handle < 65536 → AreOf number links → (own : Bool) → (number handle == link) ≡ own
+    → credits_on link (one_credited handle links) ≤ cond own 1 0
+one_counted link handle number links few are own is =
+    subst (λ all. credits_on link all ≤ cond own 1 0) (sym (credited_one handle links few))
+    (count_one link (number handle) (link_under handle links) (λ one under. under_of number handle links one are under) own is)
 
 -- ---- no more packets are credited than have no octet
 
@@ -435,14 +440,14 @@ empties_append link xs ys =
     ap length (passing-append has_none link xs ys) ∙ length-append (filter has_none (on_link link xs)) (filter has_none (on_link link ys))
 
 -- what is kept of the octets that are left will be credited later
-record AreCredited (number : ℕ) (first lines : Lines) (facts : Facts) (left : List ℕ) : Type 0 where
+record AreCredited (number : ℕ → ℕ) (first lines : Lines) (facts : Facts) (held : List OpenUnder) (left : List ℕ) : Type 0 where
   links : AreOf number lines.links
-  credits : (link : ℕ) → credited_on link lines + empties_in link first.submitted + empties_in link (kept_left number facts left)
+  credits : (link : ℕ) → credited_on link lines + empties_in link first.submitted + empties_in link (kept_left held facts left)
       ≤ credited_on link first + empties_in link lines.submitted
 
-abbrev CreditedAt : Given → ℕ → Lines → List ℕ → List Event → Type 0
-CreditedAt given station first left history =
-    AreCredited (number_of station history) first (lines_at station history) (facts_at given station history) left
+abbrev CreditedAt : Given → ℕ → Lines → List OpenUnder → List ℕ → List Event → Type 0
+CreditedAt given station first held left history =
+    AreCredited (numbers_at station history) first (lines_at station history) (facts_at given station history) held left
 
 -- what an octet brings, and what is kept of it
 record IsPaid (before after : Lines) (kept : List Submitted) : Type 0 where
@@ -456,159 +461,163 @@ quiet_pays before after kept goes same = record {
 }
 
 -- the packet of no octet is kept
-kept_one_more : (number : ℕ) (so_far kept : List Submitted) (count empties : ℕ) (before after : Option OpenLink) (link : OpenLink) → before ≡ Some link
-    → after ≡ before → count ≡ 1 → PlaceHas number so_far empties before → PlaceHas number (so_far ++ kept) (count + empties) after
-    → empties_in number kept ≡ 1
-kept_one_more number so_far kept count empties before after link is same one has later =
-    let old = (subst (PlaceHas number so_far empties) is has).empties_are in
-    let new = (subst (PlaceHas number (so_far ++ kept) (count + empties)) (same ∙ is) later).empties_are in
+kept_one_more : (number : ℕ) (so_far kept : List Submitted) (count empties : ℕ) (link after : OpenLink) → count ≡ 1
+    → HasAll number so_far empties link → HasAll number (so_far ++ kept) (count + empties) after → empties_in number kept ≡ 1
+kept_one_more number so_far kept count empties link after one has then_has =
+    let old = has.empties_are in
+    let new = then_has.empties_are in
     let parts = empties_append number so_far kept in
     omega (arith, old, new, parts, one)
 
-one_pays : (number : ℕ) (before after : Lines) (kept : List Submitted) → Goes before after → AreOf number before.links
-    → after.credited ≡ before.credited ++ one_credited before.links → empties_in number kept ≡ 1 → IsPaid before after kept
-one_pays number before after kept goes are more one = record { goes = goes; pays = λ link. pay link (number == link) refl }
+one_pays : (number : ℕ → ℕ) (handle : ℕ) (before after : Lines) (kept : List Submitted) → handle < 65536 → Goes before after → AreOf number before.links
+    → after.credited ≡ before.credited ++ one_credited handle before.links → empties_in (number handle) kept ≡ 1 → IsPaid before after kept
+one_pays number handle before after kept few goes are more one = record { goes = goes; pays = λ link. pay link (number handle == link) refl }
   where
-    pay : (link : ℕ) (own : Bool) → (number == link) ≡ own → credited_on link after ≤ credited_on link before + empties_in link kept
+    pay : (link : ℕ) (own : Bool) → (number handle == link) ≡ own → credited_on link after ≤ credited_on link before + empties_in link kept
     pay link true is =
-        let same = ap (λ n. empties_in n kept) (eqb-true number link is) in
-        let parts = ap (credits_on link) more ∙ credits_append link before.credited (one_credited before.links) in
-        let few = one_counted link number before.links are true is in
-        omega (arith, parts, few, same, one)
+        let same = ap (λ n. empties_in n kept) (eqb-true (number handle) link is) in
+        let parts = ap (credits_on link) more ∙ credits_append link before.credited (one_credited handle before.links) in
+        let least = one_counted link handle number before.links few are true is in
+        omega (arith, parts, least, same, one)
     pay link false is =
-        let parts = ap (credits_on link) more ∙ credits_append link before.credited (one_credited before.links) in
-        let few = one_counted link number before.links are false is in
-        omega (arith, parts, few)
+        let parts = ap (credits_on link) more ∙ credits_append link before.credited (one_credited handle before.links) in
+        let least = one_counted link handle number before.links few are false is in
+        omega (arith, parts, least)
 
-call_paid : (given : Given) (station octet : ℕ) (left : List ℕ) (history : List Event) (one : (setup_at given station).links ≤ 1)
-    (eight : (setup_at given station).host_buffers ≡ 8) → AheadAt given station (octet ∷ left) history
-    → AreOf (number_of station history) (lines_at station history).links
+call_paid : (given : Given) (station octet : ℕ) (held : List OpenUnder) (left : List ℕ) (history : List Event) → (setup_at given station).links ≤ 4096
+    → (eight : (setup_at given station).host_buffers ≡ 8) (own : HaveOwnNumbers given station history) (ahead : AheadAt given station held (octet ∷ left) history)
+    → AreOf (numbers_at station history) (lines_at station history).links
     → IsPaid (lines_at station history) (lines_at station (after_call given station (HostOctet octet) history))
-    (octet_taken (number_of station history) (setup_at given station) (past_of station history) octet one eight).kept
-call_paid given station octet left history one eight ahead are = by (call_brings given station octet history one)
+    (octet_taken (numbers_at station history) (setup_at given station) (past_of station history) held octet eight own ahead.under).kept
+call_paid given station octet held left history few eight own ahead are = by (call_brings given station octet history)
   where
     by : OctetBrings (setup_at given station) (facts_at given station history) (result_of (facts_at given station history).octets octet)
         → IsPaid (lines_at station history) (lines_at station (after_call given station (HostOctet octet) history))
-        (octet_taken (number_of station history) (setup_at given station) (past_of station history) octet one eight).kept
+        (octet_taken (numbers_at station history) (setup_at given station) (past_of station history) held octet eight own ahead.under).kept
     by (inl none) =
         let notes = notes_after (setup_at given station) (facts_at given station history) (HostOctet octet) in
         let after = after_call given station (HostOctet octet) history in
-        quiet_pays (lines_at station history) (lines_at station after) _ (adds_go station history after (call_adds given station octet history one))
+        quiet_pays (lines_at station history) (lines_at station after) _ (adds_go station history after (call_adds given station octet history))
         (quiet_call station (HostOctet octet) notes history none)
     by (inr empty) =
         let setup = setup_at given station in
         let facts = facts_at given station history in
-        let number = number_of station history in
+        let number = numbers_at station history in
+        let handle = empty.handle in
         let notes = notes_after setup facts (HostOctet octet) in
         let after = after_call given station (HostOctet octet) history in
-        let takes = octet_taken number setup (past_of station history) octet one eight in
-        let empties = empties_of setup 0 (past_of station history) in
-        one_pays number (lines_at station history) (lines_at station after) takes.kept
-        (adds_go station history after (call_adds given station octet history one)) are
-        (one_call station (HostOctet octet) notes history empty.notes_are)
-        (kept_one_more number ahead.so_far takes.kept (count_fed 0 (result_of facts.octets octet) 0) empties (link_at 0 facts.links)
-        (link_at 0 (facts_after setup facts (HostOctet octet)).links) empty.link empty.found (ap (link_at 0) empty.links_are) empty.counts ahead.has
-        (takes.has ahead.so_far empties ahead.has))
+        let takes = octet_taken number setup (past_of station history) held octet eight own ahead.under in
+        let empties = λ (under : ℕ). empties_of setup under (past_of station history) in
+        let below = below_from 0 handle facts.links empty.link empty.found in
+        let many = (own_handles setup (past_of station history)).many in
+        one_pays number handle (lines_at station history) (lines_at station after) takes.kept (omega (arith, below, many, few))
+        (adds_go station history after (call_adds given station octet history)) are
+        (one_call station (HostOctet octet) notes history handle empty.notes_are)
+        (kept_one_more (number handle) ahead.so_far takes.kept (count_fed handle (result_of facts.octets octet) 0) (empties handle) empty.link empty.link empty.counts
+        (ahead.has handle empty.link empty.found)
+        (takes.has ahead.so_far empties ahead.has handle empty.link (ap (link_at handle) empty.links_are ∙ empty.found)))
 
-paid_credits : (number now : ℕ) (first before after : Lines) (kept : List Submitted) (facts then_facts : Facts) (left more : List ℕ)
-    → now ≡ number → kept_left number facts more ≡ kept ++ kept_left number then_facts left → IsPaid before after kept
-    → AreCredited number first before facts more → AreCredited now first after then_facts left
-paid_credits number now first before after kept facts then_facts left more same parts paid credited =
-    subst (λ n. AreCredited n first after then_facts left) (sym same)
+paid_credits : (number now : ℕ → ℕ) (first before after : Lines) (kept : List Submitted) (facts then_facts : Facts) (held then_held : List OpenUnder) (left more : List ℕ)
+    → now ≡ number → kept_left held facts more ≡ kept ++ kept_left then_held then_facts left → IsPaid before after kept
+    → AreCredited number first before facts held more → AreCredited now first after then_facts then_held left
+paid_credits number now first before after kept facts then_facts held then_held left more same parts paid credited =
+    subst (λ n. AreCredited n first after then_facts then_held left) (sym same)
     (record {
       links = paid.goes.links number credited.links;
       credits = λ link.
           let had = credited.credits link in
           let pays = paid.pays link in
-          let both = ap (empties_in link) parts ∙ empties_append link kept (kept_left number then_facts left) in
+          let both = ap (empties_in link) parts ∙ empties_append link kept (kept_left then_held then_facts left) in
           let submitted = ap (empties_in link) paid.goes.submitted in
           omega (arith, had, pays, both, submitted);
     })
 
-call_credited : (given : Given) (station octet : ℕ) (first : Lines) (left : List ℕ) (history : List Event) → (setup_at given station).links ≤ 1
-    → (setup_at given station).host_buffers ≡ 8 → AheadAt given station (octet ∷ left) history → CreditedAt given station first (octet ∷ left) history
-    → CreditedAt given station first left (after_call given station (HostOctet octet) history)
-call_credited given station octet first left history one eight ahead credited =
+call_credited : (given : Given) (station octet : ℕ) (first : Lines) (held : List OpenUnder) (left : List ℕ) (history : List Event) → (setup_at given station).links ≤ 4096
+    → (setup_at given station).host_buffers ≡ 8 → HaveOwnNumbers given station history → AheadAt given station held (octet ∷ left) history
+    → CreditedAt given station first held (octet ∷ left) history
+    → CreditedAt given station first (held_then given station octet history held) left (after_call given station (HostOctet octet) history)
+call_credited given station octet first held left history few eight own ahead credited =
     let setup = setup_at given station in
     let facts = facts_at given station history in
-    let number = number_of station history in
+    let number = numbers_at station history in
     let after = after_call given station (HostOctet octet) history in
-    subst (λ now. AreCredited (number_of station after) first (lines_at station after) now left) (sym (own_facts given station (HostOctet octet) history))
-    (paid_credits number (number_of station after) first (lines_at station history) (lines_at station after)
-    (octet_taken number setup (past_of station history) octet one eight).kept facts (facts_after setup facts (HostOctet octet)) left (octet ∷ left)
-    (same_number given station octet history) (octet_left number setup (past_of station history) octet left one eight)
-    (call_paid given station octet left history one eight ahead credited.links) credited)
+    subst (λ now. AreCredited (numbers_at station after) first (lines_at station after) now (held_then given station octet history held) left)
+    (sym (own_facts given station (HostOctet octet) history))
+    (paid_credits number (numbers_at station after) first (lines_at station history) (lines_at station after)
+    (octet_taken number setup (past_of station history) held octet eight own ahead.under).kept facts (facts_after setup facts (HostOctet octet))
+    held (held_then given station octet history held) left (octet ∷ left)
+    (same_numbers given station octet history) (octet_left number setup (past_of station history) held octet left eight own ahead.under)
+    (call_paid given station octet held left history few eight own ahead credited.links) credited)
 
-octets_credited : (given : Given) (station : ℕ) (first : Lines) (left : List ℕ) (history : List Event) → (setup_at given station).links ≤ 1
-    → (setup_at given station).host_buffers ≡ 8 → AheadAt given station left history → CreditedAt given station first left history
-    → CreditedAt given station first [] (after_octets given station left history)
-octets_credited given station first [] history one eight ahead credited = credited
-octets_credited given station first (octet ∷ left) history one eight ahead credited =
-    octets_credited given station first left (after_call given station (HostOctet octet) history) one eight
-    (call_ahead given station octet left history one eight ahead) (call_credited given station octet first left history one eight ahead credited)
+abbrev AllCredited : Lines → Lines → Type 0
+AllCredited first lines = (link : ℕ) → credited_on link lines + empties_on link first ≤ credited_on link first + empties_on link lines
+
+octets_credited : (given : Given) (station : ℕ) (first : Lines) (held : List OpenUnder) (left : List ℕ) (history : List Event) → (setup_at given station).links ≤ 4096
+    → (setup_at given station).host_buffers ≡ 8 → HaveOwnNumbers given station history → AheadAt given station held left history
+    → CreditedAt given station first held left history → AllCredited first (lines_at station (after_octets given station left history))
+octets_credited given station first held [] history few eight own ahead credited = λ link. let counted = credited.credits link in omega (arith, counted)
+octets_credited given station first held (octet ∷ left) history few eight own ahead credited =
+    octets_credited given station first (held_then given station octet history held) left (after_call given station (HostOctet octet) history) few eight
+    (octet_own given station octet history own) (call_ahead given station octet held left history eight own ahead)
+    (call_credited given station octet first held left history few eight own ahead credited)
 
 -- ---- a feed as a whole
 
-links_of_one : (number : ℕ) (place : Option OpenLink) → AreOf number (links_for number place)
-links_of_one number None = tt
-links_of_one number (Some link) = (refl, tt)
-
 -- as the octets come, the lines have what is kept of them
-record HasCome (number : ℕ) (facts : Facts) (octets : List ℕ) (before after : Lines) : Type 0 where
+record HasCome (facts : Facts) (octets : List ℕ) (before after : Lines) : Type 0 where
   sent : after.sent ≡ before.sent
   taken : after.taken ≡ before.taken
   received : after.received ≡ before.received
   credited : after.credited ≡ before.credited
-  submitted : after.submitted ≡ before.submitted ++ kept_left number facts octets
-  links : AreOf number after.links
+  submitted : after.submitted ≡ before.submitted ++ kept_left before.links facts octets
+  links : after.links ≡ before.links
 
 has_come : (given : Given) (station : ℕ) (octets : List ℕ) (history : List Event) → AreInStep given station history
-    → HasCome (number_of station history) (facts_at given station history) octets (lines_at station history)
+    → HasCome (facts_at given station history) octets (lines_at station history)
     (lines_at station (history ++ HostFed station octets ∷ []))
 has_come given station octets history step =
     let lines = lines_at station history in
-    let number = number_of station history in
-    subst (HasCome number (facts_at given station history) octets lines) (sym (fed_lines station history octets))
+    subst (HasCome (facts_at given station history) octets lines) (sym (fed_lines station history octets))
     (record {
       sent = refl;
       taken = refl;
       received = refl;
       credited = refl;
-      submitted = λ i. lines.submitted ++ kept_of 8 (step.links i) (step.taken i) (packets_framed (step.fed i) octets);
-      links = subst (AreOf number) (sym step.links) (links_of_one number (link_at 0 (facts_at given station history).links));
+      submitted = λ i. lines.submitted ++ kept_of 8 lines.links (step.taken i) (packets_framed (step.fed i) octets);
+      links = refl;
     })
 
-come_credited : (given : Given) (station : ℕ) (octets : List ℕ) (history : List Event) → AreInStep given station history
-    → CreditedAt given station (lines_at station history) octets (history ++ HostFed station octets ∷ [])
-come_credited given station octets history step =
+come_credited : (given : Given) (station : ℕ) (octets : List ℕ) (history : List Event) → AreInStep given station history → IsStationBooked given station history
+    → CreditedAt given station (lines_at station history) (lines_at station history).links octets (history ++ HostFed station octets ∷ [])
+come_credited given station octets history step booked =
     let lines = lines_at station history in
-    let number = number_of station history in
+    let number = numbers_at station history in
     let facts = facts_at given station history in
     let next = history ++ HostFed station octets ∷ [] in
     let come = has_come given station octets history step in
-    let same : number_of station next ≡ number = ap (λ (links : Links). links.link_of station 0) (links_event history (HostFed station octets)) in
+    let same : numbers_at station next ≡ number = ap (λ (links : Links). links.link_of station) (links_event history (HostFed station octets)) in
     let still : facts_at given station next ≡ facts = ap (facts_of (setup_at given station)) (event_past station history (HostFed station octets) refl) in
-    subst (λ now. AreCredited (number_of station next) lines (lines_at station next) now octets) (sym still)
-    (subst (λ n. AreCredited n lines (lines_at station next) facts octets) (sym same)
+    subst (λ now. AreCredited (numbers_at station next) lines (lines_at station next) now lines.links octets) (sym still)
+    (subst (λ n. AreCredited n lines (lines_at station next) facts lines.links octets) (sym same)
     (record {
-      links = come.links;
+      links = subst (AreOf number) (sym come.links) (all_numbered (setup_at given station).links lines.links number (is_open facts.links) booked.links);
       credits = λ link.
           let equal = ap (credits_on link) come.credited in
-          let parts = ap (empties_in link) come.submitted ∙ empties_append link lines.submitted (kept_left number facts octets) in
+          let parts = ap (empties_in link) come.submitted ∙ empties_append link lines.submitted (kept_left lines.links facts octets) in
           omega (arith, equal, parts);
     }))
 
 -- with notes of the feed after them
-come_fed : (number : ℕ) (facts : Facts) (octets : List ℕ) (first come after : Lines) → HasCome number facts octets first come → Goes come after
+come_fed : (facts : Facts) (octets : List ℕ) (first come after : Lines) → HasCome facts octets first come → Goes come after
     → (link : ℕ) → credited_on link after + empties_on link first ≤ credited_on link first + empties_on link after → IsFed link first after
-come_fed number facts octets first come after has goes link few = record {
+come_fed facts octets first come after has goes link few = record {
   sent = ap (pdus_on link) (goes.sent ∙ has.sent);
   taken = ap (pdus_on link) (goes.taken ∙ has.taken);
   received = ap (λ received. flat_map (λ (one : Received). one.octets) (filter (λ (one : Received). one.link == link) received)) (goes.received ∙ has.received);
   credited = few;
   submitted = record {
-    more = on_link link (kept_left number facts octets);
-    is = ap (on_link link) (goes.submitted ∙ has.submitted) ∙ on_link-append link first.submitted (kept_left number facts octets);
+    more = on_link link (kept_left first.links facts octets);
+    is = ap (on_link link) (goes.submitted ∙ has.submitted) ∙ on_link-append link first.submitted (kept_left first.links facts octets);
   };
 }
 
@@ -622,8 +631,9 @@ nothing_fed link lines = record {
 }
 
 -- a station that is fed something
-module _ (given : Given) (station : ℕ) (octets : List ℕ) (history : List Event) (one : (setup_at given station).links ≤ 1)
-    (eight : (setup_at given station).host_buffers ≡ 8) (step : AreInStep given station history) (submitted : IsFirstSubmitted given station history) where
+module _ (given : Given) (station : ℕ) (octets : List ℕ) (history : List Event) (few : (setup_at given station).links ≤ 4096)
+    (eight : (setup_at given station).host_buffers ≡ 8) (step : AreInStep given station history) (booked : IsStationBooked given station history)
+    (submitted : IsSubmitted given station history) where
   abbrev come_at : List Event
   come_at = history ++ HostFed station octets ∷ []
 
@@ -631,27 +641,24 @@ module _ (given : Given) (station : ℕ) (octets : List ℕ) (history : List Eve
   all_at = after_octets given station octets come_at
 
   all_adds : Adds station come_at all_at
-  all_adds = octets_add given station octets come_at one
+  all_adds = octets_add given station octets come_at
 
-  all_credited : (link : ℕ) → credited_on link (lines_at station all_at) + empties_on link (lines_at station history)
-      ≤ credited_on link (lines_at station history) + empties_on link (lines_at station all_at)
-  all_credited link =
-      let credited = octets_credited given station (lines_at station history) octets come_at one eight (fed_ahead given station octets history step submitted)
-      (come_credited given station octets history step) in
-      let counted = credited.credits link in
-      omega (arith, counted)
+  all_credited : AllCredited (lines_at station history) (lines_at station all_at)
+  all_credited =
+      octets_credited given station (lines_at station history) (lines_at station history).links octets come_at few eight (come_own given station octets history step.own)
+      (fed_ahead given station octets history step submitted) (come_credited given station octets history step booked)
 
   all_fed : (link : ℕ) → IsFed link (lines_at station history) (lines_at station all_at)
   all_fed link =
-      come_fed (number_of station history) (facts_at given station history) octets (lines_at station history) (lines_at station come_at)
+      come_fed (facts_at given station history) octets (lines_at station history) (lines_at station come_at)
       (lines_at station all_at) (has_come given station octets history step) (adds_go station come_at all_at all_adds) link (all_credited link)
 
-pub feed_is_fed : (given : Given) (station : ℕ) (octets : List ℕ) (history : List Event) → (setup_at given station).links ≤ 1
-    → (setup_at given station).host_buffers ≡ 8 → AreInStep given station history → IsSubmitted given station history
+pub feed_is_fed : (given : Given) (station : ℕ) (octets : List ℕ) (history : List Event) → (setup_at given station).links ≤ 4096
+    → (setup_at given station).host_buffers ≡ 8 → AreInStep given station history → IsStationBooked given station history → IsSubmitted given station history
     → (link : ℕ) → IsFed link (lines_at station history) (lines_at station (after_feed given station octets history))
-feed_is_fed given station [] history one eight step submitted link = nothing_fed link (lines_at station history)
-feed_is_fed given station (octet ∷ octets) history one eight step submitted link =
-    all_fed given station (octet ∷ octets) history one eight step (first_submitted given station history submitted) link
+feed_is_fed given station [] history few eight step booked submitted link = nothing_fed link (lines_at station history)
+feed_is_fed given station (octet ∷ octets) history few eight step booked submitted link =
+    all_fed given station (octet ∷ octets) history few eight step booked submitted link
 
 -- ---- in the middle of a feed
 
@@ -661,14 +668,14 @@ pub record IsInFeed (link : ℕ) (before mid after : Lines) : Type 0 where
   pub submitted : submitted_on link mid ≡ submitted_on link after
   pub credited : credited_on link mid ≤ credited_on link after
 
-front_in : (link number : ℕ) (facts : Facts) (octets : List ℕ) (first come mid after : Lines) → HasCome number facts octets first come
+front_in : (link : ℕ) (facts : Facts) (octets : List ℕ) (first come mid after : Lines) → HasCome facts octets first come
     → Goes come mid → Goes mid after → IsFed link first after → IsInFeed link first mid after
-front_in link number facts octets first come mid after has goes later whole =
+front_in link facts octets first come mid after has goes later whole =
     let credited = later.credited link in
     let counted = whole.credited in
     let empties : empties_on link after ≡ empties_on link mid = ap (empties_in link) later.submitted in
     record {
-      fed = come_fed number facts octets first come mid has goes link (omega (arith, credited, counted, empties));
+      fed = come_fed facts octets first come mid has goes link (omega (arith, credited, counted, empties));
       submitted = sym (ap (on_link link) later.submitted);
       credited = credited;
     }
@@ -683,19 +690,19 @@ longer history events event X is =
     absurd (let same = ap length is ∙ length-append history (event ∷ events) in omega (arith, same))
 
 -- for each front of the events that a feed adds
-pub feed_front : (given : Given) (station : ℕ) (octets : List ℕ) (history before rest : List Event) → (setup_at given station).links ≤ 1
-    → (setup_at given station).host_buffers ≡ 8 → AreInStep given station history → IsSubmitted given station history
+pub feed_front : (given : Given) (station : ℕ) (octets : List ℕ) (history before rest : List Event) → (setup_at given station).links ≤ 4096
+    → (setup_at given station).host_buffers ≡ 8 → AreInStep given station history → IsStationBooked given station history → IsSubmitted given station history
     → after_feed given station octets history ≡ history ++ HostFed station octets ∷ (before ++ rest)
     → (link : ℕ) → IsInFeed link (lines_at station history) (lines_at station (history ++ HostFed station octets ∷ before))
     (lines_at station (after_feed given station octets history))
-feed_front given station [] history before rest one eight step submitted is link = longer history (before ++ rest) (HostFed station []) _ is
-feed_front given station (octet ∷ octets) history before rest one eight step submitted is link =
+feed_front given station [] history before rest few eight step booked submitted is link = longer history (before ++ rest) (HostFed station []) _ is
+feed_front given station (octet ∷ octets) history before rest few eight step booked submitted is link =
     let fed = octet ∷ octets in
     let event = HostFed station fed in
     let come = history ++ event ∷ [] in
     let mid = history ++ event ∷ before in
     let after = after_feed given station fed history in
-    let adds = all_adds given station fed history one eight step (first_submitted given station history submitted) in
+    let adds = all_adds given station fed history few eight step booked submitted in
     let more_is : before ++ rest ≡ adds.more =
     append_cancel_left come (before ++ rest) adds.more (append_assoc history (event ∷ []) (before ++ rest) ∙ sym is ∙ adds.is) in
     let parts = split_are station before rest (subst (AllByRecursion (IsInFeedOf station)) (sym more_is) adds.are) in
@@ -703,6 +710,6 @@ feed_front given station (octet ∷ octets) history before rest one eight step s
     adds_go station come mid (record { more = before; is = sym (append_assoc history (event ∷ []) before); are = parts.0 }) in
     let later : Goes (lines_at station mid) (lines_at station after) =
     adds_go station mid after (record { more = rest; is = is ∙ sym (append_assoc history (event ∷ before) rest); are = parts.1 }) in
-    front_in link (number_of station history) (facts_at given station history) fed (lines_at station history) (lines_at station come)
+    front_in link (facts_at given station history) fed (lines_at station history) (lines_at station come)
     (lines_at station mid) (lines_at station after) (has_come given station fed history step) goes later
-    (feed_is_fed given station fed history one eight step submitted link)
+    (feed_is_fed given station fed history few eight step booked submitted link)

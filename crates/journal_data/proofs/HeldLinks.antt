@@ -1,13 +1,14 @@
 -- The open links that the lines of a side have are the links under its handles, in some order, each once.
-use Rattle.std.proofs.Common.{◌≡◌, ℕ, zero, suc, ◌+◌, ◌<◌, ◌≤◌, ◌==◌, Bool, true, false, Option, Some, None, List, [], ◌∷◌, ◌++◌, cond, refl, sym, ap, subst, ◌∙◌, arith}
+use Rattle.std.proofs.Common.{◌≡◌, ℕ, zero, suc, ◌+◌, ◌<◌, ◌≤◌, ◌==◌, Bool, true, false, Option, Some, None, List, [], ◌∷◌, ◌++◌, length, cond, refl, sym, ap, ◌∙◌, append_assoc, arith}
 use Rattle.std.specs.Prelude.{filter, is_some, not}
-use Rattle.std.specs.List.{find, sum_by}
+use Rattle.std.specs.List.{AllByRecursion, find, sum_by}
 use Rattle.std.specs.Option.{option_map}
 use Rattle.std.proofs.lemmas.Bool.{eq-eqb, eqb-true}
 use Rattle.std.proofs.lemmas.List.Sums.{sum_by-append, sum_by-cons, sum_by_push}
-use Rattle.open_links.specs.OpenLinks.{Links, OpenLink, link_at}
+use Rattle.open_links.specs.OpenLinks.{Links, OpenLink, link_at, link_from}
+use Rattle.open_links.proofs.Handles.{here, later}
 use Rattle.journal_data.specs.HostLines.{OpenUnder, link_under}
-use Rattle.journal_data.proofs.HostPackets.{links_for}
+use Rattle.journal_data.proofs.HostPackets.{AreUnder}
 use Rattle.journal_data.proofs.Openness.{is_open}
 
 -- what a handle adds to a sum over the open links, by the number of its link, and over all handles from one on
@@ -228,6 +229,21 @@ one_of many links number opened holds before after one are = record {
     right true none = refl
     right false none = absurd (omega (arith, none))
 
+-- so each of them has the number of the link under its handle
+pub all_numbered : (many : ℕ) (links : List OpenUnder) (number : ℕ → ℕ) (opened : ℕ → Bool) → HoldsLinks many links number opened
+    → AllByRecursion (λ (one : OpenUnder). one.link ≡ number one.handle) links
+all_numbered many links number opened holds =
+    from_front [] links (λ before after one are. (one_of many links number opened holds before after one are).number_is)
+  where
+    from_front : (front rest : List OpenUnder)
+        → ((before after : List OpenUnder) (one : OpenUnder) → front ++ rest ≡ before ++ one ∷ after → one.link ≡ number one.handle)
+        → AllByRecursion (λ (one : OpenUnder). one.link ≡ number one.handle) rest
+    from_front front [] each = tt
+    from_front front (one ∷ rest) each = (
+      each front rest one refl,
+      from_front (front ++ one ∷ []) rest (λ before after other are. each before after other (sym (append_assoc front (one ∷ []) rest) ∙ are)),
+    )
+
 -- ---- one link more, and one less
 
 pub opened_holds : (many : ℕ) (links : List OpenUnder) (number number_too : ℕ → ℕ) (opened opened_too : ℕ → Bool) (handle last : ℕ) → handle < many
@@ -299,67 +315,42 @@ holds_none many number opened none = record {
   below = λ handle on. absurd (let h : false ≡ true = sym (none handle) ∙ on in absurd cc);
 }
 
--- a station with one place for links
-only_one : (links : List OpenUnder) (many : ℕ) (number : ℕ → ℕ) (opened : ℕ → Bool) → many ≤ 1 → HoldsLinks many links number opened
-    → links ≡ cond (opened 0) (record { link = number 0; handle = 0 } ∷ []) []
-only_one links many number opened few holds = by links refl (opened 0) refl
+-- ---- the links of a controller
+
+-- under each handle is the number of its link
+pub links_under : (many : ℕ) (links : List OpenUnder) (number : ℕ → ℕ) (places : Links) → HoldsLinks many links number (is_open places) → AreUnder number places links
+links_under many links number places holds handle = under_is many links number (is_open places) holds handle ∙ by (link_at handle places)
   where
-    count : sum_by (λ (one : OpenUnder). 1) links ≡ sum_open (λ one. 1) number opened 0 many
-    count = holds.sums (λ one. 1)
-
-    most : (many : ℕ) → many ≤ 1 → sum_open (λ one. 1) number opened 0 many ≤ cond (opened 0) 1 0
-    most zero few = omega arith
-    most (suc zero) few = omega arith
-    most (suc (suc many)) few = absurd (omega (arith, few))
-
-    wrong : (test : ℕ → ℕ → Bool) → ((handle : ℕ) → opened handle ≡ true → test (number handle) handle ≡ true)
-        → sum_by (λ (one : OpenUnder). cond (test one.link one.handle) 0 1) links ≡ 0
-    wrong test right = nothing_in many links number opened holds (λ one. cond (test one.link one.handle) 0 1) (λ handle on. ap (λ (b : Bool). cond b 0 1) (right handle on))
-
-    first_only : (handle : ℕ) → opened handle ≡ true → handle ≡ 0
-    first_only handle on = let below = holds.below handle on in omega (arith, below, few)
-
-    no_wrong : (b : Bool) → cond b 0 1 ≤ 0 → b ≡ true
-    no_wrong true none = refl
-    no_wrong false none = absurd (omega (arith, none))
-
-    one_is : (one : OpenUnder) → links ≡ one ∷ [] → one ≡ record { link = number 0; handle = 0 }
-    one_is one are =
-        let handle = wrong (λ link handle. handle == 0) (λ handle on. eq-eqb handle 0 (first_only handle on)) in
-        let link = wrong (λ link handle. link == number 0) (λ handle on. eq-eqb (number handle) (number 0) (ap number (first_only handle on))) in
-        let handle_parts = ap (sum_by (λ (x : OpenUnder). cond (x.handle == 0) 0 1)) are ∙ sum_by-cons (λ (x : OpenUnder). cond (x.handle == 0) 0 1) one [] in
-        let link_parts = ap (sum_by (λ (x : OpenUnder). cond (x.link == number 0) 0 1)) are ∙ sum_by-cons (λ (x : OpenUnder). cond (x.link == number 0) 0 1) one [] in
-        let right_handle = eqb-true one.handle 0 (no_wrong (one.handle == 0) (omega (arith, handle, handle_parts))) in
-        let right_link = eqb-true one.link (number 0) (no_wrong (one.link == number 0) (omega (arith, link, link_parts))) in
-        λ i. record { link = right_link i; handle = right_handle i }
-
-    bound : (b : Bool) → cond b 1 0 ≤ 1
-    bound true = omega arith
-    bound false = omega arith
-
-    by : (all : List OpenUnder) → links ≡ all → (on : Bool) → opened 0 ≡ on → links ≡ cond (opened 0) (record { link = number 0; handle = 0 } ∷ []) []
-    by [] are false is = are ∙ ap (λ (b : Bool). cond b (record { link = number 0; handle = 0 } ∷ []) []) (sym is)
-    by [] are true is =
-        let least = where_open many links number opened holds 0 is in
-        let none = ap (sum_by (by_handle (λ one. 1) 0)) are in
-        absurd (omega (arith, least, none))
-    by (one ∷ []) are true is =
-        are ∙ ap (λ (x : OpenUnder). x ∷ []) (one_is one are) ∙ ap (λ (b : Bool). cond b (record { link = number 0; handle = 0 } ∷ []) []) (sym is)
-    by (one ∷ []) are false is =
-        let some = ap (sum_by (λ (x : OpenUnder). 1)) are in
-        let few_of = most many few in
-        let off = ap {B = ℕ} (λ (b : Bool). cond b 1 0) is in
-        absurd (omega (arith, some, few_of, off, count))
-    by (one ∷ two ∷ rest) are on is =
-        let some = ap (sum_by (λ (x : OpenUnder). 1)) are ∙ sum_by-cons (λ (x : OpenUnder). 1) one (two ∷ rest) in
-        let more = sum_by-cons (λ (x : OpenUnder). 1) two rest in
-        let few_of = most many few in
-        absurd (omega (arith, some, more, few_of, count, bound (opened 0)))
-
-pub one_held : (links : List OpenUnder) (many : ℕ) (number : ℕ → ℕ) (places : Links) → many ≤ 1 → HoldsLinks many links number (is_open places)
-    → links ≡ links_for (number 0) (link_at 0 places)
-one_held links many number places few holds = only_one links many number (is_open places) few holds ∙ by (link_at 0 places)
-  where
-    by : (place : Option OpenLink) → cond (is_some place) (record { link = number 0; handle = 0 } ∷ []) [] ≡ links_for (number 0) place
+    by : (place : Option OpenLink) → cond (is_some place) (Some (number handle)) None ≡ option_map (λ (link : OpenLink). number handle) place
     by None = refl
     by (Some link) = refl
+
+-- a sum over them is the one over the places
+places_sum : (of : OpenUnder → ℕ) (worth : Option OpenLink → ℕ) (number : ℕ → ℕ) (opened : ℕ → Bool) (first : ℕ) (places : Links) → worth None ≡ 0
+    → ((handle : ℕ) → first ≤ handle → opened handle ≡ is_some (link_from first handle places))
+    → ((handle : ℕ) (link : OpenLink) → first ≤ handle → link_from first handle places ≡ Some link → of (record { link = number handle; handle = handle }) ≡ worth (Some link))
+    → sum_open of number opened first (length places) ≡ sum_by worth places
+places_sum of worth number opened first [] none opens each = refl
+places_sum of worth number opened first (place ∷ places) none opens each =
+    let one = here_is place (here first place places) in
+    let rest = places_sum of worth number opened (first + 1) places none
+    (λ handle from. opens handle (omega (arith, from)) ∙ ap (λ (p : Option OpenLink). is_some p) (later first handle place places (omega (arith, from))))
+    (λ handle link from at. each handle link (omega (arith, from)) (later first handle place places (omega (arith, from)) ∙ at)) in
+    let parts = sum_by-cons worth place places in
+    omega (arith, one, rest, parts)
+  where
+    here_is : (one : Option OpenLink) → link_from first first (place ∷ places) ≡ one
+        → ◌≡◌ {A = ℕ} (cond (opened first) (of (record { link = number first; handle = first })) 0) (worth place)
+    here_is None at =
+        ap (λ (b : Bool). cond b (of (record { link = number first; handle = first })) 0) (opens first (omega arith) ∙ ap (λ (p : Option OpenLink). is_some p) at)
+        ∙ sym none ∙ ap worth (sym at ∙ here first place places)
+    here_is (Some link) at =
+        ap (λ (b : Bool). cond b (of (record { link = number first; handle = first })) 0) (opens first (omega arith) ∙ ap (λ (p : Option OpenLink). is_some p) at)
+        ∙ each first link (omega arith) at ∙ ap worth (sym at ∙ here first place places)
+
+pub sum_of_places : (of : OpenUnder → ℕ) (worth : Option OpenLink → ℕ) (many : ℕ) (links : List OpenUnder) (number : ℕ → ℕ) (places : Links) → many ≡ length places
+    → worth None ≡ 0 → ((handle : ℕ) (link : OpenLink) → link_at handle places ≡ Some link → of (record { link = number handle; handle = handle }) ≡ worth (Some link))
+    → HoldsLinks many links number (is_open places) → sum_by of links ≡ sum_by worth places
+sum_of_places of worth many links number places same none each holds =
+    holds.sums of ∙ ap (sum_open of number (is_open places) 0) same
+    ∙ places_sum of worth number (is_open places) 0 places none (λ handle from. refl) (λ handle link from at. each handle link at)

@@ -1,10 +1,9 @@
--- Which packets the octets of a host complete, one octet after another, and what each of them gives the open link.
-use Rattle.std.proofs.Common.{◌≡◌, ℕ, suc, ◌+◌, ◌≤◌, ◌==◌, Bool, true, false, cond, min, List, [], ◌∷◌, ◌++◌, length, refl, sym, ap, subst, ◌∙◌, append-nil, append_assoc, arith}
+-- Which packets the octets of a host complete, one octet after another, and what each of them gives the open links.
+use Rattle.std.proofs.Common.{◌≡◌, ℕ, suc, ◌+◌, ◌==◌, Bool, true, false, cond, min, List, [], ◌∷◌, ◌++◌, length, refl, sym, ap, subst, ◌∙◌, append-nil, append_assoc, arith}
 use Rattle.std.specs.Prelude.{◌<◌, ◌&&◌, ◌||◌, drop, filter, map, take, nat_le, nat_lt, nat_eq, not, Option, Some, None, ⊤, if◌then◌else◌}
 use Rattle.std.specs.List.{flat_map, starts_with}
 use Rattle.std.specs.Option.{option_map}
-use Rattle.std.proofs.lemmas.Bool.{eq-eqb, eqb-true, false≢true, leb-true}
-use Rattle.std.proofs.lemmas.Bool.Decides.{nat_tests}
+use Rattle.std.proofs.lemmas.Bool.{eq-eqb, eqb-false, eqb-true, false≢true, leb-true}
 use Rattle.std.proofs.lemmas.List.{drop_all, drop_at, length-append, length-take, map-append}
 use Rattle.std.proofs.lemmas.List.Concat.{flat_map-append}
 use Rattle.std.proofs.lemmas.List.Elements.{filter-append}
@@ -28,7 +27,8 @@ use Rattle.link_model.proofs.Pasts.{grows}
 use Rattle.open_links.specs.declared.offers.Offer.{Offer}
 use Rattle.open_links.specs.declared.offers.Offer.TheVariants.{NoLink, Empty, Overflow, Kept}
 use Rattle.open_links.specs.Data.{buffers_in, buffers_taken, links_offered, offer_by}
-use Rattle.open_links.specs.OpenLinks.{Links, OpenLink, facts_in, link_after, link_at, without_links}
+use Rattle.open_links.specs.OpenLinks.{Links, OpenLink, facts_in, link_after, link_at, link_from, with_change_from, without_links}
+use Rattle.open_links.proofs.Handles.{changed_is, other_stays}
 use Rattle.hci_cmd.specs.declared.command.Command.{Command as HciCommand}
 use Rattle.hci_cmd.specs.declared.command.Command.TheVariants.{Reset}
 use Rattle.hci_cmd.specs.declared.command.CmdRead.{CmdRead}
@@ -42,10 +42,9 @@ use Rattle.controller_model.specs.Host.{commands_accepted_by, commands_accepted_
 use Rattle.controller_model.specs.Side.{facts_after, facts_fed, facts_of, first_result, result_of}
 use Rattle.controller_model.specs.Step.{Step, HostOctet}
 use Rattle.controller_model.proofs.Feds.{frames_more}
-use Rattle.controller_model.proofs.Handles.{own_handles}
 use Rattle.controller_model.proofs.Resets.{resets}
 use Rattle.controller_model.specs.Since.{count_fed}
-use Rattle.journal_data.specs.HostLines.{OpenUnder, Submitted, buffers_of, has_octets, is_dropped, is_reset, kept_of, kept_one, packet_in, packets_framed}
+use Rattle.journal_data.specs.HostLines.{OpenUnder, Submitted, buffers_of, has_octets, is_dropped, is_reset, kept_of, kept_one, link_under, packet_in, packets_framed}
 
 -- ---- octet by octet
 
@@ -162,11 +161,6 @@ result_body before octet = subst HasBody (sym (result_is before octet)) (fed_bod
 
 -- ---- packets that no link takes, and Resets
 
--- how the lines have a place for a link, with this number
-abbrev pub links_for : ℕ → Option OpenLink → List OpenUnder
-links_for number None = []
-links_for number (Some link) = record { link = number; handle = 0 } ∷ []
-
 none_or : (resets : Bool) (kept : List Submitted) → kept ≡ [] → (if resets then [] else kept) ≡ []
 none_or true kept none = refl
 none_or false kept none = none
@@ -191,9 +185,19 @@ pub record HasAll (number : ℕ) (submitted : List Submitted) (empties : ℕ) (l
   pub data_is : filter has_octets (on_link number submitted) ≡ (facts_in link).outgoing.given
   pub empties_are : length (filter has_none (on_link number submitted)) ≡ empties
 
-abbrev pub PlaceHas : ℕ → List Submitted → ℕ → Option OpenLink → Type 0
-PlaceHas number submitted empties None = ⊤
-PlaceHas number submitted empties (Some link) = HasAll number submitted empties link
+-- so it is for each open link, by the number of the link under a handle
+abbrev pub AllHave : (ℕ → ℕ) → List Submitted → (ℕ → ℕ) → Links → Type 0
+AllHave number submitted empties links =
+    (handle : ℕ) (link : OpenLink) → link_at handle links ≡ Some link → HasAll (number handle) submitted (empties handle) link
+
+-- under each handle these have the number of the link that is open there
+abbrev pub AreUnder : (ℕ → ℕ) → Links → List OpenUnder → Type 0
+AreUnder number links held = (handle : ℕ) → link_under handle held ≡ option_map (λ (link : OpenLink). number handle) (link_at handle links)
+
+-- the numbers of open links differ
+abbrev pub HaveOwn : (ℕ → ℕ) → Links → Type 0
+HaveOwn number links = (one other : ℕ) (a b : OpenLink) → link_at one links ≡ Some a → link_at other links ≡ Some b → (one == other) ≡ false
+    → (number one == number other) ≡ false
 
 pub on_link-append : (number : ℕ) (xs ys : List Submitted) → on_link number (xs ++ ys) ≡ on_link number xs ++ on_link number ys
 on_link-append number xs ys =
@@ -220,31 +224,41 @@ has_more number before kept count more old new given empty has = record {
       omega (arith, parts, both, first, empty);
 }
 
+-- packets of which none is of the link
+has_none_of : (number : ℕ) (before kept : List Submitted) (count : ℕ) (link : OpenLink) → on_link number kept ≡ [] → HasAll number before count link
+    → HasAll number (before ++ kept) (0 + count) link
+has_none_of number before kept count link none has =
+    has_more number before kept count 0 link link
+    (sym (append-nil (facts_in link).outgoing.given)
+    ∙ ap (λ (packets : List HostData). (facts_in link).outgoing.given ++ filter has_octets packets) (sym none))
+    (ap (λ (packets : List HostData). length (filter has_none packets)) none) has
+
 -- ---- packets change the links as the lines say
 
-pub record Takes (number : ℕ) (before after : Links) (packets : List HostPacket) (empties : ℕ) : Type 0 where
+-- the links that the lines have, by what an octet completes: none after a Reset
+abbrev pub held_after : Fed → List OpenUnder → List OpenUnder
+held_after (Packet (Command opcode body)) held = if is_reset opcode body.items then [] else held
+held_after (Packet (Acl handle start count body)) held = held
+held_after LostSync held = held
+held_after More held = held
+
+pub record Takes (number : ℕ → ℕ) (before after : Links) (held then_held : List OpenUnder) (packets : List HostPacket) (empties : ℕ → ℕ) : Type 0 where
   -- what is kept of these packets
   pub kept : List Submitted
-  pub ahead : (later : List HostPacket) → kept_of 8 (links_for number (link_at 0 before)) (buffers_taken before) (packets ++ later)
-      ≡ kept ++ kept_of 8 (links_for number (link_at 0 after)) (buffers_taken after) later
-  pub has : (submitted : List Submitted) (count : ℕ) → PlaceHas number submitted count (link_at 0 before)
-      → PlaceHas number (submitted ++ kept) (empties + count) (link_at 0 after)
+  pub under : AreUnder number after then_held
+  pub ahead : (later : List HostPacket) → kept_of 8 held (buffers_taken before) (packets ++ later) ≡ kept ++ kept_of 8 then_held (buffers_taken after) later
+  pub has : (submitted : List Submitted) (count : ℕ → ℕ) → AllHave number submitted count before
+      → AllHave number (submitted ++ kept) (λ handle. empties handle + count handle) after
 
-same_place : (number : ℕ) (submitted : List Submitted) (count : ℕ) (place : Option OpenLink) → PlaceHas number submitted count place
-    → PlaceHas number (submitted ++ []) (0 + count) place
-same_place number submitted count place has =
-    let zero_more : 0 + count ≡ count = omega arith in
-    subst (λ (xs : List Submitted). PlaceHas number xs (0 + count) place) (sym (append-nil submitted))
-    (subst (λ (n : ℕ). PlaceHas number submitted n place) (sym zero_more) has)
-
-nothing_taken : (number : ℕ) (links : Links) → Takes number links links [] 0
-nothing_taken number links = record {
+nothing_taken : (number : ℕ → ℕ) (links : Links) (held : List OpenUnder) → AreUnder number links held → Takes number links links held held [] (λ handle. 0)
+nothing_taken number links held under = record {
   kept = [];
+  under = under;
   ahead = λ later. refl;
-  has = λ submitted count has. same_place number submitted count (link_at 0 links) has;
+  has = λ submitted count has handle link at. has_none_of (number handle) submitted [] (count handle) link refl (has handle link at);
 }
 
--- ---- a packet of data under the handle of the link
+-- ---- a packet of data under the handle of a link
 
 some_octets : (start : Bool) (octet : ℕ) (octets : List ℕ) → has_octets (record { start = start; body = octet ∷ octets }) ≡ true
 some_octets start octet octets = ap not (none (length octets))
@@ -324,173 +338,225 @@ offer_with none more full = if none then Empty else (if more || full then Overfl
 abbrev empties_with : Bool → ℕ
 empties_with none = if none then 1 else 0
 
-taken_on : (link : OpenLink) → buffers_taken (Some link ∷ []) ≡ length (facts_in link).outgoing.packets
-taken_on link = sum_by-cons buffers_in (Some link) [] ∙ (λ i. more i)
-  where
-    more : buffers_in (Some link) + 0 ≡ length (facts_in link).outgoing.packets
-    more = omega arith
-
-record IsGiven (number : ℕ) (link : OpenLink) (after : Links) (kept : List Submitted) (empties : ℕ) : Type 0 where
-  changed : OpenLink
-  after_is : after ≡ Some changed ∷ []
-  taken : buffers_taken after ≡ buffers_taken (Some link ∷ []) + buffers_of kept
+-- what becomes of the link
+record IsGiven (number : ℕ) (link changed : OpenLink) (kept : List Submitted) (empties : ℕ) : Type 0 where
+  waits : length (facts_in changed).outgoing.packets ≡ length (facts_in link).outgoing.packets + buffers_of kept
   has : (submitted : List Submitted) (count : ℕ) → HasAll number submitted count link → HasAll number (submitted ++ kept) (empties + count) changed
 
-dropped : (number : ℕ) (link : OpenLink) → IsGiven number link (Some link ∷ []) [] 0
-dropped number link = record {
-  changed = link;
-  after_is = refl;
-  taken = omega arith;
-  has = λ submitted count has. same_place number submitted count (Some link) has;
-}
+changed_by : Offer → Bool → List ℕ → OpenLink → OpenLink
+changed_by Kept start body link = with_packet start body link
+changed_by NoLink start body link = link
+changed_by Empty start body link = link
+changed_by Overflow start body link = link
+
+dropped : (number : ℕ) (link : OpenLink) → IsGiven number link link [] 0
+dropped number link = record { waits = omega arith; has = λ submitted count has. has_none_of number submitted [] count link refl has }
 
 is_given : (number : ℕ) (link : OpenLink) (none more full start : Bool) (body : List ℕ) → IsCounted none more body
-    → IsGiven number link (links_offered (offer_with none more full) 0 start body (Some link ∷ [])) (kept_by number none more full start body) (empties_with none)
-is_given number link true false full start [] is = record {
-  changed = link;
-  after_is = refl;
-  taken = omega arith;
-  has = empty_kept number link start;
-}
+    → IsGiven number link (changed_by (offer_with none more full) start body link) (kept_by number none more full start body) (empties_with none)
+unfolding changed_by
+is_given number link true false full start [] is = record { waits = omega arith; has = empty_kept number link start }
 is_given number link true true full start [] is = let no : true ≡ false = is.1 in absurd (cc no)
 is_given number link false more full start [] is = let no : false ≡ true = is.0 in absurd (cc no)
 is_given number link true more full start (octet ∷ octets) is = absurd (cc is)
 is_given number link false true full start (octet ∷ octets) is = dropped number link
 is_given number link false false true start (octet ∷ octets) is = dropped number link
 is_given number link false false false start (octet ∷ octets) is = record {
-  changed = with_packet start (octet ∷ octets) link;
-  after_is = refl;
-  taken =
+  waits =
       let some = ap (λ (full : Bool). length (cond full (one_on number start (octet ∷ octets) ∷ []) [])) (some_octets start octet octets) in
-      let old = taken_on link in
-      let new = taken_on (with_packet start (octet ∷ octets) link) in
       let more = packets_are link start octet octets in
-      omega (arith, some, old, new, more);
+      omega (arith, some, more);
   has = filled_kept number link start octet octets;
 }
 
--- under the handle of the link
-given_taken : (number count : ℕ) (start : Bool) (body : ArrayVec ℕ) (link : OpenLink) (after : Links) (empties : ℕ)
-    → IsGiven number link after (kept_one (Some number) (is_dropped 8 (buffers_taken (Some link ∷ [])) count) start body.items) empties
-    → Takes number (Some link ∷ []) after (Acl 0 start count body ∷ []) empties
-given_taken number count start body link after empties is =
-    let taken = buffers_taken (Some link ∷ []) in
-    let kept = kept_one (Some number) (is_dropped 8 taken count) start body.items in
-    let changed = is.changed in
-    subst (λ (links : Links). Takes number (Some link ∷ []) links (Acl 0 start count body ∷ []) empties) (sym is.after_is)
-    (record {
-      kept = kept;
-      ahead = λ later. ap (λ (n : ℕ). kept ++ kept_of 8 (links_for number (Some link)) n later)
-          (sym is.taken ∙ ap buffers_taken is.after_is);
-      has = is.has;
-    })
+-- what is kept is of this link alone
+kept_apart : (number other : ℕ) (drops start : Bool) (body : List ℕ) → (number == other) ≡ false → on_link other (kept_one (Some number) drops start body) ≡ []
+kept_apart number other true start body differs = refl
+kept_apart number other false start body differs =
+    ap (λ (b : Bool). map (λ (one : Submitted). one.packet) (cond b (one_on number start body ∷ []) [])) differs
 
-own_taken : (number count : ℕ) (start : Bool) (body : ArrayVec ℕ) (link : OpenLink) → length body.items ≡ min PAYLOAD_OCTETS count
-    → Takes number (Some link ∷ [])
-    (links_offered (offer_by (Some link) count (buffers_taken (Some link ∷ []) == 8)) 0 start body.items (Some link ∷ []))
-    (Acl 0 start count body ∷ []) (if count == 0 then 1 else 0)
-own_taken number count start body link long =
-    given_taken number count start body link _ (if count == 0 then 1 else 0)
-    (is_given number link (count == 0) (nat_lt 251 count) (buffers_taken (Some link ∷ []) == 8) start body.items
-    (body_counted count body.items long))
+-- ---- the buffers that are taken
+
+-- a change of one link
+taken_changed : (change : OpenLink → OpenLink) (first handle : ℕ) (links : Links) (link : OpenLink) → link_from first handle links ≡ Some link
+    → buffers_taken (with_change_from first handle (option_map change) links) + length (facts_in link).outgoing.packets
+    ≡ buffers_taken links + length (facts_in (change link)).outgoing.packets
+taken_changed change first handle [] link at = absurd (let h : None ≡ Some link = at in absurd cc)
+taken_changed change first handle (place ∷ links) link at = by (first == handle) at (taken_changed change (first + 1) handle links link)
+  where
+    here : (one : Option OpenLink) → one ≡ Some link
+        → buffers_taken (option_map change one ∷ links) + length (facts_in link).outgoing.packets ≡ buffers_taken (one ∷ links) + length (facts_in (change link)).outgoing.packets
+    here None is = absurd (let h : None ≡ Some link = is in absurd cc)
+    here (Some one) is =
+        let same : one ≡ link = cc in
+        let before = sum_by-cons buffers_in (Some one) links in
+        let after = sum_by-cons buffers_in (Some (change one)) links in
+        let waits = ap (λ (l : OpenLink). length (facts_in l).outgoing.packets) same in
+        let now = ap (λ (l : OpenLink). length (facts_in (change l)).outgoing.packets) same in
+        omega (arith, before, after, waits, now)
+
+    by : (own : Bool) → (if own then place else link_from (first + 1) handle links) ≡ Some link
+        → (link_from (first + 1) handle links ≡ Some link
+        → buffers_taken (with_change_from (first + 1) handle (option_map change) links) + length (facts_in link).outgoing.packets
+        ≡ buffers_taken links + length (facts_in (change link)).outgoing.packets)
+        → buffers_taken (if own then option_map change place ∷ links else place ∷ with_change_from (first + 1) handle (option_map change) links)
+        + length (facts_in link).outgoing.packets ≡ buffers_taken (place ∷ links) + length (facts_in (change link)).outgoing.packets
+    by true found rest = here place found
+    by false found rest =
+        let before = sum_by-cons buffers_in place links in
+        let after = sum_by-cons buffers_in place (with_change_from (first + 1) handle (option_map change) links) in
+        let more = rest found in
+        omega (arith, before, after, more)
+
+-- the links after the packet
+record IsOffered (handle : ℕ) (links after : Links) (link changed : OpenLink) : Type 0 where
+  at : link_at handle after ≡ Some changed
+  others : (other : ℕ) → (handle == other) ≡ false → link_at other after ≡ link_at other links
+  taken : buffers_taken after + length (facts_in link).outgoing.packets ≡ buffers_taken links + length (facts_in changed).outgoing.packets
+
+unchanged : (handle : ℕ) (links : Links) (link : OpenLink) → link_at handle links ≡ Some link → IsOffered handle links links link link
+unchanged handle links link at = record { at = at; others = λ other differs. refl; taken = refl }
+
+offered : (offer : Offer) (handle : ℕ) (start : Bool) (body : List ℕ) (links : Links) (link : OpenLink) → link_at handle links ≡ Some link
+    → IsOffered handle links (links_offered offer handle start body links) link (changed_by offer start body link)
+unfolding changed_by
+offered Kept handle start body links link at = record {
+  at = changed_is (option_map (with_packet start body)) 0 handle links refl ∙ ap (option_map (with_packet start body)) at;
+  others = λ other differs. other_stays (option_map (with_packet start body)) 0 handle other links (λ same. eqb-false handle other differs (sym same));
+  taken = taken_changed (with_packet start body) 0 handle links link at;
+}
+offered NoLink handle start body links link at = unchanged handle links link at
+offered Empty handle start body links link at = unchanged handle links link at
+offered Overflow handle start body links link at = unchanged handle links link at
 
 -- the packets of no octet are counted by handle and number of octets
-abbrev empties_by : ℕ → ℕ → ℕ
-empties_by handle count = if (handle == 0) && (count == 0) then 1 else 0
+abbrev empties_by : ℕ → ℕ → ℕ → ℕ
+empties_by handle count other = if (handle == other) && (count == 0) then 1 else 0
 
--- under another handle
-other_kept : (number handle : ℕ) (drops start : Bool) (body : List ℕ) (taken : ℕ) (later : List HostPacket) (place : Option OpenUnder)
-    → place ≡ None → let kept = kept_one (option_map (λ (one : OpenUnder). one.link) place) drops start body in
-    kept ++ kept_of 8 (record { link = number; handle = 0 } ∷ []) (taken + buffers_of kept) later
-    ≡ kept_of 8 (record { link = number; handle = 0 } ∷ []) taken later
-other_kept number handle drops start body taken later None is =
-    let zero_more : taken + 0 ≡ taken = omega arith in
-    ap (λ (n : ℕ). kept_of 8 (record { link = number; handle = 0 } ∷ []) n later) zero_more
-other_kept number handle drops start body taken later (Some one) is = absurd (cc is)
+empties_own : (own none : Bool) → own ≡ true → (if own && none then 1 else 0) ≡ empties_with none
+empties_own true none is = refl
+empties_own false none is = absurd cc
 
-zero_not : (handle : ℕ) → (0 == handle) ≡ false → (handle == 0) ≡ false
-zero_not handle is = grind (arith, nat_tests)
+empties_other : (own none : Bool) → own ≡ false → ◌≡◌ {A = ℕ} (if own && none then 1 else 0) 0
+empties_other false none is = refl
+empties_other true none is = absurd cc
 
-other_taken : (number handle count : ℕ) (start : Bool) (body : ArrayVec ℕ) (link : OpenLink) → (0 == handle) ≡ false
-    → Takes number (Some link ∷ []) (Some link ∷ []) (Acl handle start count body ∷ []) (empties_by handle count)
-other_taken number handle count start body link differs =
-    let taken = buffers_taken (Some link ∷ []) in
-    let one : OpenUnder = record { link = number; handle = 0 } in
-    let none : empties_by handle count ≡ 0 = ap (λ (b : Bool). if b && (count == 0) then 1 else 0) (zero_not handle differs) in
-    record {
-      kept = [];
-      ahead = λ later. other_kept number handle (is_dropped 8 taken count) start body.items taken later (cond (0 == handle) (Some one) None)
-          (ap (λ (b : Bool). cond b (Some one) None) differs);
-      has = λ submitted before has.
-          subst (λ (n : ℕ). PlaceHas number (submitted ++ []) (n + before) (Some link)) (sym none) (same_place number submitted before (Some link) has);
-    }
+module _ (number : ℕ → ℕ) (links : Links) (held : List OpenUnder) (own : HaveOwn number links) (under : AreUnder number links held) where
+  -- under the handle of a link
+  link_taken : (handle count : ℕ) (start : Bool) (body : ArrayVec ℕ) (link changed : OpenLink) (after : Links) → link_at handle links ≡ Some link
+      → IsOffered handle links after link changed
+      → IsGiven (number handle) link changed (kept_one (Some (number handle)) (is_dropped 8 (buffers_taken links) count) start body.items) (empties_with (count == 0))
+      → Takes number links after held held (Acl handle start count body ∷ []) (empties_by handle count)
+  link_taken handle count start body link changed after at offered_is is =
+      let taken = buffers_taken links in
+      let kept = kept_one (Some (number handle)) (is_dropped 8 taken count) start body.items in
+      let here : link_under handle held ≡ Some (number handle) = under handle ∙ ap (option_map (λ (l : OpenLink). number handle)) at in
+      let waits = is.waits in
+      let buffers = offered_is.taken in
+      let all : taken + buffers_of kept ≡ buffers_taken after = omega (arith, waits, buffers) in
+      record {
+        kept = kept;
+        under = λ other. under_by other (handle == other) refl;
+        ahead = λ later.
+            ap (λ (found : Option ℕ). let one = kept_one found (is_dropped 8 taken count) start body.items in one ++ kept_of 8 held (taken + buffers_of one) later) here
+            ∙ ap (λ (n : ℕ). kept ++ kept_of 8 held n later) all;
+        has = λ submitted before has other one found. has_by submitted before has other one found (handle == other) refl;
+      }
+    where
+      under_by : (other : ℕ) (same : Bool) → (handle == other) ≡ same → link_under other held ≡ option_map (λ (l : OpenLink). number other) (link_at other after)
+      under_by other true same =
+          let equal = eqb-true handle other same in
+          under other ∙ ap (option_map (λ (l : OpenLink). number other)) (ap (λ n. link_at n links) (sym equal) ∙ at)
+          ∙ sym (ap (option_map (λ (l : OpenLink). number other)) (ap (λ n. link_at n after) (sym equal) ∙ offered_is.at))
+      under_by other false differs = under other ∙ ap (option_map (λ (l : OpenLink). number other)) (sym (offered_is.others other differs))
 
-link_taken : (number handle count : ℕ) (start : Bool) (body : ArrayVec ℕ) (link : OpenLink) → length body.items ≡ min PAYLOAD_OCTETS count
-    → (own : Bool) → (0 == handle) ≡ own
-    → Takes number (Some link ∷ [])
-    (links_offered (offer_by (if own then Some link else None) count (buffers_taken (Some link ∷ []) == 8)) handle start body.items (Some link ∷ []))
-    (Acl handle start count body ∷ []) (empties_by handle count)
-link_taken number handle count start body link long true same =
-    subst (λ (h : ℕ). Takes number (Some link ∷ [])
-    (links_offered (offer_by (Some link) count (buffers_taken (Some link ∷ []) == 8)) h start body.items (Some link ∷ []))
-    (Acl h start count body ∷ []) (empties_by h count)) (eqb-true 0 handle same) (own_taken number count start body link long)
-link_taken number handle count start body link long false differs = other_taken number handle count start body link differs
+      has_by : (submitted : List Submitted) (before : ℕ → ℕ) → AllHave number submitted before links → (other : ℕ) (one : OpenLink) → link_at other after ≡ Some one
+          → (same : Bool) → (handle == other) ≡ same
+          → HasAll (number other) (submitted ++ kept_one (Some (number handle)) (is_dropped 8 (buffers_taken links) count) start body.items)
+          (empties_by handle count other + before other) one
+      has_by submitted before has other one found true same =
+          let equal = eqb-true handle other same in
+          let kept = kept_one (Some (number handle)) (is_dropped 8 (buffers_taken links) count) start body.items in
+          let now : Some changed ≡ Some one = sym offered_is.at ∙ ap (λ n. link_at n after) equal ∙ found in
+          let changed_one : changed ≡ one = cc in
+          subst (λ n. HasAll (number other) (submitted ++ kept) (n + before other) one) (sym (empties_own (handle == other) (count == 0) same))
+          (subst (λ n. HasAll (number n) (submitted ++ kept) (empties_with (count == 0) + before n) one) equal
+          (subst (HasAll (number handle) (submitted ++ kept) (empties_with (count == 0) + before handle)) changed_one (is.has submitted (before handle) (has handle link at))))
+      has_by submitted before has other one found false differs =
+          let kept = kept_one (Some (number handle)) (is_dropped 8 (buffers_taken links) count) start body.items in
+          let was = sym (offered_is.others other differs) ∙ found in
+          subst (λ n. HasAll (number other) (submitted ++ kept) (n + before other) one) (sym (empties_other (handle == other) (count == 0) differs))
+          (has_none_of (number other) submitted kept (before other) one
+          (kept_apart (number handle) (number other) (is_dropped 8 (buffers_taken links) count) start body.items (own handle other link one at was differs)) (has other one was))
 
--- where no link is open nothing is kept
-free_taken : (number : ℕ) (links after : Links) (packet : HostPacket) (empties : ℕ) → link_at 0 links ≡ None → link_at 0 after ≡ None
-    → Takes number links after (packet ∷ []) empties
-free_taken number links after packet empties none still = record {
-  kept = [];
-  ahead = λ later.
-      ap (λ (place : Option OpenLink). kept_of 8 (links_for number place) (buffers_taken links) (packet ∷ later)) none
-      ∙ none_kept (buffers_taken links) (packet ∷ later)
-      ∙ sym (ap (λ (place : Option OpenLink). kept_of 8 (links_for number place) (buffers_taken after) later) still
-      ∙ none_kept (buffers_taken after) later);
-  has = λ submitted count has. subst (PlaceHas number (submitted ++ []) (empties + count)) (sym still) tt;
-}
+  -- under a handle without a link
+  free_taken : (handle count : ℕ) (start : Bool) (body : ArrayVec ℕ) → link_at handle links ≡ None
+      → Takes number links links held held (Acl handle start count body ∷ []) (empties_by handle count)
+  free_taken handle count start body free =
+      let taken = buffers_taken links in
+      let here : link_under handle held ≡ None = under handle ∙ ap (option_map (λ (l : OpenLink). number handle)) free in
+      let same : taken + 0 ≡ taken = omega arith in
+      record {
+        kept = [];
+        under = under;
+        ahead = λ later.
+            ap (λ (found : Option ℕ). let one = kept_one found (is_dropped 8 taken count) start body.items in one ++ kept_of 8 held (taken + buffers_of one) later) here
+            ∙ ap (λ (n : ℕ). kept_of 8 held n later) same;
+        has = λ submitted before has other one found. by submitted before has other one found (handle == other) refl;
+      }
+    where
+      by : (submitted : List Submitted) (before : ℕ → ℕ) → AllHave number submitted before links → (other : ℕ) (one : OpenLink) → link_at other links ≡ Some one
+          → (same : Bool) → (handle == other) ≡ same → HasAll (number other) (submitted ++ []) (empties_by handle count other + before other) one
+      by submitted before has other one found true same =
+          absurd (let h : None ≡ Some one = sym free ∙ ap (λ n. link_at n links) (eqb-true handle other same) ∙ found in absurd cc)
+      by submitted before has other one found false differs =
+          subst (λ n. HasAll (number other) (submitted ++ []) (n + before other) one) (sym (empties_other (handle == other) (count == 0) differs))
+          (has_none_of (number other) submitted [] (before other) one refl (has other one found))
 
-nothing_there : (own : Bool) (count handle : ℕ) (full start : Bool) (body : List ℕ)
-    → link_at 0 (links_offered (offer_by (if own then None else None) count full) handle start body (None ∷ [])) ≡ None
-nothing_there true count handle full start body = refl
-nothing_there false count handle full start body = refl
-
-pub data_taken : (number handle count : ℕ) (start : Bool) (body : ArrayVec ℕ) (links : Links) → length links ≤ 1
-    → length body.items ≡ min PAYLOAD_OCTETS count
-    → Takes number links (links_offered (offer_by (link_at handle links) count (buffers_taken links == 8)) handle start body.items links)
-    (Acl handle start count body ∷ []) (empties_by handle count)
-data_taken number handle count start body [] one long = free_taken number [] [] (Acl handle start count body) (empties_by handle count) refl refl
-data_taken number handle count start body (None ∷ []) one long =
-    free_taken number (None ∷ []) _ (Acl handle start count body) (empties_by handle count) refl
-    (nothing_there (0 == handle) count handle (buffers_taken (None ∷ []) == 8) start body.items)
-data_taken number handle count start body (Some link ∷ []) one long = link_taken number handle count start body link long (0 == handle) refl
-data_taken number handle count start body (first ∷ second ∷ links) one long = absurd (omega (arith, one))
+  data_taken : (handle count : ℕ) (start : Bool) (body : ArrayVec ℕ) → length body.items ≡ min PAYLOAD_OCTETS count
+      → Takes number links (links_offered (offer_by (link_at handle links) count (buffers_taken links == 8)) handle start body.items links) held held
+      (Acl handle start count body ∷ []) (empties_by handle count)
+  data_taken handle count start body long = by (link_at handle links) refl
+    where
+      by : (place : Option OpenLink) → link_at handle links ≡ place
+          → Takes number links (links_offered (offer_by place count (buffers_taken links == 8)) handle start body.items links) held held
+          (Acl handle start count body ∷ []) (empties_by handle count)
+      by None free = free_taken handle count start body free
+      by (Some link) at =
+          let offer = offer_with (count == 0) (nat_lt 251 count) (buffers_taken links == 8) in
+          link_taken handle count start body link (changed_by offer start body.items link) (links_offered offer handle start body.items links) at
+          (offered offer handle start body.items links link at)
+          (is_given (number handle) link (count == 0) (nat_lt 251 count) (buffers_taken links == 8) start body.items (body_counted count body.items long))
 
 -- ---- a command
 
--- a Reset
-reset_taken : (number : ℕ) (links : Links) (opcode : ℕ) (body : ArrayVec ℕ) → is_reset opcode body.items ≡ true
-    → Takes number links (without_links links) (Command opcode body ∷ []) 0
-reset_taken number links opcode body is =
-    let still = shut_at links in record {
-      kept = [];
-      ahead = λ later.
-          ap (λ (b : Bool). if b then [] else kept_of 8 (links_for number (link_at 0 links)) (buffers_taken links) later) is
-          ∙ sym (ap (λ (place : Option OpenLink). kept_of 8 (links_for number place) (buffers_taken (without_links links)) later) still
-          ∙ none_kept (buffers_taken (without_links links)) later);
-      has = λ submitted count has. subst (PlaceHas number (submitted ++ []) (0 + count)) (sym still) tt;
-    }
+shut_at : (first handle : ℕ) (links : Links) → link_from first handle (without_links links) ≡ None
+shut_at first handle [] = refl
+shut_at first handle (place ∷ links) = by (first == handle) (shut_at (first + 1) handle links)
   where
-    shut_at : (links : Links) → link_at 0 (without_links links) ≡ None
-    shut_at [] = refl
-    shut_at (place ∷ links) = refl
+    by : (own : Bool) → link_from (first + 1) handle (without_links links) ≡ None → (if own then None else link_from (first + 1) handle (without_links links)) ≡ None
+    by true rest = refl
+    by false rest = rest
+
+-- a Reset
+reset_taken : (number : ℕ → ℕ) (links : Links) (held : List OpenUnder) (opcode : ℕ) (body : ArrayVec ℕ) → is_reset opcode body.items ≡ true
+    → Takes number links (without_links links) held [] (Command opcode body ∷ []) (λ handle. 0)
+reset_taken number links held opcode body is = record {
+  kept = [];
+  under = λ handle. sym (ap (option_map (λ (link : OpenLink). number handle)) (shut_at 0 handle links));
+  ahead = λ later.
+      ap (λ (b : Bool). if b then [] else kept_of 8 held (buffers_taken links) later) is ∙ sym (none_kept (buffers_taken (without_links links)) later);
+  has = λ submitted count has handle link at. absurd (let h : None ≡ Some link = sym (shut_at 0 handle links) ∙ at in absurd cc);
+}
 
 -- any other
-other_command : (number : ℕ) (links : Links) (opcode : ℕ) (body : ArrayVec ℕ) → is_reset opcode body.items ≡ false
-    → Takes number links links (Command opcode body ∷ []) 0
-other_command number links opcode body is = record {
+other_command : (number : ℕ → ℕ) (links : Links) (held : List OpenUnder) (opcode : ℕ) (body : ArrayVec ℕ) → is_reset opcode body.items ≡ false
+    → AreUnder number links held → Takes number links links held held (Command opcode body ∷ []) (λ handle. 0)
+other_command number links held opcode body is under = record {
   kept = [];
-  ahead = λ later. ap (λ (b : Bool). if b then [] else kept_of 8 (links_for number (link_at 0 links)) (buffers_taken links) later) is;
-  has = λ submitted count has. same_place number submitted count (link_at 0 links) has;
+  under = under;
+  ahead = λ later. ap (λ (b : Bool). if b then [] else kept_of 8 held (buffers_taken links) later) is;
+  has = λ submitted count has handle link at. has_none_of (number handle) submitted [] (count handle) link refl (has handle link at);
 }
 
 -- ---- an octet of the host
@@ -557,16 +623,16 @@ reset_links setup facts opcode octets is =
     let none = is_empty octets both.1 in
     (λ i. (facts_commanded setup facts (command_of (first i) (none i))).links) ∙ reset_shuts setup facts
 
-command_taken : (number : ℕ) (setup : Setup) (facts : Facts) (opcode : ℕ) (body : ArrayVec ℕ) → OnlyReset (Packet (Command opcode body))
-    → (resets : Bool) → is_reset opcode body.items ≡ resets
-    → Takes number facts.links (facts_commanded setup facts (command_of opcode body.items)).links (Command opcode body ∷ []) 0
-command_taken number setup facts opcode body only true is =
-    subst (λ (after : Links). Takes number facts.links after (Command opcode body ∷ []) 0) (sym (reset_links setup facts opcode body.items is))
-    (reset_taken number facts.links opcode body is)
-command_taken number setup facts opcode body only false is =
-    subst (λ (after : Links). Takes number facts.links after (Command opcode body ∷ []) 0)
+command_taken : (number : ℕ → ℕ) (setup : Setup) (facts : Facts) (held : List OpenUnder) (opcode : ℕ) (body : ArrayVec ℕ) → OnlyReset (Packet (Command opcode body))
+    → AreUnder number facts.links held → (resets : Bool) → is_reset opcode body.items ≡ resets
+    → Takes number facts.links (facts_commanded setup facts (command_of opcode body.items)).links held (if resets then [] else held) (Command opcode body ∷ []) (λ handle. 0)
+command_taken number setup facts held opcode body only under true is =
+    subst (λ (after : Links). Takes number facts.links after held [] (Command opcode body ∷ []) (λ handle. 0)) (sym (reset_links setup facts opcode body.items is))
+    (reset_taken number facts.links held opcode body is)
+command_taken number setup facts held opcode body only under false is =
+    subst (λ (after : Links). Takes number facts.links after held held (Command opcode body ∷ []) (λ handle. 0))
     (sym (read_leaves setup facts (command_of opcode body.items) (λ read. false≢true (sym is ∙ only read))))
-    (other_command number facts.links opcode body is)
+    (other_command number facts.links held opcode body is under)
 
 offered_links : (offer : Offer) (handle : ℕ) (start : Bool) (octets : List ℕ) (facts : Facts)
     → (facts_offered offer handle start octets facts).links ≡ links_offered offer handle start octets facts.links
@@ -575,24 +641,25 @@ offered_links NoLink handle start octets facts = refl
 offered_links Empty handle start octets facts = refl
 offered_links Overflow handle start octets facts = refl
 
-fed_taken : (number : ℕ) (setup : Setup) (facts : Facts) (fed : Fed) → length facts.links ≤ 1 → setup.host_buffers ≡ 8 → HasBody fed → OnlyReset fed
-    → Takes number facts.links (facts_fed setup facts fed).links (packets_of fed) (count_fed 0 fed 0)
-fed_taken number setup facts (Packet (Command opcode body)) one eight has only =
-    command_taken number setup facts opcode body only (is_reset opcode body.items) refl
-fed_taken number setup facts (Packet (Acl handle start count body)) one eight has only =
+fed_taken : (number : ℕ → ℕ) (setup : Setup) (facts : Facts) (held : List OpenUnder) (fed : Fed) → setup.host_buffers ≡ 8 → HaveOwn number facts.links
+    → AreUnder number facts.links held → HasBody fed → OnlyReset fed
+    → Takes number facts.links (facts_fed setup facts fed).links held (held_after fed held) (packets_of fed) (λ handle. count_fed handle fed 0)
+fed_taken number setup facts held (Packet (Command opcode body)) eight own under has only =
+    command_taken number setup facts held opcode body only under (is_reset opcode body.items) refl
+fed_taken number setup facts held (Packet (Acl handle start count body)) eight own under has only =
     let links = facts.links in
-    subst (λ (after : Links). Takes number links after (Acl handle start count body ∷ []) (empties_by handle count))
+    subst (λ (after : Links). Takes number links after held held (Acl handle start count body ∷ []) (empties_by handle count))
     (sym (offered_links (offer_of setup facts handle count) handle start body.items facts
     ∙ ap (λ (n : ℕ). links_offered (offer_by (link_at handle links) count (buffers_taken links == n)) handle start body.items links) eight))
-    (data_taken number handle count start body links one has)
-fed_taken number setup facts LostSync one eight has only = nothing_taken number facts.links
-fed_taken number setup facts More one eight has only = nothing_taken number facts.links
+    (data_taken number links held own under handle count start body has)
+fed_taken number setup facts held LostSync eight own under has only = nothing_taken number facts.links held under
+fed_taken number setup facts held More eight own under has only = nothing_taken number facts.links held under
 
-pub octet_taken : (number : ℕ) (setup : Setup) (past : List Step) (octet : ℕ) → setup.links ≤ 1 → setup.host_buffers ≡ 8
-    → let facts = facts_of setup past in
-    Takes number facts.links (facts_after setup facts (HostOctet octet)).links (packets_of (result_of facts.octets octet))
-    (count_fed 0 (result_of facts.octets octet) 0)
-octet_taken number setup past octet one eight =
+pub octet_taken : (number : ℕ → ℕ) (setup : Setup) (past : List Step) (held : List OpenUnder) (octet : ℕ) → setup.host_buffers ≡ 8
+    → HaveOwn number (facts_of setup past).links → AreUnder number (facts_of setup past).links held
+    → Takes number (facts_of setup past).links (facts_after setup (facts_of setup past) (HostOctet octet)).links held
+    (held_after (result_of (facts_of setup past).octets octet) held) (packets_of (result_of (facts_of setup past).octets octet))
+    (λ handle. count_fed handle (result_of (facts_of setup past).octets octet) 0)
+octet_taken number setup past held octet eight own under =
     let facts = facts_of setup past in
-    let many = (own_handles setup past).many in
-    fed_taken number setup facts (result_of facts.octets octet) (omega (arith, many, one)) eight (result_body facts.octets octet) (only_reset setup past octet)
+    fed_taken number setup facts held (result_of facts.octets octet) eight own under (result_body facts.octets octet) (only_reset setup past octet)

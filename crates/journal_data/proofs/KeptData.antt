@@ -37,7 +37,7 @@ use Rattle.journal_data.proofs.Mine.{AreMine, other_back, packet_mine}
 use Rattle.journal_data.proofs.MineKept.{heard_none_mine, hearing_mine}
 use Rattle.journal_data.proofs.Moves.{alike_aged, begin_moves, end_moves, phase_moves, station_aged}
 use Rattle.journal_data.proofs.OneCall.{EachAt, HasMoved, IsAged, IsCallMade, arriving_after, used_after, well_after}
-use Rattle.journal_data.proofs.OneLink.{HaveOneLink}
+use Rattle.journal_data.proofs.FewLinks.{HaveFewLinks}
 use Rattle.journal_data.proofs.SameView.{SeesSame, same_end, same_used, same_well, sees_other_call, sees_other_feed, sees_packet, sees_turn}
 use Rattle.journal_data.proofs.Sides.{AreArriving}
 use Rattle.journal_data.proofs.Used.{AreUsed, IsOldLink, old_call, old_event, old_feed}
@@ -140,7 +140,7 @@ pass_in_turn (Some octets) = tt
 
 -- ---- each step
 
-module _ (whole : IsHeardWhole) (given : Given) (Q : Place → List Event → Type 0) (known : AreKnown given Q) (are_two : IsOfTwo given) (pair : HaveOneLink given)
+module _ (whole : IsHeardWhole) (given : Given) (Q : Place → List Event → Type 0) (known : AreKnown given Q) (are_two : IsOfTwo given) (few_links : HaveFewLinks given)
     (six : HaveAddresses given) (distinct : AreDistinct given.stations) (eight : (station : ℕ) → (setup_at given station).host_buffers ≡ 8) where
   abbrev P : Place → List Event → Type 0
   P place history = IsDataAt given Q place history
@@ -176,9 +176,9 @@ module _ (whole : IsHeardWhole) (given : Given) (Q : Place → List Event → Ty
       } in
       own_all given are_two station history after is (λ one differs. sees_other_call given one station step history differs)
       (old_call given station step history) (record {
-        well = well_after given pair.links eight station step history made;
-        used = used_after given pair.links eight station step history made;
-        arriving = arriving_after given pair.links eight station step history made;
+        well = well_after given few_links.links eight station step history made;
+        used = used_after given few_links.links eight station step history made;
+        arriving = arriving_after given few_links.links eight station step history made;
       }) are
 
   -- a station in a turn
@@ -198,8 +198,8 @@ module _ (whole : IsHeardWhole) (given : Given) (Q : Place → List Event → Ty
       let own = own_numbers given Q known place history station is counted.known in
       own_all given are_two station history after is (λ one differs. sees_other_feed given one station octets history differs)
       (old_feed given station octets history) (record {
-        well = feed_well given pair.links eight station octets history own (are.well station is) between;
-        used = feed_used given pair.links eight station octets history own (are.well station is) between (λ handle link at.
+        well = feed_well given few_links.links eight station octets history own (are.well station is) between;
+        used = feed_used given few_links.links eight station octets history own (are.well station is) between (λ handle link at.
             let begun = known.begun place history counted.known station handle link is at in
             let before : link.setup.opened < facts.turn.begun =
             open_has (OpenedBefore facts.turn.begun) 0 handle facts.links link (counted.holds.so_far.last.each station is).earlier at in
@@ -217,7 +217,7 @@ module _ (whole : IsHeardWhole) (given : Given) (Q : Place → List Event → Ty
           let far = sees_other_feed given other station octets history (far_side station) in
           subst (λ lines. AreArriving (lines_at station after) lines (end_at given station after) (end_at given other after)) (sym far.lines)
           (subst (AreArriving (lines_at station after) (lines_at other history) (end_at given station after)) (sym (same_end given other history after far))
-          (feed_arrives given pair.links eight station octets history own (are.well station is) between (lines_at other history) (end_at given other history) (are.arriving station is)))
+          (feed_arrives given few_links.links eight station octets history own (are.well station is) between (lines_at other history) (end_at given other history) (are.arriving station is)))
 
   pub data_kept : IsKept given (IsDataAt given Q)
   data_kept = let kept = counts_kept whole given Q known are_two six distinct in record {

@@ -33,7 +33,7 @@ use Rattle.journal_data.proofs.Ends.{IsWell, end_at, from_end}
 use Rattle.journal_data.proofs.Fronts.{AreAlways, always_first}
 use Rattle.journal_data.proofs.KeptData.{AreWell}
 use Rattle.journal_data.proofs.MineKept.{heard_none_mine}
-use Rattle.journal_data.proofs.OneLink.{HaveOneLink, pair_links}
+use Rattle.journal_data.proofs.FewLinks.{HaveFewLinks, pair_links}
 use Rattle.journal_data.proofs.Sides.{AreAhead, AreArriving}
 use Rattle.journal_data.proofs.StationLines.{first_booked}
 use Rattle.journal_data.proofs.Submitting.{HasFed}
@@ -116,14 +116,14 @@ first_data given = let counted = counts_first given in record {
 
 -- ---- in a whole run
 
-module _ (whole : IsHeardWhole) (understood : IsUnderstood) (taken : AreTaken) (nth : AreNth) (apart : AreApart) (given : Given) (are_two : IsOfTwo given) (pair : HaveOneLink given)
+module _ (whole : IsHeardWhole) (understood : IsUnderstood) (taken : AreTaken) (nth : AreNth) (apart : AreApart) (given : Given) (are_two : IsOfTwo given) (few_links : HaveFewLinks given)
     (six : HaveAddresses given) (distinct : AreDistinct given.stations) (eight : (station : ℕ) → (setup_at given station).host_buffers ≡ 8) where
   run_arrives : AreAlways (AllArrive given) (history_of (run_of given))
   run_arrives =
       ends_with (run_of given) (IsWhole given (IsDataSoFar given (IsBelongingSoFar given))) (IsStopped given (IsDataSoFar given (IsBelongingSoFar given)))
       (AreAlways (AllArrive given))
       (run_kept given (IsDataSoFar given (IsBelongingSoFar given))
-      (so_far_kept whole given (IsBelongingSoFar given) (known_of understood taken nth apart given are_two six) are_two pair six distinct eight)
+      (so_far_kept whole given (IsBelongingSoFar given) (known_of understood taken nth apart given are_two six) are_two few_links six distinct eight)
       (first_data given))
       (λ history is. is.is.always) (λ history stop is. is.kept.always)
 

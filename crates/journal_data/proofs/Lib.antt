@@ -1,5 +1,5 @@
 -- The lemmas of this crate.
-pub mod OneLink
+pub mod FewLinks
 pub mod EachLine
 pub mod HeldLinks
 pub mod Booked
@@ -16,8 +16,9 @@ pub mod Sides
 pub mod Mine
 pub mod MineKept
 pub mod Openness
+pub mod NotedLines
 pub mod StationLines
-pub mod StationAdds
+pub mod LinesGrow
 mod FewComplete
 mod Credits
 pub mod FedInRuns

@@ -24,7 +24,7 @@ use Rattle.journal_acks.proofs.LinkUses.{listens_under}
 use Rattle.journal_acks.proofs.TwoStations.{IsOfTwo, other_is, other_of}
 use Rattle.journal_data.proofs.Mine.{AreMine, HasFarEnd, IsTaking, none_mine, other_back}
 use Rattle.journal_data.proofs.Openness.{is_open, opens_where_free, same_open}
-use Rattle.journal_data.proofs.StationLines.{is_link}
+use Rattle.journal_data.proofs.NotedLines.{is_link}
 use Rattle.run_model.proofs.LinksKnown.{link_by_own}
 
 -- ---- nothing is received

@@ -42,8 +42,9 @@ use Rattle.journal_data.proofs.NotedStays.{noted_own}
 use Rattle.journal_data.proofs.Mine.{HasFarEnd, IsTaking}
 use Rattle.journal_data.proofs.Openness.{opens_where_free, past_noted}
 use Rattle.journal_data.proofs.Sides.{AreArriving, End, Here, IsBusy, IsFound, IsSound, Nowhere, call_arrives}
-use Rattle.journal_data.proofs.StationAdds.{call_grows}
-use Rattle.journal_data.proofs.StationLines.{IsNoneOf, IsSameOn, UnusedWhereOpened, call_booked, call_same_on, is_link, other_lines, unused_still}
+use Rattle.journal_data.proofs.LinesGrow.{call_grows}
+use Rattle.journal_data.proofs.NotedLines.{IsSameOn, is_link, unused_still}
+use Rattle.journal_data.proofs.StationLines.{IsNoneOf, UnusedWhereOpened, call_booked, call_same_on, other_lines}
 use Rattle.journal_data.proofs.KeptSubmitted.{turn_submitted}
 use Rattle.journal_data.proofs.Submitting.{call_submits, turn_fed}
 use Rattle.journal_data.proofs.Used.{AreUsed, IsClear, IsClearOn, IsOld, IsUsed, old_call, opened_now}
@@ -119,7 +120,7 @@ far_side : (station : ℕ) → is_side (side_of station) (side_of (other_of stat
 far_side zero = refl
 far_side (suc station) = refl
 
-module _ (given : Given) (one : (station : ℕ) → (setup_at given station).links ≤ 1) (eight : (station : ℕ) → (setup_at given station).host_buffers ≡ 8)
+module _ (given : Given) (few : (station : ℕ) → (setup_at given station).links ≤ 4096) (eight : (station : ℕ) → (setup_at given station).host_buffers ≡ 8)
     (station : ℕ) (step : Step) (history : List Event) (made : IsCallMade given station step history) where
   abbrev then_on : List Event
   then_on = after_call given station step history
@@ -150,9 +151,6 @@ module _ (given : Given) (one : (station : ℕ) → (setup_at given station).lin
 
   abbrev number_after : ℕ → ℕ
   number_after handle = number_at station handle then_on
-
-  few_handles : (setup_at given station).links ≤ 4096
-  few_handles = let few = one station in omega (arith, few)
 
   -- ---- the numbers
 
@@ -207,7 +205,7 @@ module _ (given : Given) (one : (station : ℕ) → (setup_at given station).lin
   pub well_after : IsWell given station then_on
   well_after = record {
     noted = noted_own given station step history made.well.noted;
-    booked = call_booked given station step history few_handles made.own made.own_after unused made.well.booked;
+    booked = call_booked given station step history (few station) made.own made.own_after unused made.well.booked;
     submitted = turn_submitted given station step history made.in_turn (λ handle opened. (clear_where_opened handle opened).submitted) made.well.submitted;
     fed = turn_fed given station step history made.in_turn made.well.fed;
     few = made.few;
@@ -218,10 +216,10 @@ module _ (given : Given) (one : (station : ℕ) → (setup_at given station).lin
 
   -- what the lines say of links that are not open then is the same
   others_same : (number : ℕ) → IsNoneOf given station number then_on → IsSameOn number before_lines after_lines
-  others_same number none = call_same_on given station step history few_handles made.own made.own_after unused made.well.booked number none
+  others_same number none = call_same_on given station step history (few station) made.own made.own_after unused made.well.booked number none
 
   sound_after : (handle : ℕ) (link : OpenLink) → place_after handle ≡ Some link → IsSound (end_of station handle then_on given link) after_lines
-  sound_after handle link at = sound given station handle then_on link (one station) (eight station) well_after at
+  sound_after handle link at = sound given station handle then_on link (few station) (eight station) well_after at
 
   -- ---- which links it used
 
@@ -303,7 +301,7 @@ module _ (given : Given) (one : (station : ℕ) → (setup_at given station).lin
     far_at = ap (λ (f : Facts). link_at far_handle f.links) far_facts ∙ far_of.at
 
     far_sound : IsSound far far_lines
-    far_sound = subst (λ e. IsSound e far_lines) far_of.is (sound given other far_handle history far_of.link (one other) (eight other) made.far_well far_of.at)
+    far_sound = subst (λ e. IsSound e far_lines) far_of.is (sound given other far_handle history far_of.link (few other) (eight other) made.far_well far_of.at)
 
     numbers_are : number_at other far_handle then_on ≡ number_after handle
     numbers_are = far_number far_handle ∙ ap (λ (e : End). e.link) far_of.is ∙ same
@@ -338,7 +336,7 @@ module _ (given : Given) (one : (station : ℕ) → (setup_at given station).lin
         → (pdus_on number after_lines.taken ≡ pdus_on number before_lines.taken) × IsAhead number (ack_of link) far_lines
     kept_alone was here accepted acked =
         let numbers = sym (number_kept handle was here) in
-        let booked = (sound given station handle history was (one station) (eight station) made.well here).booked in
+        let booked = (sound given station handle history was (few station) (eight station) made.well here).booked in
         let ahead : IsAhead (number_at station handle history) (ack_of was) far_lines =
         made.arriving.ahead handle (end_of station handle history given was) (ap (option_map (end_of station handle history given)) here) in
         let moved = subst (λ n. IsAhead n (ack_of was) far_lines) numbers ahead in (

@@ -2,11 +2,10 @@
 use Rattle.std.proofs.Common.{Some, ◌≡◌, ℕ, Bool, false, List, [], ◌∷◌, ◌++◌, refl, sym, ap, subst, ◌∙◌, append-nil}
 use Rattle.std.specs.Option.{option_map}
 use mathlib.Core.Path.{fun_ext}
-use Rattle.ble_base.specs.declared.notes.Note.{Note}
 use Rattle.open_links.specs.OpenLinks.{OpenLink, facts_in, link_at}
 use Rattle.controller_model.specs.Facts.{Facts}
 use Rattle.controller_model.specs.Side.{facts_of, notes_after, notes_of}
-use Rattle.controller_model.specs.Since.{data_waiting, empties_of, since_opened}
+use Rattle.controller_model.specs.Since.{data_waiting, empties_of}
 use Rattle.controller_model.specs.Step.{Step, HostOctet}
 use Rattle.run_model.specs.History.{Event, TurnBegan, HostFed, Transmitted, Hearing, noted_by, notes_in, past_of, steps_in}
 use Rattle.run_model.specs.Journal.{side_of}
@@ -14,15 +13,11 @@ use Rattle.run_model.specs.Run.{Given, after_call, after_feed, after_octets, fac
 use Rattle.run_model.proofs.Calls.{flat_nothing, noted_called, past_other}
 use Rattle.run_model.proofs.LinksKnown.{link_by_other}
 use Rattle.journal_packets.specs.Belonging.{is_side}
-use Rattle.journal_acks.proofs.Exchanging.{number_at}
-use Rattle.journal_data.proofs.HeldLinks.{HoldsLinks}
-use Rattle.journal_data.proofs.Openness.{is_open}
 use Rattle.journal_data.specs.Lines.{Lines, data_on, empties_on}
-use Rattle.journal_data.proofs.Booked.{IsBook}
 use Rattle.journal_data.proofs.EachLine.{air_lines, fed_other, lines_at, turn_lines}
 use Rattle.journal_data.proofs.Ends.{IsWell, end_at}
 use Rattle.journal_data.proofs.FewComplete.{IsFedBetween}
-use Rattle.journal_data.proofs.StationLines.{IsStationBooked, not_one, numbers_event, other_lines}
+use Rattle.journal_data.proofs.StationLines.{not_one, numbers_event, other_lines, same_booked, same_lines}
 use Rattle.journal_data.proofs.Submitting.{IsSubmitted}
 use Rattle.journal_data.proofs.EachLine.{numbers_at}
 use Rattle.journal_data.proofs.Used.{AreUsed, IsClear, IsClearOn, IsOld, IsOldLink, IsUsed}
@@ -54,18 +49,6 @@ module _ (given : Given) (station : ℕ) (history after : List Event) (same : Se
       → link_at handle (facts_at given station history).links ≡ Some link
   was_at handle link at = ap (λ (f : Facts). link_at handle f.links) (sym same_facts) ∙ at
 
-  same_book : IsStationBooked given station history → IsStationBooked given station after
-  same_book booked = record {
-    book = λ handle link at.
-        subst (λ (number : ℕ → ℕ). IsBook handle (number handle) (lines_at station after) (since_opened handle (noted_by station after))) (sym same.number)
-        (subst (λ (lines : Lines). IsBook handle (number_at station handle history) lines (since_opened handle (noted_by station after))) (sym same.lines)
-        (subst (λ (noted : List Note). IsBook handle (number_at station handle history) (lines_at station history) (since_opened handle noted)) (sym same.noted)
-        (booked.book handle link (was_at handle link at))));
-    links = subst (λ (lines : Lines). HoldsLinks (setup_at given station).links lines.links (numbers_at station after) (is_open (facts_at given station after).links)) (sym same.lines)
-        (subst (λ (number : ℕ → ℕ). HoldsLinks (setup_at given station).links (lines_at station history).links number (is_open (facts_at given station after).links)) (sym same.number)
-        (subst (λ (f : Facts). HoldsLinks (setup_at given station).links (lines_at station history).links (numbers_at station history) (is_open f.links)) (sym same_facts) booked.links));
-  }
-
   same_submitted : IsSubmitted given station history → IsSubmitted given station after
   same_submitted submitted = record {
     data_is = λ handle link at. (λ i. data_on (same.number i handle) (same.lines i)) ∙ submitted.data_is handle link (was_at handle link at);
@@ -76,7 +59,7 @@ module _ (given : Given) (station : ℕ) (history after : List Event) (same : Se
   pub same_well : IsWell given station history → IsWell given station after
   same_well well = record {
     noted = same.noted ∙ well.noted ∙ ap (notes_of (setup_at given station)) (sym same.past);
-    booked = same_book well.booked;
+    booked = same_booked given station history after same.number same_facts same.noted (same_lines (lines_at station history) (lines_at station after) same.lines) well.booked;
     submitted = same_submitted well.submitted;
     fed = ap (λ (lines : Lines). lines.fed) same.lines ∙ well.fed ∙ ap (λ (f : Facts). f.octets) (sym same_facts);
     few = record { fed = subst IsFedBetween (sym same.past) well.few.fed };

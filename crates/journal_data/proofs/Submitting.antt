@@ -1,12 +1,9 @@
--- What the lines of a side say that its host submitted is what the link of its controller was given, after each feed.
-use Rattle.std.proofs.Common.{◌≡◌, ℕ, ◌+◌, ◌≤◌, ◌==◌, Bool, true, false, List, [], ◌∷◌, ◌++◌, Option, Some, None, length, refl, sym, ap, subst, ◌∙◌, append-nil, append_assoc, arith}
+-- What the lines of a side say that its host submitted is what the links of its controller were given, after each feed.
+use Rattle.std.proofs.Common.{◌≡◌, ℕ, ◌+◌, ◌==◌, Bool, true, false, List, [], ◌∷◌, ◌++◌, Some, length, refl, sym, ap, subst, ◌∙◌, append-nil, append_assoc, arith}
 use Rattle.std.specs.Prelude.{◌-◌, ◌&&◌, fold, map, if◌then◌else◌}
-use Rattle.std.specs.List.{sum_by}
 use Rattle.std.proofs.lemmas.Bool.{or_parts}
 use Rattle.std.proofs.lemmas.List.{length-append, length-map}
 use Rattle.std.proofs.lemmas.List.Filters.{length-filter_both}
-use Rattle.std.proofs.lemmas.List.Sums.{sum_by-cons}
-use Rattle.std.proofs.lemmas.Option.{same_Some}
 use Rattle.ble_base.specs.declared.roles.Side.{Side}
 use Rattle.ble_base.specs.declared.notes.Note.{Note}
 use Rattle.ble_base.specs.declared.notes.Note.TheVariants.{Up, Opened, Shut, Sent, Took, Enter, Applied, Began, Refused, Done}
@@ -17,7 +14,7 @@ use Rattle.acl_banks.specs.History.{HostData}
 use Rattle.acl_banks.specs.Packets.{DataPacket}
 use Rattle.link_model.proofs.Sending.{past_holds}
 use Rattle.open_links.specs.Data.{buffers_in, buffers_taken, complete_in}
-use Rattle.open_links.specs.OpenLinks.{Links as OpenLinks, OpenLink, facts_in, link_at}
+use Rattle.open_links.specs.OpenLinks.{OpenLink, facts_in, link_at}
 use Rattle.controller_model.specs.Facts.{Setup, Facts, first_facts}
 use Rattle.controller_model.specs.Side.{facts_after, facts_of, notes_after, result_of}
 use Rattle.controller_model.specs.Step.{Step, HostOctet}
@@ -29,18 +26,21 @@ use Rattle.run_model.specs.Journal.{entry_of, side_of}
 use Rattle.run_model.specs.Links.{Links, links_of}
 use Rattle.run_model.specs.Run.{Given, after_call, after_feed, after_octets, facts_at, setup_at}
 use Rattle.run_model.proofs.Calls.{past_own, with_notes}
-use Rattle.run_model.proofs.LinksKnown.{link_by_own, links_event}
+use Rattle.run_model.proofs.LinksKnown.{links_event}
 use Rattle.run_model.proofs.OpenedNotes.{is_opened, outside_open}
 use Rattle.journal_acks.proofs.Exchanging.{number_at}
-use Rattle.journal_data.proofs.OneLink.{first_handle}
 use Rattle.run_laws.proofs.Hearings.{own_facts}
 use Rattle.run_laws.proofs.TurnPlaces.{event_past}
 use Rattle.controller_model.specs.Since.{count_fed, count_given, count_since, empties_from, empties_of}
 use Rattle.journal_data.specs.HostLines.{OpenUnder, Submitted, has_octets, kept_of, packets_framed}
 use Rattle.journal_data.specs.Lines.{Lines, buffers_taken as lines_taken, credited_on, data_on, empties_on, line_after, submitted_on}
-use Rattle.journal_data.proofs.EachLine.{number_of}
+use Rattle.journal_data.proofs.EachLine.{numbers_at}
 use Rattle.journal_data.proofs.EachLine.{call_lines, fed_lines, lines_at, note_lines}
-use Rattle.journal_data.proofs.HostPackets.{HasAll, PlaceHas, has_none, links_for, more_framed, none_framed, octet_taken, packets_of}
+use Rattle.journal_data.proofs.HostPackets.{AllHave, AreUnder, HaveOwn, has_none, held_after, more_framed, none_framed, octet_taken, packets_of}
+use Rattle.journal_data.proofs.HeldLinks.{links_under, sum_of_places}
+use Rattle.journal_data.proofs.StationLines.{IsStationBooked, event_own, octet_number, octet_own}
+use Rattle.journal_acks.proofs.Counting.{HaveOwnNumbers}
+use mathlib.Core.Path.{fun_ext}
 
 -- ---- the notes of a call say nothing of what is submitted
 
@@ -147,94 +147,90 @@ empties_octet setup handle past octet =
 
 -- ---- in the middle of what a turn feeds
 
--- what is kept of octets that are left
-abbrev pub kept_left : ℕ → Facts → List ℕ → List Submitted
-kept_left number facts left =
-    kept_of 8 (links_for number (link_at 0 facts.links)) (buffers_taken facts.links) (packets_framed facts.octets left)
+-- what is kept of octets that are left, where the lines have these links
+abbrev pub kept_left : List OpenUnder → Facts → List ℕ → List Submitted
+kept_left held facts left = kept_of 8 held (buffers_taken facts.links) (packets_framed facts.octets left)
 
-pub none_left : (number : ℕ) (facts : Facts) → kept_left number facts [] ≡ []
-none_left number facts =
-    ap (kept_of 8 (links_for number (link_at 0 facts.links)) (buffers_taken facts.links)) (none_framed facts.octets)
+pub none_left : (held : List OpenUnder) (facts : Facts) → kept_left held facts [] ≡ []
+none_left held facts = ap (kept_of 8 held (buffers_taken facts.links)) (none_framed facts.octets)
 
-pub octet_left : (number : ℕ) (setup : Setup) (past : List Step) (octet : ℕ) (left : List ℕ) (one : setup.links ≤ 1) (eight : setup.host_buffers ≡ 8)
-    → kept_left number (facts_of setup past) (octet ∷ left)
-    ≡ (octet_taken number setup past octet one eight).kept ++ kept_left number (facts_after setup (facts_of setup past) (HostOctet octet)) left
-octet_left number setup past octet left one eight =
+pub octet_left : (number : ℕ → ℕ) (setup : Setup) (past : List Step) (held : List OpenUnder) (octet : ℕ) (left : List ℕ) (eight : setup.host_buffers ≡ 8)
+    (own : HaveOwn number (facts_of setup past).links) (under : AreUnder number (facts_of setup past).links held)
+    → kept_left held (facts_of setup past) (octet ∷ left)
+    ≡ (octet_taken number setup past held octet eight own under).kept
+    ++ kept_left (held_after (result_of (facts_of setup past).octets octet) held) (facts_after setup (facts_of setup past) (HostOctet octet)) left
+octet_left number setup past held octet left eight own under =
     let facts = facts_of setup past in
     let after = facts_after setup facts (HostOctet octet) in
     let result = result_of facts.octets octet in
-    ap (kept_of 8 (links_for number (link_at 0 facts.links)) (buffers_taken facts.links))
+    ap (kept_of 8 held (buffers_taken facts.links))
     (more_framed facts.octets octet left
     ∙ ap (λ (before : List ℕ). packets_of result ++ packets_framed before left) (sym (more_octets setup facts octet)))
-    ∙ (octet_taken number setup past octet one eight).ahead (packets_framed after.octets left)
+    ∙ (octet_taken number setup past held octet eight own under).ahead (packets_framed after.octets left)
 
 -- the lines are ahead by that
-pub record IsAhead (number : ℕ) (submitted : List Submitted) (fed : List ℕ) (facts : Facts) (empties : ℕ) (left : List ℕ) : Type 0 where
+pub record IsAhead (number : ℕ → ℕ) (submitted : List Submitted) (fed : List ℕ) (facts : Facts) (empties : ℕ → ℕ) (held : List OpenUnder) (left : List ℕ) : Type 0 where
   pub so_far : List Submitted
-  pub submitted_are : submitted ≡ so_far ++ kept_left number facts left
-  pub has : PlaceHas number so_far empties (link_at 0 facts.links)
+  pub under : AreUnder number facts.links held
+  pub submitted_are : submitted ≡ so_far ++ kept_left held facts left
+  pub has : AllHave number so_far empties facts.links
   pub fed_are : fed ≡ facts.octets ++ left
 
-ahead_by : {number now : ℕ} {submitted later : List Submitted} {fed octets : List ℕ} {facts after : Facts} {empties count : ℕ} (left : List ℕ)
+ahead_by : {number now : ℕ → ℕ} {submitted later : List Submitted} {fed octets : List ℕ} {facts after : Facts} {empties count : ℕ → ℕ} (held : List OpenUnder) (left : List ℕ)
     → now ≡ number → later ≡ submitted → octets ≡ fed → after ≡ facts → count ≡ empties
-    → IsAhead number submitted fed facts empties left → IsAhead now later octets after count left
-ahead_by left a b c d e ahead = rw (a, b, c, d, e) ahead
+    → IsAhead number submitted fed facts empties held left → IsAhead now later octets after count held left
+ahead_by held left a b c d e ahead = rw (a, b, c, d, e) ahead
 
-octet_ahead : (number : ℕ) (submitted : List Submitted) (fed : List ℕ) (setup : Setup) (past : List Step) (empties octet : ℕ) (left : List ℕ)
-    → setup.links ≤ 1 → setup.host_buffers ≡ 8 → let facts = facts_of setup past in
-    IsAhead number submitted fed facts empties (octet ∷ left)
-    → IsAhead number submitted fed (facts_after setup facts (HostOctet octet)) (count_fed 0 (result_of facts.octets octet) 0 + empties) left
-octet_ahead number submitted fed setup past empties octet left one eight ahead =
+octet_ahead : (number : ℕ → ℕ) (submitted : List Submitted) (fed : List ℕ) (setup : Setup) (past : List Step) (empties : ℕ → ℕ) (held : List OpenUnder) (octet : ℕ)
+    (left : List ℕ) → setup.host_buffers ≡ 8 → HaveOwn number (facts_of setup past).links
+    → IsAhead number submitted fed (facts_of setup past) empties held (octet ∷ left)
+    → IsAhead number submitted fed (facts_after setup (facts_of setup past) (HostOctet octet))
+    (λ handle. count_fed handle (result_of (facts_of setup past).octets octet) 0 + empties handle) (held_after (result_of (facts_of setup past).octets octet) held) left
+octet_ahead number submitted fed setup past empties held octet left eight own ahead =
     let facts = facts_of setup past in
-    let takes = octet_taken number setup past octet one eight in
+    let takes = octet_taken number setup past held octet eight own ahead.under in
     let octets_are = more_octets setup facts octet in
     record {
       so_far = ahead.so_far ++ takes.kept;
+      under = takes.under;
       submitted_are = ahead.submitted_are
-          ∙ ap (λ (kept : List Submitted). ahead.so_far ++ kept) (octet_left number setup past octet left one eight)
-          ∙ sym (append_assoc ahead.so_far takes.kept (kept_left number (facts_after setup facts (HostOctet octet)) left));
+          ∙ ap (λ (kept : List Submitted). ahead.so_far ++ kept) (octet_left number setup past held octet left eight own ahead.under)
+          ∙ sym (append_assoc ahead.so_far takes.kept
+          (kept_left (held_after (result_of facts.octets octet) held) (facts_after setup facts (HostOctet octet)) left));
       has = takes.has ahead.so_far empties ahead.has;
       fed_are = ahead.fed_are ∙ sym (append_assoc facts.octets (octet ∷ []) left)
           ∙ ap (λ (before : List ℕ). before ++ left) (sym octets_are);
     }
 
-abbrev pub AheadAt : Given → ℕ → List ℕ → List Event → Type 0
-AheadAt given station left history =
-    IsAhead (number_of station history) (lines_at station history).submitted (lines_at station history).fed (facts_at given station history)
-    (empties_of (setup_at given station) 0 (past_of station history)) left
+abbrev pub AheadAt : Given → ℕ → List OpenUnder → List ℕ → List Event → Type 0
+AheadAt given station held left history =
+    IsAhead (numbers_at station history) (lines_at station history).submitted (lines_at station history).fed (facts_at given station history)
+    (λ handle. empties_of (setup_at given station) handle (past_of station history)) held left
 
 -- an octet opens no link
-pub same_number : (given : Given) (station octet : ℕ) (history : List Event)
-    → number_of station (after_call given station (HostOctet octet) history) ≡ number_of station history
-same_number given station octet history =
-    let setup = setup_at given station in
-    let facts = facts_at given station history in
-    link_by_own station (HostOctet octet) (notes_after setup facts (HostOctet octet)) history 0
-    ∙ ap (λ (b : Bool). if b then (links_of history).last_of station else number_of station history)
-    (outside_open 0 setup facts (HostOctet octet) refl)
+pub same_numbers : (given : Given) (station octet : ℕ) (history : List Event)
+    → numbers_at station (after_call given station (HostOctet octet) history) ≡ numbers_at station history
+same_numbers given station octet history = fun_ext (λ handle. octet_number given station octet handle history)
 
-pub call_ahead : (given : Given) (station octet : ℕ) (left : List ℕ) (history : List Event) → (setup_at given station).links ≤ 1
-    → (setup_at given station).host_buffers ≡ 8 → AheadAt given station (octet ∷ left) history
-    → AheadAt given station left (after_call given station (HostOctet octet) history)
-call_ahead given station octet left history one eight ahead =
+-- the links that the lines have, after an octet
+abbrev pub held_then : Given → ℕ → ℕ → List Event → List OpenUnder → List OpenUnder
+held_then given station octet history held = held_after (result_of (facts_at given station history).octets octet) held
+
+pub call_ahead : (given : Given) (station octet : ℕ) (held : List OpenUnder) (left : List ℕ) (history : List Event) → (setup_at given station).host_buffers ≡ 8
+    → HaveOwnNumbers given station history → AheadAt given station held (octet ∷ left) history
+    → AheadAt given station (held_then given station octet history held) left (after_call given station (HostOctet octet) history)
+call_ahead given station octet held left history eight own ahead =
     let setup = setup_at given station in
     let facts = facts_at given station history in
     let notes = notes_after setup facts (HostOctet octet) in
-    ahead_by left
-    (same_number given station octet history)
+    ahead_by (held_then given station octet history held) left
+    (same_numbers given station octet history)
     (call_submits station (HostOctet octet) notes history)
     (call_leaves (λ lines. lines.fed) note_feeds station (HostOctet octet) notes history)
     (own_facts given station (HostOctet octet) history)
-    (ap (empties_of setup 0) (past_own station (HostOctet octet) notes history) ∙ empties_octet setup 0 (past_of station history) octet)
-    (octet_ahead (number_of station history) (lines_at station history).submitted (lines_at station history).fed setup (past_of station history)
-    (empties_of setup 0 (past_of station history)) octet left one eight ahead)
-
-octets_ahead : (given : Given) (station : ℕ) (left : List ℕ) (history : List Event) → (setup_at given station).links ≤ 1
-    → (setup_at given station).host_buffers ≡ 8 → AheadAt given station left history → AheadAt given station [] (after_octets given station left history)
-octets_ahead given station [] history one eight ahead = ahead
-octets_ahead given station (octet ∷ left) history one eight ahead =
-    octets_ahead given station left (after_call given station (HostOctet octet) history) one eight
-    (call_ahead given station octet left history one eight ahead)
+    (fun_ext (λ handle. ap (empties_of setup handle) (past_own station (HostOctet octet) notes history) ∙ empties_octet setup handle (past_of station history) octet))
+    (octet_ahead (numbers_at station history) (lines_at station history).submitted (lines_at station history).fed setup (past_of station history)
+    (λ handle. empties_of setup handle (past_of station history)) held octet left eight own ahead)
 
 -- ---- between feeds
 
@@ -242,11 +238,11 @@ octets_ahead given station (octet ∷ left) history one eight ahead =
 abbrev pub HasFed : Given → ℕ → List Event → Type 0
 HasFed given station history = (lines_at station history).fed ≡ (facts_at given station history).octets
 
--- so are the open link and the number of buffers that are taken
+-- so are the open links and the number of buffers that are taken
 pub record AreInStep (given : Given) (station : ℕ) (history : List Event) : Type 0 where
   pub fed : HasFed given station history
-  pub links : (lines_at station history).links
-      ≡ links_for ((links_of history).link_of station 0) (link_at 0 (facts_at given station history).links)
+  pub own : HaveOwnNumbers given station history
+  pub under : AreUnder (numbers_at station history) (facts_at given station history).links (lines_at station history).links
   pub taken : lines_taken (lines_at station history) ≡ buffers_taken (facts_at given station history).links
 
 -- what the lines have of each open link is what the controller has
@@ -256,98 +252,56 @@ pub record IsSubmitted (given : Given) (station : ℕ) (history : List Event) : 
   pub empties_are : (handle : ℕ) (link : OpenLink) → link_at handle (facts_at given station history).links ≡ Some link
       → empties_on (number_at station handle history) (lines_at station history) ≡ empties_of (setup_at given station) handle (past_of station history)
 
--- the same of the link under the handle 0
-pub record IsFirstSubmitted (given : Given) (station : ℕ) (history : List Event) : Type 0 where
-  pub data_is : (link : OpenLink) → link_at 0 (facts_at given station history).links ≡ Some link
-      → data_on ((links_of history).link_of station 0) (lines_at station history) ≡ (facts_in link).outgoing.given
-  pub empties_are : (link : OpenLink) → link_at 0 (facts_at given station history).links ≡ Some link
-      → empties_on ((links_of history).link_of station 0) (lines_at station history)
-      ≡ empties_of (setup_at given station) 0 (past_of station history)
-
-pub first_submitted : (given : Given) (station : ℕ) (history : List Event) → IsSubmitted given station history → IsFirstSubmitted given station history
-first_submitted given station history submitted = record { data_is = submitted.data_is 0; empties_are = submitted.empties_are 0 }
-
-pub few_links : (given : Given) (station : ℕ) (history : List Event) → (setup_at given station).links ≤ 1 → length (facts_at given station history).links ≤ 1
-few_links given station history one =
-    let many = (own_handles (setup_at given station) (past_of station history)).many in omega (arith, many, one)
-
-pub all_submitted : (given : Given) (station : ℕ) (history : List Event) → (setup_at given station).links ≤ 1 → IsFirstSubmitted given station history
-    → IsSubmitted given station history
-all_submitted given station history one submitted = record {
-  data_is = λ handle link at.
-      subst (λ n. (link : OpenLink) → link_at n (facts_at given station history).links ≡ Some link
-      → data_on (number_at station n history) (lines_at station history) ≡ (facts_in link).outgoing.given) (sym (zero_at handle link at)) submitted.data_is link at;
-  empties_are = λ handle link at.
-      subst (λ n. (link : OpenLink) → link_at n (facts_at given station history).links ≡ Some link
-      → empties_on (number_at station n history) (lines_at station history) ≡ empties_of (setup_at given station) n (past_of station history)) (sym (zero_at handle link at))
-      submitted.empties_are link at;
-}
-  where
-    zero_at : (handle : ℕ) (link : OpenLink) → link_at handle (facts_at given station history).links ≡ Some link → handle ≡ 0
-    zero_at handle link at = first_handle (facts_at given station history).links handle link (few_links given station history one) at
-
-place_from : (number : ℕ) (submitted : List Submitted) (empties : ℕ) (place : Option OpenLink)
-    → ((link : OpenLink) → place ≡ Some link → HasAll number submitted empties link) → PlaceHas number submitted empties place
-place_from number submitted empties None has = tt
-place_from number submitted empties (Some link) has = has link refl
-
-place_to : (number : ℕ) (submitted : List Submitted) (empties : ℕ) (place : Option OpenLink) → PlaceHas number submitted empties place
-    → (link : OpenLink) → place ≡ Some link → HasAll number submitted empties link
-place_to number submitted empties None has link is = absurd (cc is)
-place_to number submitted empties (Some one) has link is =
-    subst (HasAll number submitted empties) (same_Some one link is) has
-
 pub fed_ahead : (given : Given) (station : ℕ) (octets : List ℕ) (history : List Event) → AreInStep given station history
-    → IsFirstSubmitted given station history → AheadAt given station octets (history ++ HostFed station octets ∷ [])
+    → IsSubmitted given station history → AheadAt given station (lines_at station history).links octets (history ++ HostFed station octets ∷ [])
 fed_ahead given station octets history step submitted =
     let lines = lines_at station history in
-    let facts = facts_at given station history in
-    let number = number_of station history in
     let setup = setup_at given station in
     let fed = fed_lines station history octets in
     let past = event_past station history (HostFed station octets) refl in
-    ahead_by octets
-    (ap (λ (links : Links). links.link_of station 0) (links_event history (HostFed station octets)))
+    ahead_by lines.links octets
+    (ap (λ (links : Links). links.link_of station) (links_event history (HostFed station octets)))
     (ap (λ (after : Lines). after.submitted) fed) (ap (λ (after : Lines). after.fed) fed)
-    (ap (facts_of setup) past) (ap (empties_of setup 0) past)
+    (ap (facts_of setup) past) (λ i handle. empties_of setup handle (past i))
     (record {
       so_far = lines.submitted;
-      submitted_are = λ i. lines.submitted ++ kept_of 8 (step.links i) (step.taken i) (packets_framed (step.fed i) octets);
-      has = place_from number lines.submitted (empties_of setup 0 (past_of station history)) (link_at 0 facts.links)
-          (λ link is. record { data_is = submitted.data_is link is; empties_are = submitted.empties_are link is });
+      under = step.under;
+      submitted_are = λ i. lines.submitted ++ kept_of 8 lines.links (step.taken i) (packets_framed (step.fed i) octets);
+      has = λ handle link at. record { data_is = submitted.data_is handle link at; empties_are = submitted.empties_are handle link at };
       fed_are = ap (λ (before : List ℕ). before ++ octets) step.fed;
     })
 
-none_ahead : (given : Given) (station : ℕ) (history : List Event) → AheadAt given station [] history → IsFirstSubmitted given station history
-none_ahead given station history ahead =
+none_ahead : (given : Given) (station : ℕ) (held : List OpenUnder) (history : List Event) → AheadAt given station held [] history → IsSubmitted given station history
+none_ahead given station held history ahead =
     let lines = lines_at station history in
-    let facts = facts_at given station history in
-    let number = number_of station history in
-    let empties = empties_of (setup_at given station) 0 (past_of station history) in
     let all : lines.submitted ≡ ahead.so_far = ahead.submitted_are
-    ∙ ap (λ (kept : List Submitted). ahead.so_far ++ kept) (none_left number facts)
+    ∙ ap (λ (kept : List Submitted). ahead.so_far ++ kept) (none_left held (facts_at given station history))
     ∙ append-nil ahead.so_far in
-    let has = subst (λ (submitted : List Submitted). PlaceHas number submitted empties (link_at 0 facts.links)) (sym all) ahead.has in
+    let has = subst (λ (submitted : List Submitted). AllHave (numbers_at station history) submitted
+    (λ handle. empties_of (setup_at given station) handle (past_of station history)) (facts_at given station history).links) (sym all) ahead.has in
     record {
-      data_is = λ link is. (place_to number lines.submitted empties (link_at 0 facts.links) has link is).data_is;
-      empties_are = λ link is. (place_to number lines.submitted empties (link_at 0 facts.links) has link is).empties_are;
+      data_is = λ handle link at. (has handle link at).data_is;
+      empties_are = λ handle link at. (has handle link at).empties_are;
     }
 
-pub feed_first : (given : Given) (station : ℕ) (octets : List ℕ) (history : List Event) → (setup_at given station).links ≤ 1
-    → (setup_at given station).host_buffers ≡ 8 → AreInStep given station history → IsFirstSubmitted given station history
-    → IsFirstSubmitted given station (after_feed given station octets history)
-feed_first given station [] history one eight step submitted = submitted
-feed_first given station (octet ∷ octets) history one eight step submitted =
-    none_ahead given station _
-    (octets_ahead given station (octet ∷ octets) (history ++ HostFed station (octet ∷ octets) ∷ []) one eight
-    (fed_ahead given station (octet ∷ octets) history step submitted))
+octets_ahead : (given : Given) (station : ℕ) (held : List OpenUnder) (left : List ℕ) (history : List Event) → (setup_at given station).host_buffers ≡ 8
+    → HaveOwnNumbers given station history → AheadAt given station held left history → IsSubmitted given station (after_octets given station left history)
+octets_ahead given station held [] history eight own ahead = none_ahead given station held history ahead
+octets_ahead given station held (octet ∷ left) history eight own ahead =
+    octets_ahead given station (held_then given station octet history held) left (after_call given station (HostOctet octet) history) eight
+    (octet_own given station octet history own) (call_ahead given station octet held left history eight own ahead)
 
-pub feed_submitted : (given : Given) (station : ℕ) (octets : List ℕ) (history : List Event) → (setup_at given station).links ≤ 1
+pub come_own : (given : Given) (station : ℕ) (octets : List ℕ) (history : List Event) → HaveOwnNumbers given station history
+    → HaveOwnNumbers given station (history ++ HostFed station octets ∷ [])
+come_own given station octets history own = event_own given station history (HostFed station octets) refl own
+
+pub feed_submitted : (given : Given) (station : ℕ) (octets : List ℕ) (history : List Event)
     → (setup_at given station).host_buffers ≡ 8 → AreInStep given station history → IsSubmitted given station history
     → IsSubmitted given station (after_feed given station octets history)
-feed_submitted given station octets history one eight step submitted =
-    all_submitted given station (after_feed given station octets history) one
-    (feed_first given station octets history one eight step (first_submitted given station history submitted))
+feed_submitted given station [] history eight step submitted = submitted
+feed_submitted given station (octet ∷ octets) history eight step submitted =
+    octets_ahead given station (lines_at station history).links (octet ∷ octets) (history ++ HostFed station (octet ∷ octets) ∷ []) eight
+    (come_own given station (octet ∷ octets) history step.own) (fed_ahead given station (octet ∷ octets) history step submitted)
 
 -- ---- the octets that the lines have
 
@@ -408,24 +362,9 @@ all_given link =
     let counted = kept.counted in
     omega (arith, all, parts, waiting, counted)
 
-one_place : (links : OpenLinks) → length links ≤ 1 → buffers_taken links ≡ buffers_in (link_at 0 links)
-one_place [] few = refl
-one_place (place ∷ []) few = let sum = sum_by-cons buffers_in place [] in omega (arith, sum)
-one_place (first ∷ second ∷ links) few = absurd (omega (arith, few))
-
 -- the packets of a link that are not credited, by the lines
 abbrev taken_on : Lines → OpenUnder → ℕ
 taken_on lines one = length (submitted_on one.link lines) - credited_on one.link lines
-
-lines_place : (number : ℕ) (lines : Lines) (place : Option OpenLink) → lines.links ≡ links_for number place
-    → ((link : OpenLink) → place ≡ Some link → length (submitted_on number lines) - credited_on number lines ≡ length (facts_in link).outgoing.packets)
-    → lines_taken lines ≡ buffers_in place
-lines_place number lines None are waits = ap (sum_by (taken_on lines)) are
-lines_place number lines (Some link) are waits =
-    let one : OpenUnder = record { link = number; handle = 0 } in
-    let sum = ap (sum_by (taken_on lines)) are ∙ sum_by-cons (taken_on lines) one [] in
-    let each = waits link refl in
-    omega (arith, sum, each)
 
 uncredited : (number : ℕ) (lines : Lines) (link : OpenLink) → let outgoing = (facts_in link).outgoing in
     data_on number lines ≡ outgoing.given → outgoing.complete ≡ 0 → credited_on number lines ≡ outgoing.reported + empties_on number lines
@@ -437,34 +376,31 @@ uncredited number lines link data_is none credited =
     omega (arith, both, with_octets, all, none, credited)
 
 -- as a feed begins the lines and the controller have the same number
-pub taken_agree : (given : Given) (station : ℕ) (history : List Event) → (setup_at given station).links ≤ 1
-    → let number = (links_of history).link_of station 0 in
+taken_agree : (given : Given) (station : ℕ) (history : List Event) → IsStationBooked given station history
+    → ((handle : ℕ) (link : OpenLink) → link_at handle (facts_at given station history).links ≡ Some link → complete_in link ≡ 0)
+    → ((handle : ℕ) (link : OpenLink) → link_at handle (facts_at given station history).links ≡ Some link
+    → credited_on (number_at station handle history) (lines_at station history)
+    ≡ (facts_in link).outgoing.reported + empties_on (number_at station handle history) (lines_at station history))
+    → IsSubmitted given station history → lines_taken (lines_at station history) ≡ buffers_taken (facts_at given station history).links
+taken_agree given station history booked none credited submitted =
     let lines = lines_at station history in
     let links = (facts_at given station history).links in
-    lines.links ≡ links_for number (link_at 0 links)
-    → ((link : OpenLink) → link_at 0 links ≡ Some link → complete_in link ≡ 0)
-    → ((link : OpenLink) → link_at 0 links ≡ Some link → credited_on number lines ≡ (facts_in link).outgoing.reported + empties_on number lines)
-    → IsFirstSubmitted given station history → lines_taken lines ≡ buffers_taken links
-taken_agree given station history one are none credited submitted =
-    let number = (links_of history).link_of station 0 in
-    let lines = lines_at station history in
-    let links = (facts_at given station history).links in
-    let many = (own_handles (setup_at given station) (past_of station history)).many in
-    lines_place number lines (link_at 0 links) are
-    (λ link is. uncredited number lines link (submitted.data_is link is) (none link is) (credited link is))
-    ∙ sym (one_place links (omega (arith, many, one)))
+    sum_of_places (taken_on lines) buffers_in (setup_at given station).links lines.links (numbers_at station history) links
+    (sym (own_handles (setup_at given station) (past_of station history)).many) refl
+    (λ handle link at. uncredited (number_at station handle history) lines link (submitted.data_is handle link at) (none handle link at) (credited handle link at))
+    booked.links
 
 -- and so they are in step
-pub in_step : (given : Given) (station : ℕ) (history : List Event) → (setup_at given station).links ≤ 1
-    → let number = (links_of history).link_of station 0 in
-    let lines = lines_at station history in
-    let links = (facts_at given station history).links in
-    HasFed given station history → lines.links ≡ links_for number (link_at 0 links)
-    → ((link : OpenLink) → link_at 0 links ≡ Some link → complete_in link ≡ 0)
-    → ((link : OpenLink) → link_at 0 links ≡ Some link → credited_on number lines ≡ (facts_in link).outgoing.reported + empties_on number lines)
-    → IsFirstSubmitted given station history → AreInStep given station history
-in_step given station history one fed are none credited submitted = record {
+pub in_step : (given : Given) (station : ℕ) (history : List Event) → HasFed given station history → HaveOwnNumbers given station history
+    → IsStationBooked given station history
+    → ((handle : ℕ) (link : OpenLink) → link_at handle (facts_at given station history).links ≡ Some link → complete_in link ≡ 0)
+    → ((handle : ℕ) (link : OpenLink) → link_at handle (facts_at given station history).links ≡ Some link
+    → credited_on (number_at station handle history) (lines_at station history)
+    ≡ (facts_in link).outgoing.reported + empties_on (number_at station handle history) (lines_at station history))
+    → IsSubmitted given station history → AreInStep given station history
+in_step given station history fed own booked none credited submitted = record {
   fed = fed;
-  links = are;
-  taken = taken_agree given station history one are none credited submitted;
+  own = own;
+  under = links_under (setup_at given station).links (lines_at station history).links (numbers_at station history) (facts_at given station history).links booked.links;
+  taken = taken_agree given station history booked none credited submitted;
 }

@@ -20,7 +20,7 @@ use Rattle.journal_acks.proofs.FirstCounts.{turns_grow}
 use Rattle.journal_data.specs.Lines.{Lines, submitted_on}
 use Rattle.journal_data.proofs.EachLine.{lines_at}
 use Rattle.journal_data.proofs.Openness.{AreNot, IsNotedAs, stays, shuts, opens_first}
-use Rattle.journal_data.proofs.StationLines.{IsUnused, swapped}
+use Rattle.journal_data.proofs.NotedLines.{IsUnused, swapped}
 
 -- the link with this number began before this turn
 pub record IsOldLink (number : ℕ) (history : List Event) : Type 0 where

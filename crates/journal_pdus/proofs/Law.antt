@@ -11,7 +11,7 @@ use Rattle.run_model.proofs.Ordered.{pair_distinct}
 use Rattle.run_laws.proofs.DistinctAccess.{AreApart}
 use Rattle.journal_packets.proofs.AccessOrder.{AreNth}
 use Rattle.journal_data.proofs.Law.{eight_of}
-use Rattle.journal_data.proofs.OneLink.{pair_links}
+use Rattle.journal_data.proofs.FewLinks.{pair_links}
 use Rattle.journal_pdus.specs.Exchanged.{AllAreNew, IsAtRest, PdusAreDue}
 use Rattle.journal_pdus.specs.Settled.{AreSettled}
 use Rattle.journal_pdus.proofs.NextPdus.{next_of_lines}

@@ -62,7 +62,7 @@ use Rattle.journal_data.proofs.EachLine.{lines_at}
 use Rattle.journal_data.proofs.Ends.{IsWell, sound}
 use Rattle.journal_data.proofs.KeptData.{IsDataAt, data_kept, pass_in_turn}
 use Rattle.journal_data.proofs.Law.{first_data}
-use Rattle.journal_data.proofs.OneLink.{HaveOneLink}
+use Rattle.journal_data.proofs.FewLinks.{HaveFewLinks}
 use Rattle.journal_data.proofs.Openness.{AreNot, opens_where_free}
 use Rattle.journal_data.proofs.SameGiven.{WasGiven, after_sent, given_in, turn_given}
 use Rattle.journal_data.proofs.Submitting.{call_submits}
@@ -172,7 +172,7 @@ record IsSendingIn (given : Given) (station handle : ℕ) (history : List Event)
   sent : (ack_of base).sent ≡ (ack_of old).sent
   fixed : IsFixedNow (facts_in base).outgoing
 
-next_at : (given : Given) (station handle : ℕ) (history : List Event) (step : Step) (base : OpenLink) → (setup_at given station).links ≤ 1
+next_at : (given : Given) (station handle : ℕ) (history : List Event) (step : Step) (base : OpenLink) → (setup_at given station).links ≤ 4096
     → (setup_at given station).host_buffers ≡ 8 → IsWell given station history → IsSendingIn given station handle history step base
     → IsNextAt (number_at station handle history) history station (numbered (ack_of base).sent + 1) (facts_in base).outgoing.fixed
 next_at given station handle history step base few eight well sending =
@@ -243,7 +243,7 @@ under_own : (history : List Event) (station own handle count : ℕ) (pdu : Pdu) 
     → IsNextNote history station own count pdu
 under_own history station own handle count pdu same is = subst (λ n. IsNextNote history station n count pdu) (sym same) is
 
-module _ (given : Given) (pair : HaveOneLink given) (eight : (station : ℕ) → (setup_at given station).host_buffers ≡ 8) (station : ℕ) (history : List Event)
+module _ (given : Given) (few_links : HaveFewLinks given) (eight : (station : ℕ) → (setup_at given station).host_buffers ≡ 8) (station : ℕ) (history : List Event)
     (in_it : is_in station given.stations ≡ true) (well : IsWell given station history) where
   abbrev facts : Facts
   facts = facts_at given station history
@@ -275,7 +275,7 @@ module _ (given : Given) (pair : HaveOneLink given) (eight : (station : ℕ) →
           subst (λ (more : List Note). IsSentLast (IsNextNote history station) (start ++ more)) (sym noted)
           (sent_by (IsNextNote history station) start base none
           (under_own history station base.setup.link.handle other (numbered (ack_of base).sent + 1) (facts_in base).outgoing.fixed own
-          (next_at given station other history (TurnBegins slot on) base (pair.links station) (eight station) well (record {
+          (next_at given station other history (TurnBegins slot on) base (few_links.links station) (eight station) well (record {
             in_turn = tt;
             old = begun.link;
             was = begun.was;
@@ -307,7 +307,7 @@ module _ (given : Given) (pair : HaveOneLink given) (eight : (station : ℕ) →
       subst (λ (more : List Note). IsSentLast (IsNextNote history station) (starts ++ more)) (sym (ap (notes_sent slot) here))
       (sent_by (IsNextNote history station) starts taken none
       (under_own history station taken.setup.link.handle other (numbered (ack_of taken).sent + 1) (facts_in taken).outgoing.fixed own
-      (next_at given station other history (step_of (Some octets)) taken (pair.links station) (eight station) well (record {
+      (next_at given station other history (step_of (Some octets)) taken (few_links.links station) (eight station) well (record {
         in_turn = in_turn;
         old = base;
         was = was;
@@ -343,7 +343,7 @@ module _ (given : Given) (pair : HaveOneLink given) (eight : (station : ℕ) →
 
 -- ---- at each place of a run
 
-module _ (whole : IsHeardWhole) (given : Given) (Q : Place → List Event → Type 0) (known : AreKnown given Q) (are_two : IsOfTwo given) (pair : HaveOneLink given) (six : HaveAddresses given)
+module _ (whole : IsHeardWhole) (given : Given) (Q : Place → List Event → Type 0) (known : AreKnown given Q) (are_two : IsOfTwo given) (few_links : HaveFewLinks given) (six : HaveAddresses given)
     (distinct : AreDistinct given.stations) (eight : (station : ℕ) → (setup_at given station).host_buffers ≡ 8) where
   -- what a station sends after a call
   own_fixed : (place : Place) (station : ℕ) (step : Step) (history : List Event) → is_in station given.stations ≡ true → IsDataAt given Q place (after_call given station step history)
@@ -358,7 +358,7 @@ module _ (whole : IsHeardWhole) (given : Given) (Q : Place → List Event → Ty
     begins = λ plan slot done left station history are is next.
         let on = plan.radio_of station in
         let in_it = among given.stations done left station are in record {
-          last = begin_last given pair eight station history in_it (is.are.well station in_it) slot on
+          last = begin_last given few_links eight station history in_it (is.are.well station in_it) slot on
               (own_fixed (AtBegins (done ++ station ∷ []) left) station (TurnBegins slot on) history in_it next);
           of = begun_call whole given Q known are_two six distinct done left station slot on history are
               (between_turns given Q distinct done left station history are is.counted).uses.in_turn is.counted;
@@ -366,7 +366,7 @@ module _ (whole : IsHeardWhole) (given : Given) (Q : Place → List Event → Ty
     passes = λ phases done left station history are is next.
         let received = packet_received station history in
         let in_it = among given.stations done left station are in record {
-          last = phase_last given pair eight station history in_it (is.are.well station in_it) received
+          last = phase_last given few_links eight station history in_it (is.are.well station in_it) received
               (own_fixed (AtListening phases (done ++ station ∷ []) left) station (step_of received) history in_it next);
           of = call_is given Q known distinct phases done left station history are is.counted next.counted.known next.counted.holds;
         };
@@ -408,15 +408,15 @@ next_before given station step base before earlier later handle count llid body 
     (same_next (number_at station handle base) station count pdu base mid (call_submits station step earlier base)
     (call_leaves is_sending (λ lines. lines.sent) sending_leaves station step earlier base found.none) found.is))
 
-pub next_of_lines : IsHeardWhole → IsUnderstood → AreTaken → AreNth → AreApart → (given : Given) → IsOfTwo given → HaveOneLink given → HaveAddresses given → AreDistinct given.stations
+pub next_of_lines : IsHeardWhole → IsUnderstood → AreTaken → AreNth → AreApart → (given : Given) → IsOfTwo given → HaveFewLinks given → HaveAddresses given → AreDistinct given.stations
     → ((station : ℕ) → (setup_at given station).host_buffers ≡ 8) → AllAreNext (journal_of (history_of (run_of given)))
-next_of_lines whole understood taken nth apart given are_two pair six distinct eight front rest side link count llid body is =
+next_of_lines whole understood taken nth apart given are_two few_links six distinct eight front rest side link count llid body is =
     let Q = IsBelongingSoFar given in
     let known = known_of understood taken nth apart given are_two six in
     let call = sent_in_call given front rest side link count llid body is in
     to_line (λ number entries one. IsNextPdu number entries one count (record { llid = llid; body = body })) given front side link count llid body call
     (next_before given call.station call.step call.base call.before call.earlier call.later call.handle count llid body call.notes_are call.before_is
     (each_at (OfCall given (IsNextCall given)) (history_of (run_of given)) call.base call.after (Called call.station call.step)
-    (run_calls given (IsNextCall given) (IsDataAt given Q) (data_kept whole given Q known are_two pair six distinct eight)
-    (have_next whole given Q known are_two pair six distinct eight) (first_data given).is)
+    (run_calls given (IsNextCall given) (IsDataAt given Q) (data_kept whole given Q known are_two few_links six distinct eight)
+    (have_next whole given Q known are_two few_links six distinct eight) (first_data given).is)
     call.called))

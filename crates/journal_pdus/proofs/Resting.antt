@@ -1,17 +1,16 @@
 -- Before each turn of a run of a pair, and at its end, no PDU is announced whose packet did not come, and none is to be taken.
-use Rattle.std.proofs.Common.{◌≡◌, ℕ, ◌<◌, true, Bool, Option, None, List, [], ◌∷◌, ◌++◌, sym, ap, subst, ◌∙◌}
+use Rattle.std.proofs.Common.{◌≡◌, ℕ, ◌<◌, None, List, ◌∷◌, ◌++◌, sym, ap, subst, ◌∙◌}
 use Rattle.ble_base.specs.declared.roles.Side.{Side}
 use Rattle.journal.specs.declared.entries.Entry.TheVariants.{Turn}
 use Rattle.link_model.proofs.Received.{IsHeardWhole}
 use Rattle.run_model.specs.Feeding.{AreDistinct}
 use Rattle.run_model.specs.History.{Event}
-use Rattle.run_model.specs.Journal.{journal_of, side_of}
+use Rattle.run_model.specs.Journal.{journal_of}
 use Rattle.run_model.specs.LinkEnds.{HaveAddresses}
 use Rattle.run_model.specs.Links.{links_of}
 use Rattle.run_model.specs.Run.{Given, GoesOn, history_of, run_of, setup_at}
 use Rattle.run_model.proofs.EntryEvents.{is_of_event}
 use Rattle.run_model.proofs.LinkEnds.{AreTaken, IsUnderstood}
-use Rattle.run_model.proofs.Stations.{is_in}
 use Rattle.run_model.proofs.Walk.{IsKept, NoTurn, Place}
 use Rattle.run_laws.proofs.DistinctAccess.{AreApart}
 use Rattle.journal_packets.proofs.AccessOrder.{AreNth}
@@ -21,7 +20,7 @@ use Rattle.journal_acks.proofs.LinkUses.{sends_under}
 use Rattle.journal_acks.proofs.Seen.{IsSeen, seen_last, seen_turn}
 use Rattle.journal_acks.proofs.Standing.{phased_at}
 use Rattle.journal_acks.proofs.TwoStations.{IsOfTwo}
-use Rattle.journal_data.proofs.OneLink.{HaveOneLink}
+use Rattle.journal_data.proofs.FewLinks.{HaveFewLinks}
 use Rattle.journal_pdus.specs.Announced.{announced_pdu}
 use Rattle.journal_pdus.specs.Exchanged.{AllAreAtRest, IsAtRest}
 use Rattle.journal_pdus.specs.Pending.{pending_pdu}
@@ -30,7 +29,7 @@ use Rattle.journal_pdus.proofs.TakenInRuns.{IsTakenAt, taken_first, taken_kept}
 use Rattle.journal_pdus.proofs.Told.{off_told}
 use Rattle.journal_pdus.proofs.ToldInRuns.{IsToldAt, told_first, told_kept}
 
-module _ (whole : IsHeardWhole) (understood : IsUnderstood) (taken : AreTaken) (nth : AreNth) (apart : AreApart) (given : Given) (are_two : IsOfTwo given) (pair : HaveOneLink given)
+module _ (whole : IsHeardWhole) (understood : IsUnderstood) (taken : AreTaken) (nth : AreNth) (apart : AreApart) (given : Given) (are_two : IsOfTwo given) (few_links : HaveFewLinks given)
     (six : HaveAddresses given) (distinct : AreDistinct given.stations) (eight : (station : ℕ) → (setup_at given station).host_buffers ≡ 8)
     (some : (station : ℕ) → 0 < (setup_at given station).air_buffers) where
   abbrev Q : Place → List Event → Type 0
@@ -51,7 +50,7 @@ module _ (whole : IsHeardWhole) (understood : IsUnderstood) (taken : AreTaken) (
   }
 
   keeps_told : IsKept given (IsToldAt given Q)
-  keeps_told = told_kept given whole Q (known_of understood taken nth apart given are_two six) are_two pair six distinct eight
+  keeps_told = told_kept given whole Q (known_of understood taken nth apart given are_two six) are_two few_links six distinct eight
 
   -- ---- none is to be taken
 
@@ -65,7 +64,7 @@ module _ (whole : IsHeardWhole) (understood : IsUnderstood) (taken : AreTaken) (
   }
 
   keeps_taken : IsKept given (IsTakenAt given Q)
-  keeps_taken = taken_kept whole given Q (known_of understood taken nth apart given are_two six) are_two pair six distinct eight some
+  keeps_taken = taken_kept whole given Q (known_of understood taken nth apart given are_two six) are_two few_links six distinct eight some
 
   -- ---- in a run
 

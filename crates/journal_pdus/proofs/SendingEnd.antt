@@ -28,10 +28,10 @@ use Rattle.journal_acks.proofs.TwoStations.{IsOfTwo}
 use Rattle.journal_data.proofs.Arriving.{IsEndBooked}
 use Rattle.journal_data.proofs.EachLine.{lines_at}
 use Rattle.journal_data.proofs.Ends.{sound}
-use Rattle.journal_data.proofs.OneLink.{HaveOneLink}
+use Rattle.journal_data.proofs.FewLinks.{HaveFewLinks}
 use Rattle.journal_pdus.proofs.Together.{IsKnownAt}
 
-module _ (whole : IsHeardWhole) (given : Given) (Q : Place → List Event → Type 0) (known : AreKnown given Q) (are_two : IsOfTwo given) (pair : HaveOneLink given)
+module _ (whole : IsHeardWhole) (given : Given) (Q : Place → List Event → Type 0) (known : AreKnown given Q) (are_two : IsOfTwo given) (few_links : HaveFewLinks given)
     (six : HaveAddresses given) (distinct : AreDistinct given.stations) (eight : (station : ℕ) → (setup_at given station).host_buffers ≡ 8)
     (phases : ℕ) (done left : List ℕ) (station channel : ℕ) (octets : List ℕ) (history : List Event) (are : given.stations ≡ done ++ station ∷ left)
     (wanted : use_at given station history ≡ Sends channel octets) (has : IsKnownAt given Q (AtPackets phases done (station ∷ left)) history)
@@ -75,4 +75,4 @@ module _ (whole : IsHeardWhole) (given : Given) (Q : Place → List Event → Ty
       ∙ ap (λ (a : Acknowledgement). a.last) (ack_sent from.slot from.link)
 
   pub booked_is : IsEndBooked number (lines_at station history) (facts_in sent_end) (data_waiting from.handle sender.received)
-  booked_is = (sound given station from.handle history sent_end (pair.links station) (eight station) (has.data_is.are.well station in_it) from.is_open).booked
+  booked_is = (sound given station from.handle history sent_end (few_links.links station) (eight station) (has.data_is.are.well station in_it) from.is_open).booked

@@ -38,8 +38,9 @@ use Rattle.journal_data.proofs.Openness.{is_open}
 use Rattle.journal_acks.proofs.Exchanging.{number_at}
 use Rattle.journal_data.proofs.Ends.{sound}
 use Rattle.journal_data.proofs.FedInRuns.{between_standing}
-use Rattle.journal_data.proofs.OneLink.{HaveOneLink}
-use Rattle.journal_data.proofs.StationLines.{IsStationBooked, is_link}
+use Rattle.journal_data.proofs.FewLinks.{HaveFewLinks}
+use Rattle.journal_data.proofs.NotedLines.{is_link}
+use Rattle.journal_data.proofs.StationLines.{IsStationBooked}
 use Rattle.journal_pdus.specs.Exchanged.{AllAreSettled}
 use Rattle.journal_pdus.specs.Settled.{AreSettled, IsSettled}
 use Rattle.journal_pdus.proofs.SettledEnds.{settled_end}
@@ -69,7 +70,7 @@ pub by_side : (given : Given) → IsOfTwo given → (T : Side → Type 0) → ((
 by_side given are_two T all A = all 0 (ap (is_in 0) are_two)
 by_side given are_two T all B = all 1 (ap (is_in 1) are_two)
 
-module _ (given : Given) (Q : Place → List Event → Type 0) (are_two : IsOfTwo given) (pair : HaveOneLink given) (eight : (station : ℕ) → (setup_at given station).host_buffers ≡ 8)
+module _ (given : Given) (Q : Place → List Event → Type 0) (are_two : IsOfTwo given) (few_links : HaveFewLinks given) (eight : (station : ℕ) → (setup_at given station).host_buffers ≡ 8)
     (history : List Event) (is : IsKnownAt given Q NoTurn history) where
   rests : (station : ℕ) → is_in station given.stations ≡ true → is_between_turns (past_of station history) ≡ true
   rests station in_it =
@@ -81,7 +82,7 @@ module _ (given : Given) (Q : Place → List Event → Type 0) (are_two : IsOfTw
       let setup = setup_at given station in
       let past = past_of station history in
       settled_end (number_at station handle history) (side_of station) (journal_of history) (facts_in link) (data_waiting handle (facts_at given station history).received)
-      (sound given station handle history link (pair.links station) (eight station) (is.data_is.are.well station in_it) at).booked
+      (sound given station handle history link (few_links.links station) (eight station) (is.data_is.are.well station in_it) at).booked
       (ap (data_waiting handle) (nothing_waits setup past (rests station in_it)))
       (past_holds link.setup link.past)
       (none_complete setup past handle link (rests station in_it) at)
@@ -123,17 +124,17 @@ turn_event links (Transmitted station channel octets (hearing ∷ hearings)) slo
 
 -- ---- in a run
 
-module _ (whole : IsHeardWhole) (understood : IsUnderstood) (taken : AreTaken) (nth : AreNth) (apart : AreApart) (given : Given) (are_two : IsOfTwo given) (pair : HaveOneLink given)
+module _ (whole : IsHeardWhole) (understood : IsUnderstood) (taken : AreTaken) (nth : AreNth) (apart : AreApart) (given : Given) (are_two : IsOfTwo given) (few_links : HaveFewLinks given)
     (six : HaveAddresses given) (distinct : AreDistinct given.stations) (eight : (station : ℕ) → (setup_at given station).host_buffers ≡ 8) where
   abbrev P : Place → List Event → Type 0
   P place history = IsKnownAt given (IsBelongingSoFar given) place history
 
   run_kept : IsKept given P
-  run_kept = known_kept whole given (IsBelongingSoFar given) (known_of understood taken nth apart given are_two six) are_two pair six distinct eight
+  run_kept = known_kept whole given (IsBelongingSoFar given) (known_of understood taken nth apart given are_two six) are_two few_links six distinct eight
 
   sees : IsSeen given P (λ history. AreSettled (journal_of history)) (λ history station channel octets. Unit {0})
   sees = record {
-    turn = settled_between given (IsBelongingSoFar given) are_two pair eight;
+    turn = settled_between given (IsBelongingSoFar given) are_two few_links eight;
     packet = λ phases done left station channel octets history are wanted is. tt;
   }
 

@@ -67,7 +67,7 @@ use Rattle.journal_data.specs.Lines.{PduLine}
 use Rattle.journal_data.proofs.Arriving.{lines_length}
 use Rattle.journal_data.proofs.Ends.{sound}
 use Rattle.journal_data.proofs.KeptData.{far_side, other_in}
-use Rattle.journal_data.proofs.OneLink.{HaveOneLink}
+use Rattle.journal_data.proofs.FewLinks.{HaveFewLinks}
 use Rattle.journal_pdus.specs.Announced.{last_number_sent, pdu_line_if, side_of_line}
 use Rattle.journal_pdus.specs.Exchanged.{AllAreTakenAtOnce}
 use Rattle.journal_pdus.specs.Pending.{last_number_taken, pending_pdu, taken_pdu, untaken_pdu}
@@ -94,7 +94,7 @@ same_to_take given station history after received facts heard numbers =
 
 -- ---- a packet is on the air
 
-module _ (whole : IsHeardWhole) (given : Given) (Q : Place → List Event → Type 0) (known : AreKnown given Q) (are_two : IsOfTwo given) (pair : HaveOneLink given)
+module _ (whole : IsHeardWhole) (given : Given) (Q : Place → List Event → Type 0) (known : AreKnown given Q) (are_two : IsOfTwo given) (few_links : HaveFewLinks given)
     (six : HaveAddresses given) (distinct : AreDistinct given.stations) (eight : (station : ℕ) → (setup_at given station).host_buffers ≡ 8)
     (some : (station : ℕ) → 0 < (setup_at given station).air_buffers)
     (phases : ℕ) (done left : List ℕ) (station channel : ℕ) (octets : List ℕ) (fates : List Fate) (history : List Event)
@@ -254,13 +254,13 @@ module _ (whole : IsHeardWhole) (given : Given) (Q : Place → List Event → Ty
     -- the counts of the lines of both sides
     sent_is : last_number_sent number front (side_of station) ≡ numbered (sent_ack (facts_in sent.link)).sent
     sent_is =
-        let booked = (sound given station sent.handle history sender (pair.links station) (eight station) (is.data_is.are.well station in_it) sent.is_open).booked in
+        let booked = (sound given station sent.handle history sender (few_links.links station) (eight station) (is.data_is.are.well station in_it) sent.is_open).booked in
         ap length booked.sent
         ∙ lines_length number 1 (nonempty is_empty (ack_of sender).sent) ∙ ap (λ (a : Acknowledgement). numbered a.sent) (ack_sent sent.slot sent.link)
 
     taken_is : last_number_taken number front (other_side (side_of station)) ≡ numbered (ack_of link).accepted
     taken_is =
-        let booked = (sound given other listening.handle history link (pair.links other) (eight other) (is.data_is.are.well other is_too) listening.is_open).booked in
+        let booked = (sound given other listening.handle history link (few_links.links other) (eight other) (is.data_is.are.well other is_too) listening.is_open).booked in
         ap (λ s. last_number_taken number front s) (sym (side_other station))
         ∙ ap (λ n. last_number_taken n front (side_of other)) same_link ∙ ap length booked.taken
         ∙ lines_length (number_at other listening.handle history) 1 (nonempty is_empty (ack_of link).accepted)
@@ -406,11 +406,11 @@ module _ (given : Given) (are_two : IsOfTwo given) where
         call_other given one station step history (apart station one is is_one differs) ∙ pending_pdu one is_one
         ∙ (λ i. if sym (in_more_other one station done differs) i then None else sym (still one differs) i)
 
-module _ (whole : IsHeardWhole) (given : Given) (Q : Place → List Event → Type 0) (known : AreKnown given Q) (are_two : IsOfTwo given) (pair : HaveOneLink given)
+module _ (whole : IsHeardWhole) (given : Given) (Q : Place → List Event → Type 0) (known : AreKnown given Q) (are_two : IsOfTwo given) (few_links : HaveFewLinks given)
     (six : HaveAddresses given) (distinct : AreDistinct given.stations) (eight : (station : ℕ) → (setup_at given station).host_buffers ≡ 8)
     (some : (station : ℕ) → 0 < (setup_at given station).air_buffers) where
   pub taken_kept : IsKept given (IsTakenAt given Q)
-  taken_kept = let kept = known_kept whole given Q known are_two pair six distinct eight in record {
+  taken_kept = let kept = known_kept whole given Q known are_two few_links six distinct eight in record {
     on_turn = λ slot plan history begun at has.
         let radios = map plan.radio_of given.stations in record {
           is = kept.on_turn slot plan history begun at has.is;
@@ -448,11 +448,11 @@ module _ (whole : IsHeardWhole) (given : Given) (Q : Place → List Event → Ty
         let hearings = hearings_of given plan.fates station channel octets history in
         let in_it = among given.stations done left station are in record {
           is = kept.on_packet phases plan done left station channel octets history are begun due has.is;
-          pending_pdu = packet_pending whole given Q known are_two pair six distinct eight some phases done left station channel octets plan.fates history are due.is_wanted has.is due.is_seen
+          pending_pdu = packet_pending whole given Q known are_two few_links six distinct eight some phases done left station channel octets plan.fates history are due.is_wanted has.is due.is_seen
               (has.pending_pdu (other_of station) (other_in given are_two station in_it));
           each = each_event IsTakenEvent history (Transmitted station channel octets hearings) has.each
               (has.pending_pdu station in_it
-              ∙ own_silent whole given Q known are_two pair six distinct eight some phases done left station channel octets plan.fates history are due.is_wanted has.is due.is_seen);
+              ∙ own_silent whole given Q known are_two few_links six distinct eight some phases done left station channel octets plan.fates history are due.is_wanted has.is due.is_seen);
         };
     on_air = λ phases history has. record { is = kept.on_air phases history has.is; pending_pdu = has.pending_pdu; each = has.each };
     on_hearing = λ phases done left station history are begun has.
@@ -486,12 +486,12 @@ nothing_first station = refl
 pub taken_first : (given : Given) → IsTakenAt given (IsBelongingSoFar given) NoTurn []
 taken_first given = record { is = known_first given; pending_pdu = λ station in_it. nothing_first station; each = tt }
 
-run_taken : IsHeardWhole → IsUnderstood → AreTaken → AreNth → AreApart → (given : Given) → IsOfTwo given → HaveOneLink given → HaveAddresses given → AreDistinct given.stations
+run_taken : IsHeardWhole → IsUnderstood → AreTaken → AreNth → AreApart → (given : Given) → IsOfTwo given → HaveFewLinks given → HaveAddresses given → AreDistinct given.stations
     → ((station : ℕ) → (setup_at given station).host_buffers ≡ 8) → ((station : ℕ) → 0 < (setup_at given station).air_buffers) → Each IsTakenEvent [] (history_of (run_of given))
-run_taken whole understood taken nth separate given are_two pair six distinct eight some =
+run_taken whole understood taken nth separate given are_two few_links six distinct eight some =
     let Q = IsBelongingSoFar given in
     ends_with (run_of given) (IsWhole given (IsTakenAt given Q)) (IsStopped given (IsTakenAt given Q)) (Each IsTakenEvent [])
-    (run_kept given (IsTakenAt given Q) (taken_kept whole given Q (known_of understood taken nth separate given are_two six) are_two pair six distinct eight some)
+    (run_kept given (IsTakenAt given Q) (taken_kept whole given Q (known_of understood taken nth separate given are_two six) are_two few_links six distinct eight some)
     (taken_first given))
     (λ history wholly. wholly.is.each) (λ history stop stopped. stopped.kept.each)
 
@@ -528,15 +528,15 @@ line_by before (Transmitted station channel octets []) entry side is side_is tak
 line_by before (Transmitted station channel octets (hearing ∷ hearings)) entry side is side_is takes =
     of_event before entry _ side (side_of station) is refl (sym takes) side_is
 
-pub taken_lines : IsHeardWhole → IsUnderstood → AreTaken → AreNth → AreApart → (given : Given) → IsOfTwo given → HaveOneLink given → HaveAddresses given → AreDistinct given.stations
+pub taken_lines : IsHeardWhole → IsUnderstood → AreTaken → AreNth → AreApart → (given : Given) → IsOfTwo given → HaveFewLinks given → HaveAddresses given → AreDistinct given.stations
     → ((station : ℕ) → (setup_at given station).host_buffers ≡ 8) → ((station : ℕ) → 0 < (setup_at given station).air_buffers)
     → AllAreTakenAtOnce (journal_of (history_of (run_of given)))
-taken_lines whole understood taken nth separate given are_two pair six distinct eight some = λ front rest entry side is side_is.
+taken_lines whole understood taken nth separate given are_two few_links six distinct eight some = λ front rest entry side is side_is.
     let history = history_of (run_of given) in
     let at = is_of_event history front rest entry is in
     subst (λ xs. taken_pdu entry ≡ pending_pdu side xs) (sym at.front_is)
     (line_by at.before at.event entry side at.entry_is side_is
-    (each_at IsTakenEvent history at.before at.after at.event (run_taken whole understood taken nth separate given are_two pair six distinct eight some) at.is_at))
+    (each_at IsTakenEvent history at.before at.after at.event (run_taken whole understood taken nth separate given are_two few_links six distinct eight some) at.is_at))
 
 -- a controller of a pair has room for eight pieces of data
 pub some_air : (a b : List ℕ) (script : Script) (station : ℕ) → 0 < (setup_at (given_of a b script) station).air_buffers

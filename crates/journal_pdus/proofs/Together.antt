@@ -13,7 +13,7 @@ use Rattle.journal_acks.proofs.LinkPackets.{lines_first}
 use Rattle.journal_acks.proofs.TwoStations.{IsOfTwo}
 use Rattle.journal_data.proofs.KeptData.{IsDataAt, data_kept}
 use Rattle.journal_data.proofs.Law.{first_data}
-use Rattle.journal_data.proofs.OneLink.{HaveOneLink}
+use Rattle.journal_data.proofs.FewLinks.{HaveFewLinks}
 
 pub record IsKnownAt (given : Given) (Q : Place → List Event → Type 0) (place : Place) (history : List Event) : Type 0 where
   pub data_is : IsDataAt given Q place history
@@ -22,11 +22,11 @@ pub record IsKnownAt (given : Given) (Q : Place → List Event → Type 0) (plac
 pub known_first : (given : Given) → IsKnownAt given (IsBelongingSoFar given) NoTurn []
 known_first given = record { data_is = (first_data given).is; lined = lines_first given }
 
-module _ (whole : IsHeardWhole) (given : Given) (Q : Place → List Event → Type 0) (known : AreKnown given Q) (are_two : IsOfTwo given) (pair : HaveOneLink given)
+module _ (whole : IsHeardWhole) (given : Given) (Q : Place → List Event → Type 0) (known : AreKnown given Q) (are_two : IsOfTwo given) (few_links : HaveFewLinks given)
     (six : HaveAddresses given) (distinct : AreDistinct given.stations) (eight : (station : ℕ) → (setup_at given station).host_buffers ≡ 8) where
   pub known_kept : IsKept given (IsKnownAt given Q)
   known_kept =
-      let one = data_kept whole given Q known are_two pair six distinct eight in
+      let one = data_kept whole given Q known are_two few_links six distinct eight in
       let two = lines_kept whole given Q known are_two six distinct in record {
         on_turn = λ slot plan history begun at is. record { data_is = one.on_turn slot plan history begun at is.data_is; lined = two.on_turn slot plan history begun at is.lined };
         on_feed = λ plan done left station history are some now is.

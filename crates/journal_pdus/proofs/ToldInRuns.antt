@@ -56,7 +56,7 @@ use Rattle.journal_acks.proofs.RunCounts.{counts_first}
 use Rattle.journal_acks.proofs.PhaseNotes.{IsOnLink, IsPhaseOf, IsPlainPhase, phase_of}
 use Rattle.journal_acks.proofs.Standing.{PhasedBy, last_phase, phased_at, silent_sends}
 use Rattle.journal_acks.proofs.TwoStations.{IsOfTwo, hearing_of, one_hearing, same_number}
-use Rattle.journal_data.proofs.OneLink.{HaveOneLink}
+use Rattle.journal_data.proofs.FewLinks.{HaveFewLinks}
 use Rattle.journal_pdus.specs.Announced.{announced_pdu, new_pdu_in, side_of_line}
 use Rattle.journal_pdus.specs.Exchanged.{AllGoOutAtOnce}
 use Rattle.journal_pdus.proofs.Together.{IsKnownAt, known_first, known_kept}
@@ -188,7 +188,7 @@ module _ (given : Given) where
       (not_before given.stations done left station distinct are)
       (phased_at given (AtEnds done (station ∷ left)) history counted.holds.hearing.stand station (among given.stations done left station are))
 
-  module _ (whole : IsHeardWhole) (Q : Place → List Event → Type 0) (known : AreKnown given Q) (are_two : IsOfTwo given) (pair : HaveOneLink given) (six : HaveAddresses given)
+  module _ (whole : IsHeardWhole) (Q : Place → List Event → Type 0) (known : AreKnown given Q) (are_two : IsOfTwo given) (few_links : HaveFewLinks given) (six : HaveAddresses given)
       (distinct : AreDistinct given.stations) (eight : (station : ℕ) → (setup_at given station).host_buffers ≡ 8) where
     -- the packet of a station was on the air, or it has none
     aired_step : (phases : ℕ) (done left : List ℕ) (station : ℕ) (history after : List Event) → given.stations ≡ done ++ station ∷ left → told_at station after ≡ None
@@ -207,7 +207,7 @@ module _ (given : Given) where
         subst (λ b. IsTold given (not b) station history) (not_before given.stations done left station distinct are) (told_is station (among given.stations done left station are))
 
     pub told_kept : IsKept given (IsToldAt Q)
-    told_kept = let kept = known_kept whole given Q known are_two pair six distinct eight in record {
+    told_kept = let kept = known_kept whole given Q known are_two few_links six distinct eight in record {
       on_turn = λ slot plan history begun at has.
           let radios = map plan.radio_of given.stations in
           let after = history ++ TurnBegan slot radios ∷ [] in record {
@@ -268,7 +268,7 @@ module _ (given : Given) where
                 ∙ air_told station history channel octets (hearing_of given plan.fates station channel octets history) [])
                 (λ other differs back apart. packet_stays given other station history channel octets hearings differs back) has.told_is;
             each = each_event IsToldEvent history event has.each
-                (packet_brings whole given Q known are_two pair six distinct eight phases done left station channel octets history are due.is_wanted has.is
+                (packet_brings whole given Q known are_two few_links six distinct eight phases done left station channel octets history are due.is_wanted has.is
                 (still_unsent phases done left station history are has.told_is));
           };
       on_air = λ phases history has. record {
@@ -434,11 +434,11 @@ line_goes links before (Transmitted station channel octets (hearing ∷ hearings
     let same : made ≡ entry = cc in
     own_line (journal_of before) (side_of station) side made entry same refl side_is now
 
-pub told_lines : IsHeardWhole → IsUnderstood → AreTaken → AreNth → AreApart → (given : Given) → IsOfTwo given → HaveOneLink given → HaveAddresses given → AreDistinct given.stations
+pub told_lines : IsHeardWhole → IsUnderstood → AreTaken → AreNth → AreApart → (given : Given) → IsOfTwo given → HaveFewLinks given → HaveAddresses given → AreDistinct given.stations
     → ((station : ℕ) → (setup_at given station).host_buffers ≡ 8) → AllGoOutAtOnce (journal_of (history_of (run_of given)))
-told_lines whole understood taken nth apart given are_two pair six distinct eight = λ front rest entry side is side_is.
+told_lines whole understood taken nth apart given are_two few_links six distinct eight = λ front rest entry side is side_is.
     let known = known_of understood taken nth apart given are_two six in
     let one = is_of_event (history_of (run_of given)) front rest entry is in
     subst (λ xs. GoesOut xs side entry) (sym one.front_is)
     (line_goes (links_of one.before) one.before one.event entry side one.entry_is side_is
-    (event_told given (run_told given whole (IsBelongingSoFar given) known are_two pair six distinct eight (told_first given)) one.before one.after one.event one.is_at))
+    (event_told given (run_told given whole (IsBelongingSoFar given) known are_two few_links six distinct eight (told_first given)) one.before one.after one.event one.is_at))

@@ -31,7 +31,7 @@ use Rattle.journal_acks.proofs.Standing.{other_sends, phased_at}
 use Rattle.journal_acks.proofs.TwoStations.{IsOfTwo}
 use Rattle.journal_data.specs.Lines.{PduLine}
 use Rattle.journal_data.proofs.Arriving.{lines_length}
-use Rattle.journal_data.proofs.OneLink.{HaveOneLink}
+use Rattle.journal_data.proofs.FewLinks.{HaveFewLinks}
 use Rattle.journal_pdus.specs.Announced.{last_number_sent, new_pdu_of}
 use Rattle.journal_pdus.proofs.Together.{IsKnownAt}
 use Rattle.journal_pdus.proofs.ToldLines.{told_at}
@@ -63,7 +63,7 @@ pub record TellsOf (station handle : ℕ) (history : List Event) (link : OpenLin
   pub sent : (exchange_at (number_at station handle history) history (side_of station)).sent ≡ length (ack_of link).sent
   pub told_is : told_at station history ≡ line_to_send (number_at station handle history) (facts_in link)
 
-module _ (whole : IsHeardWhole) (given : Given) (Q : Place → List Event → Type 0) (known : AreKnown given Q) (are_two : IsOfTwo given) (pair : HaveOneLink given) (six : HaveAddresses given)
+module _ (whole : IsHeardWhole) (given : Given) (Q : Place → List Event → Type 0) (known : AreKnown given Q) (are_two : IsOfTwo given) (few_links : HaveFewLinks given) (six : HaveAddresses given)
     (distinct : AreDistinct given.stations) (eight : (station : ℕ) → (setup_at given station).host_buffers ≡ 8) (phases : ℕ) (done left : List ℕ) (station channel : ℕ) (octets : List ℕ)
     (history : List Event) (are : given.stations ≡ done ++ station ∷ left) (wanted : use_at given station history ≡ Sends channel octets)
     (is : IsKnownAt given Q (AtPackets phases done (station ∷ left)) history) (told_is : IsTold given true station history) where
@@ -75,7 +75,7 @@ module _ (whole : IsHeardWhole) (given : Given) (Q : Place → List Event → Ty
 
   module _ (off : is_advertising channel ≡ false) where
     abbrev sending : IsOfSendersLink given history station channel octets
-    sending = from whole given Q known are_two pair six distinct eight phases done left station channel octets history are wanted is off
+    sending = from whole given Q known are_two few_links six distinct eight phases done left station channel octets history are wanted is off
 
     abbrev sent_on : OpenLink
     sent_on = link_after (PacketSent sending.slot) sending.link
@@ -86,23 +86,23 @@ module _ (whole : IsHeardWhole) (given : Given) (Q : Place → List Event → Ty
     pub tells_of : TellsOf station sending.handle history sending.link
     tells_of =
         let tells = open_tells given station sending.handle history sent_on
-        (sends_on whole given Q known are_two pair six distinct eight phases done left station channel octets history are wanted is off) sending.is_open told_is in
+        (sends_on whole given Q known are_two few_links six distinct eight phases done left station channel octets history are wanted is off) sending.is_open told_is in
         subst (TellsOf station sending.handle history) (sym (same_base sending.slot tells.slot sending.link tells.base tells.after_is))
         (record { sent = tells.sent; told_is = tells.told_is })
 
     count_is : last_number_sent number front side ≡ numbered (sent_ack (facts_in sending.link)).sent
     count_is =
-        ap length (booked_is whole given Q known are_two pair six distinct eight phases done left station channel octets history are wanted is off).sent
+        ap length (booked_is whole given Q known are_two few_links six distinct eight phases done left station channel octets history are wanted is off).sent
         ∙ lines_length number 1 (nonempty is_empty (ack_of sent_on).sent) ∙ ap (λ (a : Acknowledgement). numbered a.sent) (ack_sent sending.slot sending.link)
 
     link_brings : told_at station history ≡ new_pdu_of (link_of_packet front side octets) front side
     link_brings =
         let base = facts_in sending.link in
         let ack = base.acknowledgement in
-        let acked = acked_is whole given Q known are_two pair six distinct eight phases done left station channel octets history are wanted is off in
+        let acked = acked_is whole given Q known are_two few_links six distinct eight phases done left station channel octets history are wanted is off in
         tells_of.told_is
         ∙ brings_line (is_acked ack) (is_empty base.outgoing.fixed) ack base.outgoing.fixed (carried_of number front side) (exchange_at number history side) number (last_number_sent number front side) refl
-        (λ i. acked i == tells_of.sent i) (carried_is whole given Q known are_two pair six distinct eight phases done left station channel octets history are wanted is off) count_is
+        (λ i. acked i == tells_of.sent i) (carried_is whole given Q known are_two few_links six distinct eight phases done left station channel octets history are wanted is off) count_is
         ∙ ap (λ may. new_pdu_of may front side)
         (sym sending.belongs)
 

@@ -40,7 +40,7 @@ use Rattle.journal_acks.proofs.LinkPackets.{IsPacketOf, link_packet}
 use Rattle.journal_acks.proofs.Seen.{seen_packet}
 use Rattle.journal_acks.proofs.TwoStations.{IsOfTwo}
 use Rattle.journal_data.proofs.EachLine.{lines_at}
-use Rattle.journal_data.proofs.OneLink.{HaveOneLink}
+use Rattle.journal_data.proofs.FewLinks.{HaveFewLinks}
 use Rattle.journal_pdus.specs.Exchanged.{AllTellWhatWaits}
 use Rattle.journal_pdus.specs.Waiting.{TellsWhatWaits, data_waits}
 use Rattle.journal_pdus.proofs.FixedNow.{IsFixed, fixed_first, fixed_kept, sender_fixed}
@@ -60,13 +60,13 @@ last_fixed false fixed last is = absurd cc
 all_acked : (end : Exchanged) (ack : Acknowledgement) → end.acked ≡ ack.acked → end.sent ≡ length ack.sent → end.acked ≡ end.sent → is_acked ack ≡ true
 all_acked end ack acked sent all = eq-eqb ack.acked (length ack.sent) (sym acked ∙ all ∙ sent)
 
-module _ (whole : IsHeardWhole) (given : Given) (Q : Place → List Event → Type 0) (known : AreKnown given Q) (are_two : IsOfTwo given) (pair : HaveOneLink given)
+module _ (whole : IsHeardWhole) (given : Given) (Q : Place → List Event → Type 0) (known : AreKnown given Q) (are_two : IsOfTwo given) (few_links : HaveFewLinks given)
     (six : HaveAddresses given) (distinct : AreDistinct given.stations) (eight : (station : ℕ) → (setup_at given station).host_buffers ≡ 8)
     (phases : ℕ) (done left : List ℕ) (station channel : ℕ) (octets : List ℕ) (history : List Event) (are : given.stations ≡ done ++ station ∷ left)
     (wanted : use_at given station history ≡ Sends channel octets) (has : IsKnownAt given Q (AtPackets phases done (station ∷ left)) history)
     (told_is : IsTold given true station history) (off : is_advertising channel ≡ false) where
   abbrev sending : IsOfSendersLink given history station channel octets
-  sending = from whole given Q known are_two pair six distinct eight phases done left station channel octets history are wanted has off
+  sending = from whole given Q known are_two few_links six distinct eight phases done left station channel octets history are wanted has off
 
   abbrev base : EndFacts
   base = facts_in sending.link
@@ -80,7 +80,7 @@ module _ (whole : IsHeardWhole) (given : Given) (Q : Place → List Event → Ty
   waits : data_waits number (lines_at station history) ≡ nat_lt (length (data_of (sent_ack base).sent)) (length (octets_of base.outgoing.given))
   waits =
       waits_after number (lines_at station history) sending.slot sending.link (data_waiting sending.handle (facts_at given station history).received)
-      (booked_is whole given Q known are_two pair six distinct eight phases done left station channel octets history are wanted has off)
+      (booked_is whole given Q known are_two few_links six distinct eight phases done left station channel octets history are wanted has off)
 
   fixed : IsFixedNow base.outgoing
   fixed =
@@ -88,7 +88,7 @@ module _ (whole : IsHeardWhole) (given : Given) (Q : Place → List Event → Ty
       let stands = turned setup (IsFixed setup) (fixed_kept setup) (past_of station history) (record { stage = Within phases; begun = turns_begun history }) (fixed_first setup)
       (has.lined.channelled.is.holds.hearing.stand station (among given.stations done left station are)) in
       sender_fixed given history station channel octets sending stands.sends
-      (sends_on whole given Q known are_two pair six distinct eight phases done left station channel octets history are wanted has off)
+      (sends_on whole given Q known are_two few_links six distinct eight phases done left station channel octets history are wanted has off)
 
   -- of the packet, whatever says that it is one of this link
   tells : (packet : IsPacketOf given history station channel octets sending) → TellsWhatWaits (journal_of history) (side_of station) channel octets
@@ -99,12 +99,12 @@ module _ (whole : IsHeardWhole) (given : Given) (Q : Place → List Event → Ty
         more = packet.more_is ∙ more_waits sending.link.setup sending.link.past fixed ∙ sym waits_it;
         empty_last = λ all empty.
             let acked = all_acked end base.acknowledgement
-            (acked_is whole given Q known are_two pair six distinct eight phases done left station channel octets history are wanted has off)
-            (tells_of whole given Q known are_two pair six distinct eight phases done left station channel octets history are wanted has told_is off).sent
+            (acked_is whole given Q known are_two few_links six distinct eight phases done left station channel octets history are wanted has off)
+            (tells_of whole given Q known are_two few_links six distinct eight phases done left station channel octets history are wanted has told_is off).sent
             (subst (λ n. (exchange_at n history (side_of station)).acked ≡ (exchange_at n history (side_of station)).sent) is all) in
             waits_it ∙ empty_is_last sending.link.setup sending.link.past fixed acked
             (ap is_empty (sym (last_fixed (is_acked base.acknowledgement) base.outgoing.fixed base.acknowledgement.last acked)
-            ∙ sym (carried_is whole given Q known are_two pair six distinct eight phases done left station channel octets history are wanted has off))
+            ∙ sym (carried_is whole given Q known are_two few_links six distinct eight phases done left station channel octets history are wanted has off))
             ∙ subst (λ n. is_empty (carried_of n (journal_of history) (side_of station)) ≡ true) is empty);
       }
 
@@ -121,17 +121,17 @@ abbrev pub AreAired : Given → Type 0
 AreAired given = (front rest : List Entry) (side : Side) (channel : ℕ) (octets : List ℕ) (fate : Mark) (verdict : Verdict)
     → journal_of (history_of (run_of given)) ≡ front ++ Air side channel octets fate verdict ∷ rest → IsAired given front side channel octets fate verdict
 
-pub waits_of_lines : IsHeardWhole → IsUnderstood → AreTaken → AreNth → AreApart → (given : Given) → IsOfTwo given → HaveOneLink given → HaveAddresses given → AreDistinct given.stations
+pub waits_of_lines : IsHeardWhole → IsUnderstood → AreTaken → AreNth → AreApart → (given : Given) → IsOfTwo given → HaveFewLinks given → HaveAddresses given → AreDistinct given.stations
     → ((station : ℕ) → (setup_at given station).host_buffers ≡ 8) → AreAired given → AllTellWhatWaits (journal_of (history_of (run_of given)))
-waits_of_lines whole understood taken nth apart given are_two pair six distinct eight all front rest side channel octets fate verdict is off =
+waits_of_lines whole understood taken nth apart given are_two few_links six distinct eight all front rest side channel octets fate verdict is off =
     let Q = IsBelongingSoFar given in
     let known = known_of understood taken nth apart given are_two six in
     let aired = all front rest side channel octets fate verdict is in
-    let seen = seen_packet given (IsToldAt given Q) (told_kept given whole Q known are_two pair six distinct eight) (λ history. Unit {0}) WaitsIfOfLink
+    let seen = seen_packet given (IsToldAt given Q) (told_kept given whole Q known are_two few_links six distinct eight) (λ history. Unit {0}) WaitsIfOfLink
     (record {
       turn = λ history has. tt;
       packet = λ phases done left station sent_on sent_octets history are wanted has on_link.
-          tells_what_waits whole given Q known are_two pair six distinct eight phases done left station sent_on sent_octets history are wanted has.is
-          (still_unsent given whole Q known are_two pair six distinct eight phases done left station history are has.told_is) on_link;
+          tells_what_waits whole given Q known are_two few_links six distinct eight phases done left station sent_on sent_octets history are wanted has.is
+          (still_unsent given whole Q known are_two few_links six distinct eight phases done left station history are has.told_is) on_link;
     }) (told_first given) aired.before aired.after aired.station channel octets (aired.hearing ∷ aired.others) aired.is_at off in
     subst (λ xs. TellsWhatWaits xs side channel octets) (sym aired.front_is) (subst (λ s. TellsWhatWaits (journal_of aired.before) s channel octets) (sym aired.side_is) seen)
