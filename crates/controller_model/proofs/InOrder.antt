@@ -174,7 +174,6 @@ each_silent most = record {
   received = λ piece. refl;
   opened = λ link below. refl;
   shut = λ handle reason below. refl;
-  applied = λ handle number event below. refl;
   entered = λ handle event channel below. refl;
   sent = λ handle number llid octets below. refl;
   took = λ handle number llid octets below. refl;

@@ -7,7 +7,9 @@ pub mod Places
 pub mod Buffers
 pub mod BetweenTurns
 pub mod TurnNotes
+pub mod StepNotes
 pub mod NotedLinks
+pub mod NoProcedures
 pub mod AnsweredOnce
 pub mod Feds
 pub mod InOrder

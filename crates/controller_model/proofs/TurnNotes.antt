@@ -1,16 +1,18 @@
 -- What is noted in turns, note by note: links that are opened, enter events and are shut, and events for the host.
-use Rattle.std.proofs.Common.{◌≡◌, ℕ, ◌+◌, ◌<◌, ◌≤◌, Bool, true, false, Option, Some, None, List, [], ◌∷◌, ◌++◌, length, map, cond, refl, sym, subst, ◌∙◌, arith}
+use Rattle.std.proofs.Common.{◌≡◌, ℕ, ◌+◌, ◌<◌, ◌≤◌, Bool, true, false, Option, Some, None, List, [], ◌∷◌, ◌++◌, length, map, cond, refl, sym, ap, subst, ◌∙◌, arith}
 use Rattle.std.specs.Prelude.{◌&&◌, All, IfSome, ⊤, flat_map}
 use Rattle.std.proofs.lemmas.List.Elements.{All-append, All-cons, All-nil}
 use Rattle.acl_banks.specs.declared.pieces.Piece.{Piece}
 use Rattle.ble_base.specs.declared.notes.Note.{Note}
-use Rattle.ble_base.specs.declared.notes.Note.TheVariants.{Up, Applied, Enter, Sent, Took}
+use Rattle.ble_base.specs.declared.notes.Note.TheVariants.{Up, Enter, Sent, Took}
 use Rattle.adv_pdu.specs.declared.pdu.AdvPdu.{AdvPdu}
 use Rattle.hci_evt.specs.declared.event.Event.{Event}
 use Rattle.hci_evt.specs.declared.event.Event.TheVariants.{DisconnectionComplete, CompletedPackets, ConnectionComplete, AdvertisingReport, EnhancedConnection, ChannelSelection}
 use Rattle.hci_evt.specs.Event.{mask_bit_of, written}
 use Rattle.host_view.specs.View.{View}
-use Rattle.instants.specs.Track.{next_number}
+use Rattle.instants.specs.declared.track.Change.{Change}
+use Rattle.instants.specs.Track.{next_number, number_if_due}
+use Rattle.link_model.proofs.InEvents.{past_in}
 use Rattle.link_model.specs.declared.setup.LinkSetup.{LinkSetup}
 use Rattle.link_model.specs.Acknowledgement.{Pdu}
 use Rattle.link_model.specs.Facts.{Facts as EndFacts}
@@ -56,10 +58,14 @@ pub record EachNote (most : ℕ) (P : Note → Type 0) : Type 0 where
   pub received : (piece : ℕ × Piece) → P (note_received piece)
   pub opened : (link : LinkSetup) → link.handle < most → P (note_opened link)
   pub shut : (handle reason : ℕ) → handle < most → P (note_shut handle reason)
-  pub applied : (handle number event : ℕ) → handle < most → P (Applied handle number (record { 0 = event }))
   pub entered : (handle event channel : ℕ) → handle < most → P (Enter handle (record { 0 = event }) channel)
   pub sent : (handle number llid : ℕ) (octets : List ℕ) → handle < most → P (Sent handle number llid (record { items = octets }))
   pub took : (handle number llid : ℕ) (octets : List ℕ) → handle < most → P (Took handle number llid (record { items = octets }))
+
+none_applied : (link : OpenLink) → next_number (facts_in link).parameters ≡ None
+none_applied link =
+    let t = (facts_in link).parameters in
+    ap (λ (waits : Option Change). number_if_due waits t.entered t.applied) (past_in link.setup link.past).free
 
 module _ (most : ℕ) (P : Note → Type 0) (each : EachNote most P) where
   both : (xs ys : List Note) → All P xs → All P ys → All P (xs ++ ys)
@@ -107,15 +113,16 @@ module _ (most : ℕ) (P : Note → Type 0) (each : EachNote most P) where
 
   -- ---- links that enter an event
 
-  applied_noted : (handle event : ℕ) (number : Option ℕ) → handle < most → All P (applied_notes handle event number)
-  applied_noted handle event None below = All-nil P
-  applied_noted handle event (Some number) below = All-cons P _ [] (each.applied handle number event below) (All-nil P)
+  -- no indication takes effect, since none waits
+  applied_noted : (handle event : ℕ) (link : OpenLink) → All P (applied_notes handle event (next_number (facts_in link).parameters))
+  applied_noted handle event link =
+      subst (λ number. All P (applied_notes handle event number)) (sym (none_applied link)) (All-nil P)
 
   entry_noted : (anchor : Bool) (slot : ℕ) (link : OpenLink) → link.setup.link.handle < most → All P (notes_if anchor slot link)
   entry_noted false slot link below = All-nil P
   entry_noted true slot link below =
       both (applied_notes link.setup.link.handle _ (next_number (facts_in link).parameters)) _
-      (applied_noted link.setup.link.handle _ (next_number (facts_in link).parameters) below)
+      (applied_noted link.setup.link.handle _ link)
       (All-cons P _ [] (each.entered link.setup.link.handle _ _ below) (All-nil P))
 
   entering_noted : (slot first : ℕ) (links : Links) → first + length links ≤ most → HaveHandles first links

@@ -53,7 +53,8 @@ ghost use Rattle.controller_model.specs.Host.{HeardNothing, commands_accepted, c
 ghost use Rattle.controller_model.specs.Host.{commands_of, host_octets};
 ghost use Rattle.controller_model.specs.Host.{is_answered, le_rand_count, opcodes_in, opcodes_of};
 ghost use Rattle.controller_model.specs.Host.{with_answer};
-ghost use Rattle.controller_model.specs.Notes.{HadNoLink, HasHandleBelow, answers_among, answers_of};
+ghost use Rattle.controller_model.specs.Notes.{HadNoLink, HasHandleBelow, IsOfNoProcedure};
+ghost use Rattle.controller_model.specs.Notes.{answers_among, answers_of};
 ghost use Rattle.controller_model.specs.Notes.{as_two_octets, one_further, without_le_events};
 
 /// With one more step, a controller holds what that step makes of what it held, and has noted what
@@ -133,6 +134,13 @@ pub fn notes_name_links_of_the_controller()
         → All (HasHandleBelow setup.links) (notes_after setup (facts_of setup past) step) }
     ensures all { (setup : Setup) (past : List Step)
         → All (HasHandleBelow setup.links) (notes_of setup past) }
+{}
+
+/// No note is of a control procedure or of an indication that takes effect: no control procedure is
+/// built.
+pub fn no_note_is_of_a_procedure()
+    ensures { (setup : Setup) (past : List Step) (step : Step)
+        → All IsOfNoProcedure (notes_after setup (facts_of setup past) step) }
 {}
 
 /// Random words are drawn in order, and then again from the first, whatever comes between, a Reset

@@ -3,3 +3,4 @@ pub mod LinksBegun
 pub mod Numbered
 pub mod EnterLines
 pub mod OpenedLines
+pub mod NoProcedures

@@ -2,4 +2,5 @@
 pub mod Begun
 pub mod Entered
 pub mod Opened
+pub mod Procedures
 pub mod Rows

@@ -7,6 +7,7 @@ ghost use Rattle.journal.specs.declared.entries.Entry.{Entry};
 ghost use Rattle.journal.specs.declared.entries.Entry.TheVariants.{Enter, Opened};
 ghost use Rattle.journal_links.specs.Entered.{IsEnteredInTime};
 ghost use Rattle.journal_links.specs.Opened.{IsOpenedInTime};
+ghost use Rattle.journal_links.specs.Procedures.{NoneNamesAProcedure};
 ghost use Rattle.radio_replay.specs.Script.{Script};
 ghost use Rattle.run_model.specs.Journal.{journal_of};
 ghost use Rattle.run_model.specs.Pair.{given_of};
@@ -67,3 +68,9 @@ pub fn each_opened_line_names_its_link()
     controller_model::a_pdu_is_understood();
     advertise::laws::connections_are_taken();
 }
+
+/// No line is of a control procedure or of an indication that takes effect: none is built.
+pub fn no_line_names_a_procedure()
+    ensures { (a b : List ℕ) (script : Script)
+        → NoneNamesAProcedure (journal_of (history_of (run_of (given_of a b script)))) }
+{}

@@ -7,6 +7,7 @@ use Rattle.journal.specs.declared.entries.Entry.TheVariants.{Enter, Opened}
 use Rattle.radio_replay.specs.Script.{Script}
 use Rattle.journal_links.specs.Entered.{IsEnteredInTime}
 use Rattle.journal_links.specs.Opened.{IsOpenedInTime}
+use Rattle.journal_links.specs.Procedures.{NoneNamesAProcedure}
 use Rattle.journal_packets.specs.Addresses.{AllAddressesAreNext}
 use Rattle.journal_data.specs.Delivered.{AllDataArrives}
 use Rattle.journal_turns.specs.Follows.{FollowsSchedule}
@@ -32,6 +33,8 @@ pub record IsLawful (a b : List ℕ) (script : Script) (journal : List Entry) : 
   pub addresses : AllAddressesAreNext script journal
   pub opened : AllAreOpened journal
   pub entered : AllAreEntered journal
+  -- no line is of a control procedure
+  pub procedures : NoneNamesAProcedure journal
   -- what goes out on links and what is taken is what is due, line by line
   pub due : PdusAreDue journal
   -- data arrives in order, and is credited only as it is accepted

@@ -1,9 +1,10 @@
 -- Journals of a link whose lines of links and events are not those of its CONNECT_IND.
 use Rattle.std.specs.Prelude.{List, [], ◌∷◌, ◌++◌}
+use Rattle.ble_base.specs.declared.procedure_kinds.Kind.TheVariants.{Version}
 use Rattle.ble_base.specs.declared.roles.Role.TheVariants.{Central}
 use Rattle.ble_base.specs.declared.roles.Side.TheVariants.{A, B}
 use Rattle.journal.specs.declared.entries.Entry.{Entry}
-use Rattle.journal.specs.declared.entries.Entry.TheVariants.{Enter, Opened}
+use Rattle.journal.specs.declared.entries.Entry.TheVariants.{Applied, Began, Enter, Opened}
 use Rattle.run_model.specs.Rows.{one_connection_journal, turn_entry}
 
 -- the side that received the CONNECT_IND opens the link as its central
@@ -29,3 +30,11 @@ entered_elsewhere = one_connection_journal ++ turn_entry 1 ∷ turn_entry 2 ∷ 
 -- event 1 comes in the place of event 0
 abbrev pub entered_misnumbered : List Entry
 entered_misnumbered = one_connection_journal ++ turn_entry 1 ∷ turn_entry 2 ∷ Enter A 1 1 25 ∷ []
+
+-- a control procedure begins
+abbrev pub procedure_begun : List Entry
+procedure_begun = one_connection_journal ++ Began A 1 Version ∷ []
+
+-- an indication takes effect
+abbrev pub indication_applied : List Entry
+indication_applied = one_connection_journal ++ Applied A 1 1 0 ∷ []

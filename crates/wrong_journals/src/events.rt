@@ -1,11 +1,13 @@
 //! Lines of links and events that do not follow from a CONNECT_IND.
+ghost use Rattle.journal_links.specs.Procedures.{NoneNamesAProcedure};
 ghost use Rattle.journal_pdus.specs.Lawful.{AllAreEntered, AllAreOpened};
 ghost use Rattle.wrong_journals.specs.Events.{entered_elsewhere, entered_late};
-ghost use Rattle.wrong_journals.specs.Events.{entered_misnumbered, opened_from_nothing};
-ghost use Rattle.wrong_journals.specs.Events.{opened_late, roles_exchanged};
+ghost use Rattle.wrong_journals.specs.Events.{entered_misnumbered, indication_applied};
+ghost use Rattle.wrong_journals.specs.Events.{opened_from_nothing, opened_late};
+ghost use Rattle.wrong_journals.specs.Events.{procedure_begun, roles_exchanged};
 
 /// A link is opened in the turn of its CONNECT_IND, by the side that sent it as the central; and an
-/// event is entered in the turn of its anchor and on its channel.
+/// event is entered in the turn of its anchor and on its channel. No line is of a control procedure.
 pub fn wrong_links_are_refused()
     ensures roles { AllAreOpened roles_exchanged → ⊥ }
     ensures late { AllAreOpened opened_late → ⊥ }
@@ -13,4 +15,6 @@ pub fn wrong_links_are_refused()
     ensures another_turn { AllAreEntered entered_late → ⊥ }
     ensures another_channel { AllAreEntered entered_elsewhere → ⊥ }
     ensures another_event { AllAreEntered entered_misnumbered → ⊥ }
+    ensures procedure { NoneNamesAProcedure procedure_begun → ⊥ }
+    ensures indication { NoneNamesAProcedure indication_applied → ⊥ }
 {}

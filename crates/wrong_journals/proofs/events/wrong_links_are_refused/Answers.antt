@@ -1,5 +1,6 @@
 -- A link or an event does not follow from its CONNECT_IND.
 use Rattle.std.proofs.Common.{[], ◌∷◌, ◌++◌, is_some, refl, sym, ap}
+use Rattle.ble_base.specs.declared.procedure_kinds.Kind.TheVariants.{Version}
 use Rattle.ble_base.specs.declared.roles.Role.TheVariants.{Central}
 use Rattle.ble_base.specs.declared.roles.Side.TheVariants.{A, B}
 use Rattle.ble_base.specs.ChannelMap.{data_channels, used_channels}
@@ -11,6 +12,7 @@ use Rattle.chan_select.specs.PseudoRandom.{mam, perm, prn, reversed_octet, stage
 use Rattle.frame_bits.specs.Crc.{crc, crc_octets, crc_of_bits, remainder}
 use Rattle.frame_bits.specs.Whitening.{mask_of, next_mask, whitening_bit, whitening_of}
 use Rattle.h4_frames.specs.Frames.{frames}
+use Rattle.journal.specs.declared.entries.Entry.TheVariants.{Applied, Began}
 use Rattle.controller_model.specs.Packets.{pdu_heard}
 use Rattle.wire_fields.specs.Field.{little_endian}
 use Rattle.journal_links.specs.Begun.{links_begun}
@@ -61,3 +63,9 @@ unfolding announced_pdu pending_pdu channel_entered lines_of frames exchange_of 
 returns-clause-another_event c lawful =
     let front = one_connection_journal ++ turn_entry 1 ∷ turn_entry 2 ∷ [] in
     numbers_differ 3 27 refl (entered_as front 1 1 25 one_link refl (lawful front [] A 1 1 25 refl)).turn
+
+pub returns-clause-procedure : goal.returns-clause-procedure
+returns-clause-procedure c lawful = lawful one_connection_journal [] (Began A 1 Version) refl
+
+pub returns-clause-indication : goal.returns-clause-indication
+returns-clause-indication c lawful = lawful one_connection_journal [] (Applied A 1 1 0) refl
