@@ -1,7 +1,7 @@
 //! Scripts: a file with the name `journal`, and calls of the programs over it, each with what it
 //! leaves: its status, its output and its error line. In a text "|" ends a line. A line that begins
 //! with "#" says what follows: before it nothing is given.
-use crate::calls::ending_of;
+use crate::calls::{Ending, ending_of};
 use crate::files::{Given, packets_of, text_of};
 use std::alloc::{AllocError, Global};
 use std::process::Abort;
@@ -20,15 +20,20 @@ const NOTHING: Given<'static> = Given {
 /// Makes each call of a script, and compares what it leaves.
 pub(crate) fn check(rt: &impl Abort, alloc: Global, script: &str) -> Result<(), AllocError> {
     let mut given = NOTHING;
-    for line in script.lines() {
-        let (text, want) = parts_of(line);
-        let told = given.told_of(alloc, text)?;
-        assert_eq!(rt; told.as_str(), want, "{line}");
-    }
-    Ok(())
+    given.run(rt, alloc, script)
 }
 
 impl<'a> Given<'a> {
+    /// Takes each line of a script, and compares what it leaves.
+    fn run(&mut self, rt: &impl Abort, alloc: Global, script: &'a str) -> Result<(), AllocError> {
+        for line in script.lines() {
+            let (text, want) = parts_of(line);
+            let told = self.told_of(alloc, text)?;
+            assert_eq!(rt; told.as_str(), want, "{line}");
+        }
+        Ok(())
+    }
+
     /// What a line leaves.
     fn told_of(&mut self, alloc: Global, text: &'a str) -> Result<String, AllocError> {
         let mut told = String::new(alloc);
@@ -59,10 +64,20 @@ impl<'a> Given<'a> {
     /// there is no memory.
     fn call(&self, name: &str, rest: &str, told: &mut String) -> Result<(), AllocError> {
         let ending = ending_of(*told.allocator(), self, name, rest)?;
-        put_number(told, u64::from(ending.status))?;
-        put_output(told, ending.out.octets(), name, rest)?;
-        put_text(told, ending.err.octets())
+        put_ending(told, &ending, name, rest)
     }
+}
+
+/// Writes a status, what is shown of an output, and an error line.
+fn put_ending(
+    told: &mut String,
+    ending: &Ending,
+    name: &str,
+    rest: &str,
+) -> Result<(), AllocError> {
+    put_number(told, u64::from(ending.status))?;
+    put_output(told, ending.out.octets(), name, rest)?;
+    put_text(told, ending.err.octets())
 }
 
 /// Writes the size of an output, or whether it is as it must be.

@@ -1,13 +1,13 @@
 //! Files in memory and of the system, as they are called.
-use crate::scripts::played;
-use std::test::Fail;
+use crate::scripts::check;
+use std::alloc::AllocError;
 
 /// Three contents under two names; the fourth read fails.
 const HELD: &str = "\
-hold a one =
-hold b seven =
-hold a three =
-fail_read 4 =
+hold a one
+hold b seven
+hold a three
+fail_read 4
 read a 5 = [three]
 read a 4 = TooLong
 read c 9 = Failed
@@ -16,10 +16,8 @@ read b 9 = [seven]
 ";
 
 #[test]
-fn files_in_memory(rt: HostRuntime) -> Result<(), Fail> {
-    let played = played(&rt, rt.alloc(), HELD)?;
-    assert_eq!(rt; played.as_str(), HELD);
-    Ok(())
+fn files_in_memory(rt: HostRuntime) -> Result<(), AllocError> {
+    check(&rt, &rt, HELD)
 }
 
 /// Files that each Linux has, one without an end, a directory and a name that is missing. In a text
@@ -34,8 +32,6 @@ system . 5 = Failed
 ";
 
 #[test]
-fn files_of_the_system(rt: HostRuntime) -> Result<(), Fail> {
-    let played = played(&rt, rt.alloc(), OF_THE_SYSTEM)?;
-    assert_eq!(rt; played.as_str(), OF_THE_SYSTEM);
-    Ok(())
+fn files_of_the_system(rt: HostRuntime) -> Result<(), AllocError> {
+    check(&rt, &rt, OF_THE_SYSTEM)
 }

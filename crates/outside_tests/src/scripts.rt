@@ -3,6 +3,7 @@ use crate::reads::{put_breaking, put_endless, put_fault, put_read};
 use crate::streams::{Narrow, stream_with};
 use outside::{Files, MemFiles, MemSink, RealFiles, RealSink, Sink};
 use std::alloc::{AllocError, Global};
+use std::process::Abort;
 use test_words::{Call, call_of, parts_of, put_number, put_text, put_value, rest_of, slot};
 
 /// Files and a sink in memory, and a stream.
@@ -13,12 +14,11 @@ struct Scene {
     stream: Narrow,
 }
 
-/// A script in which each line has after " =" what its call gives. Before the first line nothing is
-/// held, written or planned to fail, and the stream has no room.
-pub(crate) fn played(rt: &HostRuntime, alloc: Global, script: &str) -> Result<String, AllocError> {
-    let mut played = String::new(alloc);
-    start(alloc).play(rt, script, &mut played)?;
-    Ok(played)
+/// Each line has a call, and after " =" what it gives. Before the first line nothing is held,
+/// written or planned to fail, and the stream has no room. Files of the system are those of a
+/// runtime.
+pub(crate) fn check(rt: &impl Abort, system: &HostRuntime, script: &str) -> Result<(), AllocError> {
+    start(system.alloc()).run(rt, system, script)
 }
 
 /// The scene before the first line.
@@ -31,45 +31,41 @@ fn start(alloc: Global) -> Scene {
 }
 
 impl Scene {
-    /// Makes each call of a script, and writes its lines.
-    fn play(
+    /// Makes each call of a script, and compares what it gives.
+    fn run(
         &mut self,
-        rt: &HostRuntime,
+        rt: &impl Abort,
+        system: &HostRuntime,
         script: &str,
-        played: &mut String,
     ) -> Result<(), AllocError> {
         for line in script.lines() {
-            let (text, _) = parts_of(line);
-            self.play_line(rt, text, played)?;
+            let (text, want) = parts_of(line);
+            let told = self.told_of(system, text)?;
+            assert_eq!(rt; told.as_str(), want, "{line}");
         }
         Ok(())
     }
 
-    /// Makes a call, and writes its line.
-    fn play_line(
-        &mut self,
-        rt: &HostRuntime,
-        text: &str,
-        played: &mut String,
-    ) -> Result<(), AllocError> {
+    /// What a call gives.
+    fn told_of(&mut self, system: &HostRuntime, text: &str) -> Result<String, AllocError> {
+        let mut told = String::new(system.alloc());
         let call = call_of(text);
-        played.push_str(text)?;
-        played.push_str(" =")?;
-        self.take(rt, call, rest_of(text, call.name).as_bytes(), played)?;
-        played.push('\n')
+        let rest = rest_of(text, call.name).as_bytes();
+        self.take(system, call, rest, &mut told)?;
+        Ok(told)
     }
 
     /// Makes a call, of the system or of another kind.
     fn take(
         &mut self,
-        rt: &HostRuntime,
+        system: &HostRuntime,
         call: Call<'_>,
         rest: &[u8],
         told: &mut String,
     ) -> Result<(), AllocError> {
         match call.name {
-            "system" => put_system(rt, call, told),
-            "stdout" => put_value(told, &RealSink::new(rt.stdout()).put(rest)),
+            "system" => put_system(system, call, told),
+            "stdout" => put_value(told, &RealSink::new(system.stdout()).put(rest)),
             "endless" => put_endless(told, slot(call.words[0])),
             "breaking" => put_breaking(told, call.words[0]),
             "fault" => put_fault(told, call.words[0]),
@@ -81,8 +77,8 @@ impl Scene {
 }
 
 /// Reads a file of the system.
-fn put_system(rt: &HostRuntime, call: Call<'_>, told: &mut String) -> Result<(), AllocError> {
-    let mut files = RealFiles::new(rt);
+fn put_system(system: &HostRuntime, call: Call<'_>, told: &mut String) -> Result<(), AllocError> {
+    let mut files = RealFiles::new(system);
     let answer = files.read_file(*told.allocator(), call.words[0], slot(call.words[1]));
     put_read(told, answer)
 }

@@ -1,6 +1,6 @@
 //! Readers, sinks in memory and over streams, and the texts of faults.
-use crate::scripts::played;
-use std::test::Fail;
+use crate::scripts::check;
+use std::alloc::AllocError;
 
 /// At most one octet past the limit is read, and a read that breaks off has its cause.
 const READS: &str = "\
@@ -14,15 +14,13 @@ breaking other = Failed
 ";
 
 #[test]
-fn reads_that_do_not_end(rt: HostRuntime) -> Result<(), Fail> {
-    let played = played(&rt, rt.alloc(), READS)?;
-    assert_eq!(rt; played.as_str(), READS);
-    Ok(())
+fn reads_that_do_not_end(rt: HostRuntime) -> Result<(), AllocError> {
+    check(&rt, &rt, READS)
 }
 
 /// The second write fails.
 const IN_MEMORY: &str = "\
-fail_put 2 =
+fail_put 2
 put one  = Ok(())
 put two  = Err(Failed)
 put three = Ok(())
@@ -30,42 +28,38 @@ octets = [one three]
 ";
 
 #[test]
-fn a_sink_in_memory(rt: HostRuntime) -> Result<(), Fail> {
-    let played = played(&rt, rt.alloc(), IN_MEMORY)?;
-    assert_eq!(rt; played.as_str(), IN_MEMORY);
-    Ok(())
+fn a_sink_in_memory(rt: HostRuntime) -> Result<(), AllocError> {
+    check(&rt, &rt, IN_MEMORY)
 }
 
-/// A stream with room for nine octets, and two with room for three, of which one breaks. Each put is
-/// flushed. Whatever the error of a flush is, the cause is `Failed`.
+/// A stream with room for nine octets, and two with room for three, of which one breaks. Each put
+/// is flushed. Whatever the error of a flush is, the cause is `Failed`.
 const STREAMS: &str = "\
-stream 9 =
+stream 9
 send seven = Ok(())
 taken = [seven]
-stream 3 =
+stream 3
 send seven = Err(Failed)
 taken = [sev]
-stream 3 breaks =
+stream 3 breaks
 send seven = Err(Failed)
 taken = [sev]
 stdout = Ok(())
-stream 9 =
+stream 9
 send one = Ok(())
 flushed = 3
 send two = Ok(())
 flushed = 6
 send = Ok(())
 flushed = 6
-stream 9 clogs =
+stream 9 clogs
 send seven = Err(Failed)
 taken = [seven]
 ";
 
 #[test]
-fn streams_of_the_system(rt: HostRuntime) -> Result<(), Fail> {
-    let played = played(&rt, rt.alloc(), STREAMS)?;
-    assert_eq!(rt; played.as_str(), STREAMS);
-    Ok(())
+fn streams_of_the_system(rt: HostRuntime) -> Result<(), AllocError> {
+    check(&rt, &rt, STREAMS)
 }
 
 const TEXTS: &str = "\
@@ -77,8 +71,6 @@ fault sink_memory = no memory
 ";
 
 #[test]
-fn faults_have_texts(rt: HostRuntime) -> Result<(), Fail> {
-    let played = played(&rt, rt.alloc(), TEXTS)?;
-    assert_eq!(rt; played.as_str(), TEXTS);
-    Ok(())
+fn faults_have_texts(rt: HostRuntime) -> Result<(), AllocError> {
+    check(&rt, &rt, TEXTS)
 }

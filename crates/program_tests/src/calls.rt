@@ -2,7 +2,7 @@
 use ble_tool::ble_tool;
 use outside::{MemFiles, MemSink};
 use std::alloc::{AllocError, Global};
-use test_words::{octets_of, push_lines, put_number};
+use test_words::{octets_of, push_lines};
 
 /// The first three lines of a schedule.
 const SIDES: &[u8] = b"ble-schedule 1
@@ -21,6 +21,8 @@ pub(crate) struct Given<'a> {
     pub(crate) turns: &'a str,
     /// How the lines of the output begin that are shown, or nothing where it is shown whole.
     pub(crate) only: &'a str,
+    /// The number of turns in which nothing happens that the output is compared with, or 0.
+    pub(crate) idle: u32,
     /// How many zeros `a.bin` has at its end.
     pub(crate) zeros: u32,
     /// How many turns `schedule` has at its end in which the radio of A is off.
@@ -66,13 +68,33 @@ fn words_of(alloc: Global, line: &str) -> Result<Vec<String>, AllocError> {
 /// The three files.
 fn files_of(alloc: Global, given: &Given<'_>) -> Result<MemFiles, AllocError> {
     let mut files = MemFiles::new(alloc);
-    files.hold("a.bin", host_of_a(alloc, given)?.as_slice())?;
-    files.hold("b.bin", octets_of(alloc, given.b).as_slice())?;
-    files.hold("schedule", schedule_of(alloc, given)?.as_slice())?;
-    if given.failing_read != 0 {
-        files.fail_at(u64::from(given.failing_read))?;
-    }
+    hold_files(alloc, given, &mut files)?;
     Ok(files)
+}
+
+/// Holds the three files, of which a read may fail.
+fn hold_files(alloc: Global, given: &Given<'_>, files: &mut MemFiles) -> Result<(), AllocError> {
+    hold_schedule(alloc, given, files)?;
+    files.hold("b.bin", octets_of(alloc, given.b).as_slice())?;
+    hold_host_of_a(alloc, given, files)?;
+    match given.failing_read {
+        0 => Ok(()),
+        read => files.fail_at(u64::from(read)),
+    }
+}
+
+fn hold_schedule(alloc: Global, given: &Given<'_>, files: &mut MemFiles) -> Result<(), AllocError> {
+    let text = schedule_of(alloc, given)?;
+    files.hold("schedule", text.as_slice())
+}
+
+fn hold_host_of_a(
+    alloc: Global,
+    given: &Given<'_>,
+    files: &mut MemFiles,
+) -> Result<(), AllocError> {
+    let octets = host_of_a(alloc, given)?;
+    files.hold("a.bin", octets.as_slice())
 }
 
 /// The output.
@@ -101,20 +123,4 @@ fn schedule_of(alloc: Global, given: &Given<'_>) -> Result<Vec<u8>, AllocError> 
         text.extend_from_slice(b"t -+\n")?;
     }
     Ok(text)
-}
-
-/// The journal of this number of turns in which nothing happens.
-pub(crate) fn idle_turns(alloc: Global, count: u32) -> Result<String, AllocError> {
-    let mut journal = String::new(alloc);
-    for turn in 0..count {
-        push_idle_turn(&mut journal, turn)?;
-    }
-    Ok(journal)
-}
-
-/// Appends the line of a turn in which nothing happens.
-fn push_idle_turn(journal: &mut String, turn: u32) -> Result<(), AllocError> {
-    journal.push_str("turn")?;
-    put_number(journal, u64::from(turn))?;
-    journal.push_str(" ++\n")
 }

@@ -1,11 +1,11 @@
 //! Scripts: files, and calls of the program over them. A line with the words of a call has after
 //! " =" what it leaves: its status, its output and its error line. In a text "|" ends a line. A
 //! line that begins with "#" says what follows: before it nothing is given.
-use crate::calls::{Given, called, idle_turns};
+use crate::calls::{Ending, Given, called};
 use crate::lines::put_shown;
 use std::alloc::{AllocError, Global};
 use std::process::Abort;
-use test_words::{Call, call_of, parts_of, put_answer, put_number, put_text, rest_of, slot};
+use test_words::{Call, call_of, parts_of, put_number, put_text, rest_of, slot};
 
 /// Nothing is held, shown alone or planned to fail.
 const NOTHING: Given<'static> = Given {
@@ -13,6 +13,7 @@ const NOTHING: Given<'static> = Given {
     b: "",
     turns: "",
     only: "",
+    idle: 0,
     zeros: 0,
     off: 0,
     failing_read: 0,
@@ -22,15 +23,20 @@ const NOTHING: Given<'static> = Given {
 /// Makes each call of a script, and compares what it leaves.
 pub(crate) fn check(rt: &impl Abort, alloc: Global, script: &str) -> Result<(), AllocError> {
     let mut given = NOTHING;
-    for line in script.lines() {
-        let (text, want) = parts_of(line);
-        let told = given.told_of(alloc, text)?;
-        assert_eq!(rt; told.as_str(), want, "{line}");
-    }
-    Ok(())
+    given.run(rt, alloc, script)
 }
 
 impl<'a> Given<'a> {
+    /// Takes each line of a script, and compares what it leaves.
+    fn run(&mut self, rt: &impl Abort, alloc: Global, script: &'a str) -> Result<(), AllocError> {
+        for line in script.lines() {
+            let (text, want) = parts_of(line);
+            let told = self.told_of(alloc, text)?;
+            assert_eq!(rt; told.as_str(), want, "{line}");
+        }
+        Ok(())
+    }
+
     /// What a line leaves.
     fn told_of(&mut self, alloc: Global, text: &'a str) -> Result<String, AllocError> {
         let mut told = String::new(alloc);
@@ -66,27 +72,22 @@ impl<'a> Given<'a> {
             "off" => self.off = number,
             "fail_read" => self.failing_read = number,
             "fail_write" => self.failing_write = number,
-            "idle" => return self.put_idle(number, told),
-            _ => return self.put_call(text, told),
+            "idle" => self.idle = number,
+            _ => return self.call(text, told),
         }
         Ok(())
     }
 
     /// Makes a call with these words, and writes what it leaves.
-    fn put_call(&self, words: &str, told: &mut String) -> Result<(), AllocError> {
+    fn call(&self, words: &str, told: &mut String) -> Result<(), AllocError> {
         let ending = called(*told.allocator(), self, words)?;
-        put_number(told, u64::from(ending.status))?;
-        put_shown(told, ending.out.octets(), self.only)?;
-        put_text(told, ending.err.octets())
+        self.put_ending(&ending, told)
     }
 
-    /// Makes a run, and writes its status, whether it has exactly the journal of this number of
-    /// turns in which nothing happens, and its error line.
-    fn put_idle(&self, count: u32, told: &mut String) -> Result<(), AllocError> {
-        let ending = called(*told.allocator(), self, "pair a.bin b.bin schedule")?;
-        let journal = idle_turns(*told.allocator(), count)?;
+    /// Writes a status, an output and an error line.
+    fn put_ending(&self, ending: &Ending, told: &mut String) -> Result<(), AllocError> {
         put_number(told, u64::from(ending.status))?;
-        put_answer(told, ending.out.octets() == journal.as_bytes())?;
+        put_shown(told, ending.out.octets(), self)?;
         put_text(told, ending.err.octets())
     }
 }

@@ -54,7 +54,8 @@ zeros 1048577
 pair a.bin b.bin schedule = 7 [] [too long: a.bin|]
 zeros 0
 turns run 50000|run 50000|
-idle 100000 = 0 yes []
+idle 100000
+pair a.bin b.bin schedule = 0 yes []
 ";
 
 #[test]
