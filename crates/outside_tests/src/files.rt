@@ -20,12 +20,16 @@ fn files_in_memory(rt: HostRuntime) -> Result<(), AllocError> {
     check(&rt, &rt, HELD)
 }
 
-/// Files that each Linux has, one without an end, a directory and a name that is missing. In a text
+/// Files that each Linux has, one by a name of over 200 octets, one without an end, a directory and a
+/// name that is missing. In a text
 /// "|" ends a line.
 const OF_THE_SYSTEM: &str = "\
 system /proc/sys/kernel/ostype 6 = [Linux|]
 system /proc/sys/kernel/ostype 5 = TooLong
 system /dev/null 5 = []
+system /proc/sys/./././././././././././././././././././././././././././././././././././\
+    ././././././././././././././././././././././././././././././././././././././././\
+    ./././././././././././././././kernel/ostype 6 = [Linux|]
 system /dev/zero 300000 = TooLong
 system outside-test.txt 5 = Failed
 system . 5 = Failed
