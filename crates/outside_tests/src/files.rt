@@ -21,8 +21,7 @@ fn files_in_memory(rt: HostRuntime) -> Result<(), AllocError> {
 }
 
 /// Files that each Linux has, one by a name of over 200 octets, one without an end, a directory and a
-/// name that is missing. In a text
-/// "|" ends a line.
+/// name that is missing. In a text "|" ends a line.
 const OF_THE_SYSTEM: &str = "\
 system /proc/sys/kernel/ostype 6 = [Linux|]
 system /proc/sys/kernel/ostype 5 = TooLong
