@@ -3,10 +3,12 @@
 
 mod notes;
 mod reading;
+mod scenes;
 mod writing;
 
 pub use notes::{put_notes, put_verdict};
 pub use reading::{
     Call, call_of, hex_number, number, octet, octets_of, parts_of, side_and_call, slot,
 };
+pub use scenes::{TakesCalls, first_wrong};
 pub use writing::{decimal_of, put_answer, put_number, put_octets, put_value};
