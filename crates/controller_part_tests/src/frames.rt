@@ -1,124 +1,91 @@
 //! The packets of written-out octets of a host.
-ghost use Rattle.std.specs.Prelude.{◌≤◌, length};
+use crate::scripts::check;
+use h4_frames::{Fed, Framer, HostPacket};
+use std::alloc::AllocError;
+use test_words::{Call, octets_of, put_answer, put_number, put_octets};
 
-use arrayvec::ArrayVec;
-use h4_frames::{
-    Fed, Framer, HostPacket, frames_are_in_order, frames_are_the_division, frames_grow,
-    results_are_the_frames,
-};
-use std::alloc::{AllocError, Global};
-use std::test::Fail;
-use wire_fields::put_octets;
-
-const RESET: u16 = 0x0C03;
-
-fn command(opcode: u16, parameters: &[u8]) -> Fed
-    requires { length parameters.now ≤ 255 }
-{
-    let mut body = ArrayVec::new();
-    put_octets(&mut body, parameters);
-    Fed::Packet(HostPacket::Command { opcode, body })
-}
-
-fn acl(handle: u16, start: bool, count: u16, data: &[u8]) -> Fed
-    requires { length data.now ≤ 251 }
-{
-    let mut body = ArrayVec::new();
-    put_octets(&mut body, data);
-    Fed::Packet(HostPacket::Acl {
-        handle,
-        start,
-        length: count,
-        body,
-    })
-}
-
-/// The results of a new framer for these octets, each with the number of octets up to its end.
-fn results(alloc: Global, octets: &[u8]) -> Result<Vec<(usize, Fed)>, AllocError> {
-    let mut framer = Framer::new();
-    let mut entries = Vec::new(alloc);
-    for (place, octet) in octets.iter().enumerate() {
-        let fed = framer.feed(*octet);
-        if fed != Fed::More {
-            entries.push((place.saturating_add(1), fed))?;
-        }
+/// A new framer, or the octets that one takes: its results, each after the number of octets up to
+/// its end.
+pub(crate) fn take(
+    framer: &mut Framer,
+    call: Call<'_>,
+    told: &mut String,
+) -> Result<(), AllocError> {
+    if call.name == "new" {
+        *framer = Framer::new();
     }
-    Ok(entries)
-}
-
-#[test]
-fn frames_what_a_host_sends(rt: HostRuntime) -> Result<(), Fail> {
-    frames_are_the_division();
-    results_are_the_frames();
-    frames_grow();
-    frames_are_in_order();
-    let alloc = rt.alloc();
-    let two_commands = b"\x01\x03\x0c\x00\x01\x01\x10\x02\xaa\xbb";
-    let rows: [(&[u8], Vec<(usize, Fed)>); 9] = [
-        (
-            b"\x01\x03\x0c\x00",
-            vec![in alloc; (4, command(RESET, &[]))]?,
-        ),
-        (
-            b"\x01\xff\xff\x00",
-            vec![in alloc; (4, command(0xFFFF, &[]))]?,
-        ),
-        (
-            b"\x01\x03\x0c\x01\x00",
-            vec![in alloc; (5, command(RESET, &[0]))]?,
-        ),
-        (
-            two_commands,
-            vec![in alloc;
-                (4, command(RESET, &[])),
-                (10, command(0x1001, &[0xAA, 0xBB])),
-            ]?,
-        ),
-        (
-            b"\x02\x41\x20\x00\x00",
-            vec![in alloc; (5, acl(0x041, true, 0, &[]))]?,
-        ),
-        (
-            b"\x02\xff\xde\x01\x00\x07",
-            vec![in alloc; (6, acl(0xEFF, false, 1, &[7]))]?,
-        ),
-        (
-            b"\x07\xaa\x01\x03\x0c\x00",
-            vec![in alloc; (1, Fed::LostSync), (6, command(RESET, &[]))]?,
-        ),
-        (
-            b"\x04\x01\x01\x03\x0c\x00",
-            vec![in alloc; (1, Fed::LostSync), (6, command(RESET, &[]))]?,
-        ),
-        (
-            b"\x00\x01\x03\x0c\x07\x02",
-            vec![in alloc; (1, Fed::LostSync)]?,
-        ),
-    ];
-    for (octets, entries) in rows {
-        assert_eq!(rt; results(alloc, octets)?, entries, "at {octets:?}");
+    let octets = octets_of(*told.allocator(), call.words[0]);
+    for (place, octet) in octets.as_slice().iter().enumerate() {
+        put_fed(told, place.saturating_add(1), &framer.feed(*octet))?;
     }
     Ok(())
 }
 
-#[test]
-fn keeps_the_first_251_octets(rt: HostRuntime) -> Result<(), Fail> {
-    let alloc = rt.alloc();
-    let data = vec![in alloc; 9; 300]?;
-    let mut octets = b"\x02\x01\x10\x2c\x01".to_vec(alloc)?;
-    octets.extend_from_slice(&data)?;
-    let entries = vec![in alloc; (305, acl(1, false, 300, &data[..251]))]?;
-    assert_eq!(rt; results(alloc, &octets)?, entries);
-    Ok(())
-}
-
-#[test]
-fn goes_on_where_it_stopped(rt: HostRuntime) {
-    let mut framer = Framer::new();
-    for part in [b"\x01\x03".as_slice(), b"\x0c".as_slice()] {
-        for octet in part {
-            assert_eq!(rt; framer.feed(*octet), Fed::More);
+/// Writes what an octet brings: of data the handle, whether it starts a message, the length and the
+/// octets that are kept.
+fn put_fed(told: &mut String, place: usize, fed: &Fed) -> Result<(), AllocError> {
+    match fed {
+        Fed::More => Ok(()),
+        Fed::LostSync => put_named(told, place, " lost"),
+        Fed::Packet(HostPacket::Command { opcode, body }) => {
+            put_named(told, place, " command")?;
+            put_octets(told, &opcode.to_be_bytes())?;
+            put_octets(told, body.as_slice())
+        }
+        Fed::Packet(
+            HostPacket::Acl {
+                handle,
+                start,
+                length,
+                body,
+            },
+        ) => {
+            put_named(told, place, " data")?;
+            put_octets(told, &handle.to_be_bytes())?;
+            put_answer(told, *start)?;
+            put_number(told, u64::from(*length))?;
+            put_octets(told, body.as_slice())
         }
     }
-    assert_eq!(rt; framer.feed(0), command(RESET, &[]));
+}
+
+/// Writes the number of octets, and what they bring.
+fn put_named(told: &mut String, place: usize, name: &str) -> Result<(), AllocError> {
+    put_number(told, place as u64)?;
+    told.push_str(name)
+}
+
+const FRAMES: &str = "\
+frames new 01030c00 = 4 command 0c03 
+frames new 01ffff00 = 4 command ffff 
+frames new 01030c0100 = 5 command 0c03 00
+frames new 01030c0001011002aabb = 4 command 0c03  10 command 1001 aabb
+frames new 0241200000 = 5 data 0041 yes 0 
+frames new 02ffde010007 = 6 data 0eff no 1 07
+frames new 07aa01030c00 = 1 lost 6 command 0c03 
+frames new 040101030c00 = 1 lost 6 command 0c03 
+frames new 0001030c0702 = 1 lost
+# The first 251 octets of 300 are kept.
+frames new 0201102c0109090909090909090909090909090909090909090909090909090909090909090909090909090\
+    9090909090909090909090909090909090909090909090909090909090909090909090909090909090909090909090\
+    9090909090909090909090909090909090909090909090909090909090909090909090909090909090909090909090\
+    9090909090909090909090909090909090909090909090909090909090909090909090909090909090909090909090\
+    9090909090909090909090909090909090909090909090909090909090909090909090909090909090909090909090\
+    9090909090909090909090909090909090909090909090909090909090909090909090909090909090909090909090\
+    90909090909090909090909090909090909090909090909090909 = 305 data 0001 no 300 \
+    0909090909090909090909090909090909090909090909090909090909090909090909090909090909090909090909\
+    0909090909090909090909090909090909090909090909090909090909090909090909090909090909090909090909\
+    0909090909090909090909090909090909090909090909090909090909090909090909090909090909090909090909\
+    0909090909090909090909090909090909090909090909090909090909090909090909090909090909090909090909\
+    0909090909090909090909090909090909090909090909090909090909090909090909090909090909090909090909\
+    09090909090909090909090909090909
+# A framer goes on where it stopped.
+frames new 0103 =
+frames feed 0c =
+frames feed 00 = 1 command 0c03 
+";
+
+#[test]
+fn frames_what_a_host_sends(rt: HostRuntime) -> Result<(), AllocError> {
+    check(&rt, rt.alloc(), FRAMES)
 }

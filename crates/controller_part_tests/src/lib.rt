@@ -7,8 +7,12 @@ mod advertisers;
 #[cfg(test)]
 mod frames;
 #[cfg(test)]
+mod laws;
+#[cfg(test)]
 mod listeners;
 #[cfg(test)]
 mod plans;
+#[cfg(test)]
+mod scripts;
 #[cfg(test)]
 mod views;

@@ -1,42 +1,33 @@
 //! Scanners and initiators: worked rows, and each public call once.
 ghost use Rattle.std.specs.Prelude.{◌≡◌};
 
+use crate::scripts::check;
 use adv_pdu::{AdvPdu, ConnectFields};
-use arrayvec::ArrayVec;
 use ble_base::{Address, ChannelMap, SlotNo};
-use scan_init::laws::*;
-use scan_init::rows::*;
 use scan_init::{
-    AcceptList, InitParams, Initiator, ListFull, Report, ReportKind, ScanAnswer, ScanParams,
-    Scanner, is_same_address, next_access, slots_of,
+    AcceptList, InitParams, Initiator, Report, ReportKind, ScanParams, Scanner, is_same_address,
+    next_access, slots_of,
 };
-use std::test::Fail;
+use std::alloc::{AllocError, Global};
+use test_words::{
+    Call, hex_number, number, octet, octets_of, put_answer, put_number, put_value, slot,
+};
 
 /// A device with a public address that ends in this octet.
-fn device(last: u8) -> Address {
+pub(crate) fn device(last: u8) -> Address {
     Address {
         random: false,
         octets: [last, 0x00, 0x00, 0xEE, 0xFF, 0xC0],
     }
 }
 
-fn undirected(last: u8) -> AdvPdu {
-    AdvPdu::Ind {
-        from: device(last),
-        ch_sel: true,
-        body: ArrayVec::new(),
-    }
-}
-
-fn response(last: u8) -> AdvPdu {
-    AdvPdu::ScanRsp {
-        from: device(last),
-        body: ArrayVec::new(),
-    }
+/// The PDU with these octets.
+pub(crate) fn pdu_of(alloc: Global, octets: &str) -> Option<AdvPdu> {
+    AdvPdu::read(octets_of(alloc, octets).as_slice())
 }
 
 /// An active scanner that filters duplicates: its interval is 16 slots, its window 8.
-fn new_scanner() -> Scanner
+pub(crate) fn new_scanner() -> Scanner
     ensures { result.since ≡ 5 }
 {
     let params = ScanParams {
@@ -50,92 +41,81 @@ fn new_scanner() -> Scanner
     Scanner::new(params, SlotNo(5))
 }
 
-#[test]
-fn addresses_go_upwards_from_the_cursor(rt: HostRuntime) {
-    let cursor = 0x7176_4129;
-    for (travelled, next) in [
-        (0, Some((0x7176_4129, 1))),
-        (1, Some((0x7176_412A, 2))),
-        ((1 << 32) - 1, Some((0x7176_4128, 1 << 32))),
-        (1 << 32, None),
-        (u64::MAX, None),
-    ] {
-        assert_eq!(rt; next_access(cursor, travelled), next);
-    }
-    // That of the advertising channels and the one after it are not valid.
-    assert_eq!(rt; next_access(0x8E89_BED6, 0), Some((0x8E89_BED8, 3)));
-    searches_give_each_valid_address();
-    worked_access_addresses();
-}
-
-#[test]
-fn accept_list_holds_eight(rt: HostRuntime) {
-    let mut list = AcceptList::default();
-    for last in 0..8 {
-        assert_eq!(rt; list.add(device(last)), Ok(()));
-    }
-    assert!(rt; list.is_full_for(device(8)) && !list.is_full_for(device(3)));
-    assert_eq!(rt; list.add(device(8)), Err(ListFull));
-    assert_eq!(rt; list.add(device(3)), Ok(()));
-    let random = Address {
-        random: true,
-        ..device(3)
+/// Makes a call on an accept list, with the device that ends in an octet. It has a random address
+/// where the next word says so.
+pub(crate) fn take_list(
+    list: &mut AcceptList,
+    call: Call<'_>,
+    told: &mut String,
+) -> Result<(), AllocError> {
+    let [last, kind, ..] = call.words;
+    let address = Address {
+        random: kind == "random",
+        ..device(octet(last))
     };
-    assert!(rt; list.has(device(7)) && !list.has(device(8)) && !list.has(random));
-    list.remove(device(3));
-    assert!(rt; !list.has(device(3)) && list.has(device(7)));
-    assert_eq!(rt; list.add(random), Ok(()));
-    assert!(rt; list.has(random) && is_same_address(&random, &random));
-    list.clear();
-    assert!(rt; !list.has(random) && !list.has(device(0)));
-    accept_list_is_a_set();
-}
-
-#[test]
-fn scanner_listens_in_its_window(rt: HostRuntime) {
-    let scanner = new_scanner();
-    for (elapsed, channel) in [
-        (0u8, Some(37)),
-        (7, Some(37)),
-        (8, None),
-        (16, Some(38)),
-        (32, Some(39)),
-        (48, Some(37)),
-    ] {
-        let slot = SlotNo(5 + u64::from(elapsed));
-        assert_eq!(rt; scanner.wants(slot), channel, "in {slot:?}");
+    match call.name {
+        "add" => put_answer(told, list.add(address).is_ok()),
+        "is_full_for" => put_answer(told, list.is_full_for(address)),
+        "has" => put_answer(told, list.has(address)),
+        "is_same" => put_answer(told, is_same_address(&address, &address)),
+        _ => leave(list, address, call.name),
     }
-    assert_eq!(rt; scanner.wants(SlotNo(4)), Some(37));
-    assert_eq!(rt; scanner.params().window, 0x10);
-    assert_eq!(rt; slots_of(3), 2);
-    windows_recur_on_three_channels();
-    worked_windows();
 }
 
-#[test]
-fn scanner_asks_and_reports(rt: HostRuntime) {
-    let mut scanner = new_scanner();
-    let list = AcceptList::new();
-    for (pdu, answer) in [
-        (undirected(0x0A), ScanAnswer::ReportAndAsk),
-        (response(0x0A), ScanAnswer::Report),
-        (undirected(0x0A), ScanAnswer::Ask),
-        (response(0x0A), ScanAnswer::Ignore),
-        (response(0x0C), ScanAnswer::Report),
-    ] {
-        assert_eq!(rt; scanner.hears(&pdu, &list), answer, "{pdu:?}");
+/// A device is removed, or all of them.
+fn leave(list: &mut AcceptList, address: Address, name: &str) -> Result<(), AllocError> {
+    if name == "clear" {
+        list.clear();
+    } else {
+        list.remove(address);
     }
-    assert_eq!(rt; ReportKind::of(&response(1)), Some(ReportKind::Response));
-    assert_eq!(rt; ReportKind::Response.event_type(), 4);
-    assert_eq!(rt; Report::default().kind, ReportKind::Undirected);
-    last_reports_decide();
-    scanners_keep_their_filter();
-    worked_reports();
+    Ok(())
 }
 
-#[test]
-fn initiator_answers_its_peer(rt: HostRuntime) -> Result<(), Fail> {
-    let params = InitParams {
+/// Makes a call on a scanner.
+pub(crate) fn take_scanner(
+    scanner: &mut Scanner,
+    list: &AcceptList,
+    call: Call<'_>,
+    told: &mut String,
+) -> Result<(), AllocError> {
+    let word = call.words[0];
+    match call.name {
+        "wants" => put_value(told, &scanner.wants(SlotNo(u64::from(slot(word))))),
+        "window" => put_number(told, u64::from(scanner.params().window)),
+        "slots_of" => put_number(told, u64::from(slots_of(number(word)))),
+        "new" => begin(scanner),
+        "default" => put_value(told, &Report::default().kind),
+        "type" => put_number(told, u64::from(ReportKind::Response.event_type())),
+        _ => take_pdu(scanner, list, call, told),
+    }
+}
+
+/// The scanner is a new one.
+fn begin(scanner: &mut Scanner) -> Result<(), AllocError> {
+    *scanner = new_scanner();
+    Ok(())
+}
+
+/// Makes a call with a PDU.
+fn take_pdu(
+    scanner: &mut Scanner,
+    list: &AcceptList,
+    call: Call<'_>,
+    told: &mut String,
+) -> Result<(), AllocError> {
+    match pdu_of(*told.allocator(), call.words[0]) {
+        None => told.push_str(" which PDU?"),
+        Some(pdu) if call.name == "hears" => put_value(told, &scanner.hears(&pdu, list)),
+        Some(pdu) => put_value(told, &ReportKind::of(&pdu)),
+    }
+}
+
+/// What an initiator has: its own address ends in 0B, that of its peer in 0A.
+fn init_params() -> InitParams
+    ensures { result.interval ≡ 0x60 }
+{
+    InitParams {
         interval: 0x60,
         window: 0x60,
         own: device(0x0B),
@@ -146,31 +126,110 @@ fn initiator_answers_its_peer(rt: HostRuntime) -> Result<(), Fail> {
             timeout: 72,
             ..ConnectFields::default()
         },
-    };
-    let initiator = Initiator::new(params, SlotNo(0));
-    let list = AcceptList::new();
-    assert!(rt; initiator.accepts(&undirected(0x0A), &list));
-    assert!(rt; !initiator.accepts(&undirected(0x0C), &list));
-    assert!(rt; !initiator.accepts(&response(0x0A), &list));
-    assert_eq!(rt; initiator.wants(SlotNo(48)), Some(38));
-    assert_eq!(rt; initiator.params(), params);
-    let map = ChannelMap::new(0x1F_FFFF_FFFF).ok_or("no map")?;
-    assert_eq!(rt;
-        initiator.connect_fields(0x7176_4129, 0x0B12_3456, map),
-        ConnectFields {
-            access: 0x7176_4129,
-            crc_init: 0x12_3456,
-            win_size: 1,
-            win_offset: 0,
-            interval: 24,
-            latency: 0,
-            timeout: 72,
-            map: 0x1F_FFFF_FFFF,
-            hop: 16,
-            sca: 0,
-        }
-    );
-    initiators_connect_in_range();
-    worked_connections();
-    Ok(())
+    }
+}
+
+/// Makes a call on an initiator that begins in slot 0.
+pub(crate) fn take_initiator(
+    list: &AcceptList,
+    call: Call<'_>,
+    told: &mut String,
+) -> Result<(), AllocError> {
+    let initiator = Initiator::new(init_params(), SlotNo(0));
+    let word = call.words[0];
+    match call.name {
+        "wants" => put_value(told, &initiator.wants(SlotNo(u64::from(slot(word))))),
+        "params" => put_answer(told, initiator.params() == init_params()),
+        "access" => put_access(told, call.words),
+        "fields" => put_fields(&initiator, told),
+        _ => match pdu_of(*told.allocator(), word) {
+            None => told.push_str(" which PDU?"),
+            Some(pdu) => put_answer(told, initiator.accepts(&pdu, list)),
+        },
+    }
+}
+
+/// The access address after those before a cursor, and how many were passed.
+fn put_access(told: &mut String, [cursor, travelled, ..]: [&str; 8]) -> Result<(), AllocError> {
+    let cursor = u32::try_from(hex_number(*told.allocator(), cursor)).unwrap_or(u32::MAX);
+    let travelled = hex_number(*told.allocator(), travelled);
+    put_value(told, &next_access(cursor, travelled))
+}
+
+/// The fields of a link with the access address 71764129, the random word 0B123456 and all
+/// channels.
+fn put_fields(initiator: &Initiator, told: &mut String) -> Result<(), AllocError> {
+    let map = ChannelMap::new(0x1F_FFFF_FFFF).unwrap_or_default();
+    put_value(
+        told,
+        &initiator.connect_fields(0x7176_4129, 0x0B12_3456, map),
+    )
+}
+
+const LISTENERS: &str = "\
+# Access addresses go upwards from the cursor. That of the advertising channels and the one after
+# it are not valid.
+initiator access 71764129 00 = Some((0x71764129, 1))
+initiator access 71764129 01 = Some((0x7176412a, 2))
+initiator access 71764129 ffffffff = Some((0x71764128, 4294967296))
+initiator access 71764129 0100000000 = None
+initiator access 71764129 ffffffffffffffff = None
+initiator access 8e89bed6 00 = Some((0x8e89bed8, 3))
+# An accept list holds eight.
+list add 0 = yes
+list add 1 = yes
+list add 2 = yes
+list add 3 = yes
+list add 4 = yes
+list add 5 = yes
+list add 6 = yes
+list add 7 = yes
+list is_full_for 8 = yes
+list is_full_for 3 = no
+list add 8 = no
+list add 3 = yes
+list has 7 = yes
+list has 8 = no
+list has 3 random = no
+list remove 3
+list has 3 = no
+list has 7 = yes
+list add 3 random = yes
+list has 3 random = yes
+list is_same 3 random = yes
+list clear
+list has 3 random = no
+list has 0 = no
+# A scanner listens in its window.
+scanner wants 5 = Some(37)
+scanner wants 12 = Some(37)
+scanner wants 13 = None
+scanner wants 21 = Some(38)
+scanner wants 37 = Some(39)
+scanner wants 53 = Some(37)
+scanner wants 4 = Some(37)
+scanner window = 16
+scanner slots_of 3 = 2
+# A scanner asks and reports.
+scanner hears 20060a0000eeffc0 = ReportAndAsk
+scanner hears 04060a0000eeffc0 = Report
+scanner hears 20060a0000eeffc0 = Ask
+scanner hears 04060a0000eeffc0 = Ignore
+scanner hears 04060c0000eeffc0 = Report
+scanner kind 0406010000eeffc0 = Some(Response)
+scanner type = 4
+scanner default = Undirected
+# An initiator answers its peer.
+initiator accepts 20060a0000eeffc0 = yes
+initiator accepts 20060c0000eeffc0 = no
+initiator accepts 04060a0000eeffc0 = no
+initiator wants 48 = Some(38)
+initiator params = yes
+initiator fields = ConnectFields { access: 0x71764129, crc_init: 0x123456, win_size: 1, \
+    win_offset: 0, interval: 24, latency: 0, timeout: 72, map: 0x1fffffffff, hop: 16, sca: 0 }
+";
+
+#[test]
+fn scanners_and_initiators(rt: HostRuntime) -> Result<(), AllocError> {
+    check(&rt, rt.alloc(), LISTENERS)
 }

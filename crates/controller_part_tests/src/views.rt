@@ -1,167 +1,171 @@
 //! The statuses of the table of commands, row by row, and what accepted commands and notes change.
+use crate::scripts::check;
 use arrayvec::ArrayVec;
-use ble_base::{Address, Kind, Note, Role};
-use hci_cmd::Command;
-use host_view::{HostView, laws, status};
-use std::process::Abort;
+use ble_base::{Address, ErrCode, Kind, Note, Role};
+use hci_cmd::{CmdRead, Command};
+use host_view::{HostView, status};
+use std::alloc::{AllocError, Global};
+use test_words::{Call, hex_number, number, octets_of, put_answer, put_octets};
 
 const PEER: Address = Address {
     random: false,
     octets: [1, 2, 3, 4, 5, 6],
 };
 
-/// A view in which this link is open.
-fn view_with_link(role: Role) -> HostView {
-    let mut view = HostView::new(3);
-    view.note(&Note::Opened {
-        handle: 0,
+/// Makes a call on a view.
+pub(crate) fn take(
+    view: &mut HostView,
+    call: Call<'_>,
+    told: &mut String,
+) -> Result<(), AllocError> {
+    match call.name {
+        "new" => begin(view),
+        "status" => put_status(view, call, told),
+        "command" => put_status(view, call, told),
+        "map" => put_octets(told, &view.map().bits().to_be_bytes()),
+        "accepts" => put_answer(told, view.accept_list().has(listed(call))),
+        _ => note(view, call, *told.allocator()),
+    }
+}
+
+/// The view is a new one, with room for three links.
+fn begin(view: &mut HostView) -> Result<(), AllocError> {
+    *view = HostView::new(3);
+    Ok(())
+}
+
+/// The command with this opcode and these parameters.
+fn command_of(alloc: Global, [opcode, parameters, ..]: [&str; 8]) -> Option<Command> {
+    let opcode = u16::try_from(hex_number(alloc, opcode)).unwrap_or(u16::MAX);
+    match hci_cmd::read(opcode, octets_of(alloc, parameters).as_slice()) {
+        CmdRead::Known(command) => Some(command),
+        _ => None,
+    }
+}
+
+/// The status of a command. One by the name "command" changes the view, if it is accepted.
+fn put_status(view: &mut HostView, call: Call<'_>, told: &mut String) -> Result<(), AllocError> {
+    let Some(command) = command_of(*told.allocator(), call.words) else {
+        return told.push_str(" which command?");
+    };
+    let code = status(view, &command);
+    if code.0 == 0 && call.name == "command" {
+        view.command(&command);
+    }
+    put_octets(told, &[code.0])
+}
+
+/// A public address, or a random one, of six equal octets; or that of the peer.
+fn listed(call: Call<'_>) -> Address {
+    match call.words[0] {
+        "random" => Address {
+            random: true,
+            octets: [1; 6],
+        },
+        _ => PEER,
+    }
+}
+
+/// Something is noted.
+fn note(view: &mut HostView, call: Call<'_>, alloc: Global) -> Result<(), AllocError> {
+    let handle = number(call.words[0]);
+    match call.name {
+        "central" => view.note(&opened(Role::Central, handle)),
+        "peripheral" => view.note(&opened(Role::Peripheral, handle)),
+        "shut" => view.note(&Note::Shut {
+            handle,
+            reason: ErrCode::CONNECTION_TIMEOUT,
+        }),
+        "done" => view.note(&Note::Done {
+            handle,
+            kind: Kind::Phy,
+        }),
+        "up" => view.note(&packet(octets_of(alloc, call.words[0]).as_slice())),
+        _ => view.address_left(false),
+    }
+    Ok(())
+}
+
+/// A link to the peer is opened.
+fn opened(role: Role, handle: u16) -> Note {
+    Note::Opened {
+        handle,
         role,
         own: Address::default(),
         peer: PEER,
-    });
-    view
-}
-
-fn expect_status(rt: &impl Abort, view: &HostView, command: Command, code: u8) {
-    let status = status(view, &command);
-    assert_eq!(rt; status.0, code, "{command:?}");
-}
-
-#[test]
-fn advertising(rt: HostRuntime) {
-    let view = HostView::new(3);
-    for (min, max, kind, own, peer_kind, channels, policy, code) in [
-        (0x20, 0x4000, 4, 1, 1, 7, 3, 0x00),
-        (0x1F, 0x4000, 1, 2, 2, 0, 4, 0x12),
-        (0x20, 0x4001, 1, 2, 2, 0, 4, 0x12),
-        (0x41, 0x40, 1, 2, 2, 0, 4, 0x12),
-        (0x20, 0x20, 1, 2, 2, 0, 4, 0x11),
-        (0x20, 0x20, 5, 2, 2, 0, 4, 0x12),
-        (0x20, 0x20, 2, 3, 2, 0, 4, 0x11),
-        (0x20, 0x20, 2, 4, 2, 0, 4, 0x12),
-        (0x20, 0x20, 2, 1, 2, 0, 4, 0x12),
-        (0x20, 0x20, 2, 1, 1, 0, 4, 0x12),
-        (0x20, 0x20, 2, 1, 1, 8, 4, 0x12),
-        (0x20, 0x20, 2, 1, 1, 7, 4, 0x12),
-    ] {
-        let command = Command::LeSetAdvParams {
-            min,
-            max,
-            kind,
-            own,
-            peer_kind,
-            peer: [0; 6],
-            channels,
-            policy,
-        };
-        expect_status(&rt, &view, command, code);
     }
 }
 
-#[test]
-fn links(rt: HostRuntime) {
-    let none = HostView::new(3);
-    let central = view_with_link(Role::Central);
-    let mut leaving = view_with_link(Role::Peripheral);
-    for (command, unknown, open) in [
-        (Command::LeReadPhy { handle: 0 }, 0x02, 0x00),
-        (Command::LeReadChannelMap { handle: 0 }, 0x02, 0x00),
-        (Command::LeKeyNegative { handle: 0 }, 0x02, 0x0C),
-        (
-            Command::Disconnect {
-                handle: 0,
-                reason: 0x16,
-            },
-            0x02,
-            0x12,
-        ),
-    ] {
-        let status_of_none = status(&none, &command);
-        assert_eq!(rt; status_of_none.0, unknown, "{command:?}");
-        expect_status(&rt, &central, command, open);
-    }
-    leaving.note(&Note::Shut {
-        handle: 0,
-        reason: ble_base::ErrCode::CONNECTION_TIMEOUT,
-    });
-    expect_status(&rt, &leaving, Command::LeReadPhy { handle: 0 }, 0x02);
+/// A packet goes to the host, without the octets that do not fit.
+fn packet(octets: &[u8]) -> Note {
+    let mut packet = ArrayVec::new();
+    let _ = packet.try_extend_from_slice(octets);
+    Note::Up(packet)
 }
 
-#[test]
-fn a_key_is_asked_for_and_given(rt: HostRuntime) {
-    let mut view = view_with_link(Role::Peripheral);
-    let mut request = ArrayVec::new();
-    let octets = [4, 0x3E, 13, 5, 0, 0, 1, 2, 3, 4, 5, 6, 7, 8, 9, 10];
-    assert!(rt; request.try_extend_from_slice(&octets).is_ok());
-    view.note(&Note::Up(request));
-    let reply = Command::LeKeyNegative { handle: 0 };
-    let answer = status(&view, &reply);
-    assert_eq!(rt; answer.0, 0x00);
-    if answer.0 == 0 {
-        view.command(&reply);
-    }
-    expect_status(&rt, &view, reply, 0x0C);
-    view.note(&Note::Done {
-        handle: 0,
-        kind: Kind::Phy,
-    });
-    view.address_left(false);
-}
+const VIEWS: &str = "\
+# Advertising parameters.
+view status 2006 200000400401010000000000000703 = 00
+view status 2006 1f0000400102020000000000000004 = 12
+view status 2006 200001400102020000000000000004 = 12
+view status 2006 410040000102020000000000000004 = 12
+view status 2006 200020000102020000000000000004 = 11
+view status 2006 200020000502020000000000000004 = 12
+view status 2006 200020000203020000000000000004 = 11
+view status 2006 200020000204020000000000000004 = 12
+view status 2006 200020000201020000000000000004 = 12
+view status 2006 200020000201010000000000000004 = 12
+view status 2006 200020000201010000000000000804 = 12
+view status 2006 200020000201010000000000000704 = 12
+# Commands on a link: without one, on one of a central, and on one of a peripheral that is shut.
+view status 2030 0000 = 02
+view status 2015 0000 = 02
+view status 201b 0000 = 02
+view status 0406 000016 = 02
+view central 0
+view status 2030 0000 = 00
+view status 2015 0000 = 00
+view status 201b 0000 = 0c
+view status 0406 000016 = 12
+view new
+view peripheral 0
+view shut 0
+view status 2030 0000 = 02
+# A key is asked for and given.
+view new
+view peripheral 0
+view up 043e0d0500000102030405060708090a
+view command 201b 0000 = 00
+view status 201b 0000 = 0c
+view done 0
+view address_left
+# Channels without a link, and on one of a central.
+view new
+view map = 0000001fffffffff
+view status 2014 0300000000 = 00
+view status 2014 0100000000 = 12
+view status 2014 0000000020 = 12
+view command 2014 0300000000 = 00
+view map = 0000000000000003
+view new
+view central 0
+view status 2014 ffffffff1f = 00
+view status 2014 0300000000 = 0c
+view status 2014 0100000000 = 12
+# The accept list.
+view new
+view command 2011 01010101010101 = 00
+view accepts random = yes
+view accepts peer = no
+view command 2012 01010101010101 = 00
+view accepts random = no
+# A link under a handle after the last one.
+view new
+view central 6
+view status 2030 0600 = 02
+";
 
 #[test]
-fn channels_of_a_central(rt: HostRuntime) {
-    let all = 0x1F_FFFF_FFFF;
-    let mut view = HostView::new(3);
-    assert_eq!(rt; view.map().bits(), all);
-    for (map, code) in [(0x03, 0x00), (0x01, 0x12), (all + 1, 0x12)] {
-        expect_status(&rt, &view, Command::LeSetChannels { map }, code);
-    }
-    let command = Command::LeSetChannels { map: 0x03 };
-    if status(&view, &command).0 == 0 {
-        view.command(&command);
-    }
-    assert_eq!(rt; view.map().bits(), 0x03);
-    let central = view_with_link(Role::Central);
-    for (map, code) in [(all, 0x00), (0x03, 0x0C), (0x01, 0x12)] {
-        expect_status(&rt, &central, Command::LeSetChannels { map }, code);
-    }
-}
-
-#[test]
-fn accept_list(rt: HostRuntime) {
-    let mut view = HostView::new(3);
-    let add = Command::LeAddToList {
-        kind: 1,
-        address: [1; 6],
-    };
-    if status(&view, &add).0 == 0 {
-        view.command(&add);
-    }
-    let random = Address {
-        random: true,
-        octets: [1; 6],
-    };
-    assert!(rt; view.accept_list().has(random) && !view.accept_list().has(PEER));
-    let remove = Command::LeRemoveFromList {
-        kind: 1,
-        address: [1; 6],
-    };
-    if status(&view, &remove).0 == 0 {
-        view.command(&remove);
-    }
-    assert!(rt; !view.accept_list().has(random));
-}
-
-#[test]
-fn link_under_a_handle_past_the_last(rt: HostRuntime) {
-    let mut view = HostView::new(3);
-    view.note(&Note::Opened {
-        handle: 6,
-        role: Role::Central,
-        own: Address::default(),
-        peer: PEER,
-    });
-    expect_status(&rt, &view, Command::LeReadPhy { handle: 6 }, 0x02);
-    laws::accepted_parameters_are_in_range();
-    laws::accepted_connection_can_be_made();
+fn views_of_a_host(rt: HostRuntime) -> Result<(), AllocError> {
+    check(&rt, rt.alloc(), VIEWS)
 }

@@ -34,18 +34,24 @@ fn new_ends() -> Ends {
     }
 }
 
-/// Each line has a call, and after " =" what it gives. Both ends are new before the first line.
+/// Each line has a call, and after " =" what it gives. Both ends are new before the first line. A
+/// line that begins with "#" says what follows.
 pub(crate) fn check(rt: &impl Abort, alloc: Global, script: &str) -> Result<(), AllocError> {
     let mut ends = new_ends();
-    for line in script.lines() {
-        let (call, want) = parts_of(line);
-        let (told, want) = (ends.told_of(alloc, call)?, decimal_of(alloc, want)?);
-        assert_eq!(rt; told.as_str(), want.as_str(), "{line}");
-    }
-    Ok(())
+    ends.run(rt, alloc, script)
 }
 
 impl Ends {
+    /// Makes each call of a script, and compares what it gives.
+    fn run(&mut self, rt: &impl Abort, alloc: Global, script: &str) -> Result<(), AllocError> {
+        for line in script.lines() {
+            let (call, want) = parts_of(line);
+            let (told, want) = (self.told_of(alloc, call)?, decimal_of(alloc, want)?);
+            assert_eq!(rt; told.as_str(), want.as_str(), "{line}");
+        }
+        Ok(())
+    }
+
     /// What a call gives.
     fn told_of(&mut self, alloc: Global, text: &str) -> Result<String, AllocError> {
         let mut told = String::new(alloc);
@@ -61,6 +67,7 @@ impl Ends {
             "peripheral" => take(&mut self.peripheral, call, told),
             "track" => take_event(&mut self.track, call, told),
             "new" => self.begin(),
+            "#" => Ok(()),
             _ => told.push_str(" which side?"),
         }
     }

@@ -2,9 +2,10 @@
 use crate::scripts::check;
 use std::alloc::AllocError;
 
-/// A map of the central and a request of the peripheral cross: the map holds from event 7, and the
-/// request is rejected with Different Transaction Collision.
-const CROSSED: &str = "\
+const RUNS: &str = "\
+# Map and request cross.
+# A map of the central and a request of the peripheral cross: the map holds from event 7, and the
+# request is rejected with Different Transaction Collision.
 central may_ask map = yes
 central ask map
 peripheral ask request
@@ -33,16 +34,10 @@ central apply = Some(Map)
 peripheral apply = None
 central busy = no
 peripheral busy = no
-";
-
-#[test]
-fn map_and_request_cross(rt: HostRuntime) -> Result<(), AllocError> {
-    check(&rt, rt.alloc(), CROSSED)
-}
-
-/// Both hosts ask for a PHY update: the peripheral's is rejected with LL Procedure Collision, and
-/// the central's ends as LL_PHY_UPDATE_IND is taken and acknowledged.
-const BOTH_PHY: &str = "\
+new
+# Both ends update the phy.
+# Both hosts ask for a PHY update: the peripheral's is rejected with LL Procedure Collision, and
+# the central's ends as LL_PHY_UPDATE_IND is taken and acknowledged.
 central ask phy
 peripheral ask phy
 central enter 26 = Some(Phy)
@@ -65,17 +60,11 @@ peripheral take 74 1800000000 = Step { effect: Nothing, ends: None, refused: Non
 central acked = Some(Phy)
 central busy = no
 peripheral busy = no
-";
-
-#[test]
-fn both_ends_update_the_phy(rt: HostRuntime) -> Result<(), AllocError> {
-    check(&rt, rt.alloc(), BOTH_PHY)
-}
-
-/// LL_CONNECTION_UPDATE_IND is first sent in event 1 and arrives in event 7, that of its Instant:
-/// it holds from event 7 at the central and from event 8 at the peripheral. In event 8 its Instant
-/// has passed. The central's next indication waits until event 8.
-const LATE: &str = "\
+new
+# Late indication.
+# LL_CONNECTION_UPDATE_IND is first sent in event 1 and arrives in event 7, that of its Instant:
+# it holds from event 7 at the central and from event 8 at the peripheral. In event 8 its Instant
+# has passed. The central's next indication waits until event 8.
 track enter 7 = no
 central ask update
 central enter 26 = Some(Update)
@@ -95,16 +84,10 @@ central ask all_channels
 central enter 170 = Some(Map)
 central next 7 = None
 central next 8 = Some(ChannelMapInd { map: 0x1fffffffff, instant: 14 })
-";
-
-#[test]
-fn late_indication(rt: HostRuntime) -> Result<(), AllocError> {
-    check(&rt, rt.alloc(), LATE)
-}
-
-/// A request whose least interval is 5 is rejected with Invalid LL Parameters, and one that the
-/// host does not want with the reason of the host.
-const JUDGED: &str = "\
+new
+# Requests are judged.
+# A request whose least interval is 5 is rejected with Invalid LL Parameters, and one that the
+# host does not want with the reason of the host.
 central take 26 0f0500200000004800000100ffffffffffffffffffffffff = Step { effect: Nothing, \
     ends: None, refused: None, done: None }
 central next 1 = Some(RejectExtInd { opcode: 0x0f, code: 0x1e })
@@ -125,15 +108,9 @@ peripheral take 50 110f1a = Step { effect: Nothing, ends: None, refused: Some((R
 central acked = None
 central busy = no
 peripheral busy = no
-";
-
-#[test]
-fn requests_are_judged(rt: HostRuntime) -> Result<(), AllocError> {
-    check(&rt, rt.alloc(), JUDGED)
-}
-
-/// The peer has 32,000 slots from the slot in which LL_LENGTH_REQ was first sent.
-const TIMEOUT: &str = "\
+new
+# Response times out.
+# The peer has 32,000 slots from the slot in which LL_LENGTH_REQ was first sent.
 central ask length
 central enter 26 = Some(Length)
 central tick 40000 = None
@@ -145,15 +122,9 @@ central acked = None
 peripheral lengths = (100, 27)
 central tick 32025 = None
 central tick 32026 = Some(ErrCode(0x22))
-";
-
-#[test]
-fn response_times_out(rt: HostRuntime) -> Result<(), AllocError> {
-    check(&rt, rt.alloc(), TIMEOUT)
-}
-
-/// An encryption start that the peripheral refuses, and a Disconnect while it is awaited.
-const ENCRYPTION: &str = "\
+new
+# Encryption is refused.
+# An encryption start that the peripheral refuses, and a Disconnect while it is awaited.
 central ask encrypt
 central enter 26 = Some(Encrypt)
 central waiting = 0
@@ -169,6 +140,6 @@ central take 50 110306 = Step { effect: Nothing, ends: None, refused: Some((Encr
 ";
 
 #[test]
-fn encryption_is_refused(rt: HostRuntime) -> Result<(), AllocError> {
-    check(&rt, rt.alloc(), ENCRYPTION)
+fn runs_of_both_ends(rt: HostRuntime) -> Result<(), AllocError> {
+    check(&rt, rt.alloc(), RUNS)
 }

@@ -3,6 +3,7 @@
 
 mod notes;
 mod reading;
+mod scenes;
 mod texts;
 mod writing;
 
@@ -10,5 +11,6 @@ pub use notes::{put_notes, put_verdict};
 pub use reading::{
     Call, call_of, hex_number, number, octet, octets_of, parts_of, side_and_call, slot,
 };
+pub use scenes::{TakesCalls, first_wrong};
 pub use texts::{push_lines, put_text, rest_of};
 pub use writing::{decimal_of, put_answer, put_number, put_octets, put_value};
