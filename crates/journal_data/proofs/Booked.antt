@@ -10,7 +10,7 @@ use Rattle.arrayvec.specs.ArrayVec.{ArrayVec}
 use Rattle.acl_banks.specs.Packets.{Marked, marked_octets}
 use Rattle.ble_base.specs.declared.roles.Side.{Side}
 use Rattle.ble_base.specs.declared.notes.Note.{Note}
-use Rattle.ble_base.specs.declared.notes.Note.TheVariants.{Up, Opened, Shut, Sent, Took, Enter, Applied, Began, Refused, Done}
+use Rattle.ble_base.specs.declared.notes.Note.TheVariants.{Up, Sent, Took}
 use Rattle.host_view.specs.Noted.{acl_handle, is_acl_data, two_octets}
 use Rattle.controller_model.specs.Notes.{is_event}
 use Rattle.controller_model.specs.Since.{data_up, starts_message}
@@ -182,17 +182,5 @@ note_booked handle link lines since side link_of last (Took other number llid bo
       received = kept_same (data_up handle) (received_on link lines) since note refl book.received;
       credited = counted_same (count_up handle) (credited_on link lines) since note refl book.credited;
     }
-note_booked handle link lines since side link_of last (Opened other role own peer) fits book =
-    silent_booked handle link lines _ since (Opened other role own peer) refl refl refl refl refl refl refl refl book
-note_booked handle link lines since side link_of last (Shut other reason) fits book =
-    silent_booked handle link lines _ since (Shut other reason) refl refl refl refl refl refl refl refl book
-note_booked handle link lines since side link_of last (Enter other event channel) fits book =
-    silent_booked handle link lines _ since (Enter other event channel) refl refl refl refl refl refl refl refl book
-note_booked handle link lines since side link_of last (Applied other number event) fits book =
-    silent_booked handle link lines _ since (Applied other number event) refl refl refl refl refl refl refl refl book
-note_booked handle link lines since side link_of last (Began other kind) fits book =
-    silent_booked handle link lines _ since (Began other kind) refl refl refl refl refl refl refl refl book
-note_booked handle link lines since side link_of last (Refused other kind code) fits book =
-    silent_booked handle link lines _ since (Refused other kind code) refl refl refl refl refl refl refl refl book
-note_booked handle link lines since side link_of last (Done other kind) fits book =
-    silent_booked handle link lines _ since (Done other kind) refl refl refl refl refl refl refl refl book
+note_booked handle link lines since side link_of last note fits book =
+    silent_booked handle link lines _ since note refl refl refl refl refl refl refl refl book

@@ -10,7 +10,7 @@ use Rattle.std.proofs.lemmas.List.Sums.{sum_by-append}
 use Rattle.arrayvec.specs.ArrayVec.{ArrayVec}
 use Rattle.ble_base.specs.declared.roles.Side.{Side}
 use Rattle.ble_base.specs.declared.notes.Note.{Note}
-use Rattle.ble_base.specs.declared.notes.Note.TheVariants.{Up, Opened, Shut, Sent, Took, Enter, Applied, Began, Refused, Done}
+use Rattle.ble_base.specs.declared.notes.Note.TheVariants.{Up, Opened, Shut, Sent, Took}
 use Rattle.h4_frames.specs.declared.packet.Fed.{Fed}
 use Rattle.h4_frames.specs.declared.packet.Fed.TheVariants.{More, Packet, LostSync}
 use Rattle.h4_frames.specs.declared.packet.HostPacket.TheVariants.{Command, Acl}
@@ -42,7 +42,7 @@ use Rattle.run_laws.proofs.TurnPlaces.{event_past}
 use Rattle.journal_data.specs.HostLines.{OpenUnder, Submitted, kept_of, link_under, packets_framed}
 use Rattle.journal_data.specs.Lines.{Credited, Lines, Received, credit_up, credited_in, credited_on, data_received, empties_on, line_after, pdus_on, submitted_on}
 use Rattle.journal_data.proofs.EachLine.{numbers_at}
-use Rattle.journal_data.proofs.EachLine.{call_lines, fed_lines, lines_at, note_lines}
+use Rattle.journal_data.proofs.EachLine.{call_leaves, call_lines, fed_lines, lines_at, note_lines}
 use Rattle.journal_data.proofs.HostPackets.{HasAll, has_none, octet_taken, on_link, on_link-append, passing-append}
 use Rattle.journal_data.proofs.Middle.{IsFed}
 use Rattle.journal_data.proofs.Submitting.{AheadAt, AreInStep, IsSubmitted, call_ahead, come_own, fed_ahead, held_then, kept_left, octet_left, same_numbers}
@@ -91,12 +91,7 @@ quiet (Up packet) other =
 quiet (Opened handle role own peer) other = not_under handle _ (other handle).opens_none
 quiet (Sent handle number llid body) other = not_under handle _ (other handle).sent_none
 quiet (Took handle number llid body) other = not_under handle _ (other handle).took_none
-quiet (Shut handle reason) other = (tt, tt)
-quiet (Enter handle event channel) other = (tt, tt)
-quiet (Applied handle number event) other = (tt, tt)
-quiet (Began handle kind) other = (tt, tt)
-quiet (Refused handle kind code) other = (tt, tt)
-quiet (Done handle kind) other = (tt, tt)
+quiet note other = (tt, tt)
 
 all_quiet : (notes : List Note) → ((handle : ℕ) → AreOther 0 handle notes) → AllByRecursion IsQuiet notes
 all_quiet [] are = tt
@@ -249,11 +244,7 @@ goes_note lines side link_of last (Shut handle reason) is = record {
 goes_note lines side link_of last (Opened handle role own peer) is = absurd is
 goes_note lines side link_of last (Sent handle number llid body) is = absurd is
 goes_note lines side link_of last (Took handle number llid body) is = absurd is
-goes_note lines side link_of last (Enter handle event channel) is = goes_same lines lines refl
-goes_note lines side link_of last (Applied handle number event) is = goes_same lines lines refl
-goes_note lines side link_of last (Began handle kind) is = goes_same lines lines refl
-goes_note lines side link_of last (Refused handle kind code) is = goes_same lines lines refl
-goes_note lines side link_of last (Done handle kind) is = goes_same lines lines refl
+goes_note lines side link_of last note is = goes_same lines lines refl
 
 -- ---- the events of a feed, after its first
 
@@ -349,24 +340,7 @@ quiet_note : (lines : Lines) (side : Side) (link_of : ℕ → ℕ) (last : ℕ) 
 quiet_note lines side link_of last (Up packet) is =
     ap (λ b. lines.credited ++ cond b (credit_up (link_under (two_octets 4 packet.items) lines.links) (two_octets 6 packet.items)) []) is.1
     ∙ append-nil lines.credited
-quiet_note lines side link_of last (Shut handle reason) is = refl
-quiet_note lines side link_of last (Opened handle role own peer) is = refl
-quiet_note lines side link_of last (Sent handle number llid body) is = refl
-quiet_note lines side link_of last (Took handle number llid body) is = refl
-quiet_note lines side link_of last (Enter handle event channel) is = refl
-quiet_note lines side link_of last (Applied handle number event) is = refl
-quiet_note lines side link_of last (Began handle kind) is = refl
-quiet_note lines side link_of last (Refused handle kind code) is = refl
-quiet_note lines side link_of last (Done handle kind) is = refl
-
-quiet_notes : (station : ℕ) (notes : List Note) (history : List Event) → AllByRecursion IsQuiet notes
-    → (lines_at station (history ++ map (Noted station) notes)).credited ≡ (lines_at station history).credited
-quiet_notes station [] history are = ap (λ (all : List Event). (lines_at station all).credited) (append-nil history)
-quiet_notes station (note ∷ notes) history are =
-    ap (λ (all : List Event). (lines_at station all).credited) (sym (append_assoc history (Noted station note ∷ []) (map (Noted station) notes)))
-    ∙ quiet_notes station notes (history ++ Noted station note ∷ []) are.1
-    ∙ ap (λ (lines : Lines). lines.credited) (note_lines station history note)
-    ∙ quiet_note (lines_at station history) (side_of station) ((links_of history).link_of station) ((links_of history).last_of station) note are.0
+quiet_note lines side link_of last note is = refl
 
 -- those of a call, by what it notes
 noted_credits : (station : ℕ) (step : Step) (notes : List Note) (history : List Event)
@@ -377,9 +351,7 @@ noted_credits station step notes history =
 
 quiet_call : (station : ℕ) (step : Step) (notes : List Note) (history : List Event) → AllByRecursion IsQuiet notes
     → (lines_at station (with_notes station step notes history)).credited ≡ (lines_at station history).credited
-quiet_call station step notes history are =
-    noted_credits station step notes history ∙ quiet_notes station notes (history ++ Called station step ∷ []) are
-    ∙ ap (λ (lines : Lines). lines.credited) (call_lines station history station step)
+quiet_call station step notes history are = call_leaves IsQuiet (λ lines. lines.credited) quiet_note station step notes history are
 
 one_credited : ℕ → List OpenUnder → List Credited
 one_credited handle links = credited_in links (written (CompletedPackets handle 1))

@@ -4,7 +4,7 @@ use Rattle.std.specs.Prelude.{filter, fold}
 use Rattle.std.specs.List.{flat_map, sum_by}
 use Rattle.std.proofs.lemmas.List.Concat.{flat_map-append}
 use Rattle.std.proofs.lemmas.List.Elements.{filter-append}
-use Rattle.std.proofs.lemmas.List.Sums.{fold-append, sum_by-append}
+use Rattle.std.proofs.lemmas.List.Sums.{sum_by-append}
 use Rattle.acl_banks.specs.Packets.{Marked}
 use Rattle.ble_base.specs.declared.roles.Side.{Side}
 use Rattle.journal.specs.declared.entries.Entry.{Entry}
@@ -12,12 +12,11 @@ use Rattle.journal.specs.declared.entries.Entry.TheVariants.{Fed as FedEntry, Up
 use Rattle.controller_model.specs.Step.{Step}
 use Rattle.controller_model.specs.Side.{notes_after}
 use Rattle.run_model.specs.History.{Event, Called, Noted}
-use Rattle.run_model.specs.Journal.{entries_of, journal_of, side_of}
+use Rattle.run_model.specs.Journal.{entries_of, side_of}
 use Rattle.run_model.specs.Links.{links_of}
 use Rattle.run_model.specs.Run.{Given, setup_at, facts_at, after_call}
-use Rattle.run_model.proofs.Parts.{journal_event}
-use Rattle.journal_data.specs.Lines.{Credited, Lines, PduLine, Received, credited_on, is_of_side, line_after, lines_after, lines_of, no_lines, pdus_on, received_on}
-use Rattle.journal_data.proofs.EachLine.{lines_at}
+use Rattle.journal_data.specs.Lines.{Credited, Lines, PduLine, Received, credited_on, is_of_side, line_after, lines_after, pdus_on, received_on}
+use Rattle.journal_data.proofs.EachLine.{event_lines, lines_at}
 
 -- ---- lines only grow
 
@@ -95,17 +94,9 @@ grow_entries side lines (entry ∷ entries) =
     (grow_if (is_of_side side entry) lines (line_after 8 lines entry) (grow_line lines entry))
     (grow_entries side (lines_after 8 side lines entry) entries)
 
-entries_lines : (station : ℕ) (history : List Event) (event : Event)
-    → lines_at station (history ++ event ∷ [])
-    ≡ fold (lines_after 8 (side_of station)) (lines_at station history) (entries_of (links_of history) event)
-unfolding lines_of
-entries_lines station history event =
-    ap (lines_of 8 (side_of station)) (journal_event history event)
-    ∙ fold-append (lines_after 8 (side_of station)) no_lines (journal_of history) (entries_of (links_of history) event)
-
 grow_event : (station : ℕ) (history : List Event) (event : Event) → Grow (lines_at station history) (lines_at station (history ++ event ∷ []))
 grow_event station history event =
-    subst (Grow (lines_at station history)) (sym (entries_lines station history event))
+    subst (Grow (lines_at station history)) (sym (event_lines station history event))
     (grow_entries (side_of station) (lines_at station history) (entries_of (links_of history) event))
 
 grow_events : (station : ℕ) (history more : List Event) → Grow (lines_at station history) (lines_at station (history ++ more))

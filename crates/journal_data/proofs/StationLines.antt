@@ -1,6 +1,6 @@
 -- The lines of a station say of each of its open links what it noted under the handle of that link since it was opened, and
 -- of any other link what they said before.
-use Rattle.std.proofs.Common.{◌≡◌, ℕ, zero, suc, ◌+◌, ◌<◌, ◌≤◌, ◌==◌, Bool, true, false, Option, Some, None, List, [], ◌∷◌, ◌++◌, map, cond, replicate, refl, ap, sym, subst, ◌∙◌, append-nil, append_assoc}
+use Rattle.std.proofs.Common.{◌≡◌, ℕ, zero, suc, ◌+◌, ◌<◌, ◌≤◌, ◌==◌, Bool, true, false, Option, Some, None, List, [], ◌∷◌, ◌++◌, map, cond, replicate, refl, ap, sym, subst, ◌∙◌, append_assoc}
 use Rattle.std.specs.Prelude.{◌||◌, fold, is_some}
 use Rattle.std.specs.List.{AllByRecursion, Contains}
 use Rattle.std.proofs.lemmas.Bool.{eq-eqb, eqb-true}
@@ -38,7 +38,7 @@ use Rattle.journal_acks.proofs.UnderHandles.{octet_under}
 use Rattle.journal_data.specs.HostLines.{OpenUnder}
 use Rattle.journal_data.specs.Lines.{Lines, line_after, lines_of, pdus_on}
 use Rattle.journal_data.proofs.Booked.{IsBook, counts_on, octets_on}
-use Rattle.journal_data.proofs.EachLine.{call_lines, fed_lines, fed_other, lines_at, note_lines, note_other, numbers_at, own_side, air_lines, turn_lines}
+use Rattle.journal_data.proofs.EachLine.{call_lines, fed_lines, fed_other, lines_at, note_lines, numbers_at, own_side, air_lines, turn_lines}
 use Rattle.journal_data.proofs.HeldLinks.{HoldsLinks, holds_none}
 use Rattle.journal_data.proofs.Openness.{AreNot, IsNotedAs, stays, shuts, opens_first, is_open, is_shutting, note_open, open_still, past_noted}
 use Rattle.journal_data.proofs.NotedLines.{IsUnused, IsSameOn, same_itself, same_then, IsLink, is_link, AreApart, IsOfBase, IsNotOf, sent_data, took_data, IsBookedSo, booked_along, booked_where, opening_kept, with_noted, one_on, numbers_quiet, notes_kept}
@@ -492,19 +492,6 @@ feed_kept given station (octet ∷ octets) history few own booked =
     }
 
 -- ---- the other station
-
-other_notes : (station other : ℕ) (history : List Event) (notes : List Note) → is_side (side_of other) (side_of station) ≡ false
-    → lines_at station (with_noted other history notes) ≡ lines_at station history
-other_notes station other history [] differs = ap (lines_at station) (append-nil history)
-other_notes station other history (note ∷ notes) differs =
-    ap (lines_at station) (sym (one_on other history note notes))
-    ∙ other_notes station other (history ++ Noted other note ∷ []) notes differs ∙ note_other station other history note differs
-
-pub other_lines : (station other : ℕ) (step : Step) (notes : List Note) (history : List Event) → is_side (side_of other) (side_of station) ≡ false
-    → lines_at station (with_notes other step notes history) ≡ lines_at station history
-other_lines station other step notes history differs =
-    ap (lines_at station) (sym (called_then other step history notes))
-    ∙ other_notes station other (history ++ Called other step ∷ []) notes differs ∙ call_lines station history other step
 
 pub not_one : (station other : ℕ) → is_side (side_of other) (side_of station) ≡ false → (station == other) ≡ false
 not_one station other differs = by (station == other) refl
