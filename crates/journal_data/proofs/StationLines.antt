@@ -504,18 +504,18 @@ not_one station other differs = by (station == other) refl
 
 -- ---- at first
 
-none_first : (first handle n : ℕ) → is_some (link_from first handle (replicate n None)) ≡ false
-none_first first handle zero = refl
-none_first first handle (suc n) = by (first == handle) (none_first (first + 1) handle n)
+pub none_at_first : (first handle n : ℕ) → link_from first handle (replicate n None) ≡ None
+none_at_first first handle zero = refl
+none_at_first first handle (suc n) = by (first == handle) (none_at_first (first + 1) handle n)
   where
-    by : (own : Bool) → is_some (link_from (first + 1) handle (replicate n None)) ≡ false → is_some (cond own None (link_from (first + 1) handle (replicate n None))) ≡ false
+    by : (own : Bool) → link_from (first + 1) handle (replicate n None) ≡ None → cond own None (link_from (first + 1) handle (replicate n None)) ≡ None
     by true rest = refl
     by false rest = rest
 
 pub first_booked : (given : Given) (station : ℕ) → IsStationBooked given station []
 unfolding lines_of journal_of links_of facts_of
 first_booked given station =
-    let none = λ (handle : ℕ). none_first 0 handle (setup_at given station).links in record {
+    let none = λ (handle : ℕ). ap (λ (place : Option OpenLink). is_some place) (none_at_first 0 handle (setup_at given station).links) in record {
       book = λ handle link at. absurd (let h : true ≡ false = sym (ap (λ (place : Option OpenLink). is_some place) at) ∙ none handle in absurd cc);
       links = holds_none (setup_at given station).links (λ handle. 0) _ none;
     }
