@@ -5,8 +5,6 @@ use Rattle.std.specs.List.{AllByRecursion, find, flat_map, sum_by}
 use Rattle.std.specs.Option.{option_map}
 use Rattle.std.proofs.lemmas.Bool.{eq-eqb, eqb-true}
 use Rattle.std.proofs.lemmas.List.{append_cancel_left, length-append}
-use Rattle.std.proofs.lemmas.List.Elements.{filter-append}
-use Rattle.std.proofs.lemmas.List.Sums.{sum_by-append}
 use Rattle.arrayvec.specs.ArrayVec.{ArrayVec}
 use Rattle.ble_base.specs.declared.roles.Side.{Side}
 use Rattle.ble_base.specs.declared.notes.Note.{Note}
@@ -41,6 +39,7 @@ use Rattle.run_laws.proofs.Hearings.{own_facts}
 use Rattle.run_laws.proofs.TurnPlaces.{event_past}
 use Rattle.journal_data.specs.HostLines.{OpenUnder, Submitted, kept_of, link_under, packets_framed}
 use Rattle.journal_data.specs.Lines.{Credited, Lines, Received, credit_up, credited_in, credited_on, data_received, empties_on, line_after, pdus_on, submitted_on}
+use Rattle.journal_data.proofs.Booked.{counts_more, counts_on}
 use Rattle.journal_data.proofs.EachLine.{numbers_at}
 use Rattle.journal_data.proofs.EachLine.{call_leaves, call_lines, fed_lines, lines_at, note_lines}
 use Rattle.journal_data.proofs.HostPackets.{HasAll, has_none, octet_taken, on_link, on_link-append, passing-append}
@@ -173,14 +172,6 @@ brings_of_feed setup facts fed (inr empty) = subst (AllByRecursion IsOfFeed) (sy
 abbrev pub AreOf : (ℕ → ℕ) → List OpenUnder → Type 0
 AreOf number links = AllByRecursion (λ (one : OpenUnder). one.link ≡ number one.handle) links
 
-abbrev credits_on : ℕ → List Credited → ℕ
-credits_on link credited = sum_by (λ (one : Credited). one.count) (filter (λ (one : Credited). one.link == link) credited)
-
-credits_append : (link : ℕ) (xs ys : List Credited) → credits_on link (xs ++ ys) ≡ credits_on link xs + credits_on link ys
-credits_append link xs ys =
-    ap (sum_by (λ (one : Credited). one.count)) (filter-append (λ (one : Credited). one.link == link) xs ys)
-    ∙ sum_by-append (λ (one : Credited). one.count) (filter (λ (one : Credited). one.link == link) xs) (filter (λ (one : Credited). one.link == link) ys)
-
 -- packets may be credited, and a link may be shut
 pub record Goes (before after : Lines) : Type 0 where
   pub sent : after.sent ≡ before.sent
@@ -218,7 +209,7 @@ goes_up lines side packet link_of last none = record {
   received = ap (λ b. lines.received ++ cond b (data_received (link_under (acl_handle packet.items) lines.links) packet.items) []) none
       ∙ append-nil lines.received;
   submitted = refl;
-  credited = λ link. let parts = credits_append link lines.credited (credited_in lines.links packet.items) in omega (arith, parts);
+  credited = λ link. let parts = counts_more link lines.credited (credited_in lines.links packet.items) in omega (arith, parts);
   links = λ number are. are;
 }
 
@@ -378,11 +369,11 @@ under_of number handle (one ∷ links) link are is = by (one.handle == handle) r
     by false same found rest = rest found
 
 count_one : (link number : ℕ) (under : Option ℕ) → ((one : ℕ) → under ≡ Some one → one ≡ number) → (own : Bool) → (number == link) ≡ own
-    → credits_on link (credit_up under 1) ≤ cond own 1 0
+    → counts_on link (credit_up under 1) ≤ cond own 1 0
 count_one link number None of own is = omega arith
 count_one link number (Some one) of own is =
-    let counted : credits_on link (credit_up (Some one) 1) ≡ cond own 1 0 =
-    ap (λ n. credits_on link (credit_up (Some n) 1)) (of one refl)
+    let counted : counts_on link (credit_up (Some one) 1) ≡ cond own 1 0 =
+    ap (λ n. counts_on link (credit_up (Some n) 1)) (of one refl)
     ∙ ap (λ b. sum_by (λ (c : Credited). c.count) (cond b (record { link = number; count = 1 } ∷ []) [])) is ∙ counts own in
     omega (arith, counted)
   where
@@ -396,9 +387,9 @@ credited_one handle links few =
     (λ i. credit_up (link_under (event_handle_is handle 1 few i) links) (count_octets handle 1 (omega arith) i))
 
 one_counted : (link handle : ℕ) (number : ℕ → ℕ) (links : List OpenUnder) → handle < 65536 → AreOf number links → (own : Bool) → (number handle == link) ≡ own
-    → credits_on link (one_credited handle links) ≤ cond own 1 0
+    → counts_on link (one_credited handle links) ≤ cond own 1 0
 one_counted link handle number links few are own is =
-    subst (λ all. credits_on link all ≤ cond own 1 0) (sym (credited_one handle links few))
+    subst (λ all. counts_on link all ≤ cond own 1 0) (sym (credited_one handle links few))
     (count_one link (number handle) (link_under handle links) (λ one under. under_of number handle links one are under) own is)
 
 -- ---- no more packets are credited than have no octet
@@ -429,7 +420,7 @@ record IsPaid (before after : Lines) (kept : List Submitted) : Type 0 where
 quiet_pays : (before after : Lines) (kept : List Submitted) → Goes before after → after.credited ≡ before.credited → IsPaid before after kept
 quiet_pays before after kept goes same = record {
   goes = goes;
-  pays = λ link. let equal = ap (credits_on link) same in omega (arith, equal);
+  pays = λ link. let equal = ap (counts_on link) same in omega (arith, equal);
 }
 
 -- the packet of no octet is kept
@@ -448,11 +439,11 @@ one_pays number handle before after kept few goes are more one = record { goes =
     pay : (link : ℕ) (own : Bool) → (number handle == link) ≡ own → credited_on link after ≤ credited_on link before + empties_in link kept
     pay link true is =
         let same = ap (λ n. empties_in n kept) (eqb-true (number handle) link is) in
-        let parts = ap (credits_on link) more ∙ credits_append link before.credited (one_credited handle before.links) in
+        let parts = ap (counts_on link) more ∙ counts_more link before.credited (one_credited handle before.links) in
         let least = one_counted link handle number before.links few are true is in
         omega (arith, parts, least, same, one)
     pay link false is =
-        let parts = ap (credits_on link) more ∙ credits_append link before.credited (one_credited handle before.links) in
+        let parts = ap (counts_on link) more ∙ counts_more link before.credited (one_credited handle before.links) in
         let least = one_counted link handle number before.links few are false is in
         omega (arith, parts, least)
 
@@ -574,7 +565,7 @@ come_credited given station octets history step booked =
     (record {
       links = subst (AreOf number) (sym come.links) (all_numbered (setup_at given station).links lines.links number (is_open facts.links) booked.links);
       credits = λ link.
-          let equal = ap (credits_on link) come.credited in
+          let equal = ap (counts_on link) come.credited in
           let parts = ap (empties_in link) come.submitted ∙ empties_append link lines.submitted (kept_left lines.links facts octets) in
           omega (arith, equal, parts);
     }))

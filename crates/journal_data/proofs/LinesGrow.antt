@@ -1,10 +1,7 @@
 -- What the lines of a side say only grows.
-use Rattle.std.proofs.Common.{◌≡◌, ℕ, ◌+◌, ◌≤◌, ◌==◌, Bool, true, false, List, [], ◌∷◌, ◌++◌, map, cond, refl, ap, sym, subst, ◌∙◌, append-nil, append_assoc, arith}
-use Rattle.std.specs.Prelude.{filter, fold}
-use Rattle.std.specs.List.{flat_map, sum_by}
-use Rattle.std.proofs.lemmas.List.Concat.{flat_map-append}
+use Rattle.std.proofs.Common.{◌≡◌, ℕ, ◌≤◌, ◌==◌, Bool, true, false, List, [], ◌∷◌, ◌++◌, map, cond, refl, ap, sym, subst, ◌∙◌, append-nil, append_assoc, arith}
+use Rattle.std.specs.Prelude.{fold}
 use Rattle.std.proofs.lemmas.List.Elements.{filter-append}
-use Rattle.std.proofs.lemmas.List.Sums.{sum_by-append}
 use Rattle.acl_banks.specs.Packets.{Marked}
 use Rattle.ble_base.specs.declared.roles.Side.{Side}
 use Rattle.journal.specs.declared.entries.Entry.{Entry}
@@ -16,6 +13,7 @@ use Rattle.run_model.specs.Journal.{entries_of, side_of}
 use Rattle.run_model.specs.Links.{links_of}
 use Rattle.run_model.specs.Run.{Given, setup_at, facts_at, after_call}
 use Rattle.journal_data.specs.Lines.{Credited, Lines, PduLine, Received, credited_on, is_of_side, line_after, lines_after, pdus_on, received_on}
+use Rattle.journal_data.proofs.Booked.{counts_more, counts_on, octets_more, octets_on}
 use Rattle.journal_data.proofs.EachLine.{event_lines, lines_at}
 
 -- ---- lines only grow
@@ -107,30 +105,12 @@ grow_events station history (event ∷ more) =
     (grow_then (lines_at station history) (lines_at station (history ++ event ∷ [])) _ (grow_event station history event)
     (grow_events station (history ++ event ∷ []) more))
 
-abbrev counts_on : ℕ → List Credited → ℕ
-counts_on link credited = sum_by (λ (one : Credited). one.count) (filter (λ (one : Credited). one.link == link) credited)
-
-counts_more : (link : ℕ) (credited more : List Credited) → counts_on link (credited ++ more) ≡ counts_on link credited + counts_on link more
-counts_more link credited more =
-    ap (sum_by (λ (one : Credited). one.count)) (filter-append (λ (one : Credited). one.link == link) credited more)
-    ∙ sum_by-append (λ (one : Credited). one.count) (filter (λ (one : Credited). one.link == link) credited)
-    (filter (λ (one : Credited). one.link == link) more)
-
 -- what the lines of a side say of one link
 pub record GrowsOn (link : ℕ) (before after : Lines) : Type 0 where
   pub sent : IsLonger PduLine (pdus_on link before.sent) (pdus_on link after.sent)
   pub taken : IsLonger PduLine (pdus_on link before.taken) (pdus_on link after.taken)
   pub received : IsLonger Marked (received_on link before) (received_on link after)
   pub credited : credited_on link before ≤ credited_on link after
-
-abbrev octets_on : ℕ → List Received → List Marked
-octets_on link received = flat_map (λ (one : Received). one.octets) (filter (λ (one : Received). one.link == link) received)
-
-octets_more : (link : ℕ) (received more : List Received) → octets_on link (received ++ more) ≡ octets_on link received ++ octets_on link more
-octets_more link received more =
-    ap (flat_map (λ (one : Received). one.octets)) (filter-append (λ (one : Received). one.link == link) received more)
-    ∙ flat_map-append (λ (one : Received). one.octets) (filter (λ (one : Received). one.link == link) received)
-    (filter (λ (one : Received). one.link == link) more)
 
 pdus_longer : (link : ℕ) (before after : List PduLine) → IsLonger PduLine before after → IsLonger PduLine (pdus_on link before) (pdus_on link after)
 pdus_longer link before after longer = record {
