@@ -10,7 +10,7 @@ use Rattle.arrayvec.specs.ArrayVec.{ArrayVec}
 use Rattle.acl_banks.specs.Packets.{Marked, marked_octets}
 use Rattle.ble_base.specs.declared.roles.Side.{Side}
 use Rattle.ble_base.specs.declared.notes.Note.{Note}
-use Rattle.ble_base.specs.declared.notes.Note.TheVariants.{Up, Opened, Shut, Sent, Took, Enter, Applied, Began, Refused, Done}
+use Rattle.ble_base.specs.declared.notes.Note.TheVariants.{Up, Sent, Took}
 use Rattle.host_view.specs.Noted.{acl_handle, is_acl_data, two_octets}
 use Rattle.controller_model.specs.Notes.{is_event}
 use Rattle.controller_model.specs.Since.{data_up, starts_message}
@@ -100,6 +100,12 @@ pdu_more link one number llid lines octets same is =
 abbrev pub octets_on : ℕ → List Received → List Marked
 octets_on link received = flat_map (λ (one : Received). one.octets) (filter (λ (one : Received). one.link == link) received)
 
+pub octets_more : (link : ℕ) (received more : List Received) → octets_on link (received ++ more) ≡ octets_on link received ++ octets_on link more
+octets_more link received more =
+    ap (flat_map (λ (one : Received). one.octets)) (filter-append (λ (one : Received). one.link == link) received more)
+    ∙ flat_map-append (λ (one : Received). one.octets) (filter (λ (one : Received). one.link == link) received)
+    (filter (λ (one : Received). one.link == link) more)
+
 one_received : (same : Bool) (one : Received) → flat_map (λ (r : Received). r.octets) (cond same (one ∷ []) []) ≡ cond same one.octets []
 one_received true one = append-nil one.octets
 one_received false one = refl
@@ -115,6 +121,12 @@ data_by true one link (Some other) octets is =
 -- complete packets of a handle
 abbrev pub counts_on : ℕ → List Credited → ℕ
 counts_on link credited = sum_by (λ (one : Credited). one.count) (filter (λ (one : Credited). one.link == link) credited)
+
+pub counts_more : (link : ℕ) (credited more : List Credited) → counts_on link (credited ++ more) ≡ counts_on link credited + counts_on link more
+counts_more link credited more =
+    ap (sum_by (λ (one : Credited). one.count)) (filter-append (λ (one : Credited). one.link == link) credited more)
+    ∙ sum_by-append (λ (one : Credited). one.count) (filter (λ (one : Credited). one.link == link) credited)
+    (filter (λ (one : Credited). one.link == link) more)
 
 one_credited : (same : Bool) (one : Credited) → sum_by (λ (r : Credited). r.count) (cond same (one ∷ []) []) ≡ cond same one.count 0
 one_credited true one = let all : sum_by (λ (r : Credited). r.count) (one ∷ []) ≡ 0 + one.count = refl in omega (arith, all)
@@ -135,20 +147,16 @@ up_booked handle link lines since side link_of last packet fits book =
       sent = kept_same (sent_line handle link) (pdus_on link lines.sent) since (Up packet) refl book.sent;
       taken = kept_same (took_line handle link) (pdus_on link lines.taken) since (Up packet) refl book.taken;
       received =
-          ap (flat_map (λ (one : Received). one.octets)) (filter-append (λ (one : Received). one.link == link) lines.received (received_in lines.links octets))
-          ∙ flat_map-append (λ (one : Received). one.octets) (filter (λ (one : Received). one.link == link) lines.received)
-          (filter (λ (one : Received). one.link == link) (received_in lines.links octets))
+          octets_more link lines.received (received_in lines.links octets)
           ∙ added (data_up handle) (received_on link lines) since (Up packet) (octets_on link (received_in lines.links octets)) book.received
           (data_by (is_acl_data octets) (acl_handle octets == handle) link (link_under (acl_handle octets) lines.links) octets fits.data_of);
       credited =
-          let parts = ap (sum_by (λ (one : Credited). one.count)) (filter-append (λ (one : Credited). one.link == link) lines.credited (credited_in lines.links octets)) in
-          let both = sum_by-append (λ (one : Credited). one.count) (filter (λ (one : Credited). one.link == link) lines.credited)
-          (filter (λ (one : Credited). one.link == link) (credited_in lines.links octets)) in
+          let parts = counts_more link lines.credited (credited_in lines.links octets) in
           let one = credit_by (is_event 0x13 octets) (two_octets 4 octets == handle) link (link_under (two_octets 4 octets) lines.links) octets fits.completed in
           let more = sum_by-append (count_up handle) since (Up packet ∷ []) in
           let last_one : sum_by (count_up handle) (Up packet ∷ []) ≡ 0 + count_up handle (Up packet) = refl in
           let before = book.credited in
-          omega (arith, parts, both, one, more, last_one, before);
+          omega (arith, parts, one, more, last_one, before);
     }
 
 -- a note that says nothing of data
@@ -182,17 +190,5 @@ note_booked handle link lines since side link_of last (Took other number llid bo
       received = kept_same (data_up handle) (received_on link lines) since note refl book.received;
       credited = counted_same (count_up handle) (credited_on link lines) since note refl book.credited;
     }
-note_booked handle link lines since side link_of last (Opened other role own peer) fits book =
-    silent_booked handle link lines _ since (Opened other role own peer) refl refl refl refl refl refl refl refl book
-note_booked handle link lines since side link_of last (Shut other reason) fits book =
-    silent_booked handle link lines _ since (Shut other reason) refl refl refl refl refl refl refl refl book
-note_booked handle link lines since side link_of last (Enter other event channel) fits book =
-    silent_booked handle link lines _ since (Enter other event channel) refl refl refl refl refl refl refl refl book
-note_booked handle link lines since side link_of last (Applied other number event) fits book =
-    silent_booked handle link lines _ since (Applied other number event) refl refl refl refl refl refl refl refl book
-note_booked handle link lines since side link_of last (Began other kind) fits book =
-    silent_booked handle link lines _ since (Began other kind) refl refl refl refl refl refl refl refl book
-note_booked handle link lines since side link_of last (Refused other kind code) fits book =
-    silent_booked handle link lines _ since (Refused other kind code) refl refl refl refl refl refl refl refl book
-note_booked handle link lines since side link_of last (Done other kind) fits book =
-    silent_booked handle link lines _ since (Done other kind) refl refl refl refl refl refl refl refl book
+note_booked handle link lines since side link_of last note fits book =
+    silent_booked handle link lines _ since note refl refl refl refl refl refl refl refl book

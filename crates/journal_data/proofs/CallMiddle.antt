@@ -10,15 +10,14 @@ use Rattle.controller_model.specs.Side.{notes_after}
 use Rattle.controller_model.specs.Step.{Step}
 use Rattle.controller_model.proofs.Always.{IsInTurn}
 use Rattle.run_model.specs.History.{Event, Called, Noted}
-use Rattle.run_model.specs.Journal.{entry_of, side_of}
-use Rattle.run_model.specs.Links.{links_of}
+use Rattle.run_model.specs.Journal.{entry_of}
 use Rattle.run_model.specs.Run.{Given, setup_at, facts_at, after_call}
 use Rattle.run_model.proofs.Calls.{with_notes}
 use Rattle.journal_acks.proofs.CallNotes.{is_taking}
 use Rattle.journal_data.specs.HostLines.{Submitted, link_under}
 use Rattle.journal_data.specs.Lines.{Lines, Received, data_received, line_after, pdus_on, received_on, submitted_on}
 use Rattle.journal_data.proofs.Arriving.{Grows}
-use Rattle.journal_data.proofs.EachLine.{call_lines, lines_at, note_lines}
+use Rattle.journal_data.proofs.EachLine.{call_leaves, lines_at}
 use Rattle.journal_data.proofs.Middle.{IsBetween}
 use Rattle.journal_data.proofs.Openness.{AreNot, is_report, turn_kinds}
 use Rattle.journal_data.proofs.LinesGrow.{GrowsOn, IsLonger, lines_grow}
@@ -64,26 +63,7 @@ front_not : (kind : Note → Bool) (front back : List Note) → AreNot kind (fro
 front_not kind [] back none = tt
 front_not kind (note ∷ front) back none = (none.0, front_not kind front back none.1)
 
--- ---- a field that notes of no such kind leave as it is
-
-module _ {X : Type 0} (kind : Note → Bool) (field : Lines → X)
-    (leaves : (lines : Lines) (side : Side) (link_of : ℕ → ℕ) (last : ℕ) (note : Note) → kind note ≡ false
-    → field (line_after 8 lines (entry_of side link_of last note)) ≡ field lines) where
-  notes_leave : (station : ℕ) (notes : List Note) (history : List Event) → AreNot kind notes
-      → field (lines_at station (history ++ map (Noted station) notes)) ≡ field (lines_at station history)
-  notes_leave station [] history none = ap (λ (h : List Event). field (lines_at station h)) (append-nil history)
-  notes_leave station (note ∷ notes) history none =
-      ap (λ (h : List Event). field (lines_at station h)) (sym (append_assoc history (Noted station note ∷ []) (map (Noted station) notes)))
-      ∙ notes_leave station notes (history ++ Noted station note ∷ []) none.1
-      ∙ ap field (note_lines station history note)
-      ∙ leaves (lines_at station history) (side_of station) ((links_of history).link_of station) ((links_of history).last_of station) note none.0
-
-  pub call_leaves : (station : ℕ) (step : Step) (notes : List Note) (history : List Event) → AreNot kind notes
-      → field (lines_at station (with_notes station step notes history)) ≡ field (lines_at station history)
-  call_leaves station step notes history none =
-      ap (λ (h : List Event). field (lines_at station h)) (sym (append_assoc history (Called station step ∷ []) (map (Noted station) notes)))
-      ∙ notes_leave station notes (history ++ Called station step ∷ []) none
-      ∙ ap field (call_lines station history station step)
+-- ---- the PDUs that are taken, and the data that is received
 
 -- a note that takes none leaves the PDUs that are taken
 taking_leaves : (lines : Lines) (side : Side) (link_of : ℕ → ℕ) (last : ℕ) (note : Note) → is_taking note ≡ false
@@ -113,10 +93,10 @@ front_kind : (station : ℕ) (step : Step) (history : List Event) (front back : 
     → AreNot is_taking (front ++ back) ⊎ AreNot is_report (front ++ back)
     → IsOneKind station history (Called station step ∷ map (Noted station) front) (with_notes station step (front ++ back) history)
 front_kind station step history front back (inl takes) =
-    inl (call_leaves is_taking (λ lines. lines.taken) taking_leaves station step (front ++ back) history takes
-    ∙ sym (call_leaves is_taking (λ lines. lines.taken) taking_leaves station step front history (front_not is_taking front back takes)))
+    inl (call_leaves (λ note. is_taking note ≡ false) (λ lines. lines.taken) taking_leaves station step (front ++ back) history takes
+    ∙ sym (call_leaves (λ note. is_taking note ≡ false) (λ lines. lines.taken) taking_leaves station step front history (front_not is_taking front back takes)))
 front_kind station step history front back (inr reports) =
-    inr (call_leaves is_report (λ lines. lines.received) report_leaves station step front history (front_not is_report front back reports))
+    inr (call_leaves (λ note. is_report note ≡ false) (λ lines. lines.received) report_leaves station step front history (front_not is_report front back reports))
 
 middle_kind : (station : ℕ) (step : Step) (notes : List Note) (history mid : List Event) → IsFront station step notes mid
     → AreNot is_taking notes ⊎ AreNot is_report notes → IsOneKind station history mid (with_notes station step notes history)

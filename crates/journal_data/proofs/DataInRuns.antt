@@ -17,11 +17,11 @@ use Rattle.journal_acks.proofs.Counting.{AreKnown, HaveOwnNumbers}
 use Rattle.journal_acks.proofs.TwoStations.{IsOfTwo, other_is, other_of}
 use Rattle.journal_data.specs.Delivered.{ArrivesInOrder}
 use Rattle.journal_data.proofs.CallMiddle.{call_between}
-use Rattle.journal_data.proofs.EachLine.{lines_at}
+use Rattle.journal_data.proofs.EachLine.{call_outside, lines_at}
 use Rattle.journal_data.proofs.FedInRuns.{between_standing}
 use Rattle.journal_data.proofs.FeedSide.{feed_step}
 use Rattle.journal_data.proofs.Feeds.{feed_front}
-use Rattle.journal_data.proofs.Fronts.{AreAlways, HasMore, always_event, always_more, call_outside, feed_more, mid_same}
+use Rattle.journal_data.proofs.Fronts.{AreAlways, HasMore, always_event, always_more, feed_more, mid_same}
 use Rattle.journal_data.proofs.KeptData.{AreWell, own_numbers, IsBetween, IsDataAt, data_kept, far_side, other_in, pass_in_turn}
 use Rattle.journal_data.proofs.Middle.{from_fed, from_middle, to_fed, to_middle}
 use Rattle.journal_data.proofs.Mine.{other_back}

@@ -5,12 +5,10 @@ use Rattle.std.specs.List.{AllByRecursion, find, flat_map, sum_by}
 use Rattle.std.specs.Option.{option_map}
 use Rattle.std.proofs.lemmas.Bool.{eq-eqb, eqb-true}
 use Rattle.std.proofs.lemmas.List.{append_cancel_left, length-append}
-use Rattle.std.proofs.lemmas.List.Elements.{filter-append}
-use Rattle.std.proofs.lemmas.List.Sums.{sum_by-append}
 use Rattle.arrayvec.specs.ArrayVec.{ArrayVec}
 use Rattle.ble_base.specs.declared.roles.Side.{Side}
 use Rattle.ble_base.specs.declared.notes.Note.{Note}
-use Rattle.ble_base.specs.declared.notes.Note.TheVariants.{Up, Opened, Shut, Sent, Took, Enter, Applied, Began, Refused, Done}
+use Rattle.ble_base.specs.declared.notes.Note.TheVariants.{Up, Opened, Shut, Sent, Took}
 use Rattle.h4_frames.specs.declared.packet.Fed.{Fed}
 use Rattle.h4_frames.specs.declared.packet.Fed.TheVariants.{More, Packet, LostSync}
 use Rattle.h4_frames.specs.declared.packet.HostPacket.TheVariants.{Command, Acl}
@@ -41,8 +39,9 @@ use Rattle.run_laws.proofs.Hearings.{own_facts}
 use Rattle.run_laws.proofs.TurnPlaces.{event_past}
 use Rattle.journal_data.specs.HostLines.{OpenUnder, Submitted, kept_of, link_under, packets_framed}
 use Rattle.journal_data.specs.Lines.{Credited, Lines, Received, credit_up, credited_in, credited_on, data_received, empties_on, line_after, pdus_on, submitted_on}
+use Rattle.journal_data.proofs.Booked.{counts_more, counts_on}
 use Rattle.journal_data.proofs.EachLine.{numbers_at}
-use Rattle.journal_data.proofs.EachLine.{call_lines, fed_lines, lines_at, note_lines}
+use Rattle.journal_data.proofs.EachLine.{call_leaves, call_lines, fed_lines, lines_at, note_lines}
 use Rattle.journal_data.proofs.HostPackets.{HasAll, has_none, octet_taken, on_link, on_link-append, passing-append}
 use Rattle.journal_data.proofs.Middle.{IsFed}
 use Rattle.journal_data.proofs.Submitting.{AheadAt, AreInStep, IsSubmitted, call_ahead, come_own, fed_ahead, held_then, kept_left, octet_left, same_numbers}
@@ -91,12 +90,7 @@ quiet (Up packet) other =
 quiet (Opened handle role own peer) other = not_under handle _ (other handle).opens_none
 quiet (Sent handle number llid body) other = not_under handle _ (other handle).sent_none
 quiet (Took handle number llid body) other = not_under handle _ (other handle).took_none
-quiet (Shut handle reason) other = (tt, tt)
-quiet (Enter handle event channel) other = (tt, tt)
-quiet (Applied handle number event) other = (tt, tt)
-quiet (Began handle kind) other = (tt, tt)
-quiet (Refused handle kind code) other = (tt, tt)
-quiet (Done handle kind) other = (tt, tt)
+quiet note other = (tt, tt)
 
 all_quiet : (notes : List Note) → ((handle : ℕ) → AreOther 0 handle notes) → AllByRecursion IsQuiet notes
 all_quiet [] are = tt
@@ -178,14 +172,6 @@ brings_of_feed setup facts fed (inr empty) = subst (AllByRecursion IsOfFeed) (sy
 abbrev pub AreOf : (ℕ → ℕ) → List OpenUnder → Type 0
 AreOf number links = AllByRecursion (λ (one : OpenUnder). one.link ≡ number one.handle) links
 
-abbrev credits_on : ℕ → List Credited → ℕ
-credits_on link credited = sum_by (λ (one : Credited). one.count) (filter (λ (one : Credited). one.link == link) credited)
-
-credits_append : (link : ℕ) (xs ys : List Credited) → credits_on link (xs ++ ys) ≡ credits_on link xs + credits_on link ys
-credits_append link xs ys =
-    ap (sum_by (λ (one : Credited). one.count)) (filter-append (λ (one : Credited). one.link == link) xs ys)
-    ∙ sum_by-append (λ (one : Credited). one.count) (filter (λ (one : Credited). one.link == link) xs) (filter (λ (one : Credited). one.link == link) ys)
-
 -- packets may be credited, and a link may be shut
 pub record Goes (before after : Lines) : Type 0 where
   pub sent : after.sent ≡ before.sent
@@ -223,7 +209,7 @@ goes_up lines side packet link_of last none = record {
   received = ap (λ b. lines.received ++ cond b (data_received (link_under (acl_handle packet.items) lines.links) packet.items) []) none
       ∙ append-nil lines.received;
   submitted = refl;
-  credited = λ link. let parts = credits_append link lines.credited (credited_in lines.links packet.items) in omega (arith, parts);
+  credited = λ link. let parts = counts_more link lines.credited (credited_in lines.links packet.items) in omega (arith, parts);
   links = λ number are. are;
 }
 
@@ -249,11 +235,7 @@ goes_note lines side link_of last (Shut handle reason) is = record {
 goes_note lines side link_of last (Opened handle role own peer) is = absurd is
 goes_note lines side link_of last (Sent handle number llid body) is = absurd is
 goes_note lines side link_of last (Took handle number llid body) is = absurd is
-goes_note lines side link_of last (Enter handle event channel) is = goes_same lines lines refl
-goes_note lines side link_of last (Applied handle number event) is = goes_same lines lines refl
-goes_note lines side link_of last (Began handle kind) is = goes_same lines lines refl
-goes_note lines side link_of last (Refused handle kind code) is = goes_same lines lines refl
-goes_note lines side link_of last (Done handle kind) is = goes_same lines lines refl
+goes_note lines side link_of last note is = goes_same lines lines refl
 
 -- ---- the events of a feed, after its first
 
@@ -349,24 +331,7 @@ quiet_note : (lines : Lines) (side : Side) (link_of : ℕ → ℕ) (last : ℕ) 
 quiet_note lines side link_of last (Up packet) is =
     ap (λ b. lines.credited ++ cond b (credit_up (link_under (two_octets 4 packet.items) lines.links) (two_octets 6 packet.items)) []) is.1
     ∙ append-nil lines.credited
-quiet_note lines side link_of last (Shut handle reason) is = refl
-quiet_note lines side link_of last (Opened handle role own peer) is = refl
-quiet_note lines side link_of last (Sent handle number llid body) is = refl
-quiet_note lines side link_of last (Took handle number llid body) is = refl
-quiet_note lines side link_of last (Enter handle event channel) is = refl
-quiet_note lines side link_of last (Applied handle number event) is = refl
-quiet_note lines side link_of last (Began handle kind) is = refl
-quiet_note lines side link_of last (Refused handle kind code) is = refl
-quiet_note lines side link_of last (Done handle kind) is = refl
-
-quiet_notes : (station : ℕ) (notes : List Note) (history : List Event) → AllByRecursion IsQuiet notes
-    → (lines_at station (history ++ map (Noted station) notes)).credited ≡ (lines_at station history).credited
-quiet_notes station [] history are = ap (λ (all : List Event). (lines_at station all).credited) (append-nil history)
-quiet_notes station (note ∷ notes) history are =
-    ap (λ (all : List Event). (lines_at station all).credited) (sym (append_assoc history (Noted station note ∷ []) (map (Noted station) notes)))
-    ∙ quiet_notes station notes (history ++ Noted station note ∷ []) are.1
-    ∙ ap (λ (lines : Lines). lines.credited) (note_lines station history note)
-    ∙ quiet_note (lines_at station history) (side_of station) ((links_of history).link_of station) ((links_of history).last_of station) note are.0
+quiet_note lines side link_of last note is = refl
 
 -- those of a call, by what it notes
 noted_credits : (station : ℕ) (step : Step) (notes : List Note) (history : List Event)
@@ -377,9 +342,7 @@ noted_credits station step notes history =
 
 quiet_call : (station : ℕ) (step : Step) (notes : List Note) (history : List Event) → AllByRecursion IsQuiet notes
     → (lines_at station (with_notes station step notes history)).credited ≡ (lines_at station history).credited
-quiet_call station step notes history are =
-    noted_credits station step notes history ∙ quiet_notes station notes (history ++ Called station step ∷ []) are
-    ∙ ap (λ (lines : Lines). lines.credited) (call_lines station history station step)
+quiet_call station step notes history are = call_leaves IsQuiet (λ lines. lines.credited) quiet_note station step notes history are
 
 one_credited : ℕ → List OpenUnder → List Credited
 one_credited handle links = credited_in links (written (CompletedPackets handle 1))
@@ -406,11 +369,11 @@ under_of number handle (one ∷ links) link are is = by (one.handle == handle) r
     by false same found rest = rest found
 
 count_one : (link number : ℕ) (under : Option ℕ) → ((one : ℕ) → under ≡ Some one → one ≡ number) → (own : Bool) → (number == link) ≡ own
-    → credits_on link (credit_up under 1) ≤ cond own 1 0
+    → counts_on link (credit_up under 1) ≤ cond own 1 0
 count_one link number None of own is = omega arith
 count_one link number (Some one) of own is =
-    let counted : credits_on link (credit_up (Some one) 1) ≡ cond own 1 0 =
-    ap (λ n. credits_on link (credit_up (Some n) 1)) (of one refl)
+    let counted : counts_on link (credit_up (Some one) 1) ≡ cond own 1 0 =
+    ap (λ n. counts_on link (credit_up (Some n) 1)) (of one refl)
     ∙ ap (λ b. sum_by (λ (c : Credited). c.count) (cond b (record { link = number; count = 1 } ∷ []) [])) is ∙ counts own in
     omega (arith, counted)
   where
@@ -424,9 +387,9 @@ credited_one handle links few =
     (λ i. credit_up (link_under (event_handle_is handle 1 few i) links) (count_octets handle 1 (omega arith) i))
 
 one_counted : (link handle : ℕ) (number : ℕ → ℕ) (links : List OpenUnder) → handle < 65536 → AreOf number links → (own : Bool) → (number handle == link) ≡ own
-    → credits_on link (one_credited handle links) ≤ cond own 1 0
+    → counts_on link (one_credited handle links) ≤ cond own 1 0
 one_counted link handle number links few are own is =
-    subst (λ all. credits_on link all ≤ cond own 1 0) (sym (credited_one handle links few))
+    subst (λ all. counts_on link all ≤ cond own 1 0) (sym (credited_one handle links few))
     (count_one link (number handle) (link_under handle links) (λ one under. under_of number handle links one are under) own is)
 
 -- ---- no more packets are credited than have no octet
@@ -457,7 +420,7 @@ record IsPaid (before after : Lines) (kept : List Submitted) : Type 0 where
 quiet_pays : (before after : Lines) (kept : List Submitted) → Goes before after → after.credited ≡ before.credited → IsPaid before after kept
 quiet_pays before after kept goes same = record {
   goes = goes;
-  pays = λ link. let equal = ap (credits_on link) same in omega (arith, equal);
+  pays = λ link. let equal = ap (counts_on link) same in omega (arith, equal);
 }
 
 -- the packet of no octet is kept
@@ -476,11 +439,11 @@ one_pays number handle before after kept few goes are more one = record { goes =
     pay : (link : ℕ) (own : Bool) → (number handle == link) ≡ own → credited_on link after ≤ credited_on link before + empties_in link kept
     pay link true is =
         let same = ap (λ n. empties_in n kept) (eqb-true (number handle) link is) in
-        let parts = ap (credits_on link) more ∙ credits_append link before.credited (one_credited handle before.links) in
+        let parts = ap (counts_on link) more ∙ counts_more link before.credited (one_credited handle before.links) in
         let least = one_counted link handle number before.links few are true is in
         omega (arith, parts, least, same, one)
     pay link false is =
-        let parts = ap (credits_on link) more ∙ credits_append link before.credited (one_credited handle before.links) in
+        let parts = ap (counts_on link) more ∙ counts_more link before.credited (one_credited handle before.links) in
         let least = one_counted link handle number before.links few are false is in
         omega (arith, parts, least)
 
@@ -602,7 +565,7 @@ come_credited given station octets history step booked =
     (record {
       links = subst (AreOf number) (sym come.links) (all_numbered (setup_at given station).links lines.links number (is_open facts.links) booked.links);
       credits = λ link.
-          let equal = ap (credits_on link) come.credited in
+          let equal = ap (counts_on link) come.credited in
           let parts = ap (empties_in link) come.submitted ∙ empties_append link lines.submitted (kept_left lines.links facts octets) in
           omega (arith, equal, parts);
     }))

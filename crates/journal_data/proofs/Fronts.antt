@@ -2,13 +2,11 @@
 use Rattle.std.proofs.Common.{◌≡◌, ℕ, List, [], ◌∷◌, ◌++◌, refl, sym, subst, ◌∙◌, append-nil, append_assoc}
 use Rattle.std.specs.Prelude.{map}
 use Rattle.std.specs.List.{AllByRecursion}
-use Rattle.ble_base.specs.declared.notes.Note.{Note}
 use Rattle.controller_model.specs.Side.{notes_after}
-use Rattle.controller_model.specs.Step.{Step, HostOctet}
+use Rattle.controller_model.specs.Step.{HostOctet}
 use Rattle.run_model.specs.History.{Event, Called, HostFed, Noted}
 use Rattle.run_model.specs.Run.{Given, after_feed, after_octets, facts_at, setup_at}
-use Rattle.journal_data.proofs.EachLine.{lines_at}
-use Rattle.journal_data.proofs.KeptSubmitted.{IsElsewhere, IsOutside, events_unchanged}
+use Rattle.journal_data.proofs.EachLine.{IsElsewhere, IsOutside, call_outside, lines_at, outside_lines}
 
 -- ---- the front of two lists
 
@@ -72,19 +70,11 @@ both_all : {X : Type 0} (P : X → Type 0) (xs ys : List X) → AllByRecursion P
 both_all P [] ys all also = also
 both_all P (x ∷ xs) ys all also = (all.0, both_all P xs ys all.1 also)
 
-noted_outside : (station other : ℕ) (notes : List Note) → IsElsewhere station other → AllByRecursion (IsOutside station) (map (Noted other) notes)
-noted_outside station other [] apart = tt
-noted_outside station other (note ∷ notes) apart = (apart, noted_outside station other notes apart)
-
 -- in the middle of events of the other station its lines are the same
 pub mid_same : (station : ℕ) (history more mid rest : List Event) → AllByRecursion (IsOutside station) more → more ≡ mid ++ rest
     → lines_at station (history ++ mid) ≡ lines_at station history
 mid_same station history more mid rest outside is =
-    (events_unchanged station mid history (front_all (IsOutside station) mid rest (subst (AllByRecursion (IsOutside station)) is outside))).lines
-
-pub call_outside : (station other : ℕ) (step : Step) (notes : List Note) → IsElsewhere station other
-    → AllByRecursion (IsOutside station) (Called other step ∷ map (Noted other) notes)
-call_outside station other step notes apart = (apart, noted_outside station other notes apart)
+    outside_lines station mid history (front_all (IsOutside station) mid rest (subst (AllByRecursion (IsOutside station)) is outside))
 
 -- what a feed adds
 pub record HasMore (station : ℕ) (history after : List Event) : Type 0 where

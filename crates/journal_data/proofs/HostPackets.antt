@@ -41,6 +41,7 @@ use Rattle.controller_model.specs.Facts.{Setup, Facts}
 use Rattle.controller_model.specs.Host.{commands_accepted_by, commands_accepted_in}
 use Rattle.controller_model.specs.Side.{facts_after, facts_fed, facts_of, first_result, result_of}
 use Rattle.controller_model.specs.Step.{Step, HostOctet}
+use Rattle.journal_acks.proofs.UnderHandles.{map_under}
 use Rattle.controller_model.proofs.Feds.{frames_more}
 use Rattle.controller_model.proofs.Resets.{resets}
 use Rattle.controller_model.specs.Since.{count_fed}
@@ -530,23 +531,18 @@ module _ (number : ℕ → ℕ) (links : Links) (held : List OpenUnder) (own : H
 
 -- ---- a command
 
-shut_at : (first handle : ℕ) (links : Links) → link_from first handle (without_links links) ≡ None
-shut_at first handle [] = refl
-shut_at first handle (place ∷ links) = by (first == handle) (shut_at (first + 1) handle links)
-  where
-    by : (own : Bool) → link_from (first + 1) handle (without_links links) ≡ None → (if own then None else link_from (first + 1) handle (without_links links)) ≡ None
-    by true rest = refl
-    by false rest = rest
+shut_at : (handle : ℕ) (links : Links) → link_at handle (without_links links) ≡ None
+shut_at handle links = map_under (λ place. None) refl 0 handle links
 
 -- a Reset
 reset_taken : (number : ℕ → ℕ) (links : Links) (held : List OpenUnder) (opcode : ℕ) (body : ArrayVec ℕ) → is_reset opcode body.items ≡ true
     → Takes number links (without_links links) held [] (Command opcode body ∷ []) (λ handle. 0)
 reset_taken number links held opcode body is = record {
   kept = [];
-  under = λ handle. sym (ap (option_map (λ (link : OpenLink). number handle)) (shut_at 0 handle links));
+  under = λ handle. sym (ap (option_map (λ (link : OpenLink). number handle)) (shut_at handle links));
   ahead = λ later.
       ap (λ (b : Bool). if b then [] else kept_of 8 held (buffers_taken links) later) is ∙ sym (none_kept (buffers_taken (without_links links)) later);
-  has = λ submitted count has handle link at. absurd (let h : None ≡ Some link = sym (shut_at 0 handle links) ∙ at in absurd cc);
+  has = λ submitted count has handle link at. absurd (let h : None ≡ Some link = sym (shut_at handle links) ∙ at in absurd cc);
 }
 
 -- any other

@@ -1,11 +1,11 @@
 -- In every journal of a run of a pair, after each of its lines, the data of both sides arrives in order.
-use Rattle.std.proofs.Common.{◌≡◌, ℕ, zero, suc, ◌+◌, ◌==◌, Bool, true, false, cond, Some, None, List, [], ◌∷◌, ◌++◌, length, replicate, refl, sym, subst, ◌∙◌, append-nil, arith}
+use Rattle.std.proofs.Common.{◌≡◌, ℕ, zero, suc, true, Some, None, List, [], ◌∷◌, ◌++◌, length, refl, sym, subst, ◌∙◌, append-nil, arith}
 use Rattle.ble_base.specs.Side.{other_side}
 use Rattle.ble_base.specs.declared.roles.Side.{Side}
 use Rattle.ble_base.specs.declared.roles.Side.TheVariants.{A, B}
 use Rattle.journal.specs.declared.entries.Entry.{Entry}
 use Rattle.link_model.proofs.Received.{IsHeardWhole}
-use Rattle.open_links.specs.OpenLinks.{OpenLink, link_at, link_from}
+use Rattle.open_links.specs.OpenLinks.{OpenLink, link_at}
 use Rattle.controller_model.specs.Side.{facts_of, notes_of}
 use Rattle.radio_replay.specs.Script.{Script}
 use Rattle.run_model.specs.Feeding.{AreDistinct, HasNoted}
@@ -35,23 +35,15 @@ use Rattle.journal_data.proofs.KeptData.{AreWell}
 use Rattle.journal_data.proofs.MineKept.{heard_none_mine}
 use Rattle.journal_data.proofs.FewLinks.{HaveFewLinks, pair_links}
 use Rattle.journal_data.proofs.Sides.{AreAhead, AreArriving}
-use Rattle.journal_data.proofs.StationLines.{first_booked}
+use Rattle.journal_data.proofs.StationLines.{first_booked, none_at_first}
 use Rattle.journal_data.proofs.Submitting.{HasFed}
 use Rattle.journal_data.proofs.Used.{AreUsed, IsClear}
 
 -- ---- as a run begins
 
-none_first : (first handle places : ℕ) → link_from first handle (replicate places None) ≡ None
-none_first first handle zero = refl
-none_first first handle (suc places) = by (first == handle) (none_first (first + 1) handle places)
-  where
-    by : (own : Bool) → link_from (first + 1) handle (replicate places None) ≡ None → cond own None (link_from (first + 1) handle (replicate places None)) ≡ None
-    by true rest = refl
-    by false rest = rest
-
 none_open : (given : Given) (station handle : ℕ) → link_at handle (facts_at given station []).links ≡ None
 unfolding facts_of
-none_open given station handle = none_first 0 handle (setup_at given station).links
+none_open given station handle = none_at_first 0 handle (setup_at given station).links
 
 none_at : {X : Type 0} (given : Given) (station handle : ℕ) (link : OpenLink) → link_at handle (facts_at given station []).links ≡ Some link → X
 none_at given station handle link at = absurd (let h : None ≡ Some link = sym (none_open given station handle) ∙ at in absurd cc)

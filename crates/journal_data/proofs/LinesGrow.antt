@@ -1,10 +1,7 @@
 -- What the lines of a side say only grows.
-use Rattle.std.proofs.Common.{◌≡◌, ℕ, ◌+◌, ◌≤◌, ◌==◌, Bool, true, false, List, [], ◌∷◌, ◌++◌, map, cond, refl, ap, sym, subst, ◌∙◌, append-nil, append_assoc, arith}
-use Rattle.std.specs.Prelude.{filter, fold}
-use Rattle.std.specs.List.{flat_map, sum_by}
-use Rattle.std.proofs.lemmas.List.Concat.{flat_map-append}
+use Rattle.std.proofs.Common.{◌≡◌, ℕ, ◌≤◌, ◌==◌, Bool, true, false, List, [], ◌∷◌, ◌++◌, map, cond, refl, ap, sym, subst, ◌∙◌, append-nil, append_assoc, arith}
+use Rattle.std.specs.Prelude.{fold}
 use Rattle.std.proofs.lemmas.List.Elements.{filter-append}
-use Rattle.std.proofs.lemmas.List.Sums.{fold-append, sum_by-append}
 use Rattle.acl_banks.specs.Packets.{Marked}
 use Rattle.ble_base.specs.declared.roles.Side.{Side}
 use Rattle.journal.specs.declared.entries.Entry.{Entry}
@@ -12,12 +9,12 @@ use Rattle.journal.specs.declared.entries.Entry.TheVariants.{Fed as FedEntry, Up
 use Rattle.controller_model.specs.Step.{Step}
 use Rattle.controller_model.specs.Side.{notes_after}
 use Rattle.run_model.specs.History.{Event, Called, Noted}
-use Rattle.run_model.specs.Journal.{entries_of, journal_of, side_of}
+use Rattle.run_model.specs.Journal.{entries_of, side_of}
 use Rattle.run_model.specs.Links.{links_of}
 use Rattle.run_model.specs.Run.{Given, setup_at, facts_at, after_call}
-use Rattle.run_model.proofs.Parts.{journal_event}
-use Rattle.journal_data.specs.Lines.{Credited, Lines, PduLine, Received, credited_on, is_of_side, line_after, lines_after, lines_of, no_lines, pdus_on, received_on}
-use Rattle.journal_data.proofs.EachLine.{lines_at}
+use Rattle.journal_data.specs.Lines.{Credited, Lines, PduLine, Received, credited_on, is_of_side, line_after, lines_after, pdus_on, received_on}
+use Rattle.journal_data.proofs.Booked.{counts_more, counts_on, octets_more, octets_on}
+use Rattle.journal_data.proofs.EachLine.{event_lines, lines_at}
 
 -- ---- lines only grow
 
@@ -95,17 +92,9 @@ grow_entries side lines (entry ∷ entries) =
     (grow_if (is_of_side side entry) lines (line_after 8 lines entry) (grow_line lines entry))
     (grow_entries side (lines_after 8 side lines entry) entries)
 
-entries_lines : (station : ℕ) (history : List Event) (event : Event)
-    → lines_at station (history ++ event ∷ [])
-    ≡ fold (lines_after 8 (side_of station)) (lines_at station history) (entries_of (links_of history) event)
-unfolding lines_of
-entries_lines station history event =
-    ap (lines_of 8 (side_of station)) (journal_event history event)
-    ∙ fold-append (lines_after 8 (side_of station)) no_lines (journal_of history) (entries_of (links_of history) event)
-
 grow_event : (station : ℕ) (history : List Event) (event : Event) → Grow (lines_at station history) (lines_at station (history ++ event ∷ []))
 grow_event station history event =
-    subst (Grow (lines_at station history)) (sym (entries_lines station history event))
+    subst (Grow (lines_at station history)) (sym (event_lines station history event))
     (grow_entries (side_of station) (lines_at station history) (entries_of (links_of history) event))
 
 grow_events : (station : ℕ) (history more : List Event) → Grow (lines_at station history) (lines_at station (history ++ more))
@@ -116,30 +105,12 @@ grow_events station history (event ∷ more) =
     (grow_then (lines_at station history) (lines_at station (history ++ event ∷ [])) _ (grow_event station history event)
     (grow_events station (history ++ event ∷ []) more))
 
-abbrev counts_on : ℕ → List Credited → ℕ
-counts_on link credited = sum_by (λ (one : Credited). one.count) (filter (λ (one : Credited). one.link == link) credited)
-
-counts_more : (link : ℕ) (credited more : List Credited) → counts_on link (credited ++ more) ≡ counts_on link credited + counts_on link more
-counts_more link credited more =
-    ap (sum_by (λ (one : Credited). one.count)) (filter-append (λ (one : Credited). one.link == link) credited more)
-    ∙ sum_by-append (λ (one : Credited). one.count) (filter (λ (one : Credited). one.link == link) credited)
-    (filter (λ (one : Credited). one.link == link) more)
-
 -- what the lines of a side say of one link
 pub record GrowsOn (link : ℕ) (before after : Lines) : Type 0 where
   pub sent : IsLonger PduLine (pdus_on link before.sent) (pdus_on link after.sent)
   pub taken : IsLonger PduLine (pdus_on link before.taken) (pdus_on link after.taken)
   pub received : IsLonger Marked (received_on link before) (received_on link after)
   pub credited : credited_on link before ≤ credited_on link after
-
-abbrev octets_on : ℕ → List Received → List Marked
-octets_on link received = flat_map (λ (one : Received). one.octets) (filter (λ (one : Received). one.link == link) received)
-
-octets_more : (link : ℕ) (received more : List Received) → octets_on link (received ++ more) ≡ octets_on link received ++ octets_on link more
-octets_more link received more =
-    ap (flat_map (λ (one : Received). one.octets)) (filter-append (λ (one : Received). one.link == link) received more)
-    ∙ flat_map-append (λ (one : Received). one.octets) (filter (λ (one : Received). one.link == link) received)
-    (filter (λ (one : Received). one.link == link) more)
 
 pdus_longer : (link : ℕ) (before after : List PduLine) → IsLonger PduLine before after → IsLonger PduLine (pdus_on link before) (pdus_on link after)
 pdus_longer link before after longer = record {

@@ -1,11 +1,11 @@
 -- Other steps of a run keep that what a station takes is of the other end of its link.
-use Rattle.std.proofs.Common.{◌≡◌, ℕ, ◌+◌, ◌==◌, Bool, true, false, Option, Some, None, List, [], ◌∷◌, cond, refl, sym, ap, ◌∙◌}
-use Rattle.std.specs.Prelude.{is_some, if◌then◌else◌}
+use Rattle.std.proofs.Common.{arith, ◌≡◌, ℕ, ◌==◌, Bool, true, false, Option, Some, None, List, cond, refl, sym, ap, ◌∙◌}
+use Rattle.std.specs.Prelude.{is_some}
 use Rattle.ble_base.specs.declared.notes.Note.{Note}
 use Rattle.link_model.specs.Setup.{Setup as EndSetup}
 use Rattle.link_model.specs.Step.{PacketReceived}
 use Rattle.link_model.specs.declared.setup.LinkSetup.{LinkSetup}
-use Rattle.open_links.specs.OpenLinks.{Links, OpenLink, link_after, link_at, link_from, new_link, with_change_from}
+use Rattle.open_links.specs.OpenLinks.{Links, OpenLink, link_after, link_at, new_link, with_link}
 use Rattle.controller_model.specs.Facts.{Facts, Setup}
 use Rattle.controller_model.specs.Heard.{has_room, link_heard, link_taken, opens as opening, scanner_heard}
 use Rattle.controller_model.specs.Outcome.{Outcome, facts_passed}
@@ -24,7 +24,9 @@ use Rattle.journal_acks.proofs.LinkUses.{listens_under}
 use Rattle.journal_acks.proofs.TwoStations.{IsOfTwo, other_is, other_of}
 use Rattle.journal_data.proofs.Mine.{AreMine, HasFarEnd, IsTaking, none_mine, other_back}
 use Rattle.journal_data.proofs.Openness.{is_open, opens_where_free, same_open}
-use Rattle.journal_data.proofs.NotedLines.{is_link}
+use Rattle.journal_data.proofs.NotedLines.{below_from, is_link}
+use Rattle.open_links.proofs.Handles.{opened_at, other_stays}
+use Rattle.std.proofs.lemmas.Bool.{eqb-false, eqb-true}
 use Rattle.run_model.proofs.LinksKnown.{link_by_own}
 
 -- ---- nothing is received
@@ -44,27 +46,23 @@ module _ (handle : ℕ) where
       same_open facts.links _ (sent_opens outcome.facts.turn.slot outcome.next outcome.facts.links ∙ same) handle ∙ linked
 
   -- a link is opened under any handle
-  with_link_open : (end : EndSetup) (first : ℕ) (links : Links) → is_some (link_from first handle links) ≡ true
-      → is_some (link_from first handle (with_change_from first end.link.handle (λ before. Some (new_link end)) links)) ≡ true
-  with_link_open end first [] linked = linked
-  with_link_open end first (place ∷ links) linked = by (first == end.link.handle) (first == handle) refl linked (with_link_open end (first + 1) links)
+  with_link_open : (end : EndSetup) (links : Links) → is_open links handle ≡ true → is_open (with_link end links) handle ≡ true
+  with_link_open end links linked = by (end.link.handle == handle) refl
     where
-      by : (opened own : Bool) → (first == handle) ≡ own → is_some (if own then place else link_from (first + 1) handle links) ≡ true
-          → (is_some (link_from (first + 1) handle links) ≡ true
-          → is_some (link_from (first + 1) handle (with_change_from (first + 1) end.link.handle (λ before. Some (new_link end)) links)) ≡ true)
-          → is_some (link_from first handle
-          (if opened then Some (new_link end) ∷ links else place ∷ with_change_from (first + 1) end.link.handle (λ before. Some (new_link end)) links)) ≡ true
-      by true true is linked rest = ap (λ (b : Bool). is_some (if b then Some (new_link end) else link_from (first + 1) handle links)) is
-      by true false is linked rest = ap (λ (b : Bool). is_some (if b then Some (new_link end) else link_from (first + 1) handle links)) is ∙ linked
-      by false true is linked rest =
-          ap (λ (b : Bool). is_some (if b then place else link_from (first + 1) handle (with_change_from (first + 1) end.link.handle (λ before. Some (new_link end)) links))) is ∙ linked
-      by false false is linked rest =
-          ap (λ (b : Bool). is_some (if b then place else link_from (first + 1) handle (with_change_from (first + 1) end.link.handle (λ before. Some (new_link end)) links))) is ∙ rest linked
+      by : (own : Bool) → (end.link.handle == handle) ≡ own → is_open (with_link end links) handle ≡ true
+      by true same =
+          let equal = eqb-true end.link.handle handle same in
+          let found = is_link (link_at handle links) linked in
+          let below = below_from 0 handle links found.link found.is in
+          ap (is_open (with_link end links)) (sym equal) ∙ ap (λ (place : Option OpenLink). is_some place) (opened_at end links (omega (arith, below, equal)))
+      by false differs =
+          ap (λ (place : Option OpenLink). is_some place)
+          (other_stays (λ before. Some (new_link end)) 0 end.link.handle handle links (λ same. eqb-false end.link.handle handle differs (sym same))) ∙ linked
 
   opening_stays : (facts : Facts) (link : LinkSetup) → StaysOpen facts (opening link facts)
   opening_stays facts link linked =
       ap (λ (held : Facts). is_open held.links handle) (opening_is link facts)
-      ∙ with_link_open (record { link = link; opened = facts.turn.slot }) 0 facts.links linked
+      ∙ with_link_open (record { link = link; opened = facts.turn.slot }) facts.links linked
 
   phase_stays : (setup : Setup) (facts : Facts) → EachOutcome setup facts (StaysOpen facts)
   phase_stays setup facts = record {

@@ -1,12 +1,11 @@
 -- What the notes of a station add to its lines: each open link has what was noted under its handle since it was opened, and
 -- of any other link the lines say what they said before.
 use Rattle.std.proofs.Common.{length, if◌then◌else◌, ◌≡◌, ℕ, suc, ◌+◌, ◌<◌, ◌==◌, Bool, true, false, Option, Some, None, List, [], ◌∷◌, ◌++◌, map, cond, refl, ap, sym, subst, ◌∙◌, append-nil, append_assoc, arith}
-use Rattle.std.specs.Prelude.{◌&&◌, ◌||◌, drop, filter, fold, is_some, ⊤}
-use Rattle.std.specs.List.{AllByRecursion, flat_map, sum_by}
+use Rattle.std.specs.Prelude.{◌&&◌, ◌||◌, drop, fold, is_some, ⊤}
+use Rattle.std.specs.List.{AllByRecursion}
 use Rattle.std.proofs.lemmas.Bool.{eq-eqb, eqb-true, false_from_ne_true}
 use Rattle.std.proofs.lemmas.List.Elements.{filter-append}
-use Rattle.std.proofs.lemmas.List.Sums.{fold-append, sum_by-append}
-use Rattle.std.proofs.lemmas.List.Concat.{flat_map-append}
+use Rattle.std.proofs.lemmas.List.Sums.{fold-append}
 use Rattle.arrayvec.specs.ArrayVec.{ArrayVec}
 use Rattle.acl_banks.specs.Packets.{Marked, marked_octets}
 use Rattle.ble_base.specs.declared.addresses.Address.{Address}
@@ -26,8 +25,8 @@ use Rattle.run_model.proofs.LinksKnown.{links_event}
 use Rattle.journal_acks.specs.Exchange.{is_number}
 use Rattle.journal_acks.proofs.Exchanging.{number_at}
 use Rattle.journal_data.specs.HostLines.{link_under}
-use Rattle.journal_data.specs.Lines.{Credited, Lines, PduLine, Received, credited_in, credited_on, line_after, pdus_on, received_in, received_on}
-use Rattle.journal_data.proofs.Booked.{FitsLink, IsBook, counts_on, credit_by, data_by, note_booked}
+use Rattle.journal_data.specs.Lines.{Lines, PduLine, credited_in, credited_on, line_after, pdus_on, received_in, received_on}
+use Rattle.journal_data.proofs.Booked.{FitsLink, IsBook, counts_on, credit_by, data_by, note_booked, counts_more, octets_more}
 use Rattle.journal_data.proofs.EachLine.{lines_at, note_lines, numbers_at}
 use Rattle.journal_data.proofs.HeldLinks.{HoldsLinks, holds_same, opened_holds, shut_holds, under_is}
 use Rattle.journal_data.proofs.Openness.{AreNot, note_open}
@@ -216,9 +215,7 @@ module _ (many : ℕ) (number : ℕ → ℕ) (lines : Lines) (opened : ℕ → B
   }
   same_note other side last (Up packet) apart none =
       let octets = packet.items in
-      let parts = ap (sum_by (λ (one : Credited). one.count)) (filter-append (λ (one : Credited). one.link == other) lines.credited (credited_in lines.links octets))
-      ∙ sum_by-append (λ (one : Credited). one.count) (filter (λ (one : Credited). one.link == other) lines.credited)
-      (filter (λ (one : Credited). one.link == other) (credited_in lines.links octets)) in
+      let parts = counts_more other lines.credited (credited_in lines.links octets) in
       let counts : counts_on other (credited_in lines.links octets) ≡ 0 =
       credit_by (is_event 0x13 octets) false other (link_under (two_octets 4 octets) lines.links) octets
       (λ event. none_under other (two_octets 4 octets) (apart (two_octets 4 octets) (completed_data packet event)))
@@ -227,9 +224,7 @@ module _ (many : ℕ) (number : ℕ → ℕ) (lines : Lines) (opened : ℕ → B
         sent = refl;
         taken = refl;
         received =
-            ap (flat_map (λ (one : Received). one.octets)) (filter-append (λ (one : Received). one.link == other) lines.received (received_in lines.links octets))
-            ∙ flat_map-append (λ (one : Received). one.octets) (filter (λ (one : Received). one.link == other) lines.received)
-            (filter (λ (one : Received). one.link == other) (received_in lines.links octets))
+            octets_more other lines.received (received_in lines.links octets)
             ∙ ap (λ (all : List Marked). received_on other lines ++ all)
             (data_by (is_acl_data octets) false other (link_under (acl_handle octets) lines.links) octets
             (λ acl. none_under other (acl_handle octets) (apart (acl_handle octets) (received_data packet acl)))

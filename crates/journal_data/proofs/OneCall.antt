@@ -36,7 +36,7 @@ use Rattle.journal_data.specs.HostLines.{has_octets}
 use Rattle.journal_data.specs.Lines.{Lines, accepted_on, credited_on, empties_on, pdus_on, submitted_on}
 use Rattle.journal_data.proofs.Arriving.{IsAhead, IsEndBooked, first_ahead, pdu_lines}
 use Rattle.journal_data.proofs.Credits.{AreFew}
-use Rattle.journal_data.proofs.EachLine.{lines_at}
+use Rattle.journal_data.proofs.EachLine.{lines_at, other_lines}
 use Rattle.journal_data.proofs.Ends.{IsEndOf, IsWell, end_at, end_of, found_at, from_end, same_fed, sound}
 use Rattle.journal_data.proofs.NotedStays.{noted_own}
 use Rattle.journal_data.proofs.Mine.{HasFarEnd, IsTaking}
@@ -44,7 +44,7 @@ use Rattle.journal_data.proofs.Openness.{opens_where_free, past_noted}
 use Rattle.journal_data.proofs.Sides.{AreArriving, End, Here, IsBusy, IsFound, IsSound, Nowhere, call_arrives}
 use Rattle.journal_data.proofs.LinesGrow.{call_grows}
 use Rattle.journal_data.proofs.NotedLines.{IsSameOn, is_link, unused_still}
-use Rattle.journal_data.proofs.StationLines.{IsNoneOf, UnusedWhereOpened, call_booked, call_same_on, other_lines}
+use Rattle.journal_data.proofs.StationLines.{IsNoneOf, UnusedWhereOpened, call_booked, call_same_on}
 use Rattle.journal_data.proofs.KeptSubmitted.{turn_submitted}
 use Rattle.journal_data.proofs.Submitting.{call_submits, turn_fed}
 use Rattle.journal_data.proofs.Used.{AreUsed, IsClear, IsClearOn, IsOld, IsUsed, old_call, opened_now}

@@ -62,6 +62,7 @@ use Rattle.controller_model.proofs.AnsweredOnce.{answered_once}
 use Rattle.controller_model.proofs.Handles.{HaveOwnHandles, IsNew, free_is_new, own_handles}
 use Rattle.controller_model.proofs.OpenPlaces.{changed_opens, fixed_opens, mapped_opens, opens, sent_opens, won_opens}
 use Rattle.controller_model.proofs.Phases.{EachOutcome, heard_is, unheard_is}
+use Rattle.journal_acks.proofs.UnderHandles.{map_under}
 use Rattle.open_links.proofs.Handles.{opened_at, other_stays}
 use Rattle.run_model.proofs.OpenedNotes.{is_opened, opened_was_free}
 use Rattle.journal_acks.proofs.CallNotes.{is_taking}
@@ -231,14 +232,8 @@ open_is first handle (place ∷ links) = by (first == handle) (open_is (first + 
 pub same_open : (before after : Links) → opens after ≡ opens before → (handle : ℕ) → is_open after handle ≡ is_open before handle
 same_open before after same handle = open_is 0 handle after ∙ ap (opened_in 0 handle) same ∙ sym (open_is 0 handle before)
 
-reset_open : (first handle : ℕ) (links : Links) → is_some (link_from first handle (without_links links)) ≡ false
-reset_open first handle [] = refl
-reset_open first handle (place ∷ links) = by (first == handle) (reset_open (first + 1) handle links)
-  where
-    by : (own : Bool) → is_some (link_from (first + 1) handle (without_links links)) ≡ false
-        → is_some (if own then None else link_from (first + 1) handle (without_links links)) ≡ false
-    by true rest = refl
-    by false rest = rest
+reset_open : (handle : ℕ) (links : Links) → is_open (without_links links) handle ≡ false
+reset_open handle links = ap (λ (place : Option OpenLink). is_some place) (map_under (λ place. None) refl 0 handle links)
 
 -- ---- a packet of the host
 
@@ -318,7 +313,7 @@ accepted_as setup facts opcode Reset =
     (both_not is_report (shut ++ answer) caused
     (both_not is_report shut answer (shuts_not is_report (λ handle. refl) handles) (none_report answer answers)) (none_report caused causes))
     (λ handle. fold_quiet handle (is_open facts.links handle) (shut ++ answer) caused causes ∙ fold_quiet handle (is_open facts.links handle) shut answer answers
-    ∙ all_shut 0 handle facts.links ∙ sym (reset_open 0 handle facts.links))
+    ∙ all_shut 0 handle facts.links ∙ sym (reset_open handle facts.links))
 accepted_as setup facts opcode other =
     let answer = notes_of_events facts.view (answer_to setup facts opcode (Known other)) in
     let caused = notes_of_events facts.view (events_caused facts other) in

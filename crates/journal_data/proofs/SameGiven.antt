@@ -1,5 +1,5 @@
 -- In the calls of a turn each open link of a controller keeps the packets that it was given, and a new one has none.
-use Rattle.std.proofs.Common.{◌≡◌, ℕ, ◌+◌, ◌==◌, ◌||◌, ◌⊎◌, inl, inr, Bool, true, false, Option, Some, None, List, [], ◌∷◌, ◌++◌, map, refl, sym, ap, subst, ◌∙◌, if◌then◌else◌}
+use Rattle.std.proofs.Common.{◌≡◌, ℕ, ◌==◌, ◌||◌, ◌⊎◌, inl, inr, Bool, true, false, Option, Some, None, List, [], ◌++◌, map, refl, sym, ap, subst, ◌∙◌, if◌then◌else◌}
 use Rattle.std.specs.Prelude.{◌&&◌, nat_lt, ⊤}
 use Rattle.ble_base.specs.declared.notes.Note.{Note}
 use Rattle.std.specs.Option.{option_map}
@@ -16,7 +16,7 @@ use Rattle.scan_init.specs.Reports.{does_ask, scan_answer}
 use Rattle.slot_plan.specs.declared.Activity.{Activity}
 use Rattle.slot_plan.specs.declared.Activity.TheVariants.{Link, Advertise, Scan, Initiate}
 use Rattle.open_links.specs.Data.{complete_in, link_reported}
-use Rattle.open_links.specs.OpenLinks.{Links, OpenLink, facts_in, link_after, link_at, link_from, link_served, new_link, with_change, with_link}
+use Rattle.open_links.specs.OpenLinks.{Links, OpenLink, facts_in, link_after, link_at, link_served, new_link, with_change, with_link}
 use Rattle.open_links.specs.Turns.{entered_if, is_anchor, link_entered, place_staying, reason_in, staying_by}
 use Rattle.controller_model.specs.declared.doing.Doing.{Doing}
 use Rattle.controller_model.specs.declared.doing.Doing.TheVariants.{Advertises, CentralSends, PeripheralListens, PeripheralSends}
@@ -34,7 +34,7 @@ use Rattle.controller_model.proofs.Handles.{own_handles}
 use Rattle.controller_model.proofs.Phases.{EachOutcome, heard_is, unheard_is}
 use Rattle.run_model.proofs.OpenedNotes.{is_opened, opened_was_free}
 use Rattle.open_links.proofs.Handles.{changed_is, other_stays}
-use Rattle.journal_acks.proofs.UnderHandles.{IsOpenedIf, opened_under}
+use Rattle.journal_acks.proofs.UnderHandles.{IsOpenedIf, map_under, opened_under}
 use Rattle.std.proofs.lemmas.Bool.{eq-eqb, eqb-false, eqb-true}
 
 -- ---- one link
@@ -111,12 +111,9 @@ changed_stays change keeps (Some link) = record { old = link; was = refl; same =
 
 -- ---- the place under a handle
 
-abbrev At : ℕ → Links → Option OpenLink
-At under links = link_at under links
-
 -- a change of one link
 under_stays : (under handle : ℕ) (change : OpenLink → OpenLink) → ((link : OpenLink) → given_in (change link) ≡ given_in link) → (links : Links)
-    → Stays (At under links) (At under (with_change handle change links))
+    → Stays (link_at under links) (link_at under (with_change handle change links))
 under_stays under handle change keeps links = by (handle == under) refl
   where
     by : (own : Bool) → (handle == under) ≡ own → Stays (link_at under links) (link_at under (with_change handle change links))
@@ -128,19 +125,10 @@ under_stays under handle change keeps links = by (handle == under) refl
         subst (Stays (link_at under links)) (sym (other_stays (option_map change) 0 handle under links (λ same. eqb-false handle under is (sym same)))) (stays_same (link_at under links))
 
 -- a change of each place
-each_from : (under first : ℕ) (change : Option OpenLink → Option OpenLink) → ((place : Option OpenLink) → Stays place (change place)) → (links : Links)
-    → Stays (link_from first under links) (link_from first under (map change links))
-each_from under first change keeps [] = tt
-each_from under first change keeps (place ∷ links) = by (first == under) (each_from under (first + 1) change keeps links)
-  where
-    by : (own : Bool) → Stays (link_from (first + 1) under links) (link_from (first + 1) under (map change links))
-        → Stays (if own then place else link_from (first + 1) under links) (if own then change place else link_from (first + 1) under (map change links))
-    by true rest = keeps place
-    by false rest = rest
-
-each_stays : (under : ℕ) (change : Option OpenLink → Option OpenLink) → ((place : Option OpenLink) → Stays place (change place)) → (links : Links)
-    → Stays (At under links) (At under (map change links))
-each_stays under change keeps links = each_from under 0 change keeps links
+each_stays : (under : ℕ) (change : Option OpenLink → Option OpenLink) → change None ≡ None → ((place : Option OpenLink) → Stays place (change place))
+    → (links : Links) → Stays (link_at under links) (link_at under (map change links))
+each_stays under change none keeps links =
+    subst (Stays (link_at under links)) (sym (map_under change none 0 under links)) (keeps (link_at under links))
 
 place_stays : (slot : ℕ) (place : Option OpenLink) → Stays place (place_staying slot place)
 place_stays slot None = tt
@@ -193,10 +181,10 @@ sends_on under before doing facts stays = stays_then before (link_at under facts
 kept_starts : (under : ℕ) (before : Option OpenLink) → IsKeptAtStarts (StaysIn under before) (StaysIn under before)
 kept_starts under before = record {
   weakens = λ facts stays. stays;
-  ends = λ slot facts stays. stays_then before (link_at under facts.links) _ stays (each_stays under (place_staying slot) (place_stays slot) facts.links);
+  ends = λ slot facts stays. stays_then before (link_at under facts.links) _ stays (each_stays under (place_staying slot) refl (place_stays slot) facts.links);
   begins = λ slot facts stays. stays;
   enters = λ slot facts stays. stays_then before (link_at under facts.links) _ stays
-      (each_stays under (option_map (link_entered slot)) (changed_stays (link_entered slot) (entered_same slot)) facts.links);
+      (each_stays under (option_map (link_entered slot)) refl (changed_stays (link_entered slot) (entered_same slot)) facts.links);
   wins = λ slot activity facts stays. stays_then before (link_at under facts.links) _ stays (won_stays under slot activity facts.links);
   fixes = λ doing facts stays. stays_then before (link_at under facts.links) _ stays (fixing_stays under doing facts.links);
   does = λ doing facts may stays. sends_on under before doing facts stays;
@@ -274,7 +262,7 @@ step_goes under setup facts (TurnBegins slot on) turn =
 step_goes under setup facts (PacketHeard octets) turn =
     heard_is setup facts (Passes under (link_at under facts.links)) (each_goes under setup facts) facts.turn.doing octets refl
 step_goes under setup facts NothingHeard turn = unheard_is setup facts (Passes under (link_at under facts.links)) (each_goes under setup facts) facts.turn.doing refl
-step_goes under setup facts TurnEnds turn = inl (each_stays under (option_map link_reported) (changed_stays link_reported reported_same) facts.links)
+step_goes under setup facts TurnEnds turn = inl (each_stays under (option_map link_reported) refl (changed_stays link_reported reported_same) facts.links)
 
 -- ---- a call of a turn
 

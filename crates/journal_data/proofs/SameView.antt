@@ -14,10 +14,10 @@ use Rattle.run_model.proofs.Calls.{flat_nothing, noted_called, past_other}
 use Rattle.run_model.proofs.LinksKnown.{link_by_other}
 use Rattle.journal_packets.specs.Belonging.{is_side}
 use Rattle.journal_data.specs.Lines.{Lines, data_on, empties_on}
-use Rattle.journal_data.proofs.EachLine.{air_lines, fed_other, lines_at, turn_lines}
+use Rattle.journal_data.proofs.EachLine.{air_lines, fed_other, lines_at, turn_lines, other_lines}
 use Rattle.journal_data.proofs.Ends.{IsWell, end_at}
 use Rattle.journal_data.proofs.FewComplete.{IsFedBetween}
-use Rattle.journal_data.proofs.StationLines.{not_one, numbers_event, other_lines, same_booked, same_lines}
+use Rattle.journal_data.proofs.StationLines.{not_one, numbers_event, same_booked, same_lines}
 use Rattle.journal_data.proofs.Submitting.{IsSubmitted}
 use Rattle.journal_data.proofs.EachLine.{numbers_at}
 use Rattle.journal_data.proofs.Used.{AreUsed, IsClear, IsClearOn, IsOld, IsOldLink, IsUsed}

@@ -1,14 +1,12 @@
 -- The lines of a station say of each of its open links what it noted under the handle of that link since it was opened, and
 -- of any other link what they said before.
-use Rattle.std.proofs.Common.{◌≡◌, ℕ, zero, suc, ◌+◌, ◌<◌, ◌≤◌, ◌==◌, Bool, true, false, Option, Some, None, List, [], ◌∷◌, ◌++◌, map, cond, replicate, refl, ap, sym, subst, ◌∙◌, append-nil, append_assoc}
+use Rattle.std.proofs.Common.{◌≡◌, ℕ, zero, suc, ◌+◌, ◌<◌, ◌≤◌, ◌==◌, Bool, true, false, Option, Some, None, List, [], ◌∷◌, ◌++◌, map, cond, replicate, refl, ap, sym, subst, ◌∙◌, append_assoc}
 use Rattle.std.specs.Prelude.{◌||◌, fold, is_some}
 use Rattle.std.specs.List.{AllByRecursion, Contains}
 use Rattle.std.proofs.lemmas.Bool.{eq-eqb, eqb-true}
 use Rattle.std.proofs.lemmas.List.Elements.{All-contains_itself, recursion_from_All}
 use Rattle.ble_base.specs.declared.addresses.Address.{Address}
 use Rattle.ble_base.specs.declared.roles.Role.{Role}
-use Rattle.ble_base.specs.declared.roles.Side.{Side}
-use Rattle.ble_base.specs.declared.roles.Side.TheVariants.{A, B}
 use Rattle.ble_base.specs.declared.notes.Note.{Note}
 use Rattle.ble_base.specs.declared.notes.Note.TheVariants.{Up, Opened, Shut, Sent, Took}
 use Rattle.journal.specs.declared.entries.Entry.TheVariants.{Fed as FedEntry}
@@ -38,7 +36,7 @@ use Rattle.journal_acks.proofs.UnderHandles.{octet_under}
 use Rattle.journal_data.specs.HostLines.{OpenUnder}
 use Rattle.journal_data.specs.Lines.{Lines, line_after, lines_of, pdus_on}
 use Rattle.journal_data.proofs.Booked.{IsBook, counts_on, octets_on}
-use Rattle.journal_data.proofs.EachLine.{call_lines, fed_lines, fed_other, lines_at, note_lines, note_other, numbers_at, own_side, air_lines, turn_lines}
+use Rattle.journal_data.proofs.EachLine.{event_lines, call_lines, lines_at, note_lines, numbers_at, own_side, air_lines, turn_lines}
 use Rattle.journal_data.proofs.HeldLinks.{HoldsLinks, holds_none}
 use Rattle.journal_data.proofs.Openness.{AreNot, IsNotedAs, stays, shuts, opens_first, is_open, is_shutting, note_open, open_still, past_noted}
 use Rattle.journal_data.proofs.NotedLines.{IsUnused, IsSameOn, same_itself, same_then, IsLink, is_link, AreApart, IsOfBase, IsNotOf, sent_data, took_data, IsBookedSo, booked_along, booked_where, opening_kept, with_noted, one_on, numbers_quiet, notes_kept}
@@ -397,36 +395,20 @@ no_notes station (Called other step) outside = absurd cc
 no_notes station (Noted other note) outside = absurd cc
 
 -- octets of a host, of the station or of another one
-fed_says : (own : Bool) (station other : ℕ) (history : List Event) (octets : List ℕ) → is_side (side_of other) (side_of station) ≡ own
+fed_says : (station other : ℕ) (history : List Event) (octets : List ℕ)
     → SaysSame (lines_at station history) (lines_at station (history ++ HostFed other octets ∷ []))
-fed_says false station other history octets differs = same_lines _ _ (fed_other station other history octets differs)
-fed_says true station other history octets same =
-    let lines = fed_side station other history octets (sides (side_of other) (side_of station) same) in record {
-      links = ap (λ (all : Lines). all.links) lines;
-      sent = ap (λ (all : Lines). all.sent) lines;
-      taken = ap (λ (all : Lines). all.taken) lines;
-      received = ap (λ (all : Lines). all.received) lines;
-      credited = ap (λ (all : Lines). all.credited) lines;
-    }
+fed_says station other history octets =
+    subst (SaysSame (lines_at station history)) (sym (event_lines station history (HostFed other octets))) (by (is_side (side_of other) (side_of station)))
   where
-    sides : (one other : Side) → is_side one other ≡ true → one ≡ other
-    sides A A is = refl
-    sides B B is = refl
-    sides A B is = absurd cc
-    sides B A is = absurd cc
-
-    fed_side : (station other : ℕ) (history : List Event) (octets : List ℕ) → side_of other ≡ side_of station
-        → lines_at station (history ++ HostFed other octets ∷ []) ≡ line_after 8 (lines_at station history) (FedEntry (side_of station) octets)
-    fed_side zero zero history octets is = fed_lines zero history octets
-    fed_side (suc station) (suc other) history octets is = fed_lines (suc other) history octets
-    fed_side zero (suc other) history octets is = absurd cc
-    fed_side (suc station) zero history octets is = absurd cc
+    by : (own : Bool)
+        → SaysSame (lines_at station history) (cond own (line_after 8 (lines_at station history) (FedEntry (side_of other) octets)) (lines_at station history))
+    by true = record { links = refl; sent = refl; taken = refl; received = refl; credited = refl }
+    by false = record { links = refl; sent = refl; taken = refl; received = refl; credited = refl }
 
 pub event_says : (station : ℕ) (history : List Event) (event : Event) → is_outside event ≡ true
     → SaysSame (lines_at station history) (lines_at station (history ++ event ∷ []))
 event_says station history (TurnBegan slot radios) outside = same_lines _ _ (turn_lines station history slot radios)
-event_says station history (HostFed other octets) outside =
-    fed_says (is_side (side_of other) (side_of station)) station other history octets refl
+event_says station history (HostFed other octets) outside = fed_says station other history octets
 event_says station history (Transmitted sender channel octets hearings) outside =
     same_lines _ _ (air_lines station history sender channel octets hearings)
 event_says station history (Called other step) outside = absurd cc
@@ -493,19 +475,6 @@ feed_kept given station (octet ∷ octets) history few own booked =
 
 -- ---- the other station
 
-other_notes : (station other : ℕ) (history : List Event) (notes : List Note) → is_side (side_of other) (side_of station) ≡ false
-    → lines_at station (with_noted other history notes) ≡ lines_at station history
-other_notes station other history [] differs = ap (lines_at station) (append-nil history)
-other_notes station other history (note ∷ notes) differs =
-    ap (lines_at station) (sym (one_on other history note notes))
-    ∙ other_notes station other (history ++ Noted other note ∷ []) notes differs ∙ note_other station other history note differs
-
-pub other_lines : (station other : ℕ) (step : Step) (notes : List Note) (history : List Event) → is_side (side_of other) (side_of station) ≡ false
-    → lines_at station (with_notes other step notes history) ≡ lines_at station history
-other_lines station other step notes history differs =
-    ap (lines_at station) (sym (called_then other step history notes))
-    ∙ other_notes station other (history ++ Called other step ∷ []) notes differs ∙ call_lines station history other step
-
 pub not_one : (station other : ℕ) → is_side (side_of other) (side_of station) ≡ false → (station == other) ≡ false
 not_one station other differs = by (station == other) refl
   where
@@ -517,18 +486,18 @@ not_one station other differs = by (station == other) refl
 
 -- ---- at first
 
-none_first : (first handle n : ℕ) → is_some (link_from first handle (replicate n None)) ≡ false
-none_first first handle zero = refl
-none_first first handle (suc n) = by (first == handle) (none_first (first + 1) handle n)
+pub none_at_first : (first handle n : ℕ) → link_from first handle (replicate n None) ≡ None
+none_at_first first handle zero = refl
+none_at_first first handle (suc n) = by (first == handle) (none_at_first (first + 1) handle n)
   where
-    by : (own : Bool) → is_some (link_from (first + 1) handle (replicate n None)) ≡ false → is_some (cond own None (link_from (first + 1) handle (replicate n None))) ≡ false
+    by : (own : Bool) → link_from (first + 1) handle (replicate n None) ≡ None → cond own None (link_from (first + 1) handle (replicate n None)) ≡ None
     by true rest = refl
     by false rest = rest
 
 pub first_booked : (given : Given) (station : ℕ) → IsStationBooked given station []
 unfolding lines_of journal_of links_of facts_of
 first_booked given station =
-    let none = λ (handle : ℕ). none_first 0 handle (setup_at given station).links in record {
+    let none = λ (handle : ℕ). ap (λ (place : Option OpenLink). is_some place) (none_at_first 0 handle (setup_at given station).links) in record {
       book = λ handle link at. absurd (let h : true ≡ false = sym (ap (λ (place : Option OpenLink). is_some place) at) ∙ none handle in absurd cc);
       links = holds_none (setup_at given station).links (λ handle. 0) _ none;
     }

@@ -1,12 +1,13 @@
 -- What the lines of a side say that its host submitted is what the links of its controller were given, after each feed.
 use Rattle.std.proofs.Common.{◌≡◌, ℕ, ◌+◌, ◌==◌, Bool, true, false, List, [], ◌∷◌, ◌++◌, Some, length, refl, sym, ap, subst, ◌∙◌, append-nil, append_assoc, arith}
-use Rattle.std.specs.Prelude.{◌-◌, ◌&&◌, fold, map, if◌then◌else◌}
+use Rattle.std.specs.List.{AllByRecursion}
+use Rattle.std.specs.Prelude.{⊤, ◌-◌, ◌&&◌, fold, map, if◌then◌else◌}
 use Rattle.std.proofs.lemmas.Bool.{or_parts}
 use Rattle.std.proofs.lemmas.List.{length-append, length-map}
 use Rattle.std.proofs.lemmas.List.Filters.{length-filter_both}
 use Rattle.ble_base.specs.declared.roles.Side.{Side}
 use Rattle.ble_base.specs.declared.notes.Note.{Note}
-use Rattle.ble_base.specs.declared.notes.Note.TheVariants.{Up, Opened, Shut, Sent, Took, Enter, Applied, Began, Refused, Done}
+use Rattle.ble_base.specs.declared.notes.Note.TheVariants.{Up, Opened}
 use Rattle.h4_frames.specs.declared.packet.Fed.{Fed}
 use Rattle.h4_frames.specs.declared.packet.Fed.TheVariants.{More, Packet, LostSync}
 use Rattle.h4_frames.specs.declared.packet.HostPacket.TheVariants.{Command, Acl}
@@ -21,9 +22,9 @@ use Rattle.controller_model.specs.Step.{Step, HostOctet}
 use Rattle.controller_model.proofs.Always.{IsInTurn}
 use Rattle.controller_model.proofs.Feds.{more_octets, turn_octets}
 use Rattle.controller_model.proofs.Handles.{own_handles}
-use Rattle.run_model.specs.History.{Event, HostFed, Called, Noted, past_of}
-use Rattle.run_model.specs.Journal.{entry_of, side_of}
-use Rattle.run_model.specs.Links.{Links, links_of}
+use Rattle.run_model.specs.History.{Event, HostFed, past_of}
+use Rattle.run_model.specs.Journal.{entry_of}
+use Rattle.run_model.specs.Links.{Links}
 use Rattle.run_model.specs.Run.{Given, after_call, after_feed, after_octets, facts_at, setup_at}
 use Rattle.run_model.proofs.Calls.{past_own, with_notes}
 use Rattle.run_model.proofs.LinksKnown.{links_event}
@@ -35,7 +36,7 @@ use Rattle.controller_model.specs.Since.{count_fed, count_given, count_since, em
 use Rattle.journal_data.specs.HostLines.{OpenUnder, Submitted, has_octets, kept_of, packets_framed}
 use Rattle.journal_data.specs.Lines.{Lines, buffers_taken as lines_taken, credited_on, data_on, empties_on, line_after, submitted_on}
 use Rattle.journal_data.proofs.EachLine.{numbers_at}
-use Rattle.journal_data.proofs.EachLine.{call_lines, fed_lines, lines_at, note_lines}
+use Rattle.journal_data.proofs.EachLine.{call_leaves, fed_lines, lines_at}
 use Rattle.journal_data.proofs.HostPackets.{AllHave, AreUnder, HaveOwn, has_none, held_after, more_framed, none_framed, octet_taken, packets_of}
 use Rattle.journal_data.proofs.HeldLinks.{links_under, sum_of_places}
 use Rattle.journal_data.proofs.StationLines.{IsStationBooked, event_own, octet_number, octet_own}
@@ -44,55 +45,27 @@ use mathlib.Core.Path.{fun_ext}
 
 -- ---- the notes of a call say nothing of what is submitted
 
-note_submits : (lines : Lines) (side : Side) (link_of : ℕ → ℕ) (last : ℕ) (note : Note)
+note_submits : (lines : Lines) (side : Side) (link_of : ℕ → ℕ) (last : ℕ) (note : Note) → ⊤
     → (line_after 8 lines (entry_of side link_of last note)).submitted ≡ lines.submitted
-note_submits lines side link_of last (Up packet) = refl
-note_submits lines side link_of last (Opened handle role own peer) = refl
-note_submits lines side link_of last (Shut handle reason) = refl
-note_submits lines side link_of last (Sent handle number llid body) = refl
-note_submits lines side link_of last (Took handle number llid body) = refl
-note_submits lines side link_of last (Enter handle event channel) = refl
-note_submits lines side link_of last (Applied handle number event) = refl
-note_submits lines side link_of last (Began handle kind) = refl
-note_submits lines side link_of last (Refused handle kind code) = refl
-note_submits lines side link_of last (Done handle kind) = refl
+note_submits lines side link_of last (Up packet) any = refl
+note_submits lines side link_of last note any = refl
 
-note_feeds : (lines : Lines) (side : Side) (link_of : ℕ → ℕ) (last : ℕ) (note : Note)
+note_feeds : (lines : Lines) (side : Side) (link_of : ℕ → ℕ) (last : ℕ) (note : Note) → ⊤
     → (line_after 8 lines (entry_of side link_of last note)).fed ≡ lines.fed
-note_feeds lines side link_of last (Up packet) = refl
-note_feeds lines side link_of last (Opened handle role own peer) = refl
-note_feeds lines side link_of last (Shut handle reason) = refl
-note_feeds lines side link_of last (Sent handle number llid body) = refl
-note_feeds lines side link_of last (Took handle number llid body) = refl
-note_feeds lines side link_of last (Enter handle event channel) = refl
-note_feeds lines side link_of last (Applied handle number event) = refl
-note_feeds lines side link_of last (Began handle kind) = refl
-note_feeds lines side link_of last (Refused handle kind code) = refl
-note_feeds lines side link_of last (Done handle kind) = refl
+note_feeds lines side link_of last (Up packet) any = refl
+note_feeds lines side link_of last note any = refl
 
--- a field that notes leave as it is
-module _ {X : Type 0} (field : Lines → X)
-    (leaves : (lines : Lines) (side : Side) (link_of : ℕ → ℕ) (last : ℕ) (note : Note)
-    → field (line_after 8 lines (entry_of side link_of last note)) ≡ field lines) where
-  notes_leave : (station : ℕ) (notes : List Note) (history : List Event)
-      → field (lines_at station (history ++ map (Noted station) notes)) ≡ field (lines_at station history)
-  notes_leave station [] history = ap (λ (h : List Event). field (lines_at station h)) (append-nil history)
-  notes_leave station (note ∷ notes) history =
-      ap (λ (h : List Event). field (lines_at station h)) (sym (append_assoc history (Noted station note ∷ []) (map (Noted station) notes)))
-      ∙ notes_leave station notes (history ++ Noted station note ∷ [])
-      ∙ ap field (note_lines station history note)
-      ∙ leaves (lines_at station history) (side_of station) ((links_of history).link_of station) ((links_of history).last_of station) note
-
-  call_leaves : (station : ℕ) (step : Step) (notes : List Note) (history : List Event)
-      → field (lines_at station (with_notes station step notes history)) ≡ field (lines_at station history)
-  call_leaves station step notes history =
-      ap (λ (h : List Event). field (lines_at station h)) (sym (append_assoc history (Called station step ∷ []) (map (Noted station) notes)))
-      ∙ notes_leave station notes (history ++ Called station step ∷ [])
-      ∙ ap field (call_lines station history station step)
+any_notes : (notes : List Note) → AllByRecursion (λ note. ⊤) notes
+any_notes [] = tt
+any_notes (note ∷ notes) = (tt, any_notes notes)
 
 pub call_submits : (station : ℕ) (step : Step) (notes : List Note) (history : List Event)
     → (lines_at station (with_notes station step notes history)).submitted ≡ (lines_at station history).submitted
-call_submits station step notes history = call_leaves (λ lines. lines.submitted) note_submits station step notes history
+call_submits station step notes history = call_leaves (λ note. ⊤) (λ lines. lines.submitted) note_submits station step notes history (any_notes notes)
+
+call_feeds : (station : ℕ) (step : Step) (notes : List Note) (history : List Event)
+    → (lines_at station (with_notes station step notes history)).fed ≡ (lines_at station history).fed
+call_feeds station step notes history = call_leaves (λ note. ⊤) (λ lines. lines.fed) note_feeds station step notes history (any_notes notes)
 
 -- ---- how many packets of no octet
 
@@ -226,7 +199,7 @@ call_ahead given station octet held left history eight own ahead =
     ahead_by (held_then given station octet history held) left
     (same_numbers given station octet history)
     (call_submits station (HostOctet octet) notes history)
-    (call_leaves (λ lines. lines.fed) note_feeds station (HostOctet octet) notes history)
+    (call_feeds station (HostOctet octet) notes history)
     (own_facts given station (HostOctet octet) history)
     (fun_ext (λ handle. ap (empties_of setup handle) (past_own station (HostOctet octet) notes history) ∙ empties_octet setup handle (past_of station history) octet))
     (octet_ahead (numbers_at station history) (lines_at station history).submitted (lines_at station history).fed setup (past_of station history)
@@ -315,7 +288,7 @@ own_octets given station octet history =
 call_fed : (given : Given) (station : ℕ) (step : Step) (history : List Event)
     → (lines_at station (after_call given station step history)).fed ≡ (lines_at station history).fed
 call_fed given station step history =
-    call_leaves (λ lines. lines.fed) note_feeds station step (notes_after (setup_at given station) (facts_at given station history) step) history
+    call_feeds station step (notes_after (setup_at given station) (facts_at given station history) step) history
 
 octets_fed : (given : Given) (station : ℕ) (octets : List ℕ) (history : List Event)
     → (lines_at station history).fed ≡ (facts_at given station history).octets ++ octets → HasFed given station (after_octets given station octets history)

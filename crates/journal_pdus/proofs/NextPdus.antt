@@ -57,8 +57,7 @@ use Rattle.journal_acks.proofs.SentInCalls.{sent_in_call, to_line}
 use Rattle.journal_acks.proofs.TwoStations.{IsOfTwo, same_number}
 use Rattle.journal_data.specs.Lines.{Lines, PduLine, data_on, line_after, pdus_on}
 use Rattle.journal_data.proofs.Arriving.{data_nonempty, lines_data, lines_length, pdu_lines}
-use Rattle.journal_data.proofs.CallMiddle.{call_leaves}
-use Rattle.journal_data.proofs.EachLine.{lines_at}
+use Rattle.journal_data.proofs.EachLine.{call_leaves, lines_at}
 use Rattle.journal_data.proofs.Ends.{IsWell, sound}
 use Rattle.journal_data.proofs.KeptData.{IsDataAt, data_kept, pass_in_turn}
 use Rattle.journal_data.proofs.Law.{first_data}
@@ -406,7 +405,7 @@ next_before given station step base before earlier later handle count llid body 
     subst (λ xs. IsNextAt (number_at station handle xs) xs station count pdu) (sym before_is)
     (subst (λ n. IsNextAt n mid station count pdu) (sym numbers)
     (same_next (number_at station handle base) station count pdu base mid (call_submits station step earlier base)
-    (call_leaves is_sending (λ lines. lines.sent) sending_leaves station step earlier base found.none) found.is))
+    (call_leaves (λ note. is_sending note ≡ false) (λ lines. lines.sent) sending_leaves station step earlier base found.none) found.is))
 
 pub next_of_lines : IsHeardWhole → IsUnderstood → AreTaken → AreNth → AreApart → (given : Given) → IsOfTwo given → HaveFewLinks given → HaveAddresses given → AreDistinct given.stations
     → ((station : ℕ) → (setup_at given station).host_buffers ≡ 8) → AllAreNext (journal_of (history_of (run_of given)))
