@@ -41,9 +41,9 @@ q 3 080000000000000000
 u 3
 ";
 
-/// The control PDU of a line of the table.
-fn ctrl_of(alloc: Global, line: Call<'_>) -> Option<Ctrl> {
-    match read_ctrl(octets_of(alloc, line.words[1]).as_slice()) {
+/// The control PDU with these octets.
+fn ctrl_of(alloc: Global, octets: &str) -> Option<Ctrl> {
+    match read_ctrl(octets_of(alloc, octets).as_slice()) {
         CtrlRead::Known(ctrl) => Some(ctrl),
         _ => None,
     }
@@ -86,10 +86,10 @@ pub(crate) fn take(phase: &mut Phase, call: Call<'_>, told: &mut String) -> Resu
         "counts" => put_counts(phase, told),
         "quiet" => put_answer(told, phase.facts().is_quiet()),
         "paused" => put_answer(told, is_after_pause(phase)),
-        "takes" => put_taken(phase, told),
-        "unknown" => put_unknown(phase, told),
-        "saw" => see(phase, call.words[0], *told.allocator()),
-        "clear" => on_clear(phase, call.words, told),
+        "takes" => put_letters(phase, call.name, told),
+        "unknown" => put_letters(phase, call.name, told),
+        "saw" => see(phase, call.words, *told.allocator()),
+        "clear" => put_answer(told, is_clear(phase)),
         _ => take_payload(phase, call, told),
     }
 }
@@ -122,29 +122,20 @@ fn take_payload(phase: &mut Phase, call: Call<'_>, told: &mut String) -> Result<
     }
 }
 
-/// Makes a call on an end in phase Clear.
-fn on_clear(phase: &mut Phase, words: [&str; 8], told: &mut String) -> Result<(), AllocError> {
-    match phase {
-        Phase::Clear(clear) => take_clear(clear, words, told),
-        _ => told.push_str(" not Clear"),
-    }
-}
+/// A PDU of one octet.
+const ONE_OCTET: &[u8] = b"\x00";
 
-/// Makes a call of phase Clear.
-fn take_clear(clear: &mut Clear, words: [&str; 8], told: &mut String) -> Result<(), AllocError> {
-    let [name, header, payload, ..] = words;
-    let header = hex_octet(*told.allocator(), header);
-    let payload = octets_of(*told.allocator(), payload);
-    let payload = payload.as_slice();
-    if payload.len() > LONGEST {
-        return told.push_str(" cannot");
-    }
-    match name {
-        "data" => put_octets(told, clear.send_data(header, payload).as_slice()),
-        "try" => put_answer(told, clear.try_pdu(header, payload)),
-        "open" => put_opened(told, clear.open_pdu(header, payload)),
-        "counts" => put_pair(told, clear.sent(), clear.opened()),
-        _ => told.push_str(" which call?"),
+/// Whether an end in phase Clear sends and opens a PDU as it is, and counts none.
+fn is_clear(phase: &mut Phase) -> bool {
+    match phase {
+        Phase::Clear(clear) => {
+            clear.send_data(0x02, ONE_OCTET).as_slice() == ONE_OCTET
+                && clear.try_pdu(0x02, ONE_OCTET)
+                && clear.open_pdu(0x02, ONE_OCTET).is_ok()
+                && clear.sent() == 0
+                && clear.opened() == 0
+        }
+        _ => false,
     }
 }
 
@@ -178,54 +169,47 @@ fn is_after_pause(phase: &Phase) -> bool {
     }
 }
 
-/// The letters of the PDUs that an end may take, in the order of the table.
-fn put_taken(phase: &Phase, told: &mut String) -> Result<(), AllocError> {
+/// The letters of the PDUs that an end may take, or of those that it answers with LL_UNKNOWN_RSP, in
+/// the order of the table.
+fn put_letters(phase: &Phase, name: &str, told: &mut String) -> Result<(), AllocError> {
     told.push(' ')?;
     for line in PDUS.lines() {
-        put_if_taken(phase, call_of(line), told)?;
+        put_letter(phase, name, call_of(line), told)?;
     }
     Ok(())
 }
 
-/// The letter of a line of the table, if an end may take its PDU.
-fn put_if_taken(phase: &Phase, line: Call<'_>, told: &mut String) -> Result<(), AllocError> {
-    let ctrl = ctrl_of(*told.allocator(), line);
-    if phase.allows(octet(line.words[0]), ctrl.as_ref()) {
-        return told.push_str(line.name);
-    }
-    Ok(())
+/// The letter of a line of the table, if it is one of these.
+fn put_letter(
+    phase: &Phase,
+    name: &str,
+    line: Call<'_>,
+    told: &mut String,
+) -> Result<(), AllocError> {
+    let ctrl = ctrl_of(*told.allocator(), line.words[1]);
+    let is_one = match name {
+        "takes" => phase.allows(octet(line.words[0]), ctrl.as_ref()),
+        _ => is_unknown(phase, ctrl),
+    };
+    told.push_str(if is_one { line.name } else { "" })
 }
 
-/// The letters of the PDUs that an end answers with LL_UNKNOWN_RSP, in the order of the table.
-fn put_unknown(phase: &Phase, told: &mut String) -> Result<(), AllocError> {
-    told.push(' ')?;
-    for line in PDUS.lines() {
-        put_if_unknown(phase, call_of(line), told)?;
-    }
-    Ok(())
-}
-
-/// The letter of a line of the table, if an end answers its PDU with LL_UNKNOWN_RSP.
-fn put_if_unknown(phase: &Phase, line: Call<'_>, told: &mut String) -> Result<(), AllocError> {
-    match ctrl_of(*told.allocator(), line) {
-        Some(ctrl) if phase.is_unknown(&ctrl) => told.push_str(line.name),
-        _ => Ok(()),
+/// Whether an end answers a control PDU with LL_UNKNOWN_RSP.
+fn is_unknown(phase: &Phase, ctrl: Option<Ctrl>) -> bool {
+    match ctrl {
+        None => false,
+        Some(ctrl) => phase.is_unknown(&ctrl),
     }
 }
 
-/// An end took the PDU with this letter, if it may.
-fn see(phase: &mut Phase, wanted: &str, alloc: Global) -> Result<(), AllocError> {
-    for line in PDUS.lines() {
-        let line = call_of(line);
-        if line.name == wanted {
-            see_line(phase, octet(line.words[0]), ctrl_of(alloc, line));
-        }
-    }
+/// An end took a PDU with this LLID and these octets, if it may.
+fn see(phase: &mut Phase, words: [&str; 8], alloc: Global) -> Result<(), AllocError> {
+    see_pdu(phase, octet(words[0]), ctrl_of(alloc, words[1]));
     Ok(())
 }
 
 /// An end took a PDU, if it may.
-fn see_line(phase: &mut Phase, llid: u8, ctrl: Option<Ctrl>) {
+fn see_pdu(phase: &mut Phase, llid: u8, ctrl: Option<Ctrl>) {
     if phase.allows(llid, ctrl.as_ref()) {
         phase.saw(llid, ctrl.as_ref());
     }

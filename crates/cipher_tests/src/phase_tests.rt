@@ -94,10 +94,7 @@ central next
 central paused = no
 central refuse
 central quiet = yes
-central clear data 02 00 = 00
-central clear try 02 00 = yes
-central clear open 02 00 = 00
-central clear counts = 0 0
+central clear = yes
 new
 # Takes what the table lets a phase take.
 # The PDUs that an end may take in its phases, by letters: one that is empty (e), data (d and D),
@@ -134,9 +131,9 @@ new
 # Keeps what it saw.
 # LL_ENC_RSP comes once and ends the data; the first PDU of the peripheral's procedure comes once.
 central next
-central saw 4
+central saw 3 04000000000000000000000000
 central takes = et5rRvfp
-central saw p
+central saw 3 160101
 central takes = et5rR
 new
 # Keeps what it saw in a pause.
@@ -146,7 +143,7 @@ central next
 central next
 central next
 central takes = edDtBvfp
-central saw p
+central saw 3 160101
 central takes = edDtB
 central next
 central next

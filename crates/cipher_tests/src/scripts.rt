@@ -4,7 +4,7 @@ use ble_base::Role;
 use enc_phase::{Clear, Phase};
 use std::alloc::{AllocError, Global};
 use std::process::Abort;
-use test_words::{Call, parts_of, side_and_call};
+use test_words::{Call, TakesCalls, first_wrong};
 
 /// Each line has a call, and after " =" what it gives. Both ends begin without encryption, and again
 /// at a line "new". A line that begins with "#" says what follows.
@@ -13,7 +13,9 @@ pub(crate) fn check(rt: &impl Abort, alloc: Global, script: &str) -> Result<(), 
         phases: Vec::new(alloc),
     };
     ends.begin()?;
-    ends.run(rt, alloc, script)
+    let wrong = first_wrong(&mut ends, alloc, script)?;
+    assert_eq!(rt; wrong.as_str(), "");
+    Ok(())
 }
 
 /// The central and the peripheral of a link.
@@ -22,34 +24,7 @@ struct Ends {
     phases: Vec<Phase>,
 }
 
-impl Ends {
-    /// Both ends are without encryption.
-    fn begin(&mut self) -> Result<(), AllocError> {
-        self.phases.clear();
-        for role in [Role::Central, Role::Peripheral] {
-            self.phases.push(Phase::Clear(Clear::new(role)))?;
-        }
-        Ok(())
-    }
-
-    /// Makes each call of a script, and compares what it gives.
-    fn run(&mut self, rt: &impl Abort, alloc: Global, script: &str) -> Result<(), AllocError> {
-        for line in script.lines() {
-            let (call, want) = parts_of(line);
-            let told = self.told_of(alloc, call)?;
-            assert_eq!(rt; told.as_str(), want, "{line}");
-        }
-        Ok(())
-    }
-
-    /// What a call gives.
-    fn told_of(&mut self, alloc: Global, text: &str) -> Result<String, AllocError> {
-        let mut told = String::new(alloc);
-        let (side, call) = side_and_call(text);
-        self.take(side, call, &mut told)?;
-        Ok(told)
-    }
-
+impl TakesCalls for Ends {
     /// Makes a call on an end or on a cipher.
     fn take(&mut self, side: &str, call: Call<'_>, told: &mut String) -> Result<(), AllocError> {
         match side {
@@ -60,6 +35,17 @@ impl Ends {
             "#" => Ok(()),
             _ => told.push_str(" which end?"),
         }
+    }
+}
+
+impl Ends {
+    /// Both ends are without encryption.
+    fn begin(&mut self) -> Result<(), AllocError> {
+        self.phases.clear();
+        for role in [Role::Central, Role::Peripheral] {
+            self.phases.push(Phase::Clear(Clear::new(role)))?;
+        }
+        Ok(())
     }
 
     /// Makes a call on the end at this place.

@@ -2,8 +2,8 @@
 use crate::scripts::check;
 use std::alloc::AllocError;
 
-/// The addresses are C0FFEE00000A and C0FFEE00000B, which are public, and a random one.
 const PDUS: &str = "\
+# The addresses are C0FFEE00000A and C0FFEE00000B, which are public, and a random one.
 pdu 02060a0000eeffc0 = Nonconn { from: Address { random: false, octets: [0x0a, 0x00, 0x00, 0xee, \
     0xff, 0xc0] }, body: [] }
 pdu 60090102030405c6020106 = Ind { from: Address { random: true, octets: [0x01, 0x02, 0x03, 0x04, \
@@ -29,15 +29,7 @@ pdu 85220a0000eeffc00102030405c629417671efcdab0102011800f3014800ffffffff1ff0 = C
     fields: ConnectFields { access: 0x71764129, crc_init: 0xabcdef, win_size: 1, \
     win_offset: 0x0102, interval: 24, latency: 0x01f3, timeout: 72, map: 0x1fffffffff, hop: 16, \
     sca: 7 } }
-";
-
-#[test]
-fn pdus(rt: HostRuntime) -> Result<(), AllocError> {
-    check(&rt, rt.alloc(), PDUS)
-}
-
-/// Bits that are ignored, and are 0 in what is written.
-const IGNORED_BITS: &str = "\
+# Bits that are ignored, and are 0 in what is written.
 pdu 02060a0000eeffc0 = Nonconn { from: Address { random: false, octets: [0x0a, 0x00, 0x00, 0xee, \
     0xff, 0xc0] }, body: [] }
 pdu 12060a0000eeffc0 = Nonconn { from: Address { random: false, octets: [0x0a, 0x00, 0x00, 0xee, \
@@ -48,15 +40,8 @@ pdu 82060a0000eeffc0 = Nonconn { from: Address { random: false, octets: [0x0a, 0
     0xff, 0xc0] }, body: [] } as 02060a0000eeffc0
 pdu b2060a0000eeffc0 = Nonconn { from: Address { random: false, octets: [0x0a, 0x00, 0x00, 0xee, \
     0xff, 0xc0] }, body: [] } as 02060a0000eeffc0
-";
-
-#[test]
-fn ignored_bits(rt: HostRuntime) -> Result<(), AllocError> {
-    check(&rt, rt.alloc(), IGNORED_BITS)
-}
-
-/// Lengths that a type does not have, and types of no PDU. A payload of 37 octets is the longest.
-const NO_PDUS: &str = "\
+# Lengths that a type does not have, and types of no PDU. A payload of 37
+# octets is the longest.
 pdu = none
 pdu 02 = none
 pdu 0200 = none
@@ -72,16 +57,9 @@ pdu 0025000000000000000000000000000000000000000000000000000000000000000000000000
     from: Address { random: false, octets: [0, 0, 0, 0, 0, 0] }, ch_sel: false, body: [0, 0, 0, 0, \
     0, 0, 0, 0, 0, 0, 0, 0, 0, 0, 0, 0, 0, 0, 0, 0, 0, 0, 0, 0, 0, 0, 0, 0, 0, 0, 0] }
 pdu 00260000000000000000000000000000000000000000000000000000000000000000000000000000 = none
-";
-
-#[test]
-fn octets_that_are_no_pdu(rt: HostRuntime) -> Result<(), AllocError> {
-    check(&rt, rt.alloc(), NO_PDUS)
-}
-
-/// The fields that begin a link, of which some are outside their ranges: the window and its offset,
-/// the interval, the latency, the timeout, the channel map, the hop increment and the SCA.
-const FIELDS: &str = "\
+# The fields that begin a link, of which some are outside their
+# ranges: the window and its offset, the interval, the latency, the timeout, the channel map, the
+# hop increment and the SCA.
 fields 1 6 6 0 10 0000000003 5 0 = yes
 fields 1 25 25 499 3200 1fffffffff 16 7 = yes
 fields 1 6 3200 0 801 0000000003 5 0 = yes
@@ -100,6 +78,6 @@ fields 1 6 6 0 10 0000000003 17 0 = no
 ";
 
 #[test]
-fn ranges_of_the_fields_of_a_link(rt: HostRuntime) -> Result<(), AllocError> {
-    check(&rt, rt.alloc(), FIELDS)
+fn pdus_of_advertising_channels(rt: HostRuntime) -> Result<(), AllocError> {
+    check(&rt, rt.alloc(), PDUS)
 }

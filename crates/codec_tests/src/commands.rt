@@ -2,9 +2,9 @@
 use crate::scripts::check;
 use std::alloc::AllocError;
 
-/// The parameters of each command are the octets 1, 2, 3 and so on, so two fields that were
-/// exchanged show. With an octet more or less each has a bad length.
 const COMMANDS: &str = "\
+# The parameters of each command are the octets 1, 2, 3 and so on, so two fields that were
+# exchanged show. With an octet more or less each has a bad length.
 command 0c03 = Known(Reset)
 command 1001 = Known(ReadLocalVersion)
 command 1003 = Known(ReadLocalFeatures)
@@ -27,15 +27,7 @@ command 0c35 020102030405060708 = Known(HostCompleted { counts: [HandleCount { h
 opcode 0c35 02010203040506070809 = BadLength
 opcode 0c35 0201020304050607 = BadLength
 opcode 0c35 = BadLength
-";
-
-#[test]
-fn commands(rt: HostRuntime) -> Result<(), AllocError> {
-    check(&rt, rt.alloc(), COMMANDS)
-}
-
-/// The same of the LE commands.
-const LE_COMMANDS: &str = "\
+# The same of the LE commands.
 command 2001 0102030405060708 = Known(LeSetEventMask { mask: 0x0807060504030201 })
 command 2005 010203040506 = Known(LeSetRandomAddress { address: [0x01, 0x02, 0x03, 0x04, 0x05, \
     0x06] })
@@ -85,15 +77,7 @@ command 2030 0102 = Known(LeReadPhy { handle: 0x0201 })
 command 2031 010203 = Known(LeSetDefaultPhy { all: 0x01, tx: 0x02, rx: 0x03 })
 command 2032 01020304050607 = Known(LeSetPhy { handle: 0x0201, all: 0x03, tx: 0x04, rx: 0x05, \
     options: 0x0706 })
-";
-
-#[test]
-fn le_commands(rt: HostRuntime) -> Result<(), AllocError> {
-    check(&rt, rt.alloc(), LE_COMMANDS)
-}
-
-/// Commands of recorded streams.
-const RECORDED: &str = "\
+# Commands of recorded streams.
 command 0c03 = Known(Reset)
 command 0c01 ffffffffff1f0020 = Known(SetEventMask { mask: 0x20001fffffffffff })
 command 0c33 1b000001000000 = Known(HostBufferSize { acl_length: 27, sco_length: 0, acl_count: 1, \
@@ -120,15 +104,7 @@ command 2019 000000000000000000000000bf01fb9d4ef3bc36d874f5394138684c = Known(Le
 command 201a 0000bf01fb9d4ef3bc36d874f5394138684c = Known(LeKeyReply { handle: 0, key: [0xbf, \
     0x01, 0xfb, 0x9d, 0x4e, 0xf3, 0xbc, 0x36, 0xd8, 0x74, 0xf5, 0x39, 0x41, 0x38, 0x68, 0x4c] })
 command 0c35 0100000100 = Known(HostCompleted { counts: [HandleCount { handle: 0, count: 1 }] })
-";
-
-#[test]
-fn recorded_commands(rt: HostRuntime) -> Result<(), AllocError> {
-    check(&rt, rt.alloc(), RECORDED)
-}
-
-/// Opcodes that no command has.
-const NO_COMMANDS: &str = "\
+# Opcodes that no command has.
 opcode 0000 = UnknownOpcode
 opcode 0405 = UnknownOpcode
 opcode 0c02 = UnknownOpcode
@@ -140,6 +116,6 @@ opcode ffff = UnknownOpcode
 ";
 
 #[test]
-fn no_commands(rt: HostRuntime) -> Result<(), AllocError> {
-    check(&rt, rt.alloc(), NO_COMMANDS)
+fn commands(rt: HostRuntime) -> Result<(), AllocError> {
+    check(&rt, rt.alloc(), COMMANDS)
 }

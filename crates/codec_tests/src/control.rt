@@ -3,8 +3,8 @@
 use crate::scripts::check;
 use std::alloc::AllocError;
 
-/// A control PDU of each kind.
-const CONTROL_PDUS: &str = "\
+const CONTROL: &str = "\
+# A control PDU of each kind.
 control 0001020103020400050c0706 = Known(ConnectionUpdateInd { win_size: 1, win_offset: 0x0102, \
     interval: 0x0203, latency: 0x0004, timeout: 0x0c05, instant: 0x0607 })
 control 0115141302111716 = Known(ChannelMapInd { map: 0x1102131415, instant: 0x1617 })
@@ -38,15 +38,7 @@ control 103231343336353837393b3a3d3c3f3e4140434245444746 = Known(ConnectionParam
     interval_min: 0x3132, interval_max: 0x3334, latency: 0x3536, timeout: 0x3738, \
     periodicity: 0x39, reference: 0x3a3b, offsets: [0x3c3d, 0x3e3f, 0x4041, 0x4243, 0x4445, \
     0x4647] })
-";
-
-#[test]
-fn control_pdus(rt: HostRuntime) -> Result<(), AllocError> {
-    check(&rt, rt.alloc(), CONTROL_PDUS)
-}
-
-/// Fields at the edges of their ranges.
-const EDGES: &str = "\
+# Fields at the edges of their ranges.
 control 00010600060000000a000000 = Known(ConnectionUpdateInd { win_size: 1, win_offset: 6, \
     interval: 6, latency: 0, timeout: 10, instant: 0 })
 control 00010000800c0000800c0000 = Known(ConnectionUpdateInd { win_size: 1, win_offset: 0, \
@@ -60,16 +52,8 @@ control 141b0048011b004801 = Known(LengthReq { max_rx_octets: 27, max_rx_time: 3
 control 151b0048011b004801 = Known(LengthRsp { max_rx_octets: 27, max_rx_time: 328, \
     max_tx_octets: 27, max_tx_time: 328 })
 control 1800000000 = Known(PhyUpdateInd { to_peripheral: 0, to_central: 0, instant: 0 })
-";
-
-#[test]
-fn fields_at_the_edges_of_their_ranges(rt: HostRuntime) -> Result<(), AllocError> {
-    check(&rt, rt.alloc(), EDGES)
-}
-
-/// Fields outside their ranges. An update has its window, offset, interval, latency, timeout and
-/// Instant in this order.
-const OUTSIDE: &str = "\
+# Fields outside their ranges. An update has its window, offset,
+# interval, latency, timeout and Instant in this order.
 # The window is 0 or 2, the offset is past the interval.
 control 00000600060000000a000000 = Unknown(0x00)
 control 00020600060000000a000000 = Unknown(0x00)
@@ -95,15 +79,7 @@ control 151a0048011b004801 = Unknown(0x15)
 # A PHY changes.
 control 1801000000 = Unknown(0x18)
 control 1800010000 = Unknown(0x18)
-";
-
-#[test]
-fn fields_outside_their_ranges(rt: HostRuntime) -> Result<(), AllocError> {
-    check(&rt, rt.alloc(), OUTSIDE)
-}
-
-/// No octet, and octets that are no control PDU.
-const NO_CONTROL_PDUS: &str = "\
+# No octet, and octets that are no control PDU.
 control = Bare
 control 12 = Unknown(0x12)
 control 13 = Unknown(0x13)
@@ -118,6 +94,6 @@ control 18000000 = Unknown(0x18)
 ";
 
 #[test]
-fn octets_that_are_no_control_pdu(rt: HostRuntime) -> Result<(), AllocError> {
-    check(&rt, rt.alloc(), NO_CONTROL_PDUS)
+fn control_pdus(rt: HostRuntime) -> Result<(), AllocError> {
+    check(&rt, rt.alloc(), CONTROL)
 }

@@ -3,9 +3,9 @@
 use crate::scripts::check;
 use std::alloc::AllocError;
 
-/// The octets after the head of each packet are 1, 2, 3 and so on, so two fields that were
-/// exchanged show.
 const EVENTS: &str = "\
+# The octets after the head of each packet are 1, 2, 3 and so on, so two fields that were
+# exchanged show.
 event 04050401020304 = DisconnectionComplete { status: 0x01, handle: 0x0302, reason: 0x04 } Main(4)
 event 04080401020304 = EncryptionChange { status: 0x01, handle: 0x0302, enabled: 0x04 } Main(7)
 event 040c080102030405060708 = RemoteVersion { status: 0x01, handle: 0x0302, version: 0x04, \
@@ -17,15 +17,7 @@ event 040f0401020304 = CommandStatus { status: 0x01, number: 0x02, opcode: 0x040
 event 0413050101020304 = CompletedPackets { handle: 0x0201, count: 0x0403 } Always
 event 040e06010203040506 = CommandComplete { number: 0x01, opcode: 0x0302, fields: [0x04, 0x05, \
     0x06] } Always
-";
-
-#[test]
-fn events(rt: HostRuntime) -> Result<(), AllocError> {
-    check(&rt, rt.alloc(), EVENTS)
-}
-
-/// The same of the events that have the bits of the LE mask.
-const LE_EVENTS: &str = "\
+# The same of the events that have the bits of the LE mask.
 event 043e13010102030405060708090a0b0c0d0e0f101112 = ConnectionComplete { status: 0x01, \
     handle: 0x0302, role: 0x04, peer_kind: 0x05, peer: [0x06, 0x07, 0x08, 0x09, 0x0a, 0x0b], \
     interval: 0x0d0c, latency: 0x0f0e, timeout: 0x1110, accuracy: 0x12 } Meta(0)
@@ -49,15 +41,7 @@ event 043e0414010203 = ChannelSelection { handle: 0x0201, algorithm: 0x03 } Meta
 event 043e0f0201010203040506070803090a0b0c = AdvertisingReport { kind: 0x01, address_kind: 0x02, \
     address: [0x03, 0x04, 0x05, 0x06, 0x07, 0x08], octets: [0x09, 0x0a, 0x0b], rssi: 0x0c } \
     Meta(1)
-";
-
-#[test]
-fn le_events(rt: HostRuntime) -> Result<(), AllocError> {
-    check(&rt, rt.alloc(), LE_EVENTS)
-}
-
-/// Events of recorded streams.
-const RECORDED: &str = "\
+# Events of recorded streams.
 event 040e0401030c00 = CommandComplete { number: 1, opcode: 0x0c03, fields: [0x00] } Always
 event 040e0401030c12 = CommandComplete { number: 1, opcode: 0x0c03, fields: [0x12] } Always
 event 040e06012220000000 = CommandComplete { number: 1, opcode: 0x2022, fields: [0x00, 0x00, 0x00] \
@@ -91,16 +75,8 @@ event 043e0b070000fb0048081b004801 = LengthChange { handle: 0, tx_octets: 251, t
     rx_octets: 27, rx_time: 328 } Meta(6)
 event 043e060c2300000101 = PhyComplete { status: 0x23, handle: 0, tx: 1, rx: 1 } Meta(11)
 event 043e0414000001 = ChannelSelection { handle: 0, algorithm: 1 } Meta(19)
-";
-
-#[test]
-fn recorded_events(rt: HostRuntime) -> Result<(), AllocError> {
-    check(&rt, rt.alloc(), RECORDED)
-}
-
-/// An octet too few or too many, another indicator, codes of no event, and numbers of entries that
-/// are not 1.
-const NO_EVENTS: &str = "\
+# An octet too few or too many, another indicator, codes of no event, and numbers of entries that
+# are not 1.
 event  = none
 event 041001 = none
 event 0410010100 = none
@@ -116,6 +92,6 @@ event 043e0c020103000a0000eeffc0017f = none
 ";
 
 #[test]
-fn no_events(rt: HostRuntime) -> Result<(), AllocError> {
-    check(&rt, rt.alloc(), NO_EVENTS)
+fn events(rt: HostRuntime) -> Result<(), AllocError> {
+    check(&rt, rt.alloc(), EVENTS)
 }

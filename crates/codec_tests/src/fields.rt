@@ -1,6 +1,9 @@
 //! Fields of each width, appended and taken.
+use crate::scripts::check;
 use arrayvec::ArrayVec;
-use wire_fields::{Fields, put_octets, put_u8, put_u16, put_u24, put_u32, put_u40, put_u64};
+use std::alloc::AllocError;
+use test_words::{put_answer, put_number, put_octets};
+use wire_fields::{Fields, put_u8, put_u16, put_u24, put_u32, put_u40, put_u64};
 
 /// Six fields, and two octets.
 const OCTETS: [u8; 25] = [
@@ -8,8 +11,8 @@ const OCTETS: [u8; 25] = [
     0x16, 0x15, 0x14, 0x13, 0x12, 0x11, 0x10, 0xFF, 0xFE,
 ];
 
-#[test]
-fn fields_are_appended_in_order(rt: HostRuntime) {
+/// The octets of these fields and octets, appended in order.
+pub(crate) fn put_appended(told: &mut String) -> Result<(), AllocError> {
     let mut packet: ArrayVec<u8, 25> = ArrayVec::new();
     put_u8(&mut packet, 0x01);
     put_u16(&mut packet, 0x0203);
@@ -17,12 +20,13 @@ fn fields_are_appended_in_order(rt: HostRuntime) {
     put_u32(&mut packet, 0x0708_090A);
     put_u40(&mut packet, 0x0B_0C0D_0E0F);
     put_u64(&mut packet, 0x1011_1213_1415_1617);
-    put_octets(&mut packet, &[0xFF, 0xFE]);
-    assert_eq!(rt; packet.as_slice(), OCTETS.as_slice());
+    wire_fields::put_octets(&mut packet, &[0xFF, 0xFE]);
+    put_octets(told, packet.as_slice())
 }
 
-#[test]
-fn fields_are_taken_in_order(rt: HostRuntime) {
+/// The same fields as they are taken; then how many octets are left, these, and whether none are
+/// left after them.
+pub(crate) fn put_taken(told: &mut String) -> Result<(), AllocError> {
     let mut fields = Fields::new(&OCTETS);
     let taken = [
         u64::from(fields.u8()),
@@ -31,31 +35,36 @@ fn fields_are_taken_in_order(rt: HostRuntime) {
         u64::from(fields.u32()),
         fields.u40(),
         fields.u64(),
+        fields.len() as u64,
     ];
-    let want = [
-        0x01,
-        0x0203,
-        0x040506,
-        0x0708_090A,
-        0x0B_0C0D_0E0F,
-        0x1011_1213_1415_1617,
-    ];
-    assert_eq!(rt; taken, want);
-    let (length, octets) = (fields.len(), fields.octets::<2>());
-    assert_eq!(rt;
-        (length, octets, fields.is_empty()),
-        (2, [0xFF, 0xFE], true)
-    );
+    let (octets, is_empty) = (fields.octets::<2>(), fields.is_empty());
+    for number in taken {
+        put_number(told, number)?;
+    }
+    put_octets(told, &octets)?;
+    put_answer(told, is_empty)
 }
 
-#[test]
-fn octets_are_taken_in_order(rt: HostRuntime) {
+/// Of five octets the first two, and two more as a slice; then how many are left, and whether none
+/// are left.
+pub(crate) fn put_sliced(told: &mut String) -> Result<(), AllocError> {
     let mut fields = Fields::new(&[0x17, 0x16, 0x15, 0x14, 0x13]);
     let octets = fields.octets::<2>();
     let slice = fields.slice(2);
-    let left = (fields.len(), fields.is_empty());
-    assert_eq!(rt;
-        (octets, slice, left),
-        ([0x17, 0x16], [0x15, 0x14].as_slice(), (1, false))
-    );
+    put_octets(told, &octets)?;
+    put_octets(told, slice)?;
+    put_number(told, fields.len() as u64)?;
+    put_answer(told, fields.is_empty())
+}
+
+const FIELDS: &str = "\
+# Fields are appended in order, and taken in order.
+append = 0103020605040a0908070f0e0d0c0b1716151413121110fffe
+take = 0x01 0x0203 0x040506 0x0708090a 0x0b0c0d0e0f 0x1011121314151617 2 fffe yes
+slice = 1716 1514 1 no
+";
+
+#[test]
+fn fields(rt: HostRuntime) -> Result<(), AllocError> {
+    check(&rt, rt.alloc(), FIELDS)
 }

@@ -2,23 +2,16 @@
 use crate::scripts::check;
 use std::alloc::AllocError;
 
-/// The last one has reserved bits, which are ignored.
 const HEADERS: &str = "\
+# The last one has reserved bits, which are ignored.
 header 0100 = DataHeader { llid: 1, nesn: false, sn: false, md: false, length: 0 } empty
 header 061b = DataHeader { llid: 2, nesn: true, sn: false, md: false, length: 27 }
 header 0b01 = DataHeader { llid: 3, nesn: false, sn: true, md: false, length: 1 }
 header 1efb = DataHeader { llid: 2, nesn: true, sn: true, md: true, length: 251 }
 header 0f05 = DataHeader { llid: 3, nesn: true, sn: true, md: false, length: 5 }
 header ef05 = DataHeader { llid: 3, nesn: true, sn: true, md: false, length: 5 } as 0f05
-";
-
-#[test]
-fn headers(rt: HostRuntime) -> Result<(), AllocError> {
-    check(&rt, rt.alloc(), HEADERS)
-}
-
-/// A PDU with a reserved LLID or with no payload counts as empty.
-const EMPTY: &str = "\
+# A PDU with a reserved LLID or with no payload counts as
+# empty.
 header 0005 = DataHeader { llid: 0, nesn: false, sn: false, md: false, length: 5 } empty
 header 0100 = DataHeader { llid: 1, nesn: false, sn: false, md: false, length: 0 } empty
 header 0101 = DataHeader { llid: 1, nesn: false, sn: false, md: false, length: 1 }
@@ -29,6 +22,6 @@ header 0301 = DataHeader { llid: 3, nesn: false, sn: false, md: false, length: 1
 ";
 
 #[test]
-fn reserved_and_bare_pdus_count_as_empty(rt: HostRuntime) -> Result<(), AllocError> {
-    check(&rt, rt.alloc(), EMPTY)
+fn headers(rt: HostRuntime) -> Result<(), AllocError> {
+    check(&rt, rt.alloc(), HEADERS)
 }

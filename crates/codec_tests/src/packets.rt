@@ -4,9 +4,9 @@ use crate::scripts::check;
 use air_frame::laws;
 use std::alloc::AllocError;
 
-/// The packet of a PDU without a payload, on channel 37 with the access address of the advertising
-/// channels, and a CRC that starts at 0.
-const PACKET: &str = "\
+const PACKETS: &str = "\
+# Worked out by hand: the packet of a PDU without a payload, on channel 37 with the access
+# address of the advertising channels, and a CRC that starts at 0.
 build 37 8e89bed6 000000 0100 = d6be898e8cd2e3f08a
 hear 37 8e89bed6 000000 d6be898e8cd2e3f08a = Whole([1, 0])
 # Another access address, and packets that end before its four octets.
@@ -19,15 +19,8 @@ hear 37 8e89bed6 000000 d6be898e8dd2e3f08a = Broken
 hear 37 8e89bed6 000000 d6be898e8cd2e3f0 = Broken
 hear 37 8e89bed6 000000 d6be898e8cd2e3f08a00 = Broken
 hear 37 8e89bed6 000000 d6be898e = Broken
-";
-
-#[test]
-fn packet_worked_out_by_hand(rt: HostRuntime) -> Result<(), AllocError> {
-    check(&rt, rt.alloc(), PACKET)
-}
-
-/// The first rows have the access address and the start of the CRC of the advertising channels.
-const PLAIN: &str = "\
+# As the plain rules say. The first rows have the access address and the start of the
+# CRC of the advertising channels.
 plain 37 8e89bed6 555555 02060a0000eeffc0 = yes yes yes
 plain 38 8e89bed6 555555 44090102030405c6020106 = yes yes yes
 plain 39 8e89bed6 555555 60070900000000ff00 = yes yes yes
@@ -39,8 +32,8 @@ plain 37 ffffffff 000001 030a09080706050403020100 = yes yes yes
 ";
 
 #[test]
-fn packets_are_as_the_plain_rules_say(rt: HostRuntime) -> Result<(), AllocError> {
-    check(&rt, rt.alloc(), PLAIN)
+fn packets(rt: HostRuntime) -> Result<(), AllocError> {
+    check(&rt, rt.alloc(), PACKETS)
 }
 
 #[test]

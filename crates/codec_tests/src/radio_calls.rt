@@ -14,7 +14,7 @@ const VALUES: u32 = 0x100_0000;
 const CHANNELS: u8 = 40;
 
 /// The number of 32 bits that eight digits or fewer spell.
-fn wide(told: &String, word: &str) -> u32 {
+pub(crate) fn wide(told: &String, word: &str) -> u32 {
     u32::try_from(hex_number(*told.allocator(), word)).unwrap_or(u32::MAX)
 }
 

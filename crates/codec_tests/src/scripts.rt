@@ -1,14 +1,17 @@
 //! Scripts: each line has a call, and after " =" what it gives. Numbers after 0x are hexadecimal, a
 //! value is as `Debug` writes it, and a line that begins with "#" says what follows.
+use crate::base::{put_base, put_counter};
 use crate::calls::{
     put_command, put_control, put_event, put_fields, put_header, put_pdu, put_read,
 };
+use crate::fields::{put_appended, put_sliced, put_taken};
 use crate::radio_calls::{
-    put_built, put_crc, put_gap, put_heard, put_map, put_plain, put_whitened,
+    put_built, put_crc, put_gap, put_heard, put_map, put_plain, put_whitened, wide,
 };
+use crate::sums::{is_whitened_so, put_other_sum};
 use std::alloc::{AllocError, Global};
 use std::process::Abort;
-use test_words::{Call, call_of, decimal_of, octets_of, parts_of};
+use test_words::{Call, call_of, decimal_of, octet, octets_of, parts_of, put_answer};
 
 /// Makes each call of a script, and compares what it gives.
 pub(crate) fn check(rt: &impl Abort, alloc: Global, script: &str) -> Result<(), AllocError> {
@@ -40,6 +43,8 @@ fn take(call: Call<'_>, told: &mut String) -> Result<(), AllocError> {
         "fields" => put_fields(told, call.words),
         "map" => put_map(told, call.words[0]),
         "gap" => put_gap(told, call.words),
+        "take" => put_taken(told),
+        "slice" => put_sliced(told),
         _ => take_after_number(call, told),
     }
 }
@@ -53,6 +58,11 @@ fn take_after_number(call: Call<'_>, told: &mut String) -> Result<(), AllocError
         "opcode" => put_read(told, call.words[0], octets),
         "crc" => put_crc(told, call.words[0], octets),
         "whiten" => put_whitened(told, call.words[0], octets),
+        "append" => put_appended(told),
+        "base" => put_base(told, call.words[0]),
+        "counter" => put_counter(told, call.words[0]),
+        "register" => put_other_sum(told, wide(told, call.words[0])),
+        "whitens" => put_answer(told, is_whitened_so(octet(call.words[0]))),
         _ => take_on_channel(call, told),
     }
 }

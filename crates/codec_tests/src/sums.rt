@@ -3,22 +3,7 @@ use crate::scripts::check;
 use frame_bits::laws::*;
 use frame_bits::{crc24, whiten};
 use std::alloc::AllocError;
-
-/// The start of a CRC and octets; the CRC, after an octet of 0, and the octets in which it is sent.
-/// The last line has octets that are whitened on channel 37.
-const SUMS: &str = "\
-crc 000000 01 = 00032d80 c0b401
-crc 000000 0100 = 002d8aed b451b7
-crc 555555 = 00555555 aaaaaa
-crc fedcba = 00fedcba 7f3b5d
-crc 000000 000000 = 00000000 000000
-whiten 37 0000000000 = 8dd257a13d
-";
-
-#[test]
-fn sums_as_worked_out(rt: HostRuntime) -> Result<(), AllocError> {
-    check(&rt, rt.alloc(), SUMS)
-}
+use test_words::put_value;
 
 /// The register of the CRC after one more bit: the sum of that bit and of position 23 is fed back.
 fn crc_one_bit_on(register: u32, bit: u32) -> u32 {
@@ -80,12 +65,9 @@ fn is_sum(init: u32, octets: &[u8], sum: u32) -> bool {
     init < 0x100_0000 && crc24(init, octets) == sum
 }
 
-#[test]
-fn sums_as_the_register_does(rt: HostRuntime) {
-    let octets = scattered();
-    for init in [0, 0x555555, 0xabcdef] {
-        assert_eq!(rt; first_other_sum(init, &octets), None, "from {init:06x}");
-    }
+/// The number of first octets whose CRC is not what the register has, if it has another.
+pub(crate) fn put_other_sum(told: &mut String, init: u32) -> Result<(), AllocError> {
+    put_value(told, &first_other_sum(init, &scattered()))
 }
 
 /// Octets that are whitened as the register does.
@@ -102,7 +84,7 @@ fn whitened(channel: u8) -> [u8; 260] {
 }
 
 /// Whether octets are whitened on a channel as the register does.
-fn is_whitened_so(channel: u8) -> bool {
+pub(crate) fn is_whitened_so(channel: u8) -> bool {
     let mut octets = [0x5au8; 260];
     if channel < 40 {
         whiten(channel, &mut octets);
@@ -110,11 +92,34 @@ fn is_whitened_so(channel: u8) -> bool {
     octets == whitened(channel)
 }
 
+/// The first lines have the start of a CRC and octets; the CRC, after an octet of 0, and the octets in
+/// which it is sent.
+const SUMS: &str = "\
+crc 000000 01 = 00032d80 c0b401
+crc 000000 0100 = 002d8aed b451b7
+crc 555555 = 00555555 aaaaaa
+crc fedcba = 00fedcba 7f3b5d
+crc 000000 000000 = 00000000 000000
+# Octets that are whitened on channel 37.
+whiten 37 0000000000 = 8dd257a13d
+# Sums of octets, from these starts, as the register does.
+register 000000 = None
+register 555555 = None
+register abcdef = None
+# Whitening on these channels, as the register does.
+whitens 0 = yes
+whitens 1 = yes
+whitens 8 = yes
+whitens 23 = yes
+whitens 36 = yes
+whitens 37 = yes
+whitens 38 = yes
+whitens 39 = yes
+";
+
 #[test]
-fn whitens_as_the_register_does(rt: HostRuntime) {
-    for channel in [0u8, 1, 8, 23, 36, 37, 38, 39] {
-        assert!(rt; is_whitened_so(channel), "channel {channel}");
-    }
+fn sums_and_whitening(rt: HostRuntime) -> Result<(), AllocError> {
+    check(&rt, rt.alloc(), SUMS)
 }
 
 #[test]

@@ -7,7 +7,7 @@ use ble_base::Config;
 use controller::Controller;
 use std::alloc::{AllocError, Global};
 use std::process::Abort;
-use test_words::{Call, hex_number, parts_of, side_and_call};
+use test_words::{Call, TakesCalls, first_wrong, hex_number};
 
 /// A device A with the address C0FFEE00000A and a device B with the address C0FFEE00000B, each of
 /// three links, eight packets of its host and eight pieces from the air; and A once more, with one
@@ -57,7 +57,9 @@ pub(crate) fn check(rt: &impl Abort, alloc: Global, script: &str) -> Result<(), 
         pair: Vec::new(alloc),
         single: Vec::new(alloc),
     };
-    scene.run(rt, alloc, script)
+    let wrong = first_wrong(&mut scene, alloc, script)?;
+    assert_eq!(rt; wrong.as_str(), "");
+    Ok(())
 }
 
 /// The random words of a line "start".
@@ -71,34 +73,7 @@ fn random_words(alloc: Global, call: Call<'_>) -> ArrayVec<u64, 2> {
     words
 }
 
-impl Scene {
-    /// All controllers start. Device A draws 1 and then these random words, and device B draws 2.
-    fn start(&mut self, more: &[u64]) -> Result<(), AllocError> {
-        self.pair.clear();
-        self.single.clear();
-        add(&mut self.pair, 0x0A, 1, more)?;
-        add(&mut self.pair, 0x0B, 2, &[])?;
-        add(&mut self.single, 0x0A, 1, &[])
-    }
-
-    /// Makes each call of a script, and compares what it gives.
-    fn run(&mut self, rt: &impl Abort, alloc: Global, script: &str) -> Result<(), AllocError> {
-        for line in script.lines() {
-            let (call, want) = parts_of(line);
-            let told = self.told_of(alloc, call)?;
-            assert_eq!(rt; told.as_str(), want, "{line}");
-        }
-        Ok(())
-    }
-
-    /// What a call gives.
-    fn told_of(&mut self, alloc: Global, text: &str) -> Result<String, AllocError> {
-        let mut told = String::new(alloc);
-        let (side, call) = side_and_call(text);
-        self.take(side, call, &mut told)?;
-        Ok(told)
-    }
-
+impl TakesCalls for Scene {
     /// Makes a call, and writes what it gives.
     fn take(&mut self, side: &str, call: Call<'_>, told: &mut String) -> Result<(), AllocError> {
         match side {
@@ -109,6 +84,17 @@ impl Scene {
             "#" => Ok(()),
             _ => told.push_str(" which controller?"),
         }
+    }
+}
+
+impl Scene {
+    /// All controllers start. Device A draws 1 and then these random words, and device B draws 2.
+    fn start(&mut self, more: &[u64]) -> Result<(), AllocError> {
+        self.pair.clear();
+        self.single.clear();
+        add(&mut self.pair, 0x0A, 1, more)?;
+        add(&mut self.pair, 0x0B, 2, &[])?;
+        add(&mut self.single, 0x0A, 1, &[])
     }
 }
 

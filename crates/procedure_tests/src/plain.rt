@@ -323,20 +323,25 @@ impl Plain {
         None
     }
 
+    /// The place of an ask of this kind among those that wait.
+    pub(crate) fn place_of(&self, kind: Kind) -> Option<usize> {
+        for (place, ask) in self.wanted.as_slice().iter().enumerate() {
+            if ask.kind() == kind {
+                return Some(place);
+            }
+        }
+        None
+    }
+
     pub(crate) fn may_ask(&self, kind: Kind) -> bool {
-        self.own != Some(kind) && self.wanted.as_slice().iter().all(|ask| ask.kind() != kind)
+        self.own != Some(kind) && self.place_of(kind).is_none()
     }
 
     pub(crate) fn ask(&mut self, ask: Ask) {
         if let Ask::Length { tx } = ask {
             self.own_tx = tx;
         }
-        let place = self
-            .wanted
-            .as_slice()
-            .iter()
-            .position(|other| other.kind() == ask.kind());
-        if let Some(place) = place {
+        if let Some(place) = self.place_of(ask.kind()) {
             if let Some(other) = self.wanted.as_mut_slice().get_mut(place) {
                 *other = ask;
             }
@@ -353,15 +358,21 @@ impl Plain {
         }
     }
 
+    /// The place of the first ask that may begin.
+    fn first_to_begin(&self) -> Option<usize> {
+        for (place, ask) in self.wanted.as_slice().iter().enumerate() {
+            if self.may_begin(ask.kind()) {
+                return Some(place);
+            }
+        }
+        None
+    }
+
     pub(crate) fn begin(&mut self, slot: u64, quiet: bool) -> Option<Kind> {
         if self.own.is_some() || !quiet || self.closed || self.disconnecting {
             return None;
         }
-        let place = self
-            .wanted
-            .as_slice()
-            .iter()
-            .position(|ask| self.may_begin(ask.kind()))?;
+        let place = self.first_to_begin()?;
         let ask = self.wanted.pop_at(place)?;
         self.own = Some(ask.kind());
         self.since = None;

@@ -3,7 +3,7 @@ use crate::plain::{OwnStage, PeerStage, Plain, Source};
 use ble_base::{ChannelMap, ErrCode, Kind};
 use data_pdu::{Ctrl, CtrlRead};
 use instants::Indication;
-use procedures::{Ask, Effect, Step};
+use procedures::{Effect, Step};
 
 /// A step that does nothing.
 const NOTHING: Step = Step {
@@ -168,12 +168,7 @@ impl Plain {
         if self.own == Some(Kind::Version) {
             done = self.finishes(Kind::Version);
         }
-        if let Some(place) = self
-            .wanted
-            .as_slice()
-            .iter()
-            .position(|ask| matches!(ask, Ask::Version))
-        {
+        if let Some(place) = self.place_of(Kind::Version) {
             self.wanted.pop_at(place);
             done = Some(Kind::Version);
         }

@@ -8,7 +8,7 @@ use instants::{Indication, ParamTrack, Params};
 use procedures::ProcTable;
 use std::alloc::{AllocError, Global};
 use std::process::Abort;
-use test_words::{Call, decimal_of, number, parts_of, put_answer, side_and_call};
+use test_words::{Call, TakesCalls, first_wrong, number, put_answer};
 
 /// Both ends of a link, and the parameters of the peripheral.
 #[derive(Drop)]
@@ -38,28 +38,12 @@ fn new_ends() -> Ends {
 /// line that begins with "#" says what follows.
 pub(crate) fn check(rt: &impl Abort, alloc: Global, script: &str) -> Result<(), AllocError> {
     let mut ends = new_ends();
-    ends.run(rt, alloc, script)
+    let wrong = first_wrong(&mut ends, alloc, script)?;
+    assert_eq!(rt; wrong.as_str(), "");
+    Ok(())
 }
 
-impl Ends {
-    /// Makes each call of a script, and compares what it gives.
-    fn run(&mut self, rt: &impl Abort, alloc: Global, script: &str) -> Result<(), AllocError> {
-        for line in script.lines() {
-            let (call, want) = parts_of(line);
-            let (told, want) = (self.told_of(alloc, call)?, decimal_of(alloc, want)?);
-            assert_eq!(rt; told.as_str(), want.as_str(), "{line}");
-        }
-        Ok(())
-    }
-
-    /// What a call gives.
-    fn told_of(&mut self, alloc: Global, text: &str) -> Result<String, AllocError> {
-        let mut told = String::new(alloc);
-        let (side, call) = side_and_call(text);
-        self.take(side, call, &mut told)?;
-        Ok(told)
-    }
-
+impl TakesCalls for Ends {
     /// Makes a call on a side. At "new" both ends are new.
     fn take(&mut self, side: &str, call: Call<'_>, told: &mut String) -> Result<(), AllocError> {
         match side {
@@ -71,7 +55,9 @@ impl Ends {
             _ => told.push_str(" which side?"),
         }
     }
+}
 
+impl Ends {
     /// Both ends are new.
     fn begin(&mut self) -> Result<(), AllocError> {
         *self = new_ends();
