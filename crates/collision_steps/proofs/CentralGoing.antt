@@ -21,10 +21,12 @@ use Rattle.procedure_stages.specs.declared.stages.PeerAtCentral.TheVariants.{Abs
 use Rattle.procedure_stages.specs.declared.stages.Exchange.TheVariants.{FeaturesUnsent, FeaturesSent, VersionUnsent, VersionSent, LengthUnsent, LengthSent}
 use Rattle.procedure_stages.specs.declared.stages.Central.{Central}
 use Rattle.procedure_stages.specs.declared.stages.Progress.TheVariants.{Central as central}
-use Rattle.procedures.specs.declared.table.Closing.{Closing}
-use Rattle.procedures.specs.declared.table.Closing.TheVariants.{Open, Closed, Disconnecting}
-use Rattle.procedures.specs.Table.{TableFacts, is_disconnecting, is_open}
-use Rattle.procedures.specs.Queue.{is_past_instant, next_draft, next_of}
+use Rattle.procedure_stages.specs.declared.closing.Closing.{Closing}
+use Rattle.procedure_stages.specs.declared.closing.Closing.TheVariants.{Open, Closed, Disconnecting}
+use Rattle.procedures.specs.Table.{TableFacts}
+use Rattle.procedure_stages.specs.Closing.{is_disconnecting, is_open}
+use Rattle.procedure_stages.specs.Queue.{is_past_instant, next_draft}
+use Rattle.procedures.specs.Queue.{next_of}
 use Rattle.procedures.specs.Sending.{acked_step, facts_sent, went_step}
 use Rattle.procedure_stages.specs.Sent.{own_sent_by_central, progress_after_draft, grant_sent, phy_ind_of_peer_sent}
 use Rattle.procedure_stages.specs.Acked.{progress_acked, phy_ind_acknowledged, phy_ind_of_peer_acknowledged}

@@ -26,10 +26,11 @@ use Rattle.procedures.specs.Length.{length_taken}
 use Rattle.procedures.specs.Encryption.{cipher_at_central, start_rsp_at_central}
 use Rattle.procedure_stages.specs.declared.stages.Progress.{Progress}
 use Rattle.procedure_stages.specs.declared.stages.Progress.TheVariants.{Central as central, Peripheral as peripheral}
-use Rattle.procedures.specs.declared.table.Closing.{Closing}
-use Rattle.procedures.specs.declared.table.Closing.TheVariants.{Open, Closed, Disconnecting}
-use Rattle.procedures.specs.Table.{QueueFacts, TableFacts, is_open}
-use Rattle.procedures.specs.Queue.{with_draft, with_rejection}
+use Rattle.procedure_stages.specs.declared.closing.Closing.{Closing}
+use Rattle.procedure_stages.specs.declared.closing.Closing.TheVariants.{Open, Closed, Disconnecting}
+use Rattle.procedure_stages.specs.Queue.{QueueFacts, with_draft, with_rejection}
+use Rattle.procedures.specs.Table.{TableFacts}
+use Rattle.procedure_stages.specs.Closing.{is_open}
 use Rattle.procedure_stages.specs.Values.{are_valid}
 use Rattle.procedures.specs.Request.{request_judged, request_taken}
 use Rattle.procedures.specs.Taking.{facts_with, lacks_room, outcome_of, settled, taken_by_central, took_step}

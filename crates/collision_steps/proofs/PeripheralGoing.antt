@@ -20,10 +20,12 @@ use Rattle.procedure_stages.specs.declared.stages.PeerAtPeripheral.{PeerAtPeriph
 use Rattle.procedure_stages.specs.declared.stages.PeerAtPeripheral.TheVariants.{UpdateTaken, MapTaken, PhyRspUnsent}
 use Rattle.procedure_stages.specs.declared.stages.Peripheral.{Peripheral}
 use Rattle.procedure_stages.specs.declared.stages.Progress.TheVariants.{Peripheral as peripheral}
-use Rattle.procedures.specs.declared.table.Closing.{Closing}
-use Rattle.procedures.specs.declared.table.Closing.TheVariants.{Open, Closed, Disconnecting}
-use Rattle.procedures.specs.Table.{TableFacts, is_disconnecting, is_open}
-use Rattle.procedures.specs.Queue.{next_draft, next_of}
+use Rattle.procedure_stages.specs.declared.closing.Closing.{Closing}
+use Rattle.procedure_stages.specs.declared.closing.Closing.TheVariants.{Open, Closed, Disconnecting}
+use Rattle.procedures.specs.Table.{TableFacts}
+use Rattle.procedure_stages.specs.Closing.{is_disconnecting, is_open}
+use Rattle.procedure_stages.specs.Queue.{next_draft}
+use Rattle.procedures.specs.Queue.{next_of}
 use Rattle.procedures.specs.Sending.{acked_step, facts_sent, went_step}
 use Rattle.procedure_stages.specs.Sent.{own_sent_by_peripheral, progress_after_draft, phy_rsp_sent}
 use Rattle.procedure_stages.specs.Acked.{request_acknowledged}

@@ -15,7 +15,8 @@ use Rattle.procedure_stages.specs.declared.stages.PeerAtCentral.{PeerAtCentral}
 use Rattle.procedure_stages.specs.declared.stages.PeerAtCentral.TheVariants.{Absent as absent, HostAsked as host_asked, GrantUnsent as grant_unsent, GrantSent as grant_sent, PhyIndUnsent as phy_ind_unsent, PhyIndSent as phy_ind_sent}
 use Rattle.procedure_stages.specs.declared.stages.Progress.{Progress}
 use Rattle.procedure_stages.specs.declared.stages.Progress.TheVariants.{Central as central, Peripheral as peripheral}
-use Rattle.procedures.specs.Table.{TableFacts, is_open}
+use Rattle.procedures.specs.Table.{TableFacts}
+use Rattle.procedure_stages.specs.Closing.{is_open}
 use Rattle.procedure_stages.specs.Opcodes.{first_opcode, later_opcode, is_opcode}
 use Rattle.procedure_stages.specs.Values.{are_valid}
 use Rattle.collisions.specs.declared.pdus.Exclusive.{Exclusive}

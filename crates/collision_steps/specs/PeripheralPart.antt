@@ -18,7 +18,8 @@ use Rattle.procedure_stages.specs.declared.stages.PeerAtPeripheral.{PeerAtPeriph
 use Rattle.procedure_stages.specs.declared.stages.PeerAtPeripheral.TheVariants.{Absent as absent, UpdateTaken as update_taken, MapTaken as map_taken, PhyRspUnsent as phy_rsp_unsent, PhyRspSent as phy_rsp_sent}
 use Rattle.procedure_stages.specs.declared.stages.Progress.{Progress}
 use Rattle.procedure_stages.specs.declared.stages.Progress.TheVariants.{Central as central, Peripheral as peripheral}
-use Rattle.procedures.specs.Table.{TableFacts, is_open}
+use Rattle.procedures.specs.Table.{TableFacts}
+use Rattle.procedure_stages.specs.Closing.{is_open}
 use Rattle.procedure_stages.specs.Opcodes.{first_opcode, is_opcode}
 use Rattle.collisions.specs.declared.pdus.Exclusive.{Exclusive}
 use Rattle.collisions.specs.declared.pdus.Exclusive.TheVariants.{Update, Request, Map, Phy}

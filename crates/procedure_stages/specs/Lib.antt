@@ -7,6 +7,9 @@ pub mod Collisions
 pub mod Wants
 pub mod Limits
 pub mod Drafts
+pub mod Closing
+pub mod Steps
+pub mod Queue
 pub mod Begun
 pub mod Sent
 pub mod Acked

@@ -7,6 +7,7 @@ mod acked;
 mod asks;
 pub mod awaited;
 pub mod begun;
+mod closing;
 pub mod collisions;
 mod drafts;
 mod held;
@@ -14,17 +15,24 @@ mod in_progress;
 pub mod kinds;
 pub mod lengths;
 pub mod opcodes;
+mod queue;
+mod reply;
 mod sent;
 mod stages;
+mod steps;
 pub mod values;
 mod wants;
 
 pub use crate::asks::Ask;
+pub use crate::closing::Closing;
 pub use crate::drafts::{Draft, Outgoing, Rejection};
 pub use crate::lengths::Lengths;
+pub use crate::queue::Queue;
+pub use crate::reply::Reply;
 pub use crate::stages::{
     Ahead, Central, Exchange, OwnCentral, OwnPeripheral, PeerAtCentral, PeerAtPeripheral,
     Peripheral, Progress,
 };
+pub use crate::steps::{Effect, Step};
 pub use crate::values::{CipherPdu, NewParams, PayloadMax};
 pub use crate::wants::Wants;

@@ -1,6 +1,7 @@
 //! What a host wants of a link: each kind at most once, in order.
 ghost use Rattle.std.specs.Prelude.{◌≡◌, ◌<◌, [], length, Some, slice_get, remove, slice_set};
 ghost use Rattle.procedure_stages.specs.Wants.{place_of, is_wanted, IsAsk, wanted_with};
+ghost use Rattle.procedure_stages.specs.Wants.{without_place};
 
 use crate::asks::Ask;
 use crate::kinds::is_same_kind;
@@ -80,6 +81,15 @@ impl Wants {
         ensures in_range { IsAsk result }
     {
         self.asks.as_slice()[place]
+    }
+
+    /// Removes the ask of a kind, if there is one.
+    pub fn remove_kind(&mut self, kind: Kind)
+        ensures { self.new ≡ without_place (place_of kind self.old) self.old }
+    {
+        if let Some(place) = self.place_of(kind) {
+            self.remove(place);
+        }
     }
 
     /// Removes the ask in a place.

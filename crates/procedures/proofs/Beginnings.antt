@@ -4,7 +4,8 @@ use Rattle.std.specs.List.{position, position_or_len, find}
 use Rattle.std.specs.Option.{option_map, is_none}
 use Rattle.procedure_stages.specs.declared.asks.Ask.{Ask}
 use Rattle.procedure_stages.specs.Kinds.{kind_of_ask, own_kind, begins, role_of}
-use Rattle.procedures.specs.Table.{TableFacts, is_open}
+use Rattle.procedures.specs.Table.{TableFacts}
+use Rattle.procedure_stages.specs.Closing.{is_open}
 use Rattle.procedures.specs.Beginning.{may_begin, place_to_begin, ask_at, begin_at, begin_step}
 use Rattle.procedure_stages.specs.Collisions.{peer_lets}
 

@@ -5,7 +5,7 @@ use Rattle.procedure_stages.specs.declared.drafts.Draft.TheVariants.{FeatureRsp}
 use Rattle.procedure_stages.specs.Kinds.{own_exchange, without_own}
 use Rattle.procedure_stages.specs.Awaited.{awaits_features}
 use Rattle.procedures.specs.declared.outcome.Outcome.{Outcome}
-use Rattle.procedures.specs.declared.steps.Effect.TheVariants.{PeerFeatures}
+use Rattle.procedure_stages.specs.declared.steps.Effect.TheVariants.{PeerFeatures}
 use Rattle.procedures.specs.Table.{TableFacts}
 use Rattle.procedures.specs.Outcomes.{answered, with_effect, unchanged, moved, with_done}
 

@@ -11,7 +11,7 @@ use Rattle.procedure_stages.specs.declared.stages.Progress.TheVariants.{Central,
 use Rattle.procedure_stages.specs.Awaited.{awaits_phy_rsp, awaits_phy_ind, has_phy_of_central, awaits_features, awaits_lengths}
 use Rattle.procedure_stages.specs.Kinds.{own_exchange}
 use Rattle.procedure_stages.specs.Opcodes.{first_opcode, later_opcode, is_opcode}
-use Rattle.procedures.specs.declared.steps.Step.{Step}
+use Rattle.procedure_stages.specs.declared.steps.Step.{Step}
 use Rattle.procedures.specs.Outcomes.{empty_step}
 
 -- rejections and LL_TERMINATE_IND of a Disconnect: what goes before the end of a link

@@ -8,7 +8,7 @@ use Rattle.procedure_stages.specs.Limits.{rx_of, tx_of, with_peer}
 use Rattle.procedure_stages.specs.Kinds.{own_exchange, without_own}
 use Rattle.procedure_stages.specs.Awaited.{awaits_lengths}
 use Rattle.procedures.specs.declared.outcome.Outcome.{Outcome}
-use Rattle.procedures.specs.declared.steps.Effect.TheVariants.{Lengths as effective_lengths}
+use Rattle.procedure_stages.specs.declared.steps.Effect.TheVariants.{Lengths as effective_lengths}
 use Rattle.procedures.specs.Table.{TableFacts}
 use Rattle.procedures.specs.Outcomes.{answered, unchanged, moved, with_done}
 

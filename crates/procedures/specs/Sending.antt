@@ -9,7 +9,8 @@ use Rattle.procedure_stages.specs.Drafts.{ctrl_of_outgoing, indication_of}
 use Rattle.procedure_stages.specs.Sent.{progress_after_sending, is_own}
 use Rattle.procedure_stages.specs.Acked.{progress_acked, done_by_ack}
 use Rattle.procedures.specs.Table.{TableFacts}
-use Rattle.procedures.specs.Queue.{next_of, without_next}
+use Rattle.procedures.specs.Queue.{next_of}
+use Rattle.procedure_stages.specs.Queue.{without_next}
 use Rattle.procedures.specs.Taking.{since_after}
 
 -- ---- a control PDU is sent

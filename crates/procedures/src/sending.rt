@@ -47,8 +47,8 @@ impl ProcTable {
         ensures step { (self.new, result) ≡ went_step self.old event.0 latency quiet slot.0 }
         ensures interval { IfSome result HasInterval }
     {
-        let next = self.next(event, quiet);
-        self.remove_next(next, event, quiet);
+        let ends = self.ends(quiet);
+        let next = self.queue.take_next(ends, self.progress, event);
         self.since = since_after(self.progress.owns(&next), slot, self.since);
         self.progress = self.progress.after_sending(&next, event, latency);
         self.out = next;

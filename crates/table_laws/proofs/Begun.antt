@@ -16,10 +16,11 @@ use Rattle.procedure_stages.specs.declared.stages.Central.{Central}
 use Rattle.procedure_stages.specs.declared.stages.Peripheral.{Peripheral}
 use Rattle.procedure_stages.specs.declared.stages.Progress.{Progress}
 use Rattle.procedure_stages.specs.declared.stages.Progress.TheVariants.{Central as central, Peripheral as peripheral}
-use Rattle.procedures.specs.declared.table.Closing.{Closing}
-use Rattle.procedures.specs.declared.table.Closing.TheVariants.{Open, Closed, Disconnecting}
+use Rattle.procedure_stages.specs.declared.closing.Closing.{Closing}
+use Rattle.procedure_stages.specs.declared.closing.Closing.TheVariants.{Open, Closed, Disconnecting}
 use Rattle.procedure_stages.specs.Kinds.{begins, kind_at_central, kind_at_peripheral, kind_of_ask, own_kind, role_of}
-use Rattle.procedures.specs.Table.{TableFacts, is_open}
+use Rattle.procedures.specs.Table.{TableFacts}
+use Rattle.procedure_stages.specs.Closing.{is_open}
 use Rattle.procedures.specs.Beginning.{ask_at, begin_at, facts_begun, is_ready, may_begin, place_to_begin}
 use Rattle.procedure_stages.specs.Collisions.{peer_lets}
 use Rattle.table_laws.specs.Waiting.{asked, is_own_request, is_terminate, is_version_ind, count_if}

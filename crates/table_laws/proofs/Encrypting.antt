@@ -28,13 +28,15 @@ use Rattle.procedure_stages.specs.declared.stages.Central.{Central}
 use Rattle.procedure_stages.specs.declared.stages.Peripheral.{Peripheral}
 use Rattle.procedure_stages.specs.declared.stages.Progress.{Progress}
 use Rattle.procedure_stages.specs.declared.stages.Progress.TheVariants.{Central as central, Peripheral as peripheral}
-use Rattle.procedures.specs.declared.steps.Effect.TheVariants.{PeerFeatures, AskHost, Cipher as cipher_effect}
-use Rattle.procedures.specs.declared.steps.Step.{Step}
+use Rattle.procedure_stages.specs.declared.steps.Effect.TheVariants.{PeerFeatures, AskHost, Cipher as cipher_effect}
+use Rattle.procedure_stages.specs.declared.steps.Step.{Step}
 use Rattle.procedure_stages.specs.Kinds.{begins, exchange_at_central, kind_at_central, kind_at_peripheral, kind_of_ask, own_exchange, own_kind, role_of, without_own}
 use Rattle.procedure_stages.specs.Collisions.{collision}
 use Rattle.procedure_stages.specs.Limits.{with_peer}
-use Rattle.procedures.specs.Table.{TableFacts, is_open}
-use Rattle.procedures.specs.Queue.{next_of, waiting_in}
+use Rattle.procedures.specs.Table.{TableFacts}
+use Rattle.procedure_stages.specs.Closing.{is_open}
+use Rattle.procedures.specs.Queue.{next_of}
+use Rattle.procedure_stages.specs.Queue.{waiting_in}
 use Rattle.procedures.specs.Outcomes.{unchanged, moved, moved_and_answered, rejected, with_effect, with_done}
 use Rattle.procedures.specs.Update.{follow, followed, granted, update_begun}
 use Rattle.procedure_stages.specs.Awaited.{reads_as_answer, peer_answered, central_answered, awaits_phy_rsp, has_phy_of_central, awaits_phy_ind, awaits_features, awaits_lengths, is_own_encryption, is_version}

@@ -12,8 +12,8 @@ use Rattle.instants.specs.declared.indications.Indication.{Indication}
 use Rattle.instants.specs.declared.indications.Indication.TheVariants.{Update as update_indication, Map as map_indication}
 use Rattle.procedure_stages.specs.declared.drafts.Draft.TheVariants.{PhyRsp}
 use Rattle.procedures.specs.declared.outcome.Outcome.{Outcome}
-use Rattle.procedures.specs.declared.outcome.Reply.{Reply}
-use Rattle.procedures.specs.declared.outcome.Reply.TheVariants.{Answer}
+use Rattle.procedure_stages.specs.declared.reply.Reply.{Reply}
+use Rattle.procedure_stages.specs.declared.reply.Reply.TheVariants.{Answer}
 use Rattle.procedure_stages.specs.declared.stages.Ahead.{Ahead}
 use Rattle.procedure_stages.specs.declared.stages.Ahead.TheVariants.{Nothing as nothing_ahead, Update as update_ahead, Map as map_ahead}
 use Rattle.procedure_stages.specs.declared.stages.Exchange.TheVariants.{FeaturesUnsent, FeaturesSent, VersionUnsent, VersionSent, LengthUnsent, LengthSent}
@@ -29,7 +29,7 @@ use Rattle.procedure_stages.specs.declared.stages.Central.{Central}
 use Rattle.procedure_stages.specs.declared.stages.Peripheral.{Peripheral}
 use Rattle.procedure_stages.specs.declared.stages.Progress.{Progress}
 use Rattle.procedure_stages.specs.declared.stages.Progress.TheVariants.{Central as central, Peripheral as peripheral}
-use Rattle.procedures.specs.declared.steps.Effect.TheVariants.{PeerFeatures, AskHost, Cipher as cipher_effect}
+use Rattle.procedure_stages.specs.declared.steps.Effect.TheVariants.{PeerFeatures, AskHost, Cipher as cipher_effect}
 use Rattle.procedure_stages.specs.Kinds.{exchange_at_central, kind_at_peripheral, own_exchange, without_own}
 use Rattle.procedure_stages.specs.Collisions.{collision}
 use Rattle.procedure_stages.specs.Limits.{with_peer}

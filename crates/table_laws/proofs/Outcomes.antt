@@ -14,8 +14,8 @@ use Rattle.instants.specs.declared.indications.Indication.TheVariants.{Update as
 use Rattle.procedure_stages.specs.declared.drafts.Draft.{Draft}
 use Rattle.procedure_stages.specs.declared.drafts.Draft.TheVariants.{VersionInd as version_draft, PhyInd, PhyRsp as phy_rsp, FeatureRsp as feature_rsp, LengthRsp as length_rsp, UnknownRsp as unknown_rsp}
 use Rattle.procedures.specs.declared.outcome.Outcome.{Outcome}
-use Rattle.procedures.specs.declared.outcome.Reply.{Reply}
-use Rattle.procedures.specs.declared.outcome.Reply.TheVariants.{Nothing as no_reply, Reject, Answer}
+use Rattle.procedure_stages.specs.declared.reply.Reply.{Reply}
+use Rattle.procedure_stages.specs.declared.reply.Reply.TheVariants.{Nothing as no_reply, Reject, Answer}
 use Rattle.procedure_stages.specs.declared.stages.Ahead.{Ahead}
 use Rattle.procedure_stages.specs.declared.stages.Ahead.TheVariants.{Nothing as nothing_ahead, Update as update_ahead, Map as map_ahead}
 use Rattle.procedure_stages.specs.declared.stages.Exchange.{Exchange}
@@ -30,7 +30,7 @@ use Rattle.procedure_stages.specs.declared.stages.Central.{Central}
 use Rattle.procedure_stages.specs.declared.stages.Peripheral.{Peripheral}
 use Rattle.procedure_stages.specs.declared.stages.Progress.{Progress}
 use Rattle.procedure_stages.specs.declared.stages.Progress.TheVariants.{Central as central, Peripheral as peripheral}
-use Rattle.procedures.specs.declared.steps.Effect.TheVariants.{PeerFeatures, AskHost, Cipher}
+use Rattle.procedure_stages.specs.declared.steps.Effect.TheVariants.{PeerFeatures, AskHost, Cipher}
 use Rattle.procedure_stages.specs.Kinds.{exchange_at_central, exchange_at_peripheral, kind_at_central, kind_at_peripheral, own_exchange, role_of, without_own}
 use Rattle.procedure_stages.specs.Collisions.{collision}
 use Rattle.procedure_stages.specs.Limits.{with_peer}
@@ -45,7 +45,8 @@ use Rattle.procedures.specs.Length.{with_lengths}
 use Rattle.procedure_stages.specs.Opcodes.{first_opcode, is_opcode, later_opcode, opcode_at_central, opcode_at_peripheral, connection_param_req_opcode, phy_req_opcode}
 use Rattle.procedures.specs.Refusals.{refused_if}
 use Rattle.procedures.specs.Version.{version_reply}
-use Rattle.procedures.specs.Taking.{asks_host, outcome_of, taken_by, taken_by_central, taken_by_either, taken_by_peripheral}
+use Rattle.procedure_stages.specs.Steps.{asks_host}
+use Rattle.procedures.specs.Taking.{outcome_of, taken_by, taken_by_central, taken_by_either, taken_by_peripheral}
 use Rattle.table_laws.specs.Waiting.{is_asked, count_if}
 
 -- ---- the request of the own procedure may wait: its stage is the first, or it is an encryption

@@ -15,16 +15,18 @@ use Rattle.procedure_stages.specs.declared.drafts.Rejection.{Rejection as TheRej
 use Rattle.procedure_stages.specs.declared.drafts.Outgoing.{Outgoing}
 use Rattle.procedure_stages.specs.declared.drafts.Outgoing.TheVariants.{Nothing, Rejection, Disconnect, Other}
 use Rattle.procedures.specs.declared.outcome.Outcome.{Outcome}
-use Rattle.procedures.specs.declared.outcome.Reply.{Reply}
-use Rattle.procedures.specs.declared.outcome.Reply.TheVariants.{Nothing as no_reply, Reject, Answer}
+use Rattle.procedure_stages.specs.declared.reply.Reply.{Reply}
+use Rattle.procedure_stages.specs.declared.reply.Reply.TheVariants.{Nothing as no_reply, Reject, Answer}
 use Rattle.procedure_stages.specs.declared.stages.Progress.{Progress}
 use Rattle.procedure_stages.specs.declared.stages.Progress.TheVariants.{Central as central, Peripheral as peripheral}
-use Rattle.procedures.specs.declared.steps.Step.{Step}
+use Rattle.procedure_stages.specs.declared.steps.Step.{Step}
 use Rattle.procedure_stages.specs.Kinds.{begins, kind_of_ask, role_of}
-use Rattle.procedures.specs.Table.{QueueFacts, TableFacts, first_facts, is_disconnecting, is_open}
+use Rattle.procedure_stages.specs.Queue.{QueueFacts, is_past_instant, next_by, next_disconnect, next_draft, with_draft, with_rejection, with_reply, without_next}
+use Rattle.procedures.specs.Table.{TableFacts, first_facts}
+use Rattle.procedure_stages.specs.Closing.{is_disconnecting, is_open}
 use Rattle.procedure_stages.specs.InProgress.{is_host_asked}
 use Rattle.procedure_stages.specs.Drafts.{ctrl_of_draft, ctrl_of_outgoing, waits_for_instant}
-use Rattle.procedures.specs.Queue.{is_past_instant, next_by, next_disconnect, next_draft, next_of, with_draft, with_rejection, with_reply, without_next}
+use Rattle.procedures.specs.Queue.{next_of}
 use Rattle.procedures.specs.Encryption.{is_rejection, progress_given}
 use Rattle.procedures.specs.Taking.{facts_with, lacks_room, outcome_of, took_step}
 use Rattle.procedures.specs.Beginning.{ask_at, begin_at, facts_begun, first_draft, place_to_begin, with_first_draft}

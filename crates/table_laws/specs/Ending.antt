@@ -3,8 +3,8 @@
 use Rattle.std.specs.Prelude.{List, [], ◌∷◌, ◌++◌, map}
 use Rattle.procedure_stages.specs.declared.drafts.Outgoing.{Outgoing}
 use Rattle.procedure_stages.specs.declared.drafts.Outgoing.TheVariants.{Rejection, Disconnect}
-use Rattle.procedures.specs.Table.{QueueFacts, TableFacts}
-use Rattle.procedures.specs.Queue.{disconnect_in_order}
+use Rattle.procedure_stages.specs.Queue.{QueueFacts, disconnect_in_order}
+use Rattle.procedures.specs.Table.{TableFacts}
 use Rattle.procedures.specs.Calls.{Call, after_call, sent_by}
 
 -- those that wait, in the order of sending

@@ -7,9 +7,10 @@ use Rattle.procedure_stages.specs.declared.drafts.Draft.{Draft}
 use Rattle.procedure_stages.specs.declared.drafts.Draft.TheVariants.{Update, Map, Request, PhyReq, FeatureReq, PeripheralFeatureReq, VersionInd, LengthReq, Cipher}
 use Rattle.procedure_stages.specs.declared.stages.Progress.{Progress}
 use Rattle.procedure_stages.specs.declared.stages.Progress.TheVariants.{Central, Peripheral}
-use Rattle.procedures.specs.Table.{TableFacts, is_open}
+use Rattle.procedures.specs.Table.{TableFacts}
+use Rattle.procedure_stages.specs.Closing.{is_open}
 use Rattle.procedure_stages.specs.InProgress.{is_host_asked_at_central}
-use Rattle.procedures.specs.Queue.{count_of_disconnect}
+use Rattle.procedure_stages.specs.Queue.{count_of_disconnect}
 
 abbrev pub count_if : Bool → ℕ
 count_if holds = (if holds then 1 else 0)
