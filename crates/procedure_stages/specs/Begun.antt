@@ -5,18 +5,19 @@ use Rattle.ble_base.specs.declared.roles.Role.TheVariants.{Central, Peripheral}
 use Rattle.ble_base.specs.declared.procedure_kinds.Kind.{Kind}
 use Rattle.procedure_stages.specs.declared.stages.Exchange.{Exchange}
 use Rattle.procedure_stages.specs.declared.stages.Exchange.TheVariants.{VersionUnsent, VersionSent, FeaturesUnsent, LengthUnsent}
-use Rattle.procedure_stages.specs.declared.asks.Ask.{Ask}
-use Rattle.procedure_stages.specs.declared.asks.Ask.TheVariants.{Update, Request, Map, Phy, Features, Version, Length, Encrypt}
+use Rattle.procedure_values.specs.declared.asks.Ask.{Ask}
+use Rattle.procedure_values.specs.declared.asks.Ask.TheVariants.{Update, Request, Map, Phy, Features, Version, Length, Encrypt}
 use Rattle.procedure_stages.specs.declared.stages.OwnCentral.{OwnCentral}
 use Rattle.procedure_stages.specs.declared.stages.OwnCentral.TheVariants.{Exchange as exchange, UpdateUnsent, MapUnsent, PhyUnsent, EncryptUnsent}
 use Rattle.procedure_stages.specs.declared.stages.OwnPeripheral.{OwnPeripheral}
 use Rattle.procedure_stages.specs.declared.stages.OwnPeripheral.TheVariants.{Exchange as exchange_p, RequestUnsent, PhyUnsent as phy_unsent}
 use Rattle.procedure_stages.specs.declared.stages.Progress.{Progress}
 use Rattle.procedure_stages.specs.declared.stages.Progress.TheVariants.{Central as central, Peripheral as peripheral}
-use Rattle.procedure_stages.specs.declared.drafts.Draft.{Draft}
-use Rattle.procedure_stages.specs.declared.drafts.Draft.TheVariants.{Update as update_draft, Map as map_draft, Request as request_draft, PhyReq, FeatureReq, PeripheralFeatureReq, VersionInd, LengthReq}
-use Rattle.procedure_stages.specs.declared.lengths.Lengths.{Lengths}
-use Rattle.procedure_stages.specs.Kinds.{begins, kind_of_ask, role_of}
+use Rattle.procedure_values.specs.declared.drafts.Draft.{Draft}
+use Rattle.procedure_values.specs.declared.drafts.Draft.TheVariants.{Update as update_draft, Map as map_draft, Request as request_draft, PhyReq, FeatureReq, PeripheralFeatureReq, VersionInd, LengthReq}
+use Rattle.procedure_values.specs.declared.lengths.Lengths.{Lengths}
+use Rattle.procedure_stages.specs.Kinds.{begins, role_of}
+use Rattle.procedure_values.specs.Asks.{kind_of_ask}
 use Rattle.procedure_stages.specs.Collisions.{peer_lets}
 
 -- ---- which begins

@@ -2,17 +2,17 @@
 use Rattle.std.specs.Prelude.{ℕ, Option, Some, None, ◌+◌, length, List, [], ◌∷◌, ◌++◌, map, if◌then◌else◌, nat_lt, Bool, true, false, not, ◌&&◌, remove}
 use Rattle.ble_base.specs.declared.error_codes.ErrCode.{ErrCode}
 use Rattle.ble_base.specs.declared.counters.EventNo.{EventNo}
-use Rattle.procedure_stages.specs.declared.drafts.Outgoing.{Outgoing}
-use Rattle.procedure_stages.specs.declared.drafts.Outgoing.TheVariants.{Disconnect, Rejection, Other, Nothing}
-use Rattle.procedure_stages.specs.declared.drafts.Draft.{Draft}
-use Rattle.procedure_stages.specs.declared.drafts.Draft.TheVariants.{VersionInd}
-use Rattle.procedure_stages.specs.declared.drafts.Rejection.{Rejection as TheRejection}
+use Rattle.procedure_values.specs.declared.drafts.Outgoing.{Outgoing}
+use Rattle.procedure_values.specs.declared.drafts.Outgoing.TheVariants.{Disconnect, Rejection, Other, Nothing}
+use Rattle.procedure_values.specs.declared.drafts.Draft.{Draft}
+use Rattle.procedure_values.specs.declared.drafts.Draft.TheVariants.{VersionInd}
+use Rattle.procedure_values.specs.declared.drafts.Rejection.{Rejection as TheRejection}
 use Rattle.procedure_stages.specs.declared.stages.Progress.{Progress}
 use Rattle.procedure_stages.specs.declared.stages.Progress.TheVariants.{Central, Peripheral}
 use Rattle.procedure_stages.specs.declared.closing.Closing.{Closing}
 use Rattle.procedure_stages.specs.declared.reply.Reply.{Reply}
 use Rattle.procedure_stages.specs.declared.reply.Reply.TheVariants.{Nothing as no_reply, Reject, Answer}
-use Rattle.procedure_stages.specs.Drafts.{waits_for_instant}
+use Rattle.procedure_values.specs.Drafts.{waits_for_instant}
 use Rattle.procedure_stages.specs.Closing.{is_open}
 
 -- the control PDUs that wait to be sent, in the order of sending: the rejections of procedures of the peer, then

@@ -4,16 +4,13 @@ ghost use Rattle.procedure_stages.specs.Begun.{version_stage, stage_at_central};
 ghost use Rattle.procedure_stages.specs.Begun.{stage_at_peripheral, progress_begun, feature_draft};
 ghost use Rattle.procedure_stages.specs.Begun.{version_draft, draft_begun, may_begin_now};
 ghost use Rattle.procedure_stages.specs.Begun.{first_place};
-ghost use Rattle.procedure_stages.specs.Wants.{IsAsk};
+ghost use Rattle.procedure_values.specs.Wants.{IsAsk};
 
-use crate::asks::Ask;
 use crate::collisions::peer_lets;
-use crate::drafts::Draft;
 use crate::kinds::begins;
-use crate::lengths::Lengths;
 use crate::stages::{Central, Exchange, OwnCentral, OwnPeripheral, Peripheral, Progress};
-use crate::values::NewParams;
 use ble_base::{Kind, Role};
+use procedure_values::{Ask, Draft, Lengths, NewParams};
 
 /// Whether a kind that is wanted may begin, at an end that may begin something if it is `ready`.
 fn may_begin_now(ready: bool, progress: Progress, kind: Kind) -> bool

@@ -7,11 +7,11 @@ ghost use Rattle.procedure_stages.specs.Queue.{is_past_instant, next_draft, next
 ghost use Rattle.procedure_stages.specs.Queue.{next_after_rejections, next_in, without_next};
 
 use crate::closing::Closing;
-use crate::drafts::{Draft, Outgoing, Rejection};
 use crate::reply::Reply;
 use crate::stages::Progress;
 use arrayvec::ArrayVec;
 use ble_base::{ErrCode, EventNo};
+use procedure_values::{Draft, Outgoing, Rejection};
 use std::marker::Model;
 
 /// The control PDUs of an end that wait to be sent (Core 5.2, volume 6 part B, section 5.3).

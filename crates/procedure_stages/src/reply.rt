@@ -2,7 +2,7 @@
 ghost use Rattle.std.specs.Prelude.{◌≡◌};
 ghost use Rattle.procedure_stages.specs.Queue.{has_reply, is_version_reply};
 
-use crate::drafts::{Draft, Rejection};
+use procedure_values::{Draft, Rejection};
 
 /// What is to be sent for a PDU of the peer.
 #[derive(Clone, Copy)]

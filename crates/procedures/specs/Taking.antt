@@ -1,5 +1,5 @@
 -- What each control PDU of the peer does at an end, by its role (Core 5.2, volume 6 part B, sections 2.4.2 and 5).
-use Rattle.std.specs.Prelude.{Bool, true, false, nat_le, ◌||◌, ◌&&◌, List, if◌then◌else◌, ℕ, Option, Some, is_some}
+use Rattle.std.specs.Prelude.{Bool, nat_le, ◌||◌, ◌&&◌, List, if◌then◌else◌, ℕ, Option, Some, is_some}
 use Rattle.ble_base.specs.declared.procedure_kinds.Kind.TheVariants.{Version}
 use Rattle.ble_base.specs.declared.counters.SlotNo.{SlotNo}
 use Rattle.ble_base.specs.ErrorCodes.{memory_capacity_exceeded}
@@ -12,9 +12,9 @@ use Rattle.procedure_stages.specs.declared.stages.Central.{Central}
 use Rattle.procedure_stages.specs.declared.stages.Peripheral.{Peripheral}
 use Rattle.procedure_stages.specs.declared.stages.Progress.{Progress}
 use Rattle.procedure_stages.specs.declared.stages.Progress.TheVariants.{Central as central, Peripheral as peripheral}
-use Rattle.procedure_stages.specs.declared.asks.Ask.{Ask}
+use Rattle.procedure_values.specs.declared.asks.Ask.{Ask}
 use Rattle.procedure_stages.specs.Opcodes.{connection_param_rsp_opcode, connection_update_ind_opcode, channel_map_ind_opcode, enc_req_opcode, feature_req_opcode, pause_enc_req_opcode, phy_update_ind_opcode, enc_rsp_opcode, start_enc_req_opcode, peripheral_feature_req_opcode, connection_param_req_opcode}
-use Rattle.procedure_stages.specs.Wants.{place_of, without_place}
+use Rattle.procedure_values.specs.Wants.{place_of, without_place}
 use Rattle.procedures.specs.declared.outcome.Outcome.{Outcome}
 use Rattle.procedure_stages.specs.declared.steps.Effect.{Effect}
 use Rattle.procedure_stages.specs.declared.steps.Step.{Step}

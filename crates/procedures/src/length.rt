@@ -6,7 +6,8 @@ use crate::outcome::{Outcome, answered, moved, unchanged};
 use crate::table::ProcTable;
 use ble_base::Kind;
 use procedure_stages::awaited::awaits_lengths;
-use procedure_stages::{Draft, Effect, Lengths, Step};
+use procedure_stages::{Effect, Step};
+use procedure_values::{Draft, Lengths};
 
 /// LL_LENGTH_RSP of this end.
 fn length_reply(lengths: &Lengths) -> Draft

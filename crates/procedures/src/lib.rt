@@ -30,7 +30,9 @@ pub use crate::laws::{
 pub use crate::outcome::Outcome;
 pub use crate::table::ProcTable;
 pub use procedure_stages::{
-    Ahead, Ask, Central, CipherPdu, Closing, Draft, Effect, Exchange, Lengths, NewParams, Outgoing,
-    OwnCentral, OwnPeripheral, PayloadMax, PeerAtCentral, PeerAtPeripheral, Peripheral, Progress,
-    Rejection, Reply, Step,
+    Ahead, Central, Closing, Effect, Exchange, OwnCentral, OwnPeripheral, PeerAtCentral,
+    PeerAtPeripheral, Peripheral, Progress, Reply, Step,
+};
+pub use procedure_values::{
+    Ask, CipherPdu, Draft, Lengths, NewParams, Outgoing, PayloadMax, Rejection,
 };

@@ -11,8 +11,8 @@ use Rattle.data_pdu.specs.declared.ctrl.CtrlRead.{CtrlRead}
 use Rattle.data_pdu.specs.declared.ctrl.CtrlRead.TheVariants.{Known, Unknown, Bare}
 use Rattle.instants.specs.declared.indications.Indication.{Indication}
 use Rattle.instants.specs.declared.indications.Indication.TheVariants.{Update as update_indication, Map as map_indication}
-use Rattle.procedure_stages.specs.declared.drafts.Draft.{Draft}
-use Rattle.procedure_stages.specs.declared.drafts.Draft.TheVariants.{VersionInd as version_draft, PhyInd, PhyRsp as phy_rsp, FeatureRsp as feature_rsp, LengthRsp as length_rsp, UnknownRsp as unknown_rsp}
+use Rattle.procedure_values.specs.declared.drafts.Draft.{Draft}
+use Rattle.procedure_values.specs.declared.drafts.Draft.TheVariants.{VersionInd as version_draft, PhyInd, PhyRsp as phy_rsp, FeatureRsp as feature_rsp, LengthRsp as length_rsp, UnknownRsp as unknown_rsp}
 use Rattle.procedures.specs.declared.outcome.Outcome.{Outcome}
 use Rattle.procedure_stages.specs.declared.reply.Reply.{Reply}
 use Rattle.procedure_stages.specs.declared.reply.Reply.TheVariants.{Nothing as no_reply, Reject, Answer}
@@ -33,13 +33,13 @@ use Rattle.procedure_stages.specs.declared.stages.Progress.TheVariants.{Central 
 use Rattle.procedure_stages.specs.declared.steps.Effect.TheVariants.{PeerFeatures, AskHost, Cipher}
 use Rattle.procedure_stages.specs.Kinds.{exchange_at_central, exchange_at_peripheral, kind_at_central, kind_at_peripheral, own_exchange, role_of, without_own}
 use Rattle.procedure_stages.specs.Collisions.{collision}
-use Rattle.procedure_stages.specs.Limits.{with_peer}
+use Rattle.procedure_values.specs.Limits.{with_peer}
 use Rattle.procedures.specs.Table.{TableFacts}
 use Rattle.procedures.specs.Outcomes.{unchanged, moved, moved_and_answered, rejected, with_effect, with_done}
 use Rattle.procedures.specs.Update.{follow, followed, granted, update_begun}
 use Rattle.procedure_stages.specs.Awaited.{reads_as_answer, peer_answered, central_answered, awaits_phy_rsp, has_phy_of_central, awaits_phy_ind, awaits_features, awaits_lengths, is_own_encryption, is_version}
 use Rattle.procedures.specs.Request.{collided, outlived, request_judged}
-use Rattle.procedure_stages.specs.Values.{are_valid}
+use Rattle.procedure_values.specs.Values.{are_valid}
 use Rattle.procedures.specs.Phy.{phy_answered}
 use Rattle.procedures.specs.Length.{with_lengths}
 use Rattle.procedure_stages.specs.Opcodes.{first_opcode, is_opcode, later_opcode, opcode_at_central, opcode_at_peripheral, connection_param_req_opcode, phy_req_opcode}

@@ -6,7 +6,7 @@ ghost use Rattle.ble_base.specs.declared.error_codes.ErrCode.{ErrCode};
 ghost use Rattle.ble_base.specs.declared.roles.Role.{Role};
 ghost use Rattle.data_pdu.specs.declared.ctrl.Ctrl.{Ctrl};
 ghost use Rattle.data_pdu.specs.declared.ctrl.CtrlRead.{CtrlRead};
-ghost use Rattle.procedure_stages.specs.declared.drafts.Outgoing.{Outgoing};
+ghost use Rattle.procedure_values.specs.declared.drafts.Outgoing.{Outgoing};
 ghost use Rattle.ble_base.specs.declared.procedure_kinds.Kind.{Kind};
 ghost use Rattle.procedure_stages.specs.Kinds.{own_kind};
 ghost use Rattle.procedure_stages.specs.Collisions.{is_exclusive};

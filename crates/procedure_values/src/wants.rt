@@ -1,10 +1,9 @@
 //! What a host wants of a link: each kind at most once, in order.
 ghost use Rattle.std.specs.Prelude.{◌≡◌, ◌<◌, [], length, Some, slice_get, remove, slice_set};
-ghost use Rattle.procedure_stages.specs.Wants.{place_of, is_wanted, IsAsk, wanted_with};
-ghost use Rattle.procedure_stages.specs.Wants.{without_place};
+ghost use Rattle.procedure_values.specs.Wants.{place_of, is_wanted, IsAsk, wanted_with};
+ghost use Rattle.procedure_values.specs.Wants.{without_place};
 
-use crate::asks::Ask;
-use crate::kinds::is_same_kind;
+use crate::asks::{Ask, is_same_kind};
 use arrayvec::ArrayVec;
 use ble_base::Kind;
 use std::marker::Model;
@@ -17,8 +16,8 @@ pub struct Wants {
 
 impl Model for Wants {
     ghost use Rattle.std.specs.Prelude.{List};
-    ghost use Rattle.procedure_stages.specs.declared.asks.Ask.{Ask};
-    ghost use Rattle.procedure_stages.specs.Wants.{IsWants};
+    ghost use Rattle.procedure_values.specs.declared.asks.Ask.{Ask};
+    ghost use Rattle.procedure_values.specs.Wants.{IsWants};
 
     ghost Value = { List Ask };
 
