@@ -7,13 +7,13 @@ use Rattle.ble_base.specs.declared.error_codes.ErrCode.{ErrCode}
 use Rattle.ble_base.specs.declared.counters.EventNo.{EventNo}
 use Rattle.data_pdu.specs.declared.ctrl.Ctrl.{Ctrl}
 use Rattle.data_pdu.specs.declared.ctrl.Ctrl.TheVariants.{TerminateInd, EncReq}
-use Rattle.procedure_stages.specs.declared.asks.Ask.{Ask}
-use Rattle.procedure_stages.specs.declared.asks.Ask.TheVariants.{Update as ask_update, Request as ask_request, Map as ask_map, Phy as ask_phy, Features as ask_features, Version as ask_version, Length as ask_length, Encrypt as ask_encrypt}
-use Rattle.procedure_stages.specs.declared.drafts.Draft.{Draft}
-use Rattle.procedure_stages.specs.declared.drafts.Draft.TheVariants.{Update, Grant, Map, Request, PhyReq, PhyRsp, PhyInd, FeatureReq, PeripheralFeatureReq, VersionInd, LengthReq, Cipher}
-use Rattle.procedure_stages.specs.declared.drafts.Rejection.{Rejection}
-use Rattle.procedure_stages.specs.declared.drafts.Outgoing.{Outgoing}
-use Rattle.procedure_stages.specs.declared.drafts.Outgoing.TheVariants.{Nothing, Rejection as sent_rejection, Disconnect, Other}
+use Rattle.procedure_values.specs.declared.asks.Ask.{Ask}
+use Rattle.procedure_values.specs.declared.asks.Ask.TheVariants.{Update as ask_update, Request as ask_request, Map as ask_map, Phy as ask_phy, Features as ask_features, Version as ask_version, Length as ask_length, Encrypt as ask_encrypt}
+use Rattle.procedure_values.specs.declared.drafts.Draft.{Draft}
+use Rattle.procedure_values.specs.declared.drafts.Draft.TheVariants.{Update, Grant, Map, Request, PhyReq, PhyRsp, PhyInd, FeatureReq, PeripheralFeatureReq, VersionInd, LengthReq, Cipher}
+use Rattle.procedure_values.specs.declared.drafts.Rejection.{Rejection}
+use Rattle.procedure_values.specs.declared.drafts.Outgoing.{Outgoing}
+use Rattle.procedure_values.specs.declared.drafts.Outgoing.TheVariants.{Nothing, Rejection as sent_rejection, Disconnect, Other}
 use Rattle.procedure_stages.specs.declared.stages.OwnCentral.{OwnCentral}
 use Rattle.procedure_stages.specs.declared.stages.OwnCentral.TheVariants.{Idle, Exchange as exchange, UpdateUnsent, UpdateSent, MapUnsent, MapSent, PhyUnsent, PhySent, PhyAnswered, PhyIndicated, EncryptUnsent, EncryptSent}
 use Rattle.procedure_stages.specs.declared.stages.PeerAtCentral.{PeerAtCentral}
@@ -21,21 +21,24 @@ use Rattle.procedure_stages.specs.declared.stages.PeerAtCentral.TheVariants.{Abs
 use Rattle.procedure_stages.specs.declared.stages.Exchange.TheVariants.{FeaturesUnsent, FeaturesSent, VersionUnsent, VersionSent, LengthUnsent, LengthSent}
 use Rattle.procedure_stages.specs.declared.stages.Central.{Central}
 use Rattle.procedure_stages.specs.declared.stages.Progress.TheVariants.{Central as central}
-use Rattle.procedures.specs.declared.table.Closing.{Closing}
-use Rattle.procedures.specs.declared.table.Closing.TheVariants.{Open, Closed, Disconnecting}
-use Rattle.procedures.specs.Table.{TableFacts, is_disconnecting, is_open}
-use Rattle.procedures.specs.Queue.{is_past_instant, next_draft, next_of}
+use Rattle.procedure_stages.specs.declared.closing.Closing.{Closing}
+use Rattle.procedure_stages.specs.declared.closing.Closing.TheVariants.{Open, Closed, Disconnecting}
+use Rattle.procedures.specs.Table.{TableFacts}
+use Rattle.procedure_stages.specs.Closing.{is_disconnecting, is_open}
+use Rattle.procedure_stages.specs.Queue.{is_past_instant, next_draft}
+use Rattle.procedures.specs.Queue.{next_of}
 use Rattle.procedures.specs.Sending.{acked_step, facts_sent, went_step}
 use Rattle.procedure_stages.specs.Sent.{own_sent_by_central, progress_after_draft, grant_sent, phy_ind_of_peer_sent}
 use Rattle.procedure_stages.specs.Acked.{progress_acked, phy_ind_acknowledged, phy_ind_of_peer_acknowledged}
-use Rattle.procedure_stages.specs.Drafts.{waits_for_instant}
+use Rattle.procedure_values.specs.Drafts.{waits_for_instant}
 use Rattle.procedures.specs.Going.{closing_given, entered_step, host_answer_step, owe_step, terminate_step}
 use Rattle.procedure_stages.specs.Held.{own_held_at_central, peer_held_at_central}
 use Rattle.procedures.specs.Beginning.{ask_at, begin_at, begin_step, facts_begun, is_ready, may_begin, place_to_begin}
-use Rattle.procedure_stages.specs.Kinds.{begins, kind_at_central, kind_of_ask}
+use Rattle.procedure_stages.specs.Kinds.{begins, kind_at_central}
+use Rattle.procedure_values.specs.Asks.{kind_of_ask}
 use Rattle.ble_base.specs.declared.roles.Role.TheVariants.{Central as CentralRole}
 use Rattle.ble_base.specs.declared.channel_map.ChannelMap.{ChannelMap}
-use Rattle.procedure_stages.specs.declared.values.NewParams.{NewParams}
+use Rattle.procedure_values.specs.declared.values.NewParams.{NewParams}
 use Rattle.collisions.specs.declared.pdus.Pdu.TheVariants.{UpdateInd, GrantInd, MapInd, RejectParam, RejectPhy, PhyReq as PhyReqPdu, PhyInd as PhyIndPdu}
 use Rattle.collisions.specs.CentralTable
 use Rattle.collision_steps.specs.Parts.{draft_part, outgoing_part, param_request_opcode, phy_request_opcode, reason_part, rejection_part}

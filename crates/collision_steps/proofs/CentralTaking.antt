@@ -1,8 +1,8 @@
 -- A central takes a PDU.
 use Rattle.std.proofs.Common.{◌≡◌, ℕ, ◌⊎◌, inl, inr, Bool, true, false, not, ◌||◌, List, [], ◌∷◌, ◌++◌, Option, Some, None, is_some, append-nil, refl, ap, sym, ◌∙◌, subst}
 use Rattle.ble_base.specs.declared.error_codes.ErrCode.{ErrCode}
-use Rattle.procedure_stages.specs.declared.drafts.Draft.{Draft}
-use Rattle.procedure_stages.specs.declared.drafts.Rejection.{Rejection}
+use Rattle.procedure_values.specs.declared.drafts.Draft.{Draft}
+use Rattle.procedure_values.specs.declared.drafts.Rejection.{Rejection}
 use Rattle.collisions.specs.declared.pdus.Pdu.{Pdu}
 use Rattle.data_pdu.specs.declared.ctrl.Ctrl.{Ctrl}
 use Rattle.data_pdu.specs.declared.ctrl.Ctrl.TheVariants.{ConnectionUpdateInd, ChannelMapInd, TerminateInd, EncReq, EncRsp, StartEncReq, StartEncRsp, UnknownRsp, FeatureReq, FeatureRsp, PauseEncReq, PauseEncRsp, VersionInd, RejectInd, PeripheralFeatureReq, ConnectionParamReq, ConnectionParamRsp, RejectExtInd, LengthReq, LengthRsp, PhyReq, PhyRsp, PhyUpdateInd}
@@ -16,7 +16,7 @@ use Rattle.procedure_stages.specs.declared.stages.PeerAtCentral.{PeerAtCentral}
 use Rattle.procedure_stages.specs.declared.stages.PeerAtCentral.TheVariants.{Absent, PhyIndUnsent}
 use Rattle.procedure_stages.specs.declared.stages.Central.{Central}
 use Rattle.ble_base.specs.declared.counters.EventNo.{EventNo}
-use Rattle.procedure_stages.specs.declared.drafts.Draft.TheVariants.{PhyInd as PhyIndDraft, VersionInd as VersionDraft}
+use Rattle.procedure_values.specs.declared.drafts.Draft.TheVariants.{PhyInd as PhyIndDraft, VersionInd as VersionDraft}
 use Rattle.procedures.specs.Outcomes.{moved_and_answered}
 use Rattle.procedures.specs.Phy.{phy_req_at_central, phy_rsp_taken}
 use Rattle.procedures.specs.Features.{features_taken}
@@ -26,11 +26,12 @@ use Rattle.procedures.specs.Length.{length_taken}
 use Rattle.procedures.specs.Encryption.{cipher_at_central, start_rsp_at_central}
 use Rattle.procedure_stages.specs.declared.stages.Progress.{Progress}
 use Rattle.procedure_stages.specs.declared.stages.Progress.TheVariants.{Central as central, Peripheral as peripheral}
-use Rattle.procedures.specs.declared.table.Closing.{Closing}
-use Rattle.procedures.specs.declared.table.Closing.TheVariants.{Open, Closed, Disconnecting}
-use Rattle.procedures.specs.Table.{QueueFacts, TableFacts, is_open}
-use Rattle.procedures.specs.Queue.{with_draft, with_rejection}
-use Rattle.procedure_stages.specs.Values.{are_valid}
+use Rattle.procedure_stages.specs.declared.closing.Closing.{Closing}
+use Rattle.procedure_stages.specs.declared.closing.Closing.TheVariants.{Open, Closed, Disconnecting}
+use Rattle.procedure_stages.specs.Queue.{QueueFacts, with_draft, with_rejection}
+use Rattle.procedures.specs.Table.{TableFacts}
+use Rattle.procedure_stages.specs.Closing.{is_open}
+use Rattle.procedure_values.specs.Values.{are_valid}
 use Rattle.procedures.specs.Request.{request_judged, request_taken}
 use Rattle.procedures.specs.Taking.{facts_with, lacks_room, outcome_of, settled, taken_by_central, took_step}
 use Rattle.procedure_stages.specs.Opcodes.{is_opcode, later_opcode_at_central, opcode_at_central}

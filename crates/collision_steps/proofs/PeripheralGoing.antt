@@ -5,13 +5,13 @@ use Rattle.ble_base.specs.declared.error_codes.ErrCode.{ErrCode}
 use Rattle.ble_base.specs.declared.roles.Role.TheVariants.{Peripheral as PeripheralRole}
 use Rattle.data_pdu.specs.declared.ctrl.Ctrl.{Ctrl}
 use Rattle.data_pdu.specs.declared.ctrl.Ctrl.TheVariants.{TerminateInd, RejectExtInd}
-use Rattle.procedure_stages.specs.declared.asks.Ask.{Ask}
-use Rattle.procedure_stages.specs.declared.asks.Ask.TheVariants.{Update as ask_update, Request as ask_request, Map as ask_map, Phy as ask_phy, Features as ask_features, Version as ask_version, Length as ask_length, Encrypt as ask_encrypt}
-use Rattle.procedure_stages.specs.declared.drafts.Draft.{Draft}
-use Rattle.procedure_stages.specs.declared.drafts.Draft.TheVariants.{Request, PhyReq, PhyRsp, FeatureReq, PeripheralFeatureReq, VersionInd, LengthReq, Cipher}
-use Rattle.procedure_stages.specs.declared.drafts.Rejection.{Rejection}
-use Rattle.procedure_stages.specs.declared.drafts.Outgoing.{Outgoing}
-use Rattle.procedure_stages.specs.declared.drafts.Outgoing.TheVariants.{Nothing, Rejection as sent_rejection, Disconnect, Other}
+use Rattle.procedure_values.specs.declared.asks.Ask.{Ask}
+use Rattle.procedure_values.specs.declared.asks.Ask.TheVariants.{Update as ask_update, Request as ask_request, Map as ask_map, Phy as ask_phy, Features as ask_features, Version as ask_version, Length as ask_length, Encrypt as ask_encrypt}
+use Rattle.procedure_values.specs.declared.drafts.Draft.{Draft}
+use Rattle.procedure_values.specs.declared.drafts.Draft.TheVariants.{Request, PhyReq, PhyRsp, FeatureReq, PeripheralFeatureReq, VersionInd, LengthReq, Cipher}
+use Rattle.procedure_values.specs.declared.drafts.Rejection.{Rejection}
+use Rattle.procedure_values.specs.declared.drafts.Outgoing.{Outgoing}
+use Rattle.procedure_values.specs.declared.drafts.Outgoing.TheVariants.{Nothing, Rejection as sent_rejection, Disconnect, Other}
 use Rattle.procedure_stages.specs.declared.stages.Ahead.{Ahead}
 use Rattle.procedure_stages.specs.declared.stages.Exchange.TheVariants.{FeaturesUnsent, FeaturesSent, VersionUnsent, VersionSent, LengthUnsent, LengthSent}
 use Rattle.procedure_stages.specs.declared.stages.OwnPeripheral.{OwnPeripheral}
@@ -20,18 +20,21 @@ use Rattle.procedure_stages.specs.declared.stages.PeerAtPeripheral.{PeerAtPeriph
 use Rattle.procedure_stages.specs.declared.stages.PeerAtPeripheral.TheVariants.{UpdateTaken, MapTaken, PhyRspUnsent}
 use Rattle.procedure_stages.specs.declared.stages.Peripheral.{Peripheral}
 use Rattle.procedure_stages.specs.declared.stages.Progress.TheVariants.{Peripheral as peripheral}
-use Rattle.procedures.specs.declared.table.Closing.{Closing}
-use Rattle.procedures.specs.declared.table.Closing.TheVariants.{Open, Closed, Disconnecting}
-use Rattle.procedures.specs.Table.{TableFacts, is_disconnecting, is_open}
-use Rattle.procedures.specs.Queue.{next_draft, next_of}
+use Rattle.procedure_stages.specs.declared.closing.Closing.{Closing}
+use Rattle.procedure_stages.specs.declared.closing.Closing.TheVariants.{Open, Closed, Disconnecting}
+use Rattle.procedures.specs.Table.{TableFacts}
+use Rattle.procedure_stages.specs.Closing.{is_disconnecting, is_open}
+use Rattle.procedure_stages.specs.Queue.{next_draft}
+use Rattle.procedures.specs.Queue.{next_of}
 use Rattle.procedures.specs.Sending.{acked_step, facts_sent, went_step}
 use Rattle.procedure_stages.specs.Sent.{own_sent_by_peripheral, progress_after_draft, phy_rsp_sent}
 use Rattle.procedure_stages.specs.Acked.{request_acknowledged}
-use Rattle.procedure_stages.specs.Drafts.{waits_for_instant}
+use Rattle.procedure_values.specs.Drafts.{waits_for_instant}
 use Rattle.procedures.specs.Going.{entered_step, owe_step, terminate_step}
 use Rattle.procedure_stages.specs.Held.{own_held_at_peripheral, peer_held_at_peripheral}
 use Rattle.procedures.specs.Beginning.{ask_at, begin_at, begin_step, facts_begun, is_ready, may_begin, place_to_begin}
-use Rattle.procedure_stages.specs.Kinds.{begins, kind_at_peripheral, kind_of_ask}
+use Rattle.procedure_stages.specs.Kinds.{begins, kind_at_peripheral}
+use Rattle.procedure_values.specs.Asks.{kind_of_ask}
 use Rattle.collisions.specs.declared.pdus.Pdu.TheVariants.{ParamReq, PhyReq as PhyReqPdu, PhyRsp as PhyRspPdu}
 use Rattle.collisions.specs.PeripheralTable
 use Rattle.collision_steps.specs.Parts.{draft_part}

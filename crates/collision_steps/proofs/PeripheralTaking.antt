@@ -2,8 +2,8 @@
 use Rattle.std.proofs.Common.{◌≡◌, ℕ, ◌==◌, ◌⊎◌, inl, inr, Bool, true, false, [], ◌∷◌, ◌++◌, Some, None, is_some, append-nil, eqb-true, refl, ap, sym, ◌∙◌, subst}
 use Rattle.ble_base.specs.declared.error_codes.ErrCode.{ErrCode}
 use Rattle.instants.specs.declared.indications.Indication.{Indication}
-use Rattle.procedure_stages.specs.declared.drafts.Draft.{Draft}
-use Rattle.procedure_stages.specs.declared.drafts.Draft.TheVariants.{PhyRsp as PhyRspDraft, VersionInd as VersionDraft}
+use Rattle.procedure_values.specs.declared.drafts.Draft.{Draft}
+use Rattle.procedure_values.specs.declared.drafts.Draft.TheVariants.{PhyRsp as PhyRspDraft, VersionInd as VersionDraft}
 use Rattle.data_pdu.specs.declared.ctrl.Ctrl.{Ctrl}
 use Rattle.data_pdu.specs.declared.ctrl.Ctrl.TheVariants.{ConnectionUpdateInd, ChannelMapInd, TerminateInd, EncReq, EncRsp, StartEncReq, StartEncRsp, UnknownRsp, FeatureReq, FeatureRsp, PauseEncReq, PauseEncRsp, VersionInd, RejectInd, PeripheralFeatureReq, ConnectionParamReq, ConnectionParamRsp, RejectExtInd, LengthReq, LengthRsp, PhyReq, PhyRsp, PhyUpdateInd}
 use Rattle.data_pdu.specs.declared.ctrl.CtrlRead.{CtrlRead}
@@ -19,10 +19,11 @@ use Rattle.procedure_stages.specs.declared.stages.PeerAtPeripheral.{PeerAtPeriph
 use Rattle.procedure_stages.specs.declared.stages.PeerAtPeripheral.TheVariants.{PhyRspUnsent, PhyRspSent}
 use Rattle.procedure_stages.specs.declared.stages.Peripheral.{Peripheral}
 use Rattle.procedure_stages.specs.declared.stages.Progress.TheVariants.{Peripheral as peripheral}
-use Rattle.procedures.specs.declared.table.Closing.{Closing}
-use Rattle.procedures.specs.declared.table.Closing.TheVariants.{Open, Closed, Disconnecting}
-use Rattle.procedures.specs.Table.{QueueFacts, TableFacts, is_open}
-use Rattle.procedures.specs.Queue.{with_draft}
+use Rattle.procedure_stages.specs.declared.closing.Closing.{Closing}
+use Rattle.procedure_stages.specs.declared.closing.Closing.TheVariants.{Open, Closed, Disconnecting}
+use Rattle.procedure_stages.specs.Queue.{QueueFacts, with_draft}
+use Rattle.procedures.specs.Table.{TableFacts}
+use Rattle.procedure_stages.specs.Closing.{is_open}
 use Rattle.procedures.specs.Taking.{facts_with, lacks_room, outcome_of, settled, taken_by_peripheral, took_step}
 use Rattle.procedure_stages.specs.Opcodes.{is_opcode, opcode_at_peripheral}
 use Rattle.procedures.specs.Refusals.{refused_if, reject_ext_taken}

@@ -5,19 +5,20 @@ use Rattle.data_pdu.specs.declared.ctrl.Ctrl.{Ctrl}
 use Rattle.data_pdu.specs.declared.ctrl.Ctrl.TheVariants.{TerminateInd, UnknownRsp, RejectInd, ConnectionParamReq, RejectExtInd, PhyReq as phy_req, PhyRsp as phy_rsp}
 use Rattle.data_pdu.specs.declared.ctrl.CtrlRead.{CtrlRead}
 use Rattle.data_pdu.specs.declared.ctrl.CtrlRead.TheVariants.{Known, Unknown, Bare}
-use Rattle.procedure_stages.specs.declared.asks.Ask.{Ask}
-use Rattle.procedure_stages.specs.declared.asks.Ask.TheVariants.{Update as ask_update, Map as ask_map, Phy as ask_phy}
-use Rattle.procedure_stages.specs.declared.drafts.Draft.{Draft}
-use Rattle.procedure_stages.specs.declared.drafts.Rejection.{Rejection}
+use Rattle.procedure_values.specs.declared.asks.Ask.{Ask}
+use Rattle.procedure_values.specs.declared.asks.Ask.TheVariants.{Update as ask_update, Map as ask_map, Phy as ask_phy}
+use Rattle.procedure_values.specs.declared.drafts.Draft.{Draft}
+use Rattle.procedure_values.specs.declared.drafts.Rejection.{Rejection}
 use Rattle.procedure_stages.specs.declared.stages.OwnCentral.{OwnCentral}
 use Rattle.procedure_stages.specs.declared.stages.OwnCentral.TheVariants.{UpdateUnsent as update_unsent, UpdateSent as update_sent, MapUnsent as map_unsent, MapSent as map_sent, PhyUnsent as phy_unsent, PhySent as phy_sent, PhyAnswered as phy_answered, PhyIndicated as phy_indicated}
 use Rattle.procedure_stages.specs.declared.stages.PeerAtCentral.{PeerAtCentral}
 use Rattle.procedure_stages.specs.declared.stages.PeerAtCentral.TheVariants.{Absent as absent, HostAsked as host_asked, GrantUnsent as grant_unsent, GrantSent as grant_sent, PhyIndUnsent as phy_ind_unsent, PhyIndSent as phy_ind_sent}
 use Rattle.procedure_stages.specs.declared.stages.Progress.{Progress}
 use Rattle.procedure_stages.specs.declared.stages.Progress.TheVariants.{Central as central, Peripheral as peripheral}
-use Rattle.procedures.specs.Table.{TableFacts, is_open}
+use Rattle.procedures.specs.Table.{TableFacts}
+use Rattle.procedure_stages.specs.Closing.{is_open}
 use Rattle.procedure_stages.specs.Opcodes.{first_opcode, later_opcode, is_opcode}
-use Rattle.procedure_stages.specs.Values.{are_valid}
+use Rattle.procedure_values.specs.Values.{are_valid}
 use Rattle.collisions.specs.declared.pdus.Exclusive.{Exclusive}
 use Rattle.collisions.specs.declared.pdus.Exclusive.TheVariants.{Update, Map, Phy}
 use Rattle.collisions.specs.declared.pdus.Reason.{Reason}

@@ -3,11 +3,11 @@
 use Rattle.std.specs.Prelude.{ℕ, ◌==◌, List, [], ◌∷◌, Option, Some, None, if◌then◌else◌}
 use Rattle.ble_base.specs.ErrorCodes.{ll_procedure_collision, different_transaction_collision}
 use Rattle.ble_base.specs.declared.error_codes.ErrCode.{ErrCode}
-use Rattle.procedure_stages.specs.declared.drafts.Draft.{Draft}
-use Rattle.procedure_stages.specs.declared.drafts.Draft.TheVariants.{Update as update_draft, Grant as grant_draft, Map as map_draft, Request as request_draft, PhyReq as phy_req_draft, PhyRsp as phy_rsp_draft, PhyInd as phy_ind_draft}
-use Rattle.procedure_stages.specs.declared.drafts.Rejection.{Rejection}
-use Rattle.procedure_stages.specs.declared.drafts.Outgoing.{Outgoing}
-use Rattle.procedure_stages.specs.declared.drafts.Outgoing.TheVariants.{Nothing, Rejection as outgoing_rejection, Disconnect, Other as outgoing_draft}
+use Rattle.procedure_values.specs.declared.drafts.Draft.{Draft}
+use Rattle.procedure_values.specs.declared.drafts.Draft.TheVariants.{Update as update_draft, Grant as grant_draft, Map as map_draft, Request as request_draft, PhyReq as phy_req_draft, PhyRsp as phy_rsp_draft, PhyInd as phy_ind_draft}
+use Rattle.procedure_values.specs.declared.drafts.Rejection.{Rejection}
+use Rattle.procedure_values.specs.declared.drafts.Outgoing.{Outgoing}
+use Rattle.procedure_values.specs.declared.drafts.Outgoing.TheVariants.{Nothing, Rejection as outgoing_rejection, Disconnect, Other as outgoing_draft}
 use Rattle.collisions.specs.declared.pdus.Reason.{Reason}
 use Rattle.collisions.specs.declared.pdus.Reason.TheVariants.{SameKind, OtherKind, Other}
 use Rattle.collisions.specs.declared.pdus.Pdu.{Pdu}

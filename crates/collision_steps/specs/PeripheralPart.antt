@@ -5,11 +5,11 @@ use Rattle.data_pdu.specs.declared.ctrl.Ctrl.{Ctrl}
 use Rattle.data_pdu.specs.declared.ctrl.Ctrl.TheVariants.{ConnectionUpdateInd, ChannelMapInd, TerminateInd, UnknownRsp, RejectInd, RejectExtInd, PhyReq as phy_req, PhyUpdateInd as phy_ind}
 use Rattle.data_pdu.specs.declared.ctrl.CtrlRead.{CtrlRead}
 use Rattle.data_pdu.specs.declared.ctrl.CtrlRead.TheVariants.{Known, Unknown, Bare}
-use Rattle.procedure_stages.specs.declared.asks.Ask.{Ask}
-use Rattle.procedure_stages.specs.declared.asks.Ask.TheVariants.{Request as ask_request, Phy as ask_phy}
-use Rattle.procedure_stages.specs.declared.drafts.Draft.{Draft}
-use Rattle.procedure_stages.specs.declared.drafts.Outgoing.{Outgoing}
-use Rattle.procedure_stages.specs.declared.drafts.Outgoing.TheVariants.{Other as outgoing_draft}
+use Rattle.procedure_values.specs.declared.asks.Ask.{Ask}
+use Rattle.procedure_values.specs.declared.asks.Ask.TheVariants.{Request as ask_request, Phy as ask_phy}
+use Rattle.procedure_values.specs.declared.drafts.Draft.{Draft}
+use Rattle.procedure_values.specs.declared.drafts.Outgoing.{Outgoing}
+use Rattle.procedure_values.specs.declared.drafts.Outgoing.TheVariants.{Other as outgoing_draft}
 use Rattle.procedure_stages.specs.declared.stages.Ahead.{Ahead}
 use Rattle.procedure_stages.specs.declared.stages.Ahead.TheVariants.{Nothing as nothing_ahead, Update as update_ahead, Map as map_ahead}
 use Rattle.procedure_stages.specs.declared.stages.OwnPeripheral.{OwnPeripheral}
@@ -18,7 +18,8 @@ use Rattle.procedure_stages.specs.declared.stages.PeerAtPeripheral.{PeerAtPeriph
 use Rattle.procedure_stages.specs.declared.stages.PeerAtPeripheral.TheVariants.{Absent as absent, UpdateTaken as update_taken, MapTaken as map_taken, PhyRspUnsent as phy_rsp_unsent, PhyRspSent as phy_rsp_sent}
 use Rattle.procedure_stages.specs.declared.stages.Progress.{Progress}
 use Rattle.procedure_stages.specs.declared.stages.Progress.TheVariants.{Central as central, Peripheral as peripheral}
-use Rattle.procedures.specs.Table.{TableFacts, is_open}
+use Rattle.procedures.specs.Table.{TableFacts}
+use Rattle.procedure_stages.specs.Closing.{is_open}
 use Rattle.procedure_stages.specs.Opcodes.{first_opcode, is_opcode}
 use Rattle.collisions.specs.declared.pdus.Exclusive.{Exclusive}
 use Rattle.collisions.specs.declared.pdus.Exclusive.TheVariants.{Update, Request, Map, Phy}

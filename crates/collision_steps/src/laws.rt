@@ -4,7 +4,7 @@ ghost use Rattle.std.specs.Prelude.{◌≡◌, ◌⊎◌, ℕ, Bool, true, List,
 ghost use Rattle.ble_base.specs.declared.error_codes.ErrCode.{ErrCode};
 ghost use Rattle.data_pdu.specs.declared.ctrl.Ctrl.{Ctrl};
 ghost use Rattle.data_pdu.specs.declared.ctrl.CtrlRead.{CtrlRead};
-ghost use Rattle.procedure_stages.specs.declared.asks.Ask.{Ask};
+ghost use Rattle.procedure_values.specs.declared.asks.Ask.{Ask};
 ghost use Rattle.procedure_stages.specs.declared.stages.Central.{Central};
 ghost use Rattle.procedure_stages.specs.declared.stages.Peripheral.{Peripheral};
 ghost use Rattle.procedure_stages.specs.declared.stages.Progress.TheVariants.{Central as central};

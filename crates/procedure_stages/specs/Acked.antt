@@ -1,5 +1,5 @@
 -- The stages of procedures after a PDU was acknowledged (Core 5.2, volume 6 part B, sections 5.1.7 and 5.1.10).
-use Rattle.std.specs.Prelude.{Option, Some, None, Bool, true, false, if◌then◌else◌}
+use Rattle.std.specs.Prelude.{Option, Some, None, Bool, if◌then◌else◌}
 use Rattle.ble_base.specs.declared.procedure_kinds.Kind.{Kind}
 use Rattle.ble_base.specs.declared.procedure_kinds.Kind.TheVariants.{Phy}
 use Rattle.procedure_stages.specs.declared.stages.OwnCentral.{OwnCentral}
@@ -8,13 +8,12 @@ use Rattle.procedure_stages.specs.declared.stages.PeerAtCentral.{PeerAtCentral}
 use Rattle.procedure_stages.specs.declared.stages.PeerAtCentral.TheVariants.{Absent, PhyIndSent}
 use Rattle.procedure_stages.specs.declared.stages.OwnPeripheral.{OwnPeripheral}
 use Rattle.procedure_stages.specs.declared.stages.OwnPeripheral.TheVariants.{RequestSent, RequestAcknowledged}
-use Rattle.procedure_stages.specs.declared.drafts.Draft.TheVariants.{PhyInd, Request}
-use Rattle.procedure_stages.specs.declared.drafts.Outgoing.{Outgoing}
-use Rattle.procedure_stages.specs.declared.drafts.Outgoing.TheVariants.{Other}
+use Rattle.procedure_values.specs.declared.drafts.Outgoing.{Outgoing}
 use Rattle.procedure_stages.specs.declared.stages.Central.{Central}
 use Rattle.procedure_stages.specs.declared.stages.Peripheral.{Peripheral}
 use Rattle.procedure_stages.specs.declared.stages.Progress.{Progress}
 use Rattle.procedure_stages.specs.declared.stages.Progress.TheVariants.{Central as central, Peripheral as peripheral}
+use Rattle.procedure_values.specs.Drafts.{is_phy_ind, is_request}
 
 -- LL_PHY_UPDATE_IND is acknowledged, which completes the central's own procedure, or the peripheral's
 abbrev pub phy_ind_acknowledged : OwnCentral → OwnCentral
@@ -35,14 +34,6 @@ request_acknowledged RequestSent = RequestAcknowledged
 request_acknowledged other = other
 
 -- ---- the procedures after a PDU was acknowledged
-
-abbrev pub is_phy_ind : Outgoing → Bool
-is_phy_ind (Other PhyInd) = true
-is_phy_ind other = false
-
-abbrev pub is_request : Outgoing → Bool
-is_request (Other (Request min max latency timeout)) = true
-is_request other = false
 
 -- LL_PHY_UPDATE_IND at the central
 abbrev pub central_acked : Bool → Central → Central

@@ -5,7 +5,7 @@ use Rattle.ble_base.specs.declared.procedure_kinds.Kind.TheVariants.{Update, Req
 use Rattle.ble_base.specs.ErrorCodes.{ll_procedure_collision, different_transaction_collision}
 use Rattle.ble_base.specs.declared.error_codes.ErrCode.{ErrCode}
 use Rattle.procedure_stages.specs.declared.stages.Progress.{Progress}
-use Rattle.procedure_stages.specs.Kinds.{is_same_kind}
+use Rattle.procedure_values.specs.Asks.{is_same_kind}
 use Rattle.procedure_stages.specs.InProgress.{has_peer, is_encrypting}
 
 -- the procedures that exclude each other and themselves (section 5.3)

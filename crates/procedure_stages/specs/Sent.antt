@@ -11,15 +11,15 @@ use Rattle.procedure_stages.specs.declared.stages.OwnPeripheral.{OwnPeripheral}
 use Rattle.procedure_stages.specs.declared.stages.OwnPeripheral.TheVariants.{RequestUnsent, RequestSent, PhyUnsent as phy_unsent, PhySent as phy_sent, Exchange as exchange_p}
 use Rattle.procedure_stages.specs.declared.stages.PeerAtPeripheral.{PeerAtPeripheral}
 use Rattle.procedure_stages.specs.declared.stages.PeerAtPeripheral.TheVariants.{PhyRspUnsent, PhyRspSent}
-use Rattle.procedure_stages.specs.declared.drafts.Draft.{Draft}
-use Rattle.procedure_stages.specs.declared.drafts.Draft.TheVariants.{FeatureReq, PeripheralFeatureReq, VersionInd, LengthReq, Update, Map, PhyReq, PhyInd, Cipher, Request, Grant, PhyRsp}
+use Rattle.procedure_values.specs.declared.drafts.Draft.{Draft}
+use Rattle.procedure_values.specs.declared.drafts.Draft.TheVariants.{FeatureReq, PeripheralFeatureReq, VersionInd, LengthReq, Update, Map, PhyReq, PhyInd, Cipher, Request, Grant, PhyRsp}
 use Rattle.procedure_stages.specs.declared.stages.Central.{Central}
 use Rattle.procedure_stages.specs.declared.stages.Peripheral.{Peripheral}
 use Rattle.procedure_stages.specs.declared.stages.Progress.{Progress}
 use Rattle.procedure_stages.specs.declared.stages.Progress.TheVariants.{Central as central, Peripheral as peripheral}
-use Rattle.procedure_stages.specs.declared.drafts.Outgoing.{Outgoing}
-use Rattle.procedure_stages.specs.declared.drafts.Outgoing.TheVariants.{Other}
-use Rattle.procedure_stages.specs.Drafts.{instant_event}
+use Rattle.procedure_values.specs.declared.drafts.Outgoing.{Outgoing}
+use Rattle.procedure_values.specs.declared.drafts.Outgoing.TheVariants.{Other}
+use Rattle.procedure_values.specs.Drafts.{instant_event}
 
 -- ---- features, version, length (sections 5.1.4, 5.1.5 and 5.1.9)
 

@@ -2,12 +2,12 @@
 ghost use Rattle.std.specs.Prelude.{◌≡◌};
 ghost use Rattle.procedure_stages.specs.Acked.{phy_ind_acknowledged, phy_ind_of_peer_acknowledged};
 ghost use Rattle.procedure_stages.specs.Acked.{phy_done_by_acknowledgement, request_acknowledged};
-ghost use Rattle.procedure_stages.specs.Acked.{central_acked, is_request, peripheral_acked};
-ghost use Rattle.procedure_stages.specs.Acked.{is_phy_ind, progress_acked, done_by_ack};
+ghost use Rattle.procedure_stages.specs.Acked.{central_acked, peripheral_acked};
+ghost use Rattle.procedure_stages.specs.Acked.{progress_acked, done_by_ack};
 
-use crate::drafts::{Draft, Outgoing};
 use crate::stages::{Central, OwnCentral, OwnPeripheral, PeerAtCentral, Peripheral, Progress};
 use ble_base::Kind;
+use procedure_values::Outgoing;
 
 /// LL_PHY_UPDATE_IND is acknowledged.
 fn phy_ind_acknowledged(own: OwnCentral) -> OwnCentral
@@ -75,22 +75,6 @@ fn peripheral_acked(is_request: bool, p: Peripheral) -> Peripheral
         }
     } else {
         p
-    }
-}
-
-impl Outgoing {
-    /// Whether it is LL_PHY_UPDATE_IND.
-    fn is_phy_ind(&self) -> bool
-        ensures { result ≡ is_phy_ind self.now }
-    {
-        matches!(self, Outgoing::Other(Draft::PhyInd))
-    }
-
-    /// Whether it is LL_CONNECTION_PARAM_REQ.
-    fn is_request(&self) -> bool
-        ensures { result ≡ is_request self.now }
-    {
-        matches!(self, Outgoing::Other(Draft::Request { .. }))
     }
 }
 

@@ -1,13 +1,32 @@
-//! The stage of a procedure as it begins, and its first PDU.
+//! Which procedure begins, its stage as it begins, and its first PDU.
 ghost use Rattle.std.specs.Prelude.{◌≡◌};
 ghost use Rattle.procedure_stages.specs.Begun.{version_stage, stage_at_central};
 ghost use Rattle.procedure_stages.specs.Begun.{stage_at_peripheral, progress_begun, feature_draft};
-ghost use Rattle.procedure_stages.specs.Begun.{version_draft};
+ghost use Rattle.procedure_stages.specs.Begun.{version_draft, draft_begun, may_begin_now};
+ghost use Rattle.procedure_stages.specs.Begun.{first_place};
+ghost use Rattle.procedure_values.specs.Wants.{IsAsk};
 
-use crate::asks::Ask;
-use crate::drafts::Draft;
+use crate::collisions::peer_lets;
+use crate::kinds::begins;
 use crate::stages::{Central, Exchange, OwnCentral, OwnPeripheral, Peripheral, Progress};
-use ble_base::Role;
+use ble_base::{Kind, Role};
+use procedure_values::{Ask, Draft, Lengths, NewParams};
+
+/// Whether a kind that is wanted may begin, at an end that may begin something if it is `ready`.
+fn may_begin_now(ready: bool, progress: Progress, kind: Kind) -> bool
+    ensures { result ≡ may_begin_now ready progress kind }
+{
+    ready && begins(progress.role(), kind) && peer_lets(progress, kind)
+}
+
+/// The place of the first wanted kind that may begin.
+pub fn first_place(ready: bool, progress: Progress, wanted: &[Ask]) -> Option<usize>
+    ensures { result ≡ first_place ready progress wanted.now }
+{
+    wanted
+        .iter()
+        .position(|ask| may_begin_now(ready, progress, ask.kind()))
+}
 
 /// The stage of an exchange of versions as it begins: it waits for the peer at once if the own
 /// LL_VERSION_IND was queued before.
@@ -68,7 +87,7 @@ pub fn progress_begun(ask: &Ask, used: bool, progress: Progress) -> Progress
 }
 
 /// The PDU that begins an exchange of features.
-pub fn feature_draft(role: Role) -> Draft
+fn feature_draft(role: Role) -> Draft
     ensures { result ≡ feature_draft role }
 {
     match role {
@@ -78,8 +97,42 @@ pub fn feature_draft(role: Role) -> Draft
 }
 
 /// The PDU that begins an exchange of versions, unless it was queued before.
-pub fn version_draft(used: bool) -> Option<Draft>
+fn version_draft(used: bool) -> Option<Draft>
     ensures { result ≡ version_draft used }
 {
     if used { None } else { Some(Draft::VersionInd) }
+}
+
+/// The first PDU of a procedure, if it is not left to the layer above.
+pub fn draft_begun(role: Role, used: bool, lengths: Lengths, ask: &Ask) -> Option<Draft>
+    requires { IsAsk ask.now }
+    ensures { result ≡ draft_begun role used lengths ask.now }
+{
+    match *ask {
+        Ask::Update {
+            interval,
+            latency,
+            timeout,
+        } => Some(Draft::Update(NewParams::new(interval, latency, timeout))),
+        Ask::Request {
+            min,
+            max,
+            latency,
+            timeout,
+        } => Some(Draft::Request {
+            min,
+            max,
+            latency,
+            timeout,
+        }),
+        Ask::Map(map) => Some(Draft::Map(map)),
+        Ask::Phy => Some(Draft::PhyReq),
+        Ask::Features => Some(feature_draft(role)),
+        Ask::Version => version_draft(used),
+        Ask::Length { .. } => Some(Draft::LengthReq {
+            rx: lengths.own_rx,
+            tx: lengths.own_tx,
+        }),
+        Ask::Encrypt { .. } => None,
+    }
 }

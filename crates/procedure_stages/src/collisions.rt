@@ -3,9 +3,9 @@ ghost use Rattle.std.specs.Prelude.{◌≡◌};
 ghost use Rattle.procedure_stages.specs.Collisions.{is_exclusive, collision_code, collision};
 ghost use Rattle.procedure_stages.specs.Collisions.{is_encrypt, peer_lets};
 
-use crate::kinds::is_same_kind;
 use crate::stages::Progress;
 use ble_base::{ErrCode, Kind};
+use procedure_values::asks::is_same_kind;
 
 /// Whether a procedure of this kind excludes the others of these kinds.
 fn is_exclusive(kind: Kind) -> bool

@@ -1,7 +1,7 @@
 //! What is in progress at an end.
 ghost use Rattle.std.specs.Prelude.{◌≡◌};
 ghost use Rattle.procedure_stages.specs.InProgress.{first_progress, has_peer, is_encrypting};
-ghost use Rattle.procedure_stages.specs.InProgress.{peer_becomes};
+ghost use Rattle.procedure_stages.specs.InProgress.{is_busy, is_host_asked, peer_becomes};
 
 use crate::stages::{
     Ahead, Central, OwnCentral, OwnPeripheral, PeerAtCentral, PeerAtPeripheral, Peripheral,
@@ -46,6 +46,23 @@ impl Progress {
         match self {
             Progress::Central(_) => false,
             Progress::Peripheral(p) => p.encrypting,
+        }
+    }
+
+    /// Whether a procedure that either end began is in progress here.
+    pub fn is_busy(self) -> bool
+        ensures { result ≡ is_busy self }
+    {
+        self.own_kind().is_some() || self.has_peer() || self.is_encrypting()
+    }
+
+    /// Whether a request of the peripheral waits for the host's answer.
+    pub fn is_host_asked(self) -> bool
+        ensures { result ≡ is_host_asked self }
+    {
+        match self {
+            Progress::Central(c) => matches!(c.peer, PeerAtCentral::HostAsked),
+            Progress::Peripheral(_) => false,
         }
     }
 

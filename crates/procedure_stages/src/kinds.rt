@@ -1,6 +1,6 @@
 //! The kinds of control procedures, and the kind of each stage.
 ghost use Rattle.std.specs.Prelude.{◌≡◌};
-ghost use Rattle.procedure_stages.specs.Kinds.{is_same_kind, begins, kind_of_exchange};
+ghost use Rattle.procedure_stages.specs.Kinds.{begins, kind_of_exchange};
 ghost use Rattle.procedure_stages.specs.Kinds.{kind_at_central, exchange_at_central};
 ghost use Rattle.procedure_stages.specs.Kinds.{kind_at_peripheral, exchange_at_peripheral, role_of};
 ghost use Rattle.procedure_stages.specs.Kinds.{own_kind, own_exchange, without_own, is_kind};
@@ -8,13 +8,7 @@ ghost use Rattle.procedure_stages.specs.Kinds.{is_timed};
 
 use crate::stages::{Central, Exchange, OwnCentral, OwnPeripheral, Peripheral, Progress};
 use ble_base::{Kind, Role};
-
-/// Whether two kinds are the same.
-pub(crate) fn is_same_kind(a: Kind, b: Kind) -> bool
-    ensures { result ≡ is_same_kind a b }
-{
-    a == b
-}
+use procedure_values::asks::is_same_kind;
 
 /// Whether an end of this role begins a procedure of this kind (Core 5.2, volume 6 part B, sections
 /// 5.1.1 to 5.1.10).

@@ -12,12 +12,13 @@ ghost use Rattle.procedure_stages.specs.Sent.{last_instant_after, central_after,
 ghost use Rattle.procedure_stages.specs.Sent.{progress_after_draft, progress_after_sending};
 ghost use Rattle.procedure_stages.specs.Sent.{is_own_draft, is_own};
 
-use crate::drafts::{Draft, Outgoing, instant_event};
 use crate::stages::{
     Central, Exchange, OwnCentral, OwnPeripheral, PeerAtCentral, PeerAtPeripheral, Peripheral,
     Progress,
 };
 use ble_base::EventNo;
+use procedure_values::drafts::instant_event;
+use procedure_values::{Draft, Outgoing};
 
 /// The request of this end is sent: the stage after it, if an exchange of features is under way.
 fn features_sent(stage: Exchange) -> Option<Exchange>

@@ -1,5 +1,5 @@
 //! Calls on one end of a link, and what each gives, as words.
-ghost use Rattle.procedure_stages.specs.Wants.{IsAsk};
+ghost use Rattle.procedure_values.specs.Wants.{IsAsk};
 
 use ble_base::{ChannelMap, ErrCode, EventNo, SlotNo};
 use data_pdu::{Ctrl, CtrlRead, read_ctrl};

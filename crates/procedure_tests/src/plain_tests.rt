@@ -3,7 +3,7 @@ ghost use Rattle.std.specs.Prelude.{◌≡◌, ◌≤◌, ◌<◌, ◌^◌, IsTr
 ghost use Rattle.data_pdu.specs.Ranges.{IsInRange};
 ghost use Rattle.data_pdu.specs.Reading.{IfKnown};
 ghost use Rattle.procedures.specs.Going.{is_update};
-ghost use Rattle.procedure_stages.specs.Wants.{IsAsk};
+ghost use Rattle.procedure_values.specs.Wants.{IsAsk};
 
 use crate::plain::{PeerStage, Plain, Source, param_req, update_ind};
 use ble_base::{ChannelMap, ErrCode, EventNo, Kind, Role, SlotNo};

@@ -11,12 +11,13 @@ use Rattle.procedure_stages.specs.declared.stages.OwnPeripheral.TheVariants.{Idl
 use Rattle.procedure_stages.specs.declared.stages.PeerAtPeripheral.TheVariants.{Absent as absent}
 use Rattle.procedure_stages.specs.declared.stages.Progress.{Progress}
 use Rattle.procedure_stages.specs.declared.stages.Progress.TheVariants.{Central as central, Peripheral as peripheral}
-use Rattle.procedures.specs.declared.steps.Effect.TheVariants.{PeerFeatures}
-use Rattle.procedures.specs.declared.steps.Step.{Step}
+use Rattle.procedure_stages.specs.declared.steps.Effect.TheVariants.{PeerFeatures}
+use Rattle.procedure_stages.specs.declared.steps.Step.{Step}
 use Rattle.procedure_stages.specs.Kinds.{own_exchange, without_own}
-use Rattle.procedure_stages.specs.Limits.{with_peer}
-use Rattle.procedures.specs.Table.{TableFacts, is_open}
-use Rattle.procedures.specs.Queue.{waiting_in}
+use Rattle.procedure_values.specs.Limits.{with_peer}
+use Rattle.procedures.specs.Table.{TableFacts}
+use Rattle.procedure_stages.specs.Closing.{is_open}
+use Rattle.procedure_stages.specs.Queue.{waiting_in}
 use Rattle.procedures.specs.Outcomes.{unchanged, moved, with_effect, with_done, empty_step}
 use Rattle.procedure_stages.specs.Awaited.{awaits_phy_rsp, has_phy_of_central, awaits_phy_ind, awaits_features, awaits_lengths}
 use Rattle.procedures.specs.Phy.{phy_answered}

@@ -17,41 +17,43 @@ use Rattle.procedure_stages.specs.declared.stages.OwnCentral.TheVariants.{Idle}
 use Rattle.procedure_stages.specs.declared.stages.OwnPeripheral.TheVariants.{Idle as idle}
 use Rattle.procedure_stages.specs.declared.stages.PeerAtCentral.TheVariants.{Absent, HostAsked, PhyIndUnsent}
 use Rattle.procedure_stages.specs.declared.stages.PeerAtPeripheral.TheVariants.{Absent as absent, MapTaken, PhyRspUnsent}
-use Rattle.procedures.specs.declared.steps.Effect.TheVariants.{PeerFeatures, AskHost}
+use Rattle.procedure_stages.specs.declared.steps.Effect.TheVariants.{PeerFeatures, AskHost}
 use Rattle.procedure_stages.specs.Kinds.{kind_at_central, kind_at_peripheral, own_exchange, without_own, role_of}
-use Rattle.procedures.specs.declared.steps.Step.{Step}
-use Rattle.procedure_stages.specs.Limits.{with_peer}
-use Rattle.procedure_stages.specs.declared.asks.Ask.{Ask}
-use Rattle.procedure_stages.specs.declared.asks.Ask.TheVariants.{Update as ask_update, Request as ask_request, Map as ask_map, Phy as ask_phy, Features as ask_features, Version as ask_version, Length as ask_length, Encrypt as ask_encrypt}
-use Rattle.procedure_stages.specs.declared.drafts.Draft.{Draft}
-use Rattle.procedure_stages.specs.declared.drafts.Draft.TheVariants.{VersionInd as version_ind, PhyInd, PhyRsp as phy_rsp}
-use Rattle.procedure_stages.specs.declared.drafts.Rejection.{Rejection as TheRejection}
-use Rattle.procedure_stages.specs.declared.drafts.Outgoing.TheVariants.{Nothing, Other}
+use Rattle.procedure_stages.specs.declared.steps.Step.{Step}
+use Rattle.procedure_values.specs.Limits.{with_peer}
+use Rattle.procedure_values.specs.declared.asks.Ask.{Ask}
+use Rattle.procedure_values.specs.declared.asks.Ask.TheVariants.{Update as ask_update, Request as ask_request, Map as ask_map, Phy as ask_phy, Features as ask_features, Version as ask_version, Length as ask_length, Encrypt as ask_encrypt}
+use Rattle.procedure_values.specs.declared.drafts.Draft.{Draft}
+use Rattle.procedure_values.specs.declared.drafts.Draft.TheVariants.{VersionInd as version_ind, PhyInd, PhyRsp as phy_rsp}
+use Rattle.procedure_values.specs.declared.drafts.Rejection.{Rejection as TheRejection}
+use Rattle.procedure_values.specs.declared.drafts.Outgoing.TheVariants.{Nothing, Other}
 use Rattle.procedures.specs.declared.outcome.Outcome.{Outcome}
-use Rattle.procedures.specs.declared.outcome.Reply.{Reply}
-use Rattle.procedures.specs.declared.outcome.Reply.TheVariants.{Nothing as no_reply, Reject, Answer}
+use Rattle.procedure_stages.specs.declared.reply.Reply.{Reply}
+use Rattle.procedure_stages.specs.declared.reply.Reply.TheVariants.{Nothing as no_reply, Reject, Answer}
 use Rattle.procedure_stages.specs.declared.stages.Ahead.{Ahead}
 use Rattle.procedure_stages.specs.declared.stages.Ahead.TheVariants.{Nothing as nothing_ahead, Update as update_ahead, Map as map_ahead}
 use Rattle.procedure_stages.specs.declared.stages.Central.{Central}
 use Rattle.procedure_stages.specs.declared.stages.Peripheral.{Peripheral}
 use Rattle.procedure_stages.specs.declared.stages.Progress.{Progress}
 use Rattle.procedure_stages.specs.declared.stages.Progress.TheVariants.{Central as central, Peripheral as peripheral}
-use Rattle.procedures.specs.declared.table.Closing.{Closing}
+use Rattle.procedure_stages.specs.declared.closing.Closing.{Closing}
 use Rattle.procedure_stages.specs.Collisions.{collision}
-use Rattle.procedures.specs.Table.{TableFacts, QueueFacts, first_facts, is_open, is_disconnecting}
-use Rattle.procedures.specs.Queue.{with_draft, with_reply, without_next, next_of, next_by, next_draft, next_disconnect, is_past_instant}
-use Rattle.procedure_stages.specs.Drafts.{waits_for_instant}
+use Rattle.procedures.specs.Table.{TableFacts, first_facts}
+use Rattle.procedure_stages.specs.Queue.{QueueFacts, with_draft, with_reply, without_next, next_by, next_draft, next_disconnect, is_past_instant, is_version_reply}
+use Rattle.procedure_stages.specs.Closing.{is_open, is_disconnecting}
+use Rattle.procedures.specs.Queue.{next_of}
+use Rattle.procedure_values.specs.Drafts.{waits_for_instant}
 use Rattle.procedures.specs.Outcomes.{unchanged, moved, moved_and_answered, rejected, with_effect, with_done}
 use Rattle.procedures.specs.Update.{follow, followed, granted, update_begun}
 use Rattle.procedure_stages.specs.Awaited.{reads_as_answer, peer_answered, central_answered, awaits_phy_rsp, has_phy_of_central, awaits_phy_ind, awaits_features, awaits_lengths, is_own_encryption}
 use Rattle.procedures.specs.Request.{collided, outlived, request_judged}
-use Rattle.procedure_stages.specs.Values.{are_valid}
+use Rattle.procedure_values.specs.Values.{are_valid}
 use Rattle.procedures.specs.Phy.{phy_answered}
 use Rattle.procedures.specs.Length.{with_lengths}
 use Rattle.procedure_stages.specs.Opcodes.{is_opcode, first_opcode, later_opcode}
 use Rattle.procedures.specs.Refusals.{refused_if}
 use Rattle.procedures.specs.Version.{version_reply}
-use Rattle.procedures.specs.Taking.{is_version_reply, taken_by_either, taken_by_central, taken_by_peripheral, taken_by, outcome_of, lacks_room, facts_with}
+use Rattle.procedures.specs.Taking.{taken_by_either, taken_by_central, taken_by_peripheral, taken_by, outcome_of, lacks_room, facts_with}
 use Rattle.procedures.specs.Beginning.{facts_begun, begin_at, place_to_begin, ask_at, with_first_draft}
 use Rattle.procedure_stages.specs.Begun.{version_draft, feature_draft}
 use Rattle.procedures.specs.Calls.{Call, asks, begins_one, takes, sends, is_acked, enters, host_answers, disconnects, is_given, after_call, sent_by, version_count, versions_sent}

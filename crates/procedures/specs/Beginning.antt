@@ -1,18 +1,18 @@
 -- What a host asks, and which of it begins (Core 5.2, volume 6 part B, section 5.1; the order is our choice).
 use Rattle.std.specs.Prelude.{◌||◌, Bool, not, ◌&&◌, is_none, ℕ, position, Option, Some, None, true, false, List, remove, slice_get}
 use Rattle.ble_base.specs.declared.procedure_kinds.Kind.{Kind}
-use Rattle.procedure_stages.specs.declared.asks.Ask.{Ask}
-use Rattle.procedure_stages.specs.declared.asks.Ask.TheVariants.{Update, Request, Map, Phy, Features, Version, Length, Encrypt}
-use Rattle.procedure_stages.specs.declared.drafts.Draft.{Draft}
-use Rattle.procedure_stages.specs.declared.drafts.Draft.TheVariants.{Update as update_draft, Map as map_draft, Request as request_draft, PhyReq, LengthReq}
-use Rattle.procedure_stages.specs.Kinds.{own_kind, is_kind, begins, role_of, kind_of_ask}
-use Rattle.procedure_stages.specs.Wants.{is_wanted, wanted_with}
-use Rattle.procedure_stages.specs.Limits.{lengths_asked}
-use Rattle.procedure_stages.specs.Collisions.{peer_lets}
-use Rattle.procedure_stages.specs.Begun.{feature_draft, version_draft, progress_begun}
-use Rattle.procedures.specs.declared.table.Closing.{Closing}
-use Rattle.procedures.specs.Table.{TableFacts, is_open, QueueFacts}
-use Rattle.procedures.specs.Queue.{with_draft}
+use Rattle.procedure_values.specs.declared.asks.Ask.{Ask}
+use Rattle.procedure_values.specs.declared.asks.Ask.TheVariants.{Version}
+use Rattle.procedure_values.specs.declared.drafts.Draft.{Draft}
+use Rattle.procedure_stages.specs.Kinds.{own_kind, is_kind, role_of}
+use Rattle.procedure_values.specs.Asks.{kind_of_ask}
+use Rattle.procedure_values.specs.Wants.{is_wanted, wanted_with}
+use Rattle.procedure_values.specs.Limits.{lengths_asked}
+use Rattle.procedure_stages.specs.Begun.{draft_begun, may_begin_now, progress_begun}
+use Rattle.procedure_stages.specs.declared.closing.Closing.{Closing}
+use Rattle.procedures.specs.Table.{TableFacts}
+use Rattle.procedure_stages.specs.Closing.{is_open}
+use Rattle.procedure_stages.specs.Queue.{QueueFacts, with_draft}
 use Rattle.procedures.specs.Taking.{since_after}
 
 -- ---- what the host wants
@@ -32,7 +32,7 @@ is_ready f quiet = is_none (own_kind f.progress) && quiet && is_open f.closing
 
 -- a kind that is wanted may begin, at the end whose role begins it
 abbrev pub may_begin : TableFacts → Bool → Kind → Bool
-may_begin f quiet kind = is_ready f quiet && begins (role_of f.progress) kind && peer_lets f.progress kind
+may_begin f quiet kind = may_begin_now (is_ready f quiet) f.progress kind
 
 -- the place of the first wanted that may begin: one that may not does not hold back those after it
 abbrev pub place_to_begin : TableFacts → Bool → Option ℕ
@@ -40,17 +40,9 @@ place_to_begin f quiet = position (λ ask. may_begin f quiet (kind_of_ask ask)) 
 
 -- ---- how it begins
 
--- its first PDU; that of an encryption depends on the phase and is queued by the layer above
+-- its first PDU
 abbrev pub first_draft : TableFacts → Ask → Option Draft
-first_draft f (Update interval latency timeout) =
-    Some (update_draft (record { interval = interval; latency = latency; timeout = timeout }))
-first_draft f (Request min max latency timeout) = Some (request_draft min max latency timeout)
-first_draft f (Map map) = Some (map_draft map)
-first_draft f Phy = Some PhyReq
-first_draft f Features = Some (feature_draft (role_of f.progress))
-first_draft f Version = version_draft f.version_used
-first_draft f (Length tx) = Some (LengthReq f.lengths.own_rx f.lengths.own_tx)
-first_draft f (Encrypt rand ediv ltk skd_m iv_m) = None
+first_draft f ask = draft_begun (role_of f.progress) f.version_used f.lengths ask
 
 abbrev pub with_first_draft : Closing → Option Draft → QueueFacts → QueueFacts
 with_first_draft closing None queue = queue

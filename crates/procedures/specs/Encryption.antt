@@ -11,7 +11,7 @@ use Rattle.procedure_stages.specs.declared.stages.Peripheral.{Peripheral}
 use Rattle.procedure_stages.specs.declared.stages.Progress.{Progress}
 use Rattle.procedure_stages.specs.Awaited.{is_own_encryption}
 use Rattle.procedures.specs.declared.outcome.Outcome.{Outcome}
-use Rattle.procedures.specs.declared.steps.Effect.TheVariants.{Cipher}
+use Rattle.procedure_stages.specs.declared.steps.Effect.TheVariants.{Cipher}
 use Rattle.procedures.specs.Table.{TableFacts}
 use Rattle.procedures.specs.Outcomes.{unchanged, with_effect, moved, with_done}
 

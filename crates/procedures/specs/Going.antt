@@ -7,18 +7,19 @@ use Rattle.ble_base.specs.declared.counters.SlotNo.{SlotNo}
 use Rattle.ble_base.specs.ErrorCodes.{ll_response_timeout}
 use Rattle.data_pdu.specs.declared.ctrl.Ctrl.{Ctrl}
 use Rattle.data_pdu.specs.declared.ctrl.Ctrl.TheVariants.{TerminateInd}
-use Rattle.procedure_stages.specs.declared.drafts.Draft.TheVariants.{Grant, Cipher}
+use Rattle.procedure_values.specs.declared.drafts.Draft.TheVariants.{Grant, Cipher}
 use Rattle.procedure_stages.specs.declared.stages.PeerAtCentral.TheVariants.{GrantUnsent, Absent}
-use Rattle.procedure_stages.specs.declared.asks.Ask.{Ask}
-use Rattle.procedure_stages.specs.declared.asks.Ask.TheVariants.{Update as ask_update}
+use Rattle.procedure_values.specs.declared.asks.Ask.{Ask}
+use Rattle.procedure_values.specs.declared.asks.Ask.TheVariants.{Update as ask_update}
 use Rattle.procedure_stages.specs.Held.{progress_held, done_held}
 use Rattle.procedure_stages.specs.InProgress.{peer_becomes}
 use Rattle.procedure_stages.specs.Opcodes.{connection_param_req_opcode}
 use Rattle.procedure_stages.specs.Kinds.{own_kind, is_timed}
-use Rattle.procedures.specs.declared.table.Closing.TheVariants.{Disconnecting}
-use Rattle.procedures.specs.declared.table.Closing.{Closing}
-use Rattle.procedures.specs.Table.{TableFacts, closed}
-use Rattle.procedures.specs.Queue.{with_draft, with_rejection, with_disconnect}
+use Rattle.procedure_stages.specs.declared.closing.Closing.TheVariants.{Disconnecting}
+use Rattle.procedure_stages.specs.declared.closing.Closing.{Closing}
+use Rattle.procedures.specs.Table.{TableFacts}
+use Rattle.procedure_stages.specs.Closing.{closed}
+use Rattle.procedure_stages.specs.Queue.{with_draft, with_rejection, with_disconnect}
 use Rattle.procedures.specs.Encryption.{progress_given}
 
 -- ---- an event is entered, from which an indication holds

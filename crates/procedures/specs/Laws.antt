@@ -4,14 +4,14 @@ use Rattle.ble_base.specs.declared.error_codes.ErrCode.{ErrCode}
 use Rattle.ble_base.specs.declared.procedure_kinds.Kind.{Kind}
 use Rattle.data_pdu.specs.declared.ctrl.Ctrl.{Ctrl}
 use Rattle.data_pdu.specs.declared.ctrl.Ctrl.TheVariants.{PhyRsp, PhyUpdateInd, EncRsp, StartEncReq, StartEncRsp, PauseEncRsp, UnknownRsp, FeatureRsp, LengthRsp, RejectInd, RejectExtInd}
-use Rattle.procedure_stages.specs.declared.drafts.Outgoing.{Outgoing}
-use Rattle.procedure_stages.specs.declared.drafts.Outgoing.TheVariants.{Other}
+use Rattle.procedure_values.specs.declared.drafts.Outgoing.{Outgoing}
+use Rattle.procedure_values.specs.declared.drafts.Outgoing.TheVariants.{Other}
 use Rattle.procedure_stages.specs.declared.stages.Progress.{Progress}
 use Rattle.procedure_stages.specs.declared.stages.Progress.TheVariants.{Central, Peripheral}
 use Rattle.procedure_stages.specs.Awaited.{awaits_phy_rsp, awaits_phy_ind, has_phy_of_central, awaits_features, awaits_lengths}
 use Rattle.procedure_stages.specs.Kinds.{own_exchange}
 use Rattle.procedure_stages.specs.Opcodes.{first_opcode, later_opcode, is_opcode}
-use Rattle.procedures.specs.declared.steps.Step.{Step}
+use Rattle.procedure_stages.specs.declared.steps.Step.{Step}
 use Rattle.procedures.specs.Outcomes.{empty_step}
 
 -- rejections and LL_TERMINATE_IND of a Disconnect: what goes before the end of a link

@@ -1,14 +1,14 @@
 -- Data length update (Core 5.2, volume 6 part B, section 5.1.9).
 use Rattle.std.specs.Prelude.{ℕ, if◌then◌else◌}
 use Rattle.ble_base.specs.declared.procedure_kinds.Kind.TheVariants.{Length}
-use Rattle.procedure_stages.specs.declared.drafts.Draft.{Draft}
-use Rattle.procedure_stages.specs.declared.drafts.Draft.TheVariants.{LengthRsp}
-use Rattle.procedure_stages.specs.declared.lengths.Lengths.{Lengths}
-use Rattle.procedure_stages.specs.Limits.{rx_of, tx_of, with_peer}
+use Rattle.procedure_values.specs.declared.drafts.Draft.{Draft}
+use Rattle.procedure_values.specs.declared.drafts.Draft.TheVariants.{LengthRsp}
+use Rattle.procedure_values.specs.declared.lengths.Lengths.{Lengths}
+use Rattle.procedure_values.specs.Limits.{rx_of, tx_of, with_peer}
 use Rattle.procedure_stages.specs.Kinds.{own_exchange, without_own}
 use Rattle.procedure_stages.specs.Awaited.{awaits_lengths}
 use Rattle.procedures.specs.declared.outcome.Outcome.{Outcome}
-use Rattle.procedures.specs.declared.steps.Effect.TheVariants.{Lengths as effective_lengths}
+use Rattle.procedure_stages.specs.declared.steps.Effect.TheVariants.{Lengths as effective_lengths}
 use Rattle.procedures.specs.Table.{TableFacts}
 use Rattle.procedures.specs.Outcomes.{answered, unchanged, moved, with_done}
 

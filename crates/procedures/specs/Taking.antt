@@ -1,5 +1,5 @@
 -- What each control PDU of the peer does at an end, by its role (Core 5.2, volume 6 part B, sections 2.4.2 and 5).
-use Rattle.std.specs.Prelude.{Bool, true, false, nat_le, ◌||◌, ◌&&◌, List, if◌then◌else◌, ℕ, Option, Some, is_some}
+use Rattle.std.specs.Prelude.{Bool, nat_le, ◌||◌, ◌&&◌, List, if◌then◌else◌, ℕ, Option, Some, is_some}
 use Rattle.ble_base.specs.declared.procedure_kinds.Kind.TheVariants.{Version}
 use Rattle.ble_base.specs.declared.counters.SlotNo.{SlotNo}
 use Rattle.ble_base.specs.ErrorCodes.{memory_capacity_exceeded}
@@ -12,18 +12,15 @@ use Rattle.procedure_stages.specs.declared.stages.Central.{Central}
 use Rattle.procedure_stages.specs.declared.stages.Peripheral.{Peripheral}
 use Rattle.procedure_stages.specs.declared.stages.Progress.{Progress}
 use Rattle.procedure_stages.specs.declared.stages.Progress.TheVariants.{Central as central, Peripheral as peripheral}
-use Rattle.procedure_stages.specs.declared.drafts.Draft.TheVariants.{VersionInd as version_draft}
-use Rattle.procedure_stages.specs.declared.asks.Ask.{Ask}
+use Rattle.procedure_values.specs.declared.asks.Ask.{Ask}
 use Rattle.procedure_stages.specs.Opcodes.{connection_param_rsp_opcode, connection_update_ind_opcode, channel_map_ind_opcode, enc_req_opcode, feature_req_opcode, pause_enc_req_opcode, phy_update_ind_opcode, enc_rsp_opcode, start_enc_req_opcode, peripheral_feature_req_opcode, connection_param_req_opcode}
-use Rattle.procedure_stages.specs.Wants.{place_of, without_place}
+use Rattle.procedure_values.specs.Wants.{place_of, without_place}
 use Rattle.procedures.specs.declared.outcome.Outcome.{Outcome}
-use Rattle.procedures.specs.declared.outcome.Reply.{Reply}
-use Rattle.procedures.specs.declared.outcome.Reply.TheVariants.{Nothing as no_reply, Answer}
-use Rattle.procedures.specs.declared.steps.Effect.{Effect}
-use Rattle.procedures.specs.declared.steps.Effect.TheVariants.{AskHost, PeerEnds, PeerVersion}
-use Rattle.procedures.specs.declared.table.Closing.{Closing}
-use Rattle.procedures.specs.declared.steps.Step.{Step}
-use Rattle.procedures.specs.Table.{TableFacts, is_open, closed}
+use Rattle.procedure_stages.specs.declared.steps.Effect.{Effect}
+use Rattle.procedure_stages.specs.declared.steps.Step.{Step}
+use Rattle.procedures.specs.Table.{TableFacts}
+use Rattle.procedure_stages.specs.Closing.{is_open}
+use Rattle.procedure_stages.specs.Steps.{asks_host, closing_after, is_version_effect}
 use Rattle.procedures.specs.Outcomes.{unchanged, unknown, empty_step}
 use Rattle.procedures.specs.Termination.{terminate_taken}
 use Rattle.procedures.specs.Features.{features_taken, features_asked}
@@ -35,7 +32,7 @@ use Rattle.procedures.specs.Phy.{phy_req_at_central, phy_rsp_taken, phy_req_at_p
 use Rattle.procedures.specs.Encryption.{cipher_at_central, start_rsp_at_central, encryption_begun, pause_rsp_at_peripheral, start_rsp_at_peripheral}
 use Rattle.procedures.specs.Update.{update_taken}
 use Rattle.procedures.specs.Map.{map_taken}
-use Rattle.procedures.specs.Queue.{waiting_in, with_reply}
+use Rattle.procedure_stages.specs.Queue.{waiting_in, with_reply, has_reply, is_version_reply}
 
 -- ---- by PDU
 
@@ -105,35 +102,13 @@ outcome_of f quiet Bare = unchanged f
 
 -- ---- what becomes of the table
 
--- something is to be sent for it, or the host is to be asked
-abbrev pub has_reply : Reply → Bool
-has_reply no_reply = false
-has_reply other = true
-
-abbrev pub asks_host : Effect → Bool
-asks_host (AskHost min max latency timeout) = true
-asks_host other = false
-
 -- there is no room for an answer where sixteen or more control PDUs wait (our choice); once the link is to end nothing
 -- is answered
 abbrev pub lacks_room : TableFacts → Outcome → Bool
 lacks_room f outcome =
     is_open f.closing && nat_le 16 (waiting_in f.queue) && (has_reply outcome.reply || asks_host outcome.step.effect)
 
--- the own LL_VERSION_IND is queued
-abbrev pub is_version_reply : Reply → Bool
-is_version_reply (Answer version_draft) = true
-is_version_reply other = false
-
-abbrev pub closing_after : Effect → Closing → Closing
-closing_after (PeerEnds code) closing = closed closing
-closing_after other closing = closing
-
 -- an exchange of versions that is only wanted does not begin once the peer's LL_VERSION_IND was taken
-abbrev pub is_version_effect : Effect → Bool
-is_version_effect (PeerVersion version company sub) = true
-is_version_effect other = false
-
 abbrev pub wanted_after : Effect → List Ask → List Ask
 wanted_after effect wanted =
     (if is_version_effect effect then without_place (place_of Version wanted) wanted else wanted)

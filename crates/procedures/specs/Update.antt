@@ -11,7 +11,7 @@ use Rattle.procedure_stages.specs.declared.stages.OwnPeripheral.TheVariants.{Req
 use Rattle.procedure_stages.specs.declared.stages.PeerAtPeripheral.TheVariants.{UpdateTaken}
 use Rattle.procedure_stages.specs.Awaited.{reads_as_answer}
 use Rattle.procedures.specs.declared.outcome.Outcome.{Outcome}
-use Rattle.procedures.specs.declared.steps.Effect.TheVariants.{Indicated}
+use Rattle.procedure_stages.specs.declared.steps.Effect.TheVariants.{Indicated}
 use Rattle.procedures.specs.Table.{TableFacts}
 use Rattle.procedures.specs.Outcomes.{moved, with_effect, ended}
 

@@ -1,19 +1,18 @@
 //! What a host asks, and which of it begins.
 ghost use Rattle.std.specs.Prelude.{◌≡◌, ◌&&◌, ◌||◌, ◌<◌};
-ghost use Rattle.procedure_stages.specs.Wants.{IsAsk};
-ghost use Rattle.procedures.specs.Beginning.{is_version, may_ask_of, ask_step, is_ready, may_begin};
-ghost use Rattle.procedures.specs.Beginning.{place_to_begin, first_draft, with_first_draft};
+ghost use Rattle.procedure_values.specs.Wants.{IsAsk};
+ghost use Rattle.procedures.specs.Beginning.{is_version, may_ask_of, ask_step, is_ready};
+ghost use Rattle.procedures.specs.Beginning.{place_to_begin, with_first_draft};
 ghost use Rattle.procedures.specs.Beginning.{facts_begun, begin_step};
-ghost use Rattle.procedures.specs.Queue.{waiting_in};
+ghost use Rattle.procedure_stages.specs.Queue.{waiting_in};
 
 use crate::table::ProcTable;
 use crate::taking::since_after;
 use ble_base::{Kind, SlotNo};
-use procedure_stages::begun::{feature_draft, progress_begun, version_draft};
-use procedure_stages::collisions::peer_lets;
-use procedure_stages::kinds::{begins, is_kind};
-use procedure_stages::lengths::lengths_asked;
-use procedure_stages::{Ask, Draft, NewParams};
+use procedure_stages::begun::{draft_begun, first_place, progress_begun};
+use procedure_stages::kinds::is_kind;
+use procedure_values::lengths::lengths_asked;
+use procedure_values::{Ask, Draft};
 
 /// Whether an exchange of versions is asked for.
 fn is_version(ask: &Ask) -> bool
@@ -62,55 +61,11 @@ impl ProcTable {
         self.progress.own_kind().is_none() && quiet && self.closing.is_open()
     }
 
-    /// Whether a kind that is wanted may begin.
-    fn may_begin(&self, quiet: bool, kind: Kind) -> bool
-        ensures { result ≡ may_begin self.now quiet kind }
-    {
-        self.is_ready(quiet) && begins(self.progress.role(), kind) && peer_lets(self.progress, kind)
-    }
-
     /// The place of the first wanted kind that may begin.
     fn place_to_begin(&self, quiet: bool) -> Option<usize>
         ensures { result ≡ place_to_begin self.now quiet }
     {
-        self.wanted
-            .as_slice()
-            .iter()
-            .position(|ask| self.may_begin(quiet, ask.kind()))
-    }
-
-    /// The first PDU of a procedure, if it is not left to the layer above.
-    fn first_draft(&self, ask: &Ask) -> Option<Draft>
-        requires { IsAsk ask.now }
-        ensures { result ≡ first_draft self.now ask.now }
-    {
-        match *ask {
-            Ask::Update {
-                interval,
-                latency,
-                timeout,
-            } => Some(Draft::Update(NewParams::new(interval, latency, timeout))),
-            Ask::Request {
-                min,
-                max,
-                latency,
-                timeout,
-            } => Some(Draft::Request {
-                min,
-                max,
-                latency,
-                timeout,
-            }),
-            Ask::Map(map) => Some(Draft::Map(map)),
-            Ask::Phy => Some(Draft::PhyReq),
-            Ask::Features => Some(feature_draft(self.progress.role())),
-            Ask::Version => version_draft(self.version_used),
-            Ask::Length { .. } => Some(Draft::LengthReq {
-                rx: self.lengths.own_rx,
-                tx: self.lengths.own_tx,
-            }),
-            Ask::Encrypt { .. } => None,
-        }
+        first_place(self.is_ready(quiet), self.progress, self.wanted.as_slice())
     }
 
     /// Queues the first PDU of a procedure.
@@ -121,7 +76,7 @@ impl ProcTable {
         } }
     {
         if let Some(draft) = draft {
-            self.queue_draft(draft);
+            self.queue.push_draft(self.closing, draft);
         }
     }
 
@@ -131,7 +86,7 @@ impl ProcTable {
         requires in_range { IsAsk ask.now }
         ensures { self.new ≡ facts_begun self.old slot.0 ask.now self.old.wanted }
     {
-        let draft = self.first_draft(ask);
+        let draft = draft_begun(self.progress.role(), self.version_used, self.lengths, ask);
         self.queue_first(draft);
         self.progress = progress_begun(ask, self.version_used, self.progress);
         self.since = since_after(is_second(ask, self.version_used), slot, None);

@@ -7,12 +7,11 @@ ghost use Rattle.procedures.specs.Encryption.{start_rsp_at_peripheral, is_reject
 ghost use Rattle.procedures.specs.Encryption.{progress_given};
 
 use crate::outcome::{Outcome, moved, unchanged};
-use crate::steps::Effect;
 use crate::table::ProcTable;
 use ble_base::Kind;
 use data_pdu::Ctrl;
 use procedure_stages::awaited::is_own_encryption;
-use procedure_stages::{Central, OwnCentral, Peripheral, Progress};
+use procedure_stages::{Central, Effect, OwnCentral, Peripheral, Progress};
 
 /// LL_ENC_RSP, LL_START_ENC_REQ or LL_PAUSE_ENC_RSP is taken at a central.
 pub(crate) fn cipher_at_central(table: &ProcTable, c: Central, quiet: bool, ctrl: &Ctrl) -> Outcome

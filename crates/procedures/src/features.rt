@@ -3,11 +3,11 @@ ghost use Rattle.std.specs.Prelude.{◌≡◌};
 ghost use Rattle.procedures.specs.Features.{features_asked, features_taken};
 
 use crate::outcome::{Outcome, answered, moved, unchanged};
-use crate::steps::Effect;
 use crate::table::ProcTable;
 use ble_base::Kind;
-use procedure_stages::Draft;
+use procedure_stages::Effect;
 use procedure_stages::awaited::awaits_features;
+use procedure_values::Draft;
 
 /// The request of the peer is taken: LL_FEATURE_REQ at a peripheral, LL_PERIPHERAL_FEATURE_REQ at a
 /// central.

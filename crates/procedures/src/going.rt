@@ -4,20 +4,21 @@ ghost use Rattle.std.specs.Prelude.{◌≡◌, ◌<◌, false, IsTrue};
 ghost use Rattle.std.specs.Result.{ForOk};
 ghost use Rattle.data_pdu.specs.Ranges.{IsInRange};
 ghost use Rattle.procedure_stages.specs.InProgress.{is_host_asked};
-ghost use Rattle.procedure_stages.specs.Wants.{IsAsk};
+ghost use Rattle.procedure_values.specs.Wants.{IsAsk};
 ghost use Rattle.procedures.specs.Going.{closing_given, is_over, entered_step, request_granted};
 ghost use Rattle.procedures.specs.Going.{request_refused, granted_by, host_answer_step, is_answer};
 ghost use Rattle.procedures.specs.Going.{terminate_step, owe_step, tick_of};
-ghost use Rattle.procedures.specs.Table.{is_disconnecting};
-ghost use Rattle.procedures.specs.Queue.{waiting_in};
+ghost use Rattle.procedure_stages.specs.Closing.{is_disconnecting};
+ghost use Rattle.procedure_stages.specs.Queue.{waiting_in};
 
 use crate::encryption::progress_given;
-use crate::table::{Closing, ProcTable};
+use crate::table::ProcTable;
 use ble_base::{ErrCode, Kind, SlotNo};
 use data_pdu::Ctrl;
 use procedure_stages::kinds::is_timed;
 use procedure_stages::opcodes::CONNECTION_PARAM_REQ;
-use procedure_stages::{Ask, CipherPdu, Draft, NewParams, PeerAtCentral, Progress, Rejection};
+use procedure_stages::{Closing, PeerAtCentral};
+use procedure_values::{Ask, CipherPdu, Draft, NewParams, Rejection};
 
 /// The time in which the peer has to answer, 40 s (Core 5.2, volume 6 part B, section 5.2), in
 /// slots.
@@ -64,7 +65,7 @@ impl ProcTable {
         ensures { self.new ≡ request_granted self.old interval latency timeout }
     {
         let params = NewParams::new(interval, latency, timeout);
-        self.queue_draft(Draft::Grant(params));
+        self.queue.push_draft(self.closing, Draft::Grant(params));
         self.progress = self.progress.with_peer(PeerAtCentral::GrantUnsent);
     }
 
@@ -89,10 +90,9 @@ impl ProcTable {
         requires { waiting_in self.old.queue < 24 }
         ensures { self.new ≡ request_refused self.old code }
     {
-        self.queue_rejection(Rejection {
-            opcode: CONNECTION_PARAM_REQ,
-            code,
-        });
+        let opcode = CONNECTION_PARAM_REQ;
+        self.queue
+            .push_rejection(self.closing, Rejection { opcode, code });
         self.progress = self.progress.with_peer(PeerAtCentral::Absent);
     }
 
@@ -100,10 +100,7 @@ impl ProcTable {
     pub fn awaits_host(&self) -> bool
         ensures { result ≡ is_host_asked self.now.progress }
     {
-        match self.progress {
-            Progress::Central(c) => matches!(c.peer, PeerAtCentral::HostAsked),
-            Progress::Peripheral(_) => false,
-        }
+        self.progress.is_host_asked()
     }
 
     /// The host answers the request of the peripheral: it grants it with the values of an update, or
@@ -134,9 +131,7 @@ impl ProcTable {
         requires { is_disconnecting self.old.closing ≡ false }
         ensures { self.new ≡ terminate_step self.old reason }
     {
-        if self.closing.is_open() {
-            self.disconnect = Some(reason);
-        }
+        self.queue.set_disconnect(self.closing, reason);
         self.closing = Closing::Disconnecting;
     }
 
@@ -147,7 +142,8 @@ impl ProcTable {
         requires room { waiting_in self.old.queue < 24 }
         ensures { self.new ≡ owe_step self.old ctrl }
     {
-        self.queue_draft(Draft::Cipher(CipherPdu::new(ctrl)));
+        let pdu = CipherPdu::new(ctrl);
+        self.queue.push_draft(self.closing, Draft::Cipher(pdu));
         self.progress = progress_given(self.progress, &ctrl);
         self.closing = closing_given(&ctrl, self.closing);
     }

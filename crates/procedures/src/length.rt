@@ -3,11 +3,11 @@ ghost use Rattle.std.specs.Prelude.{◌≡◌};
 ghost use Rattle.procedures.specs.Length.{length_reply, with_lengths, length_asked, length_taken};
 
 use crate::outcome::{Outcome, answered, moved, unchanged};
-use crate::steps::{Effect, Step};
 use crate::table::ProcTable;
 use ble_base::Kind;
 use procedure_stages::awaited::awaits_lengths;
-use procedure_stages::{Draft, Lengths};
+use procedure_stages::{Effect, Step};
+use procedure_values::{Draft, Lengths};
 
 /// LL_LENGTH_RSP of this end.
 fn length_reply(lengths: &Lengths) -> Draft

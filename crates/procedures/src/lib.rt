@@ -16,7 +16,6 @@ mod queue;
 mod refusals;
 mod request;
 mod sending;
-mod steps;
 mod table;
 mod taking;
 mod termination;
@@ -28,10 +27,12 @@ pub use crate::laws::{
     nothing_is_queued_at_the_end, rejections_go_first, response_time,
     unawaited_answers_are_ignored, unknown_rsp_refuses, version_is_sent_once,
 };
-pub use crate::outcome::{Outcome, Reply};
-pub use crate::steps::{Effect, Step};
-pub use crate::table::{Closing, ProcTable};
+pub use crate::outcome::Outcome;
+pub use crate::table::ProcTable;
 pub use procedure_stages::{
-    Ahead, Ask, Central, CipherPdu, Draft, Exchange, Lengths, NewParams, Outgoing, OwnCentral,
-    OwnPeripheral, PayloadMax, PeerAtCentral, PeerAtPeripheral, Peripheral, Progress, Rejection,
+    Ahead, Central, Closing, Effect, Exchange, OwnCentral, OwnPeripheral, PeerAtCentral,
+    PeerAtPeripheral, Peripheral, Progress, Reply, Step,
+};
+pub use procedure_values::{
+    Ask, CipherPdu, Draft, Lengths, NewParams, Outgoing, PayloadMax, Rejection,
 };

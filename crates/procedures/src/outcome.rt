@@ -4,21 +4,10 @@ ghost use Rattle.procedures.specs.Outcomes.{empty_step, unchanged, moved, answer
 ghost use Rattle.procedures.specs.Outcomes.{moved_and_answered, rejected, ended, unknown};
 ghost use Rattle.procedures.specs.Outcomes.{with_effect, with_done};
 
-use crate::steps::{Effect, Step};
 use crate::table::ProcTable;
 use ble_base::{ErrCode, Kind};
-use procedure_stages::{Draft, Lengths, Progress, Rejection};
-
-/// What is to be sent for a PDU of the peer.
-#[derive(Clone, Copy)]
-pub enum Reply {
-    /// Nothing.
-    Nothing,
-    /// The rejection of the peer's procedure.
-    Reject(Rejection),
-    /// An answer.
-    Answer(Draft),
-}
+use procedure_stages::{Effect, Progress, Reply, Step};
+use procedure_values::{Draft, Lengths, Rejection};
 
 /// What a control PDU of the peer does.
 #[derive(Clone, Copy)]

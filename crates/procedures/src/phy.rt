@@ -11,9 +11,9 @@ use ble_base::Kind;
 use procedure_stages::awaited::{awaits_phy_ind, awaits_phy_rsp, has_phy_of_central};
 use procedure_stages::opcodes::PHY_REQ;
 use procedure_stages::{
-    Central, Draft, OwnCentral, OwnPeripheral, PeerAtCentral, PeerAtPeripheral, Peripheral,
-    Progress,
+    Central, OwnCentral, OwnPeripheral, PeerAtCentral, PeerAtPeripheral, Peripheral, Progress,
 };
+use procedure_values::Draft;
 
 /// LL_PHY_REQ is taken at a central.
 pub(crate) fn phy_req_at_central(table: &ProcTable, c: Central) -> Outcome

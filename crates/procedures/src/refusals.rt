@@ -5,9 +5,9 @@ ghost use Rattle.procedures.specs.Refusals.{refused_with, refused, refused_if, u
 ghost use Rattle.procedures.specs.Refusals.{reject_taken, reject_ext_taken};
 
 use crate::outcome::{Outcome, moved, unchanged};
-use crate::steps::Step;
 use crate::table::ProcTable;
 use ble_base::{ErrCode, Kind};
+use procedure_stages::Step;
 use procedure_stages::opcodes::{first_opcode, is_opcode, later_opcode};
 
 /// A refusal of the own procedure, if there is one.

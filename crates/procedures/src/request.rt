@@ -5,14 +5,13 @@ ghost use Rattle.procedures.specs.Request.{collided, against_central, outlived, 
 ghost use Rattle.procedures.specs.Request.{request_judged, request_taken};
 
 use crate::outcome::{Outcome, ended, moved, rejected};
-use crate::steps::Effect;
 use crate::table::ProcTable;
 use ble_base::{ErrCode, Kind};
 use procedure_stages::awaited::{central_answered, peer_answered};
 use procedure_stages::collisions::collision;
 use procedure_stages::opcodes::CONNECTION_PARAM_REQ;
-use procedure_stages::values::are_valid;
-use procedure_stages::{Central, PeerAtCentral, Peripheral, Progress};
+use procedure_stages::{Central, Effect, PeerAtCentral, Peripheral, Progress};
+use procedure_values::values::are_valid;
 
 /// The outcome of the first PDU of the peripheral, unless it collides with the central's own
 /// procedure: that ends the link if the peer has sent a PDU of the own procedure, and rejects the

@@ -2,7 +2,7 @@
 ghost use Rattle.std.specs.Prelude.{◌≡◌, ◌<◌, ◌^◌, IfSome, IsSome, IsTrue};
 ghost use Rattle.data_pdu.specs.Ranges.{IsInRange};
 ghost use Rattle.instants.specs.Track.{HasInterval};
-ghost use Rattle.procedure_stages.specs.Drafts.{is_out};
+ghost use Rattle.procedure_values.specs.Drafts.{is_out};
 ghost use Rattle.procedures.specs.Sending.{next_ctrl_of, went_step, acked_step};
 
 use crate::table::ProcTable;
@@ -10,7 +10,7 @@ use crate::taking::since_after;
 use ble_base::{EventNo, Kind, SlotNo};
 use data_pdu::Ctrl;
 use instants::Indication;
-use procedure_stages::Outgoing;
+use procedure_values::Outgoing;
 
 impl ProcTable {
     /// Whether a control PDU was sent that is not acknowledged.
@@ -47,8 +47,8 @@ impl ProcTable {
         ensures step { (self.new, result) ≡ went_step self.old event.0 latency quiet slot.0 }
         ensures interval { IfSome result HasInterval }
     {
-        let next = self.next(event, quiet);
-        self.remove_next(next, event, quiet);
+        let ends = self.ends(quiet);
+        let next = self.queue.take_next(ends, self.progress, event);
         self.since = since_after(self.progress.owns(&next), slot, self.since);
         self.progress = self.progress.after_sending(&next, event, latency);
         self.out = next;

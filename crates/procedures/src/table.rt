@@ -1,25 +1,14 @@
 //! The procedures of one end of a link.
 ghost use Rattle.std.specs.Prelude.{◌≡◌};
 ghost use Rattle.procedure_stages.specs.InProgress.{is_busy};
-ghost use Rattle.procedure_stages.specs.Limits.{rx_of, tx_of};
-ghost use Rattle.procedure_stages.specs.Values.{IsPayloadMax};
-ghost use Rattle.procedures.specs.Table.{is_open, is_disconnecting, closed, first_facts};
+ghost use Rattle.procedure_values.specs.Limits.{rx_of, tx_of};
+ghost use Rattle.procedure_values.specs.Values.{IsPayloadMax};
+ghost use Rattle.procedures.specs.Table.{first_facts};
 
-use arrayvec::ArrayVec;
-use ble_base::{ErrCode, Role, SlotNo};
-use procedure_stages::{Draft, Lengths, Outgoing, PayloadMax, Progress, Rejection, Wants};
+use ble_base::{Role, SlotNo};
+use procedure_stages::{Closing, Progress, Queue};
+use procedure_values::{Lengths, Outgoing, PayloadMax, Wants};
 use std::marker::Model;
-
-/// Whether the link is to end (Core 5.2, volume 6 part B, section 5.1.6).
-#[derive(Clone, Copy)]
-pub enum Closing {
-    /// It is not.
-    Open,
-    /// LL_TERMINATE_IND was queued for want of a key, or taken.
-    Closed,
-    /// The Disconnect of the host was accepted.
-    Disconnecting,
-}
 
 /// The table of control procedures of one end of a link (Core 5.2, volume 6 part B, section 5.1).
 ///
@@ -30,12 +19,8 @@ pub struct ProcTable {
     pub(crate) progress: Progress,
     /// What the host wants and was not begun, in order.
     pub(crate) wanted: Wants,
-    /// The rejections that wait to be sent, in order.
-    pub(crate) rejections: ArrayVec<Rejection, 24>,
-    /// The reason of a Disconnect that was accepted and whose LL_TERMINATE_IND waits to be sent.
-    pub(crate) disconnect: Option<ErrCode>,
-    /// The other control PDUs that wait to be sent, in order.
-    pub(crate) drafts: ArrayVec<Draft, 24>,
+    /// The control PDUs that wait to be sent.
+    pub(crate) queue: Queue,
     /// The control PDU that was sent last, until it is acknowledged.
     pub(crate) out: Outgoing,
     /// Whether the link is to end.
@@ -57,11 +42,7 @@ impl Model for ProcTable {
     ghost view = { λ t. record {
       progress = t.progress;
       wanted = t.wanted;
-      queue = record {
-        rejections = t.rejections.items;
-        disconnect = t.disconnect;
-        drafts = t.drafts.items;
-      };
+      queue = t.queue;
       out = t.out;
       closing = t.closing;
       lengths = t.lengths;
@@ -72,41 +53,13 @@ impl Model for ProcTable {
     ghost inverse = { λ f. record {
       progress = f.progress;
       wanted = f.wanted;
-      rejections = record { items = f.queue.rejections };
-      disconnect = f.queue.disconnect;
-      drafts = record { items = f.queue.drafts };
+      queue = f.queue;
       out = f.out;
       closing = f.closing;
       lengths = f.lengths;
       version_used = f.version_used;
       since = f.since;
     } };
-}
-
-impl Closing {
-    /// Whether no LL_TERMINATE_IND was queued or taken.
-    pub(crate) fn is_open(self) -> bool
-        ensures { result ≡ is_open self }
-    {
-        matches!(self, Closing::Open)
-    }
-
-    /// Whether a Disconnect of the host was accepted.
-    pub(crate) fn is_disconnecting(self) -> bool
-        ensures { result ≡ is_disconnecting self }
-    {
-        matches!(self, Closing::Disconnecting)
-    }
-
-    /// After LL_TERMINATE_IND was queued for want of a key, or taken.
-    pub(crate) fn closed(self) -> Self
-        ensures { result ≡ closed self }
-    {
-        match self {
-            Closing::Open => Closing::Closed,
-            _ => self,
-        }
-    }
 }
 
 impl ProcTable {
@@ -119,9 +72,7 @@ impl ProcTable {
         ProcTable {
             progress: Progress::first(role),
             wanted: Wants::new(),
-            rejections: ArrayVec::new(),
-            disconnect: None,
-            drafts: ArrayVec::new(),
+            queue: Queue::new(),
             out: Outgoing::Nothing,
             closing: Closing::Open,
             lengths: Lengths::first(PayloadMax::new(max_rx)),
@@ -134,8 +85,7 @@ impl ProcTable {
     pub fn busy(&self) -> bool
         ensures { result ≡ is_busy self.now.progress }
     {
-        let progress = self.progress;
-        progress.own_kind().is_some() || progress.has_peer() || progress.is_encrypting()
+        self.progress.is_busy()
     }
 
     /// The most octets of a payload that this end receives, and the most that it transmits.

@@ -4,8 +4,8 @@ ghost use Rattle.ble_base.specs.ChannelMap.{IsMap};
 ghost use Rattle.data_pdu.specs.Ranges.{IsInRange};
 ghost use Rattle.data_pdu.specs.Reading.{IfKnown};
 ghost use Rattle.procedures.specs.Taking.{taken_by_either, taken_by_central, taken_by_peripheral};
-ghost use Rattle.procedures.specs.Taking.{taken_by, outcome_of, has_reply, is_version_reply};
-ghost use Rattle.procedures.specs.Taking.{asks_host, closing_after, is_version_effect, since_after};
+ghost use Rattle.procedures.specs.Taking.{taken_by, outcome_of};
+ghost use Rattle.procedures.specs.Taking.{since_after};
 ghost use Rattle.procedures.specs.Taking.{lacks_room, wanted_after, facts_with, settled, took_step};
 ghost use Rattle.procedures.specs.Map.{map_taken};
 
@@ -16,12 +16,11 @@ use crate::encryption::{
 use crate::features::{features_asked, features_taken};
 use crate::length::{length_asked, length_taken};
 use crate::map::map_taken;
-use crate::outcome::{Outcome, Reply, empty_step, unchanged, unknown};
+use crate::outcome::{Outcome, empty_step, unchanged, unknown};
 use crate::phy::{phy_ind_taken, phy_req_at_central, phy_req_at_peripheral, phy_rsp_taken};
 use crate::refusals::{reject_ext_taken, reject_taken, unknown_rsp_taken};
 use crate::request::request_taken;
-use crate::steps::{Effect, Step};
-use crate::table::{Closing, ProcTable};
+use crate::table::ProcTable;
 use crate::termination::terminate_taken;
 use crate::update::update_taken;
 use crate::version::version_taken;
@@ -32,7 +31,7 @@ use procedure_stages::opcodes::{
     CHANNEL_MAP_IND, CONNECTION_PARAM_REQ, CONNECTION_PARAM_RSP, CONNECTION_UPDATE_IND, ENC_REQ,
     ENC_RSP, FEATURE_REQ, PAUSE_ENC_REQ, PERIPHERAL_FEATURE_REQ, PHY_UPDATE_IND, START_ENC_REQ,
 };
-use procedure_stages::{Central, Draft, Peripheral, Progress};
+use procedure_stages::{Central, Effect, Peripheral, Progress, Step};
 
 /// From this number of control PDUs on that wait, none is answered.
 const CROWD: usize = 16;
@@ -168,48 +167,6 @@ fn outcome_of(table: &ProcTable, quiet: bool, read: &CtrlRead) -> Outcome
     }
 }
 
-impl Reply {
-    /// Whether something is to be sent.
-    fn is_some(&self) -> bool
-        ensures { result ≡ has_reply self.now }
-    {
-        !matches!(self, Reply::Nothing)
-    }
-
-    /// Whether it is the own LL_VERSION_IND.
-    fn is_version(&self) -> bool
-        ensures { result ≡ is_version_reply self.now }
-    {
-        matches!(self, Reply::Answer(Draft::VersionInd))
-    }
-}
-
-impl Effect {
-    /// Whether the host is to answer.
-    fn asks_host(&self) -> bool
-        ensures { result ≡ asks_host self.now }
-    {
-        matches!(self, Effect::AskHost { .. })
-    }
-
-    /// Whether the link is to end, after a link with this state takes a PDU with this effect.
-    fn closing_after(&self, closing: Closing) -> Closing
-        ensures { result ≡ closing_after self.now closing }
-    {
-        match self {
-            Effect::PeerEnds(_) => closing.closed(),
-            _ => closing,
-        }
-    }
-
-    /// Whether it is that the peer's version is known.
-    fn is_version(&self) -> bool
-        ensures { result ≡ is_version_effect self.now }
-    {
-        matches!(self, Effect::PeerVersion { .. })
-    }
-}
-
 /// The slot from which the peer's time to answer runs.
 pub(crate) fn since_after(restarts: bool, slot: SlotNo, since: Option<SlotNo>) -> Option<SlotNo>
     ensures { result ≡ since_after restarts slot.0 since }
@@ -232,11 +189,8 @@ impl ProcTable {
         ensures { self.new
             ≡ record self.old { wanted = wanted_after effect.now self.old.wanted } }
     {
-        if !effect.is_version() {
-            return;
-        }
-        if let Some(place) = self.wanted.place_of(Kind::Version) {
-            self.wanted.remove(place);
+        if effect.is_version() {
+            self.wanted.remove_kind(Kind::Version);
         }
     }
 
@@ -245,7 +199,7 @@ impl ProcTable {
         requires { lacks_room self.old outcome.now ≡ false }
         ensures { self.new ≡ facts_with self.old slot.0 outcome.now }
     {
-        self.queue_reply(outcome.reply);
+        self.queue.push_reply(self.closing, outcome.reply);
         self.settle_version(&outcome.step.effect);
         self.progress = outcome.progress;
         self.version_used = self.version_used

@@ -3,9 +3,9 @@ ghost use Rattle.std.specs.Prelude.{◌≡◌};
 ghost use Rattle.procedures.specs.Termination.{terminate_taken};
 
 use crate::outcome::{Outcome, unchanged};
-use crate::steps::Effect;
 use crate::table::ProcTable;
 use ble_base::ErrCode;
+use procedure_stages::Effect;
 
 /// LL_TERMINATE_IND is taken.
 pub(crate) fn terminate_taken(table: &ProcTable, code: u8) -> Outcome

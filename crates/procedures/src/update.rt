@@ -5,12 +5,11 @@ ghost use Rattle.procedures.specs.Update.{ahead_code, followed, follow, granted,
 ghost use Rattle.procedures.specs.Update.{update_taken};
 
 use crate::outcome::{Outcome, ended, moved};
-use crate::steps::Effect;
 use crate::table::ProcTable;
 use ble_base::ErrCode;
 use instants::Indication;
 use procedure_stages::awaited::reads_as_answer;
-use procedure_stages::{Ahead, OwnPeripheral, PeerAtPeripheral, Peripheral, Progress};
+use procedure_stages::{Ahead, Effect, OwnPeripheral, PeerAtPeripheral, Peripheral, Progress};
 
 /// The error of an indication of this kind that is taken while another waits.
 fn ahead_code(waiting: Ahead, new: Ahead) -> ErrCode

@@ -3,12 +3,12 @@ ghost use Rattle.std.specs.Prelude.{◌≡◌};
 ghost use Rattle.procedures.specs.Version.{version_reply, progress_with_version, version_done};
 ghost use Rattle.procedures.specs.Version.{version_taken};
 
-use crate::outcome::{Outcome, Reply, moved};
-use crate::steps::{Effect, Step};
+use crate::outcome::{Outcome, moved};
 use crate::table::ProcTable;
 use ble_base::Kind;
 use procedure_stages::awaited::is_version;
-use procedure_stages::{Draft, Progress};
+use procedure_stages::{Effect, Progress, Reply, Step};
+use procedure_values::Draft;
 
 /// What answers the peer's LL_VERSION_IND: the own one, unless it was queued already.
 fn version_reply(used: bool) -> Reply

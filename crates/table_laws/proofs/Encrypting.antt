@@ -9,12 +9,12 @@ use Rattle.data_pdu.specs.declared.ctrl.Ctrl.TheVariants.{ConnectionUpdateInd, C
 use Rattle.data_pdu.specs.declared.ctrl.CtrlRead.{CtrlRead}
 use Rattle.data_pdu.specs.declared.ctrl.CtrlRead.TheVariants.{Known, Unknown, Bare}
 use Rattle.instants.specs.declared.indications.Indication.TheVariants.{Update as update_indication, Map as map_indication}
-use Rattle.procedure_stages.specs.declared.asks.Ask.{Ask}
-use Rattle.procedure_stages.specs.declared.asks.Ask.TheVariants.{Update as ask_update, Request as ask_request, Map as ask_map, Phy as ask_phy, Features as ask_features, Version as ask_version, Length as ask_length, Encrypt as ask_encrypt}
-use Rattle.procedure_stages.specs.declared.drafts.Draft.{Draft}
-use Rattle.procedure_stages.specs.declared.drafts.Draft.TheVariants.{Update, Grant, Map, Request as request_draft, PhyReq, PhyRsp, PhyInd, FeatureReq, PeripheralFeatureReq, FeatureRsp, VersionInd, LengthReq, LengthRsp, UnknownRsp, Cipher}
-use Rattle.procedure_stages.specs.declared.drafts.Outgoing.{Outgoing}
-use Rattle.procedure_stages.specs.declared.drafts.Outgoing.TheVariants.{Nothing, Rejection, Disconnect, Other}
+use Rattle.procedure_values.specs.declared.asks.Ask.{Ask}
+use Rattle.procedure_values.specs.declared.asks.Ask.TheVariants.{Update as ask_update, Request as ask_request, Map as ask_map, Phy as ask_phy, Features as ask_features, Version as ask_version, Length as ask_length, Encrypt as ask_encrypt}
+use Rattle.procedure_values.specs.declared.drafts.Draft.{Draft}
+use Rattle.procedure_values.specs.declared.drafts.Draft.TheVariants.{Update, Grant, Map, Request as request_draft, PhyReq, PhyRsp, PhyInd, FeatureReq, PeripheralFeatureReq, FeatureRsp, VersionInd, LengthReq, LengthRsp, UnknownRsp, Cipher}
+use Rattle.procedure_values.specs.declared.drafts.Outgoing.{Outgoing}
+use Rattle.procedure_values.specs.declared.drafts.Outgoing.TheVariants.{Nothing, Rejection, Disconnect, Other}
 use Rattle.procedures.specs.declared.outcome.Outcome.{Outcome}
 use Rattle.procedure_stages.specs.declared.stages.Ahead.{Ahead}
 use Rattle.procedure_stages.specs.declared.stages.Ahead.TheVariants.{Nothing as nothing_ahead, Update as update_ahead, Map as map_ahead}
@@ -28,20 +28,24 @@ use Rattle.procedure_stages.specs.declared.stages.Central.{Central}
 use Rattle.procedure_stages.specs.declared.stages.Peripheral.{Peripheral}
 use Rattle.procedure_stages.specs.declared.stages.Progress.{Progress}
 use Rattle.procedure_stages.specs.declared.stages.Progress.TheVariants.{Central as central, Peripheral as peripheral}
-use Rattle.procedures.specs.declared.steps.Effect.TheVariants.{PeerFeatures, AskHost, Cipher as cipher_effect}
-use Rattle.procedures.specs.declared.steps.Step.{Step}
-use Rattle.procedure_stages.specs.Kinds.{begins, exchange_at_central, kind_at_central, kind_at_peripheral, kind_of_ask, own_exchange, own_kind, role_of, without_own}
+use Rattle.procedure_stages.specs.declared.steps.Effect.TheVariants.{PeerFeatures, AskHost, Cipher as cipher_effect}
+use Rattle.procedure_stages.specs.declared.steps.Step.{Step}
+use Rattle.procedure_stages.specs.Kinds.{begins, exchange_at_central, kind_at_central, kind_at_peripheral, own_exchange, own_kind, role_of, without_own}
+use Rattle.procedure_values.specs.Asks.{kind_of_ask}
 use Rattle.procedure_stages.specs.Collisions.{collision}
-use Rattle.procedure_stages.specs.Limits.{with_peer}
-use Rattle.procedures.specs.Table.{TableFacts, is_open}
-use Rattle.procedures.specs.Queue.{next_of, waiting_in}
+use Rattle.procedure_values.specs.Limits.{with_peer}
+use Rattle.procedures.specs.Table.{TableFacts}
+use Rattle.procedure_stages.specs.Closing.{is_open}
+use Rattle.procedures.specs.Queue.{next_of}
+use Rattle.procedure_stages.specs.Queue.{waiting_in}
 use Rattle.procedures.specs.Outcomes.{unchanged, moved, moved_and_answered, rejected, with_effect, with_done}
 use Rattle.procedures.specs.Update.{follow, followed, granted, update_begun}
 use Rattle.procedure_stages.specs.Awaited.{reads_as_answer, peer_answered, central_answered, awaits_phy_rsp, has_phy_of_central, awaits_phy_ind, awaits_features, awaits_lengths, is_own_encryption, is_version}
 use Rattle.procedures.specs.Request.{collided, outlived, request_judged}
-use Rattle.procedure_stages.specs.Values.{are_valid}
+use Rattle.procedure_values.specs.Values.{are_valid}
 use Rattle.procedures.specs.Phy.{phy_answered}
-use Rattle.procedure_stages.specs.Acked.{phy_ind_acknowledged, central_acked, is_phy_ind, is_request, peripheral_acked, progress_acked}
+use Rattle.procedure_stages.specs.Acked.{phy_ind_acknowledged, central_acked, peripheral_acked, progress_acked}
+use Rattle.procedure_values.specs.Drafts.{is_phy_ind, is_request}
 use Rattle.procedures.specs.Length.{with_lengths}
 use Rattle.procedure_stages.specs.Opcodes.{first_opcode, is_opcode, later_opcode, opcode_at_central, enc_req_opcode, connection_param_req_opcode, phy_req_opcode}
 use Rattle.procedures.specs.Refusals.{refused_if}

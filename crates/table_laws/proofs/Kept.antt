@@ -7,8 +7,9 @@ use Rattle.procedure_stages.specs.declared.stages.OwnPeripheral.{OwnPeripheral}
 use Rattle.procedure_stages.specs.declared.stages.OwnPeripheral.TheVariants.{Exchange as exchange_p, RequestUnsent, PhyUnsent as phy_unsent}
 use Rattle.procedure_stages.specs.declared.stages.Progress.{Progress}
 use Rattle.procedure_stages.specs.declared.stages.Progress.TheVariants.{Central as central, Peripheral as peripheral}
-use Rattle.procedures.specs.Table.{TableFacts, is_open}
-use Rattle.procedures.specs.Queue.{waiting_in}
+use Rattle.procedures.specs.Table.{TableFacts}
+use Rattle.procedure_stages.specs.Closing.{is_open}
+use Rattle.procedure_stages.specs.Queue.{waiting_in}
 use Rattle.table_laws.specs.Waiting.{asked, end_waiting, count_if, own_waiting, version_waiting}
 use Rattle.table_laws.proofs.Numbers.{Counts}
 use Rattle.table_laws.proofs.Outcomes.{own_room, room_at_central, room_at_peripheral}

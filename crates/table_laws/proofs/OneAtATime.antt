@@ -7,16 +7,16 @@ use Rattle.ble_base.specs.declared.procedure_kinds.Kind.{Kind}
 use Rattle.data_pdu.specs.declared.ctrl.Ctrl.{Ctrl}
 use Rattle.data_pdu.specs.declared.ctrl.CtrlRead.{CtrlRead}
 use Rattle.data_pdu.specs.declared.ctrl.CtrlRead.TheVariants.{Known, Unknown, Bare}
-use Rattle.procedure_stages.specs.declared.asks.Ask.{Ask}
-use Rattle.procedure_stages.specs.declared.asks.Ask.TheVariants.{Update as ask_update, Request as ask_request, Map as ask_map, Phy as ask_phy, Features as ask_features, Version as ask_version, Length as ask_length, Encrypt as ask_encrypt}
-use Rattle.procedure_stages.specs.declared.drafts.Draft.{Draft}
-use Rattle.procedure_stages.specs.declared.drafts.Draft.TheVariants.{Update, Grant, Map, Request as request_draft, PhyReq, PhyRsp, PhyInd, FeatureReq, PeripheralFeatureReq, FeatureRsp, VersionInd, LengthReq, LengthRsp, UnknownRsp, Cipher}
-use Rattle.procedure_stages.specs.declared.drafts.Rejection.{Rejection as TheRejection}
-use Rattle.procedure_stages.specs.declared.drafts.Outgoing.{Outgoing}
-use Rattle.procedure_stages.specs.declared.drafts.Outgoing.TheVariants.{Nothing, Rejection, Disconnect, Other}
+use Rattle.procedure_values.specs.declared.asks.Ask.{Ask}
+use Rattle.procedure_values.specs.declared.asks.Ask.TheVariants.{Update as ask_update, Request as ask_request, Map as ask_map, Phy as ask_phy, Features as ask_features, Version as ask_version, Length as ask_length, Encrypt as ask_encrypt}
+use Rattle.procedure_values.specs.declared.drafts.Draft.{Draft}
+use Rattle.procedure_values.specs.declared.drafts.Draft.TheVariants.{Update, Grant, Map, Request as request_draft, PhyReq, PhyRsp, PhyInd, FeatureReq, PeripheralFeatureReq, FeatureRsp, VersionInd, LengthReq, LengthRsp, UnknownRsp, Cipher}
+use Rattle.procedure_values.specs.declared.drafts.Rejection.{Rejection as TheRejection}
+use Rattle.procedure_values.specs.declared.drafts.Outgoing.{Outgoing}
+use Rattle.procedure_values.specs.declared.drafts.Outgoing.TheVariants.{Nothing, Rejection, Disconnect, Other}
 use Rattle.procedures.specs.declared.outcome.Outcome.{Outcome}
-use Rattle.procedures.specs.declared.outcome.Reply.{Reply}
-use Rattle.procedures.specs.declared.outcome.Reply.TheVariants.{Nothing as no_reply, Reject, Answer}
+use Rattle.procedure_stages.specs.declared.reply.Reply.{Reply}
+use Rattle.procedure_stages.specs.declared.reply.Reply.TheVariants.{Nothing as no_reply, Reject, Answer}
 use Rattle.procedure_stages.specs.declared.stages.Exchange.TheVariants.{FeaturesUnsent, FeaturesSent, VersionUnsent, VersionSent, LengthUnsent, LengthSent}
 use Rattle.procedure_stages.specs.declared.stages.OwnCentral.{OwnCentral}
 use Rattle.procedure_stages.specs.declared.stages.OwnCentral.TheVariants.{Idle, Exchange as exchange, UpdateUnsent, UpdateSent, MapUnsent, MapSent, PhyUnsent, PhyAnswered, PhyIndicated, EncryptUnsent, EncryptSent}
@@ -28,16 +28,19 @@ use Rattle.procedure_stages.specs.declared.stages.Central.{Central}
 use Rattle.procedure_stages.specs.declared.stages.Peripheral.{Peripheral}
 use Rattle.procedure_stages.specs.declared.stages.Progress.{Progress}
 use Rattle.procedure_stages.specs.declared.stages.Progress.TheVariants.{Central as central, Peripheral as peripheral}
-use Rattle.procedures.specs.declared.steps.Step.{Step}
-use Rattle.procedures.specs.declared.table.Closing.{Closing}
-use Rattle.procedure_stages.specs.Kinds.{begins, kind_at_central, kind_of_ask, own_kind, role_of}
+use Rattle.procedure_stages.specs.declared.steps.Step.{Step}
+use Rattle.procedure_stages.specs.declared.closing.Closing.{Closing}
+use Rattle.procedure_stages.specs.Kinds.{begins, kind_at_central, own_kind, role_of}
+use Rattle.procedure_values.specs.Asks.{kind_of_ask}
 use Rattle.procedure_stages.specs.Collisions.{is_exclusive, is_encrypt, peer_lets}
-use Rattle.procedures.specs.Table.{QueueFacts, TableFacts, first_facts, is_disconnecting, is_open}
+use Rattle.procedure_stages.specs.Queue.{QueueFacts, is_past_instant, next_by, next_disconnect, next_draft, with_draft, with_reply, without_next}
+use Rattle.procedures.specs.Table.{TableFacts, first_facts}
+use Rattle.procedure_stages.specs.Closing.{is_disconnecting, is_open}
 use Rattle.procedure_stages.specs.InProgress.{has_peer, has_peer_at_central, has_peer_at_peripheral, is_encrypting, is_host_asked, is_host_asked_at_central}
-use Rattle.procedure_stages.specs.Drafts.{waits_for_instant}
-use Rattle.procedures.specs.Queue.{is_past_instant, next_by, next_disconnect, next_draft, next_of, with_draft, with_reply, without_next}
+use Rattle.procedure_values.specs.Drafts.{waits_for_instant, is_phy_ind, is_request}
+use Rattle.procedures.specs.Queue.{next_of}
 use Rattle.procedure_stages.specs.Awaited.{has_phy_of_central}
-use Rattle.procedure_stages.specs.Acked.{phy_ind_acknowledged, phy_ind_of_peer_acknowledged, central_acked, is_phy_ind, is_request, peripheral_acked, progress_acked}
+use Rattle.procedure_stages.specs.Acked.{phy_ind_acknowledged, phy_ind_of_peer_acknowledged, central_acked, peripheral_acked, progress_acked}
 use Rattle.procedures.specs.Encryption.{is_rejection}
 use Rattle.procedures.specs.Taking.{facts_with, lacks_room, outcome_of, took_step}
 use Rattle.procedures.specs.Beginning.{ask_at, begin_at, facts_begun, place_to_begin}

@@ -3,11 +3,11 @@ use Rattle.std.proofs.Common.{◌≡◌, ℕ, zero, suc, ◌+◌, ◌≤◌, Boo
 use Rattle.ble_base.specs.declared.roles.Role.{Role}
 use Rattle.ble_base.specs.declared.procedure_kinds.Kind.TheVariants.{Encrypt}
 use Rattle.data_pdu.specs.declared.ctrl.CtrlRead.{CtrlRead}
-use Rattle.procedure_stages.specs.declared.drafts.Draft.{Draft}
-use Rattle.procedure_stages.specs.declared.drafts.Draft.TheVariants.{PhyRsp, PhyInd, FeatureRsp, VersionInd, LengthRsp, UnknownRsp}
+use Rattle.procedure_values.specs.declared.drafts.Draft.{Draft}
+use Rattle.procedure_values.specs.declared.drafts.Draft.TheVariants.{PhyRsp, PhyInd, FeatureRsp, VersionInd, LengthRsp, UnknownRsp}
 use Rattle.procedures.specs.declared.outcome.Outcome.{Outcome}
-use Rattle.procedures.specs.declared.outcome.Reply.{Reply}
-use Rattle.procedures.specs.declared.outcome.Reply.TheVariants.{Nothing as no_reply, Reject, Answer}
+use Rattle.procedure_stages.specs.declared.reply.Reply.{Reply}
+use Rattle.procedure_stages.specs.declared.reply.Reply.TheVariants.{Nothing as no_reply, Reject, Answer}
 use Rattle.procedure_stages.specs.declared.stages.Exchange.TheVariants.{FeaturesUnsent, FeaturesSent, VersionUnsent, VersionSent, LengthUnsent, LengthSent}
 use Rattle.procedure_stages.specs.declared.stages.OwnCentral.{OwnCentral}
 use Rattle.procedure_stages.specs.declared.stages.OwnCentral.TheVariants.{Exchange as exchange, EncryptUnsent, EncryptSent}
@@ -15,15 +15,17 @@ use Rattle.procedure_stages.specs.declared.stages.OwnPeripheral.{OwnPeripheral}
 use Rattle.procedure_stages.specs.declared.stages.OwnPeripheral.TheVariants.{Exchange as exchange_p}
 use Rattle.procedure_stages.specs.declared.stages.Progress.{Progress}
 use Rattle.procedure_stages.specs.declared.stages.Progress.TheVariants.{Central as central, Peripheral as peripheral}
-use Rattle.procedures.specs.declared.steps.Effect.{Effect}
-use Rattle.procedures.specs.declared.steps.Effect.TheVariants.{PeerEnds}
-use Rattle.procedures.specs.declared.steps.Step.{Step}
-use Rattle.procedures.specs.declared.table.Closing.{Closing}
-use Rattle.procedures.specs.declared.table.Closing.TheVariants.{Open, Closed, Disconnecting}
+use Rattle.procedure_stages.specs.declared.steps.Effect.{Effect}
+use Rattle.procedure_stages.specs.declared.steps.Effect.TheVariants.{PeerEnds}
+use Rattle.procedure_stages.specs.declared.steps.Step.{Step}
+use Rattle.procedure_stages.specs.declared.closing.Closing.{Closing}
+use Rattle.procedure_stages.specs.declared.closing.Closing.TheVariants.{Open, Closed, Disconnecting}
 use Rattle.procedure_stages.specs.Kinds.{kind_at_central, kind_at_peripheral, own_kind, role_of}
-use Rattle.procedures.specs.Table.{QueueFacts, TableFacts, is_open}
-use Rattle.procedures.specs.Queue.{waiting_in, with_reply}
-use Rattle.procedures.specs.Taking.{asks_host, closing_after, facts_with, has_reply, is_version_reply, lacks_room, outcome_of, took_step}
+use Rattle.procedure_stages.specs.Queue.{QueueFacts, waiting_in, with_reply, has_reply, is_version_reply}
+use Rattle.procedures.specs.Table.{TableFacts}
+use Rattle.procedure_stages.specs.Closing.{is_open}
+use Rattle.procedure_stages.specs.Steps.{asks_host, closing_after}
+use Rattle.procedures.specs.Taking.{facts_with, lacks_room, outcome_of, took_step}
 use Rattle.procedures.specs.Calls.{takes}
 use Rattle.table_laws.specs.Waiting.{end_waiting, is_asked, is_version_ind, count_if, own_waiting, version_waiting}
 use Rattle.table_laws.specs.Pasts.{May}

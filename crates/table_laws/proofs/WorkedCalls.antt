@@ -7,7 +7,7 @@ use Rattle.ble_base.specs.declared.roles.Role.TheVariants.{Central}
 use Rattle.procedure_stages.specs.Kinds.{own_kind}
 use Rattle.procedures.specs.Table.{first_facts}
 use Rattle.procedure_stages.specs.InProgress.{has_peer}
-use Rattle.procedures.specs.Queue.{waiting_in}
+use Rattle.procedure_stages.specs.Queue.{waiting_in}
 use Rattle.procedures.specs.Calls.{Call, after_calls}
 use Rattle.table_laws.specs.Pasts.{MayAll}
 use Rattle.table_laws.specs.Waiting.{version_waiting}

@@ -3,8 +3,8 @@ use Rattle.std.specs.Prelude.{◌≡◌, ℕ, Bool, true, false, List, [], ◌�
 use Rattle.data_pdu.specs.declared.ctrl.Ctrl.{Ctrl}
 use Rattle.data_pdu.specs.declared.ctrl.Ctrl.TheVariants.{EncReq, PauseEncReq, UnknownRsp, RejectInd, RejectExtInd, ConnectionParamReq, PhyReq as phy_req}
 use Rattle.data_pdu.specs.declared.ctrl.CtrlRead.TheVariants.{Known}
-use Rattle.procedure_stages.specs.declared.drafts.Draft.{Draft}
-use Rattle.procedure_stages.specs.declared.drafts.Draft.TheVariants.{Update, Grant, Map, PhyReq, PhyInd}
+use Rattle.procedure_values.specs.declared.drafts.Draft.{Draft}
+use Rattle.procedure_values.specs.declared.drafts.Draft.TheVariants.{Update, Grant, Map, PhyReq, PhyInd}
 use Rattle.procedure_stages.specs.declared.stages.Ahead.{Ahead}
 use Rattle.procedure_stages.specs.declared.stages.Ahead.TheVariants.{Nothing}
 use Rattle.procedure_stages.specs.declared.stages.Central.{Central}

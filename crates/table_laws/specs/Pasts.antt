@@ -8,9 +8,10 @@ use Rattle.data_pdu.specs.declared.ctrl.Ctrl.TheVariants.{TerminateInd, EncReq, 
 use Rattle.procedure_stages.specs.declared.stages.Progress.{Progress}
 use Rattle.procedure_stages.specs.declared.stages.Progress.TheVariants.{Central, Peripheral}
 use Rattle.procedure_stages.specs.Kinds.{own_kind}
-use Rattle.procedures.specs.Table.{TableFacts, is_open}
+use Rattle.procedures.specs.Table.{TableFacts}
+use Rattle.procedure_stages.specs.Closing.{is_open}
 use Rattle.procedure_stages.specs.InProgress.{is_host_asked}
-use Rattle.procedures.specs.Queue.{waiting_in}
+use Rattle.procedure_stages.specs.Queue.{waiting_in}
 use Rattle.procedures.specs.Taking.{took_step}
 use Rattle.procedures.specs.Calls.{Call, takes, host_answers, is_given, after_call}
 use Rattle.procedure_stages.specs.Opcodes.{enc_req_opcode}

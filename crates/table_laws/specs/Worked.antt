@@ -2,8 +2,8 @@
 use Rattle.std.specs.Prelude.{true, List, [], ◌∷◌, ◌++◌, Ok, replicate}
 use Rattle.data_pdu.specs.declared.ctrl.Ctrl.TheVariants.{ConnectionParamReq, PhyReq, VersionInd}
 use Rattle.data_pdu.specs.declared.ctrl.CtrlRead.TheVariants.{Known, Unknown}
-use Rattle.procedure_stages.specs.declared.asks.Ask.TheVariants.{Update, Version, Length}
-use Rattle.procedure_stages.specs.Drafts.{no_offsets}
+use Rattle.procedure_values.specs.declared.asks.Ask.TheVariants.{Update, Version, Length}
+use Rattle.procedure_values.specs.Drafts.{no_offsets}
 use Rattle.procedures.specs.Calls.{Call, asks, begins_one, takes, sends, is_acked, host_answers, disconnects}
 
 -- sixteen PDUs that are not known, each of which is answered

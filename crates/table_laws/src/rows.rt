@@ -4,7 +4,7 @@ ghost use Rattle.ble_base.specs.declared.roles.Role.{Role};
 ghost use Rattle.procedure_stages.specs.Kinds.{own_kind};
 ghost use Rattle.procedures.specs.Table.{first_facts};
 ghost use Rattle.procedure_stages.specs.InProgress.{has_peer, is_host_asked};
-ghost use Rattle.procedures.specs.Queue.{waiting_in};
+ghost use Rattle.procedure_stages.specs.Queue.{waiting_in};
 ghost use Rattle.procedures.specs.Calls.{Call, after_calls};
 ghost use Rattle.table_laws.specs.Waiting.{asked, end_waiting, version_waiting};
 ghost use Rattle.table_laws.specs.Pasts.{MayAll};

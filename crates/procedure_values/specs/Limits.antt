@@ -1,9 +1,9 @@
 -- The longest payloads of a link (Core 5.2, volume 6 part B, section 4.5.10).
 use Rattle.std.specs.Prelude.{ℕ, min}
 use Rattle.ble_base.specs.Limits.{first_payload_octets}
-use Rattle.procedure_stages.specs.declared.lengths.Lengths.{Lengths}
-use Rattle.procedure_stages.specs.declared.asks.Ask.{Ask}
-use Rattle.procedure_stages.specs.declared.asks.Ask.TheVariants.{Length}
+use Rattle.procedure_values.specs.declared.lengths.Lengths.{Lengths}
+use Rattle.procedure_values.specs.declared.asks.Ask.{Ask}
+use Rattle.procedure_values.specs.declared.asks.Ask.TheVariants.{Length}
 
 -- before any exchange: 27 octets each way but for what this end receives (section 4.5.10)
 abbrev pub first_lengths : ℕ → Lengths

@@ -1,5 +1,8 @@
 //! What a control PDU of the peer does, as the layer above sees it.
+ghost use Rattle.std.specs.Prelude.{◌≡◌};
+ghost use Rattle.procedure_stages.specs.Steps.{asks_host, closing_after, is_version_effect};
 
+use crate::closing::Closing;
 use ble_base::{ErrCode, Kind};
 use data_pdu::Ctrl;
 use instants::Indication;
@@ -26,7 +29,8 @@ pub enum Effect {
         sub: u16,
     },
     /// The host answers a connection parameters request: intervals in 1.25 ms, latency in
-    /// connection events, timeout in 10 ms. `ProcTable::host_answer` takes its answer.
+    /// connection events, timeout in 10 ms. `ProcTable::host_answer` of `procedures` takes its
+    /// answer.
     AskHost {
         min: u16,
         max: u16,
@@ -37,6 +41,32 @@ pub enum Effect {
     PeerEnds(ErrCode),
     /// A PDU of the encryption procedures, which the encryption phase goes on with.
     Cipher(Ctrl),
+}
+
+impl Effect {
+    /// Whether the host is to answer.
+    pub fn asks_host(&self) -> bool
+        ensures { result ≡ asks_host self.now }
+    {
+        matches!(self, Effect::AskHost { .. })
+    }
+
+    /// Whether the link is to end, after a link with this state takes a PDU with this effect.
+    pub fn closing_after(&self, closing: Closing) -> Closing
+        ensures { result ≡ closing_after self.now closing }
+    {
+        match self {
+            Effect::PeerEnds(_) => closing.closed(),
+            _ => closing,
+        }
+    }
+
+    /// Whether it is that the peer's version is known.
+    pub fn is_version(&self) -> bool
+        ensures { result ≡ is_version_effect self.now }
+    {
+        matches!(self, Effect::PeerVersion { .. })
+    }
 }
 
 /// What a control PDU of the peer does.

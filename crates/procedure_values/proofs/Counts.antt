@@ -5,10 +5,10 @@ use Rattle.std.proofs.lemmas.List.Elements.{All-take, All-drop, All-append, All-
 use Rattle.std.proofs.lemmas.List.Quantifiers.{position-Some}
 use Rattle.ble_base.specs.declared.procedure_kinds.Kind.{Kind}
 use Rattle.ble_base.specs.declared.procedure_kinds.Kind.TheVariants.{Update, Request, Map, Phy, Features, Version, Length, Encrypt}
-use Rattle.procedure_stages.specs.declared.asks.Ask.{Ask}
-use Rattle.procedure_stages.specs.declared.asks.Ask.TheVariants.{Update as ask_update, Request as ask_request, Map as ask_map, Phy as ask_phy, Features as ask_features, Version as ask_version, Length as ask_length, Encrypt as ask_encrypt}
-use Rattle.procedure_stages.specs.Kinds.{kind_of_ask, is_same_kind}
-use Rattle.procedure_stages.specs.Wants.{place_of, count_of, IsAsk, IsWants}
+use Rattle.procedure_values.specs.declared.asks.Ask.{Ask}
+use Rattle.procedure_values.specs.declared.asks.Ask.TheVariants.{Update as ask_update, Request as ask_request, Map as ask_map, Phy as ask_phy, Features as ask_features, Version as ask_version, Length as ask_length, Encrypt as ask_encrypt}
+use Rattle.procedure_values.specs.Asks.{kind_of_ask, is_same_kind}
+use Rattle.procedure_values.specs.Wants.{place_of, count_of, IsAsk, IsWants}
 
 total : List Ask → ℕ
 total asks = count_of Update asks + count_of Request asks + count_of Map asks + count_of Phy asks + count_of Features asks + count_of Version asks + count_of Length asks + count_of Encrypt asks

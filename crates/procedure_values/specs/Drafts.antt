@@ -5,10 +5,10 @@ use Rattle.data_pdu.specs.declared.ctrl.Ctrl.{Ctrl}
 use Rattle.data_pdu.specs.declared.ctrl.Ctrl.TheVariants.{UnknownRsp, FeatureReq, FeatureRsp, VersionInd, PeripheralFeatureReq, PhyReq, PhyRsp, PhyUpdateInd, ConnectionUpdateInd, ChannelMapInd, ConnectionParamReq, LengthReq, LengthRsp, TerminateInd, RejectExtInd}
 use Rattle.instants.specs.declared.indications.Indication.{Indication}
 use Rattle.instants.specs.declared.indications.Indication.TheVariants.{Update as update_indication, Map as map_indication}
-use Rattle.procedure_stages.specs.declared.drafts.Draft.{Draft}
-use Rattle.procedure_stages.specs.declared.drafts.Draft.TheVariants.{PhyReq as phy_req, PhyRsp as phy_rsp, PhyInd, FeatureReq as feature_req, PeripheralFeatureReq as peripheral_feature_req, FeatureRsp as feature_rsp, UnknownRsp as unknown_rsp, Update, Grant, Map, Request, LengthReq as length_req, LengthRsp as length_rsp, Cipher}
-use Rattle.procedure_stages.specs.declared.drafts.Outgoing.{Outgoing}
-use Rattle.procedure_stages.specs.declared.drafts.Outgoing.TheVariants.{Nothing, Rejection, Disconnect, Other}
+use Rattle.procedure_values.specs.declared.drafts.Draft.{Draft}
+use Rattle.procedure_values.specs.declared.drafts.Draft.TheVariants.{PhyReq as phy_req, PhyRsp as phy_rsp, PhyInd, FeatureReq as feature_req, PeripheralFeatureReq as peripheral_feature_req, FeatureRsp as feature_rsp, UnknownRsp as unknown_rsp, Update, Grant, Map, Request, LengthReq as length_req, LengthRsp as length_rsp, Cipher}
+use Rattle.procedure_values.specs.declared.drafts.Outgoing.{Outgoing}
+use Rattle.procedure_values.specs.declared.drafts.Outgoing.TheVariants.{Nothing, Rejection, Disconnect, Other}
 
 -- the own features (section 4.6; which of them is our choice): encryption, parameter request, extended reject,
 -- peripheral feature exchange, data length, channel selection algorithm 2
@@ -100,3 +100,13 @@ waits_for_instant (Grant params) = true
 waits_for_instant (Map map) = true
 waits_for_instant phy_req = true
 waits_for_instant other = false
+
+-- ---- which PDU it is
+
+abbrev pub is_phy_ind : Outgoing → Bool
+is_phy_ind (Other PhyInd) = true
+is_phy_ind other = false
+
+abbrev pub is_request : Outgoing → Bool
+is_request (Other (Request min max latency timeout)) = true
+is_request other = false

@@ -1,8 +1,8 @@
 //! The longest payloads of a link (Core 5.2, volume 6 part B, section 4.5.10).
 ghost use Rattle.std.specs.Prelude.{◌≡◌};
-ghost use Rattle.procedure_stages.specs.Limits.{first_lengths, rx_of, tx_of, with_own_tx};
-ghost use Rattle.procedure_stages.specs.Limits.{with_peer, lengths_asked};
-ghost use Rattle.procedure_stages.specs.Wants.{IsAsk};
+ghost use Rattle.procedure_values.specs.Limits.{first_lengths, rx_of, tx_of, with_own_tx};
+ghost use Rattle.procedure_values.specs.Limits.{with_peer, lengths_asked};
+ghost use Rattle.procedure_values.specs.Wants.{IsAsk};
 
 use crate::asks::Ask;
 use crate::values::PayloadMax;

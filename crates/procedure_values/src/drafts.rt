@@ -3,11 +3,12 @@
 ghost use Rattle.std.specs.Prelude.{◌≡◌, ◌<◌, ◌^◌, ◌≤◌, IfSome};
 ghost use Rattle.data_pdu.specs.Ranges.{IsInRange};
 ghost use Rattle.instants.specs.Track.{HasInterval};
-ghost use Rattle.procedure_stages.specs.Drafts.{instant_event, instant_at, time_of, no_offsets};
-ghost use Rattle.procedure_stages.specs.Drafts.{own_version, own_company, own_sub, ctrl_of_draft};
-ghost use Rattle.procedure_stages.specs.Drafts.{indication_of_draft, waits_for_instant};
-ghost use Rattle.procedure_stages.specs.Drafts.{fixed_ctrl_of, ctrl_of_outgoing, indication_of};
-ghost use Rattle.procedure_stages.specs.Drafts.{is_out};
+ghost use Rattle.procedure_values.specs.Drafts.{instant_event, instant_at, time_of, no_offsets};
+ghost use Rattle.procedure_values.specs.Drafts.{own_version, own_company, own_sub, ctrl_of_draft};
+ghost use Rattle.procedure_values.specs.Drafts.{indication_of_draft, waits_for_instant};
+ghost use Rattle.procedure_values.specs.Drafts.{fixed_ctrl_of, ctrl_of_outgoing, indication_of};
+ghost use Rattle.procedure_values.specs.Drafts.{is_out};
+ghost use Rattle.procedure_values.specs.Drafts.{is_phy_ind, is_request};
 
 use crate::values::{CipherPdu, NewParams, PayloadMax};
 use ble_base::{ChannelMap, ErrCode, EventNo};
@@ -95,7 +96,7 @@ pub enum Draft {
 
 /// What is in the unused places of a queue, which no reader sees.
 impl Default for Draft {
-    ghost use Rattle.procedure_stages.specs.declared.drafts.Draft.TheVariants.{FeatureRsp};
+    ghost use Rattle.procedure_values.specs.declared.drafts.Draft.TheVariants.{FeatureRsp};
 
     ghost is_default = { λ draft. draft ≡ FeatureRsp };
 
@@ -119,7 +120,7 @@ pub enum Outgoing {
 
 /// The event that the Instant of an indication names which is first sent in this event, of a link
 /// whose peripheral may skip `latency` events.
-pub(crate) fn instant_event(event: EventNo, latency: u16) -> EventNo
+pub fn instant_event(event: EventNo, latency: u16) -> EventNo
     requires { event.0 < 2 ^ 32 }
     ensures { result.0 ≡ instant_event event.0 latency }
 {
@@ -306,6 +307,20 @@ impl Draft {
 }
 
 impl Outgoing {
+    /// Whether it is LL_PHY_UPDATE_IND.
+    pub fn is_phy_ind(&self) -> bool
+        ensures { result ≡ is_phy_ind self.now }
+    {
+        matches!(self, Outgoing::Other(Draft::PhyInd))
+    }
+
+    /// Whether it is LL_CONNECTION_PARAM_REQ.
+    pub fn is_request(&self) -> bool
+        ensures { result ≡ is_request self.now }
+    {
+        matches!(self, Outgoing::Other(Draft::Request { .. }))
+    }
+
     /// Whether there is one.
     pub fn is_some(&self) -> bool
         ensures { result ≡ is_out self.now }

@@ -1,7 +1,7 @@
 //! Values of the PDUs that this product sends, which are in their ranges.
 ghost use Rattle.std.specs.Prelude.{◌≡◌, ◌+◌, ◌*◌, ◌<◌, ◌≤◌, ◌↔◌, IsTrue};
 ghost use Rattle.data_pdu.specs.Ranges.{IsInRange};
-ghost use Rattle.procedure_stages.specs.Values.{IsParams, IsPayloadMax, are_valid};
+ghost use Rattle.procedure_values.specs.Values.{IsParams, IsPayloadMax, are_valid};
 
 use data_pdu::Ctrl;
 use std::marker::Model;
@@ -16,7 +16,7 @@ pub struct NewParams {
 }
 
 impl Model for NewParams {
-    ghost use Rattle.procedure_stages.specs.Values.{ParamValues, IsParams};
+    ghost use Rattle.procedure_values.specs.Values.{ParamValues, IsParams};
 
     ghost Value = { ParamValues };
 
@@ -80,7 +80,7 @@ pub struct PayloadMax {
 
 impl Model for PayloadMax {
     ghost use Rattle.std.specs.Prelude.{ℕ};
-    ghost use Rattle.procedure_stages.specs.Values.{IsPayloadMax};
+    ghost use Rattle.procedure_values.specs.Values.{IsPayloadMax};
 
     ghost Value = { ℕ };
 

@@ -1,6 +1,6 @@
-//! What a host asks of a link: the procedures that it wants, each with its values.
+//! What a host asks of a link: the procedures that it wants, each with its values, and their kinds.
 ghost use Rattle.std.specs.Prelude.{◌≡◌};
-ghost use Rattle.procedure_stages.specs.Kinds.{kind_of_ask};
+ghost use Rattle.procedure_values.specs.Asks.{kind_of_ask, is_same_kind};
 
 use ble_base::{ChannelMap, Kind};
 
@@ -51,7 +51,7 @@ pub enum Ask {
 
 /// What is in the unused places of a list of wants, which no reader sees.
 impl Default for Ask {
-    ghost use Rattle.procedure_stages.specs.declared.asks.Ask.TheVariants.{Features};
+    ghost use Rattle.procedure_values.specs.declared.asks.Ask.TheVariants.{Features};
 
     ghost is_default = { λ ask. ask ≡ Features };
 
@@ -76,4 +76,11 @@ impl Ask {
             Ask::Encrypt { .. } => Kind::Encrypt,
         }
     }
+}
+
+/// Whether two kinds are the same.
+pub fn is_same_kind(a: Kind, b: Kind) -> bool
+    ensures { result ≡ is_same_kind a b }
+{
+    a == b
 }

@@ -2,10 +2,10 @@
 use Rattle.std.specs.Prelude.{⊤, ℕ, ◌+◌, List, [], ◌∷◌, if◌then◌else◌, ◌≤◌, Option, position, Bool, is_some, Some, None, remove, ◌++◌, slice_set}
 use Rattle.std.specs.List.{All}
 use Rattle.ble_base.specs.declared.procedure_kinds.Kind.{Kind}
-use Rattle.procedure_stages.specs.declared.asks.Ask.{Ask}
-use Rattle.procedure_stages.specs.declared.asks.Ask.TheVariants.{Update, Length}
-use Rattle.procedure_stages.specs.Values.{IsParams, IsPayloadMax}
-use Rattle.procedure_stages.specs.Kinds.{kind_of_ask, is_same_kind}
+use Rattle.procedure_values.specs.declared.asks.Ask.{Ask}
+use Rattle.procedure_values.specs.declared.asks.Ask.TheVariants.{Update, Length}
+use Rattle.procedure_values.specs.Values.{IsParams, IsPayloadMax}
+use Rattle.procedure_values.specs.Asks.{kind_of_ask, is_same_kind}
 
 -- the values of an ask are in their ranges
 abbrev pub IsAsk : Ask → Type 0

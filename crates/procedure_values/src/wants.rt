@@ -1,9 +1,9 @@
 //! What a host wants of a link: each kind at most once, in order.
 ghost use Rattle.std.specs.Prelude.{◌≡◌, ◌<◌, [], length, Some, slice_get, remove, slice_set};
-ghost use Rattle.procedure_stages.specs.Wants.{place_of, is_wanted, IsAsk, wanted_with};
+ghost use Rattle.procedure_values.specs.Wants.{place_of, is_wanted, IsAsk, wanted_with};
+ghost use Rattle.procedure_values.specs.Wants.{without_place};
 
-use crate::asks::Ask;
-use crate::kinds::is_same_kind;
+use crate::asks::{Ask, is_same_kind};
 use arrayvec::ArrayVec;
 use ble_base::Kind;
 use std::marker::Model;
@@ -16,8 +16,8 @@ pub struct Wants {
 
 impl Model for Wants {
     ghost use Rattle.std.specs.Prelude.{List};
-    ghost use Rattle.procedure_stages.specs.declared.asks.Ask.{Ask};
-    ghost use Rattle.procedure_stages.specs.Wants.{IsWants};
+    ghost use Rattle.procedure_values.specs.declared.asks.Ask.{Ask};
+    ghost use Rattle.procedure_values.specs.Wants.{IsWants};
 
     ghost Value = { List Ask };
 
@@ -80,6 +80,15 @@ impl Wants {
         ensures in_range { IsAsk result }
     {
         self.asks.as_slice()[place]
+    }
+
+    /// Removes the ask of a kind, if there is one.
+    pub fn remove_kind(&mut self, kind: Kind)
+        ensures { self.new ≡ without_place (place_of kind self.old) self.old }
+    {
+        if let Some(place) = self.place_of(kind) {
+            self.remove(place);
+        }
     }
 
     /// Removes the ask in a place.

@@ -1,8 +1,8 @@
 -- An ask takes the place of one of its kind, or there is none of its kind and so room for it.
 use Rattle.std.proofs.Common.{sym, ◌∙◌, arith}
-use Rattle.procedure_stages.specs.Kinds.{kind_of_ask}
-use Rattle.procedure_stages.proofs.Counts.{wants_set, wants_push, none_wanted, room, same_place}
-use Rattle.procedure_stages.proofs.wants.Wants.add.Goals as goal
+use Rattle.procedure_values.specs.Asks.{kind_of_ask}
+use Rattle.procedure_values.proofs.Counts.{wants_set, wants_push, none_wanted, room, same_place}
+use Rattle.procedure_values.proofs.wants.Wants.add.Goals as goal
 
 pub invariant_of-self : goal.invariant_of-self
 invariant_of-self c =
