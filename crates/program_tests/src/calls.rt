@@ -19,10 +19,9 @@ pub(crate) struct Given<'a> {
     pub(crate) b: &'a str,
     /// The file `schedule`, after its first three lines.
     pub(crate) turns: &'a str,
-    /// How the lines of the output begin that are shown, or nothing where it is shown whole.
+    /// How the lines of the output begin that are shown, or nothing where it is shown whole, or
+    /// "idle" where only turns are counted in which nothing happens.
     pub(crate) only: &'a str,
-    /// The number of turns in which nothing happens that the output is compared with, or 0.
-    pub(crate) idle: u32,
     /// How many zeros `a.bin` has at its end.
     pub(crate) zeros: u32,
     /// How many turns `schedule` has at its end in which the radio of A is off.

@@ -1,56 +1,50 @@
 //! What is shown of an output.
-use crate::calls::Given;
-use std::alloc::{AllocError, Global};
-use test_words::{Call, call_of, put_answer, put_number, put_text};
+use std::alloc::AllocError;
+use test_words::{Call, call_of, put_number, put_text};
 
 /// How many digits of a packet are shown: those of its access address.
 const SHOWN_DIGITS: usize = 8;
 
-/// Writes an output: whole, or the lines of a journal that are to be shown, or whether it is the
-/// journal of turns in which nothing happens.
-pub(crate) fn put_shown(
-    told: &mut String,
-    out: &[u8],
-    given: &Given<'_>,
-) -> Result<(), AllocError> {
-    if given.idle > 0 {
-        put_idle(told, out, given.idle)
-    } else if given.only.is_empty() {
-        put_text(told, out)
-    } else {
-        put_journal(told, out, given.only)
+/// Writes an output: whole, or the lines of a journal that begin with one of these words. With the
+/// word "idle" it writes how many turns it has in which nothing happens, and its size.
+pub(crate) fn put_shown(told: &mut String, out: &[u8], only: &str) -> Result<(), AllocError> {
+    match only {
+        "" => put_text(told, out),
+        "idle" => put_idle(told, out),
+        _ => put_lines(told, text_of(out), only),
     }
 }
 
-/// Writes whether an output is exactly the journal of this number of turns in which nothing
-/// happens.
-fn put_idle(told: &mut String, out: &[u8], count: u32) -> Result<(), AllocError> {
-    let journal = idle_turns(*told.allocator(), count)?;
-    put_answer(told, out == journal.as_bytes())
+/// The text that octets spell.
+fn text_of(octets: &[u8]) -> &str {
+    std::str::from_utf8(octets).unwrap_or("not a text")
 }
 
-/// The journal of this number of turns in which nothing happens.
-fn idle_turns(alloc: Global, count: u32) -> Result<String, AllocError> {
-    let mut journal = String::new(alloc);
-    for turn in 0..count {
-        push_idle_turn(&mut journal, turn)?;
+/// Writes how many lines there are before the first that is not of a turn in which nothing happens,
+/// and the number of octets.
+fn put_idle(told: &mut String, out: &[u8]) -> Result<(), AllocError> {
+    put_number(told, idle_turns(text_of(out)))?;
+    put_number(told, out.len() as u64)
+}
+
+/// The number of lines before the first that is not of a turn in which nothing happens.
+fn idle_turns(journal: &str) -> u64 {
+    let mut turns: u64 = 0;
+    for line in journal.lines() {
+        if !is_idle(line, turns) {
+            return turns;
+        }
+        turns = turns.saturating_add(1);
     }
-    Ok(journal)
+    turns
 }
 
-/// Appends the line of a turn in which nothing happens.
-fn push_idle_turn(journal: &mut String, turn: u32) -> Result<(), AllocError> {
-    journal.push_str("turn")?;
-    put_number(journal, u64::from(turn))?;
-    journal.push_str(" ++\n")
-}
-
-/// Writes lines of an output.
-fn put_journal(told: &mut String, out: &[u8], only: &str) -> Result<(), AllocError> {
-    match std::str::from_utf8(out) {
-        Ok(journal) => put_lines(told, journal, only),
-        Err(_) => told.push_str(" not a text"),
-    }
+/// Whether a line is of this turn, with both radios on.
+fn is_idle(line: &str, turn: u64) -> bool {
+    let call = call_of(line);
+    let [number, signs, ..] = call.words;
+    let mut digits = itoa::Buffer::new();
+    call.name == "turn" && number == digits.format(turn) && signs == "++"
 }
 
 /// Writes the lines of a journal that begin with one of these words, each after the number of its

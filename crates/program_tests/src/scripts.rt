@@ -13,7 +13,6 @@ const NOTHING: Given<'static> = Given {
     b: "",
     turns: "",
     only: "",
-    idle: 0,
     zeros: 0,
     off: 0,
     failing_read: 0,
@@ -72,7 +71,6 @@ impl<'a> Given<'a> {
             "off" => self.off = number,
             "fail_read" => self.failing_read = number,
             "fail_write" => self.failing_write = number,
-            "idle" => self.idle = number,
             _ => return self.call(text, told),
         }
         Ok(())
@@ -87,7 +85,7 @@ impl<'a> Given<'a> {
     /// Writes a status, an output and an error line.
     fn put_ending(&self, ending: &Ending, told: &mut String) -> Result<(), AllocError> {
         put_number(told, u64::from(ending.status))?;
-        put_shown(told, ending.out.octets(), self)?;
+        put_shown(told, ending.out.octets(), self.only)?;
         put_text(told, ending.err.octets())
     }
 }

@@ -45,7 +45,8 @@ fn nothing_is_run(rt: HostRuntime) -> Result<(), AllocError> {
     check(&rt, rt.alloc(), NOT_RUN)
 }
 
-/// The longest file and one octet more, and the most turns.
+/// The longest file and one octet more, and the most turns. Their lines have 9 octets without the
+/// number, and the numbers 488,890 digits.
 const LIMITS: &str = "\
 turns t ++|
 zeros 1048576
@@ -54,8 +55,8 @@ zeros 1048577
 pair a.bin b.bin schedule = 7 [] [too long: a.bin|]
 zeros 0
 turns run 50000|run 50000|
-idle 100000
-pair a.bin b.bin schedule = 0 yes []
+only idle
+pair a.bin b.bin schedule = 0 100000 1388890 []
 ";
 
 #[test]
