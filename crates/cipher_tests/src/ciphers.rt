@@ -1,5 +1,5 @@
-//! Calls on the ciphers, and what each gives, as words. All of them have the keys of the sample data
-//! of Core 5.2, volume 6 part C, section 1.
+//! Calls on the ciphers, and what each gives, as words. All of them have the keys of the sample
+//! data of Core 5.2, volume 6 part C, section 1.
 use crate::ends::put_opened;
 use aes_block::Aes;
 use arrayvec::ArrayVec;

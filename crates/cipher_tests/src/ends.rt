@@ -169,8 +169,8 @@ fn is_after_pause(phase: &Phase) -> bool {
     }
 }
 
-/// The letters of the PDUs that an end may take, or of those that it answers with LL_UNKNOWN_RSP, in
-/// the order of the table.
+/// The letters of the PDUs that an end may take, or of those that it answers with LL_UNKNOWN_RSP,
+/// in the order of the table.
 fn put_letters(phase: &Phase, name: &str, told: &mut String) -> Result<(), AllocError> {
     told.push(' ')?;
     for line in PDUS.lines() {

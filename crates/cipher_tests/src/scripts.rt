@@ -6,8 +6,8 @@ use std::alloc::{AllocError, Global};
 use std::process::Abort;
 use test_words::{Call, TakesCalls, first_wrong};
 
-/// Each line has a call, and after " =" what it gives. Both ends begin without encryption, and again
-/// at a line "new". A line that begins with "#" says what follows.
+/// Each line has a call, and after " =" what it gives. Both ends begin without encryption, and
+/// again at a line "new". A line that begins with "#" says what follows.
 pub(crate) fn check(rt: &impl Abort, alloc: Global, script: &str) -> Result<(), AllocError> {
     let mut ends = Ends {
         phases: Vec::new(alloc),

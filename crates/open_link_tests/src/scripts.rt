@@ -3,7 +3,7 @@ use crate::sides::{Side, sample_setup, setup};
 use ble_base::Role;
 use std::alloc::{AllocError, Global};
 use std::process::Abort;
-use test_words::{Call, number, octet, octets_of, parts_of, put_octets, side_and_call, slot};
+use test_words::{Call, TakesCalls, first_wrong, number, octet, octets_of, put_octets, slot};
 
 /// Octets that one buffer does not hold.
 const LONG: [u8; 252] = [7; 252];
@@ -23,7 +23,23 @@ pub(crate) fn check(rt: &impl Abort, alloc: Global, script: &str) -> Result<(), 
         air: Vec::new(alloc),
     };
     scene.begin()?;
-    scene.run(rt, alloc, script)
+    let wrong = first_wrong(&mut scene, alloc, script)?;
+    assert_eq!(rt; wrong.as_str(), "");
+    Ok(())
+}
+
+impl TakesCalls for Scene {
+    /// Makes a call, and writes what it gives.
+    fn take(&mut self, side: &str, call: Call<'_>, told: &mut String) -> Result<(), AllocError> {
+        match side {
+            "a" => self.on_side(0, call, told),
+            "b" => self.on_side(1, call, told),
+            "c" => self.on_side(2, call, told),
+            "new" => self.begin(),
+            "#" => Ok(()),
+            _ => told.push_str(" which controller?"),
+        }
+    }
 }
 
 impl Scene {
@@ -36,36 +52,6 @@ impl Scene {
             self.sides.push(side)?;
         }
         Ok(())
-    }
-
-    /// Makes each call of a script, and compares what it gives.
-    fn run(&mut self, rt: &impl Abort, alloc: Global, script: &str) -> Result<(), AllocError> {
-        for line in script.lines() {
-            let (call, want) = parts_of(line);
-            let told = self.told_of(alloc, call)?;
-            assert_eq!(rt; told.as_str(), want, "{line}");
-        }
-        Ok(())
-    }
-
-    /// What a call gives.
-    fn told_of(&mut self, alloc: Global, text: &str) -> Result<String, AllocError> {
-        let mut told = String::new(alloc);
-        let (side, call) = side_and_call(text);
-        self.take(side, call, &mut told)?;
-        Ok(told)
-    }
-
-    /// Makes a call, and writes what it gives.
-    fn take(&mut self, side: &str, call: Call<'_>, told: &mut String) -> Result<(), AllocError> {
-        match side {
-            "a" => self.on_side(0, call, told),
-            "b" => self.on_side(1, call, told),
-            "c" => self.on_side(2, call, told),
-            "new" => self.begin(),
-            "#" => Ok(()),
-            _ => told.push_str(" which controller?"),
-        }
     }
 
     /// Makes a call on the controller at this place.
