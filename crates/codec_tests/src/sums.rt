@@ -92,8 +92,8 @@ pub(crate) fn is_whitened_so(channel: u8) -> bool {
     octets == whitened(channel)
 }
 
-/// The first lines have the start of a CRC and octets; the CRC, after an octet of 0, and the octets in
-/// which it is sent.
+/// The first lines have the start of a CRC and octets; the CRC, after an octet of 0, and the octets
+/// in which it is sent.
 const SUMS: &str = "\
 crc 000000 01 = 00032d80 c0b401
 crc 000000 0100 = 002d8aed b451b7
