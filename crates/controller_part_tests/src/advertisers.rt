@@ -3,6 +3,8 @@ ghost use Rattle.std.specs.Prelude.{◌≡◌};
 
 use crate::listeners::{device, pdu_of};
 use crate::scripts::check;
+use advertise::laws::*;
+use advertise::rows::*;
 use advertise::{AdvOff, AdvOn, AdvParams};
 use arrayvec::ArrayVec;
 use ble_base::SlotNo;
@@ -145,5 +147,16 @@ advertiser answers 25220b0000eeffc00a0000eeffc029417671010000010000180000004800f
 
 #[test]
 fn advertisers(rt: HostRuntime) -> Result<(), AllocError> {
-    check(&rt, rt.alloc(), ADVERTISERS)
+    check(&rt, rt.alloc(), ADVERTISERS)?;
+    events_are_an_interval_apart();
+    each_type_has_its_advertisement();
+    worked_advertisements();
+    scan_requests_are_answered();
+    connections_are_taken();
+    other_requests_are_ignored();
+    requests_to_an_advertiser_are_answered();
+    worked_scan_requests();
+    worked_connections();
+    worked_ranges();
+    Ok(())
 }

@@ -1,6 +1,9 @@
 //! The packets of written-out octets of a host.
 use crate::scripts::check;
-use h4_frames::{Fed, Framer, HostPacket};
+use h4_frames::{
+    Fed, Framer, HostPacket, frames_are_in_order, frames_are_the_division, frames_grow,
+    results_are_the_frames,
+};
 use std::alloc::AllocError;
 use test_words::{Call, octets_of, put_answer, put_number, put_octets};
 
@@ -87,5 +90,10 @@ frames feed 00 = 1 command 0c03
 
 #[test]
 fn frames_what_a_host_sends(rt: HostRuntime) -> Result<(), AllocError> {
-    check(&rt, rt.alloc(), FRAMES)
+    check(&rt, rt.alloc(), FRAMES)?;
+    frames_are_the_division();
+    results_are_the_frames();
+    frames_grow();
+    frames_are_in_order();
+    Ok(())
 }

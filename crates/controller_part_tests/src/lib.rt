@@ -7,8 +7,6 @@ mod advertisers;
 #[cfg(test)]
 mod frames;
 #[cfg(test)]
-mod laws;
-#[cfg(test)]
 mod listeners;
 #[cfg(test)]
 mod plans;

@@ -4,6 +4,8 @@ ghost use Rattle.std.specs.Prelude.{◌≡◌};
 use crate::scripts::check;
 use adv_pdu::{AdvPdu, ConnectFields};
 use ble_base::{Address, ChannelMap, SlotNo};
+use scan_init::laws::*;
+use scan_init::rows::*;
 use scan_init::{
     AcceptList, InitParams, Initiator, Report, ReportKind, ScanParams, Scanner, is_same_address,
     next_access, slots_of,
@@ -231,5 +233,16 @@ initiator fields = ConnectFields { access: 0x71764129, crc_init: 0x123456, win_s
 
 #[test]
 fn scanners_and_initiators(rt: HostRuntime) -> Result<(), AllocError> {
-    check(&rt, rt.alloc(), LISTENERS)
+    check(&rt, rt.alloc(), LISTENERS)?;
+    searches_give_each_valid_address();
+    worked_access_addresses();
+    accept_list_is_a_set();
+    windows_recur_on_three_channels();
+    worked_windows();
+    last_reports_decide();
+    scanners_keep_their_filter();
+    worked_reports();
+    initiators_connect_in_range();
+    worked_connections();
+    Ok(())
 }

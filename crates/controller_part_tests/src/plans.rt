@@ -1,7 +1,7 @@
 //! Winners of a slot, worked out by hand.
 use crate::scripts::check;
 use ble_base::SlotNo;
-use slot_plan::{Activity, Hold, Plan};
+use slot_plan::{Activity, Hold, Plan, winner_exists, winner_is_unique};
 use std::alloc::AllocError;
 use test_words::{Call, octet, put_answer, put_value, slot};
 
@@ -95,5 +95,8 @@ plan winner 61 = Some(Link(2))
 
 #[test]
 fn winners_of_slots(rt: HostRuntime) -> Result<(), AllocError> {
-    check(&rt, rt.alloc(), PLANS)
+    check(&rt, rt.alloc(), PLANS)?;
+    winner_is_unique();
+    winner_exists();
+    Ok(())
 }

@@ -3,7 +3,7 @@ use crate::scripts::check;
 use arrayvec::ArrayVec;
 use ble_base::{Address, ErrCode, Kind, Note, Role};
 use hci_cmd::{CmdRead, Command};
-use host_view::{HostView, status};
+use host_view::{HostView, laws, status};
 use std::alloc::{AllocError, Global};
 use test_words::{Call, hex_number, number, octets_of, put_answer, put_octets};
 
@@ -167,5 +167,8 @@ view status 2030 0600 = 02
 
 #[test]
 fn views_of_a_host(rt: HostRuntime) -> Result<(), AllocError> {
-    check(&rt, rt.alloc(), VIEWS)
+    check(&rt, rt.alloc(), VIEWS)?;
+    laws::accepted_parameters_are_in_range();
+    laws::accepted_connection_can_be_made();
+    Ok(())
 }
