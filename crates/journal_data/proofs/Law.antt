@@ -1,5 +1,5 @@
 -- In every journal of a run of a pair, after each of its lines, the data of both sides arrives in order.
-use Rattle.std.proofs.Common.{◌≡◌, ℕ, zero, suc, true, Some, None, List, [], ◌∷◌, ◌++◌, length, refl, sym, subst, ◌∙◌, append-nil, arith}
+use Rattle.std.proofs.Common.{◌≡◌, ℕ, zero, suc, true, Some, None, List, [], ◌∷◌, ◌++◌, length, refl, sym, ap, subst, ◌∙◌, append-nil, arith}
 use Rattle.ble_base.specs.Side.{other_side}
 use Rattle.ble_base.specs.declared.roles.Side.{Side}
 use Rattle.ble_base.specs.declared.roles.Side.TheVariants.{A, B}
@@ -134,15 +134,24 @@ pub eight_of : (a b : List ℕ) (script : Script) (station : ℕ) → (setup_at 
 eight_of a b script zero = refl
 eight_of a b script (suc station) = refl
 
-pub data_arrives : IsHeardWhole → IsUnderstood → AreTaken → AreNth → AreApart → (a b : List ℕ) (script : Script) (front rest : List Entry) (side : Side) (link : ℕ)
-    → length script.a.public ≡ 6 → length script.b.public ≡ 6 → journal_of (history_of (run_of (given_of a b script))) ≡ front ++ rest
-    → ArrivesInOrder link (lines_of 8 side front) (lines_of 8 (other_side side) front)
-data_arrives whole understood taken nth apart a b script front rest side link six six_too is =
-    let given = given_of a b script in
-    let at = front_arrives whole understood taken nth apart given refl (pair_links a b script) (pair_addresses a b script six six_too) (pair_distinct a b script) (eight_of a b script) front rest is in
-    by side (at 0 refl link) (at 1 refl link)
+pub data_of_two : IsHeardWhole → IsUnderstood → AreTaken → AreNth → AreApart → (given : Given) → IsOfTwo given → HaveFewLinks given → HaveAddresses given
+    → AreDistinct given.stations → ((station : ℕ) → (setup_at given station).host_buffers ≡ 8) → (front rest : List Entry) (side : Side) (link : ℕ)
+    → journal_of (history_of (run_of given)) ≡ front ++ rest → ArrivesInOrder link (lines_of 8 side front) (lines_of 8 (other_side side) front)
+data_of_two whole understood taken nth apart given two few six distinct eight front rest side link is =
+    let at = front_arrives whole understood taken nth apart given two few six distinct eight front rest is in
+    by side (at 0 (is_of 0 refl) link) (at 1 (is_of 1 refl) link)
   where
+    is_of : (station : ℕ) → is_in station (0 ∷ 1 ∷ []) ≡ true → is_in station given.stations ≡ true
+    is_of station in_two = ap (is_in station) two ∙ in_two
+
     by : (side : Side) → ArrivesInOrder link (lines_of 8 A front) (lines_of 8 B front) → ArrivesInOrder link (lines_of 8 B front) (lines_of 8 A front)
         → ArrivesInOrder link (lines_of 8 side front) (lines_of 8 (other_side side) front)
     by A one other = one
     by B one other = other
+
+pub data_arrives : IsHeardWhole → IsUnderstood → AreTaken → AreNth → AreApart → (a b : List ℕ) (script : Script) (front rest : List Entry) (side : Side) (link : ℕ)
+    → length script.a.public ≡ 6 → length script.b.public ≡ 6 → journal_of (history_of (run_of (given_of a b script))) ≡ front ++ rest
+    → ArrivesInOrder link (lines_of 8 side front) (lines_of 8 (other_side side) front)
+data_arrives whole understood taken nth apart a b script front rest side link six six_too =
+    data_of_two whole understood taken nth apart (given_of a b script) refl (pair_links a b script) (pair_addresses a b script six six_too)
+    (pair_distinct a b script) (eight_of a b script) front rest side link

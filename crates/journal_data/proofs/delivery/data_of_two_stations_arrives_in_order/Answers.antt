@@ -1,0 +1,9 @@
+-- Proof of `delivery::data_of_two_stations_arrives_in_order`.
+use Rattle.journal_packets.proofs.AskedSoFar.{are_distinct}
+use Rattle.journal_data.proofs.Law.{data_of_two}
+use Rattle.journal_data.proofs.delivery.data_of_two_stations_arrives_in_order.Goals as goal
+
+pub returns : goal.returns
+returns c = λ given front rest side link stations six few eight is.
+    data_of_two c.packet_tells_its_pdu.ensures.heard c.a_pdu_is_understood.ensures.says c.connections_are_taken.ensures.taken c.searches_give_each_valid_address.ensures.valid
+    c.searches_give_each_valid_address.ensures.distinct given stations (record { links = few }) six (are_distinct given stations) eight front rest side link is
