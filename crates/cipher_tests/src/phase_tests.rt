@@ -4,7 +4,6 @@
 use crate::ends::SESSION;
 use crate::scripts::check;
 use ble_base::Role;
-use ccm_link::laws::sealed_payloads;
 use enc_phase::laws::*;
 use enc_phase::{Asked, Clear, HalfClear, HalfKeyed, Pausing, Phase, Secure};
 use std::alloc::AllocError;
@@ -295,5 +294,4 @@ fn laws_hold_of_each_end() {
     sealing_follows_what_was_taken();
     leaving_changes_no_sealing();
     clear_directions_have_counter_0();
-    sealed_payloads();
 }

@@ -1,6 +1,7 @@
 //! The sample data of Core 5.2, volume 6 part C, section 1, two long payloads by another program,
 //! and each length.
 use crate::scripts::check;
+use ccm_link::laws::sealed_payloads;
 use std::alloc::AllocError;
 
 const PAYLOADS: &str = "\
@@ -34,5 +35,7 @@ cipher lengths 7fffffffff peripheral 02 = yes
 
 #[test]
 fn seals_and_unseals(rt: HostRuntime) -> Result<(), AllocError> {
-    check(&rt, rt.alloc(), PAYLOADS)
+    check(&rt, rt.alloc(), PAYLOADS)?;
+    sealed_payloads();
+    Ok(())
 }
