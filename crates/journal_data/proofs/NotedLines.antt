@@ -176,7 +176,7 @@ module _ (many : ℕ) (number : ℕ → ℕ) (lines : Lines) (opened : ℕ → B
   note_fits base handle (Shut other reason) apart within on of = tt
   note_fits base handle note apart within on of = tt
 
-  note_links : (base : ℕ → Bool) (side : Side) (last : ℕ) (note : Note) → AreApart number base → ((other : ℕ) → opened other ≡ true → base other ≡ true)
+  pub note_links : (base : ℕ → Bool) (side : Side) (last : ℕ) (note : Note) → AreApart number base → ((other : ℕ) → opened other ≡ true → base other ≡ true)
       → is_opening note ≡ false → IsOfBase base note
       → HoldsLinks many (line_after 8 lines (entry_of side number last note)).links number (λ handle. note_open handle (opened handle) note)
   note_links base side last (Opened other role own peer) apart within none of = absurd cc
@@ -237,7 +237,7 @@ module _ (many : ℕ) (number : ℕ → ℕ) (lines : Lines) (opened : ℕ → B
   same_note other side last note apart none = same_itself other lines
 
 -- it was open before a note that opens none
-still_open : (handle : ℕ) (linked : Bool) (note : Note) → is_opening note ≡ false → note_open handle linked note ≡ true → linked ≡ true
+pub still_open : (handle : ℕ) (linked : Bool) (note : Note) → is_opening note ≡ false → note_open handle linked note ≡ true → linked ≡ true
 still_open handle linked (Opened other role own peer) none on = absurd cc
 still_open handle linked (Shut other reason) none on = by (other == handle) on
   where
@@ -304,7 +304,7 @@ numbers_noted station history note none = ap (λ (links : Links). links.link_of 
     by (Up packet) none = refl
     by note none = refl
 
-number_opened : (station handle : ℕ) (history : List Event) (role : Role) (own peer : Address) (other : ℕ)
+pub number_opened : (station handle : ℕ) (history : List Event) (role : Role) (own peer : Address) (other : ℕ)
     → number_at station other (history ++ Noted station (Opened handle role own peer) ∷ [])
     ≡ cond (handle == other) ((links_of history).last_of station) (number_at station other history)
 number_opened station handle history role own peer other =
