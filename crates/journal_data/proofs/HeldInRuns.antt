@@ -1,45 +1,48 @@
 -- In each journal of a run of a pair, each line of a link is of one that is open at its side.
-use Rattle.std.proofs.Common.{◌≡◌, ℕ, ◌≤◌, ◌==◌, Bool, true, false, Option, Some, None, List, [], ◌∷◌, ◌++◌, length, map, cond, refl, ap, sym, subst, ◌∙◌}
+use Rattle.std.proofs.Common.{◌≡◌, ℕ, suc, if◌then◌else◌, ◌==◌, Bool, true, false, Option, Some, None, List, [], ◌∷◌, ◌++◌, length, map, cond, refl, sym, subst, ◌∙◌, ap}
 use Rattle.std.specs.Prelude.{◌||◌, take, ⊤}
 use Rattle.std.specs.List.{find, list_any}
 use Rattle.std.specs.Option.{option_map}
 use Rattle.std.proofs.lemmas.Bool.{eq-eqb}
 use Rattle.ble_base.specs.declared.notes.Note.{Note}
 use Rattle.ble_base.specs.declared.notes.Note.TheVariants.{Up as UpNote, Opened as OpenedNote, Shut as ShutNote, Sent as SentNote, Took as TookNote, Enter as EnterNote}
-use Rattle.ble_base.specs.declared.roles.Side.{Side}
 use Rattle.journal.specs.declared.entries.Entry.{Entry}
-use Rattle.journal.specs.declared.entries.Entry.TheVariants.{Turn, Fed, Air, Enter, Shut, Sent, Took}
+use Rattle.journal.specs.declared.entries.Entry.TheVariants.{Turn, Fed, Air, Enter, Opened, Shut, Sent, Took}
 use Rattle.link_model.proofs.Received.{IsHeardWhole}
 use Rattle.controller_model.specs.Side.{notes_after}
 use Rattle.controller_model.specs.Step.{Step, HostOctet, TurnBegins, TurnEnds}
 use Rattle.radio_replay.specs.Script.{Script}
 use Rattle.run_model.specs.Due.{Each}
 use Rattle.run_model.specs.Feeding.{AreDistinct}
-use Rattle.run_model.specs.History.{Event, TurnBegan, HostFed, Called, Noted, Transmitted, Hearing, packet_received}
+use Rattle.run_model.specs.History.{Event, TurnBegan, HostFed, Called, Noted, Transmitted, packet_received, past_of, turns_begun}
 use Rattle.run_model.specs.Journal.{entries_of, entry_of, journal_of, mark_of, radio_in, side_of}
 use Rattle.run_model.specs.LinkEnds.{HaveAddresses}
-use Rattle.run_model.specs.Links.{Links, links_of}
+use Rattle.run_model.specs.Links.{links_of}
 use Rattle.run_model.specs.Pair.{given_of}
 use Rattle.run_model.specs.Run.{Given, after_call, after_feed, after_octets, facts_at, hearings_of, history_of, octets_left, run_of, setup_at, step_of}
 use Rattle.run_model.proofs.EntryEvents.{is_of_event}
 use Rattle.run_model.proofs.LinkEnds.{AreTaken, IsUnderstood, pair_addresses}
+use Rattle.run_model.specs.OnAir.{ends_phase}
+use Rattle.run_model.proofs.OpenedNotes.{is_opened, outside_open}
 use Rattle.run_model.proofs.Ordered.{pair_distinct}
 use Rattle.run_model.proofs.Places.{each_append, each_at, each_event}
-use Rattle.run_model.proofs.Stations.{is_in, among}
+use Rattle.run_model.proofs.Stations.{is_in, among, not_before}
 use Rattle.run_model.proofs.Walk.{NoTurn, AtFeeds, AtBegins, AtListening, AtEnds, Place, IsKept, IsStopped, IsWhole, ends_with, run_kept}
 use Rattle.run_laws.proofs.DistinctAccess.{AreApart}
+use Rattle.run_laws.proofs.TurnPlaces.{Within, at_stage, standing}
 use Rattle.journal_packets.proofs.AccessOrder.{AreNth}
 use Rattle.journal_packets.proofs.SoFar.{IsBelongingSoFar}
 use Rattle.journal_acks.proofs.Counting.{AreKnown, HaveOwnNumbers}
 use Rattle.journal_acks.proofs.Exchanging.{number_at}
 use Rattle.journal_acks.proofs.Known.{known_of}
 use Rattle.journal_acks.proofs.TwoStations.{IsOfTwo}
-use Rattle.journal_data.specs.Held.{IsOpenAt, LinesAreOfOpenLinks}
+use Rattle.journal_data.specs.Held.{IsNextOpened, IsOpenAt, LinesAreOfOpenLinks, links_open}
 use Rattle.journal_data.specs.HostLines.{OpenUnder, link_under}
 use Rattle.journal_data.proofs.EachLine.{lines_at}
 use Rattle.journal_data.proofs.FewLinks.{HaveFewLinks, pair_links}
 use Rattle.journal_data.proofs.HeldNotes.{IsHeld, IsHeldNote, call_held}
 use Rattle.journal_data.proofs.KeptData.{IsDataAt, data_kept, own_numbers}
+use Rattle.journal_data.proofs.LeastHandles.{OpenLeast, least_standing, pass_opens}
 use Rattle.journal_data.proofs.Law.{eight_of, first_data}
 use Rattle.journal_data.proofs.StationLines.{IsStationBooked, call_booked, event_booked, event_own, octet_own, octet_unused}
 
@@ -55,17 +58,41 @@ module _ (whole : IsHeardWhole) (given : Given) (Q : Place → List Event → Ty
   P place history = AreHeldSoFar given Q place history
 
   one_more : (station : ℕ) (step : Step) (history : List Event) → HaveOwnNumbers given station history → HaveOwnNumbers given station (after_call given station step history)
-      → IsStationBooked given station history → Each IsHeld [] history → Each IsHeld [] (after_call given station step history)
-  one_more station step history own own_after booked each =
+      → IsStationBooked given station history
+      → OpenLeast (facts_at given station history).links (notes_after (setup_at given station) (facts_at given station history) step)
+      → Each IsHeld [] history → Each IsHeld [] (after_call given station step history)
+  one_more station step history own own_after booked least each =
       each_append IsHeld [] history (Called station step ∷ map (Noted station) (notes_after (setup_at given station) (facts_at given station history) step)) each
-      (call_held given station step history (few_links.links station) own own_after booked.links)
+      (call_held given station step history (few_links.links station) own own_after booked.links least)
+
+  -- a call that ends no phase opens none
+  none_least : (station : ℕ) (step : Step) (history : List Event) → ends_phase step ≡ false
+      → OpenLeast (facts_at given station history).links (notes_after (setup_at given station) (facts_at given station history) step)
+  none_least station step history outside handle role own peer rest is =
+      let none = outside_open handle (setup_at given station) (facts_at given station history) step outside in
+      absurd (let h : true ≡ false =
+      ap (λ (b : Bool). b || is_opened handle rest) (sym (eq-eqb handle handle refl)) ∙ ap (is_opened handle) (sym is) ∙ none in absurd cc)
+
+  -- a station that is still to be called after a phase
+  pass_least : (phases : ℕ) (done left : List ℕ) (station : ℕ) (history : List Event) (received : Option (List ℕ)) → given.stations ≡ done ++ station ∷ left
+      → P (AtListening phases done (station ∷ left)) history
+      → OpenLeast (facts_at given station history).links (notes_after (setup_at given station) (facts_at given station history) (step_of received))
+  pass_least phases done left station history received are has =
+      let in_it = among given.stations done left station are in
+      pass_opens (setup_at given station) (facts_at given station history) received
+      (least_standing (setup_at given station) (past_of station history) (at_stage (Within phases) (turns_begun history))
+      (subst (λ (b : Bool). standing (past_of station history)
+      ≡ Some (if b then at_stage (Within (suc phases)) (turns_begun history) else at_stage (Within phases) (turns_begun history)))
+      (not_before given.stations done left station distinct are) (has.is.counted.holds.hearing.stand station in_it)))
 
   -- a call in a turn
   turn_more : (station : ℕ) (step : Step) (history : List Event) (before place : Place) → is_in station given.stations ≡ true → P before history
-      → IsDataAt given Q place (after_call given station step history) → Each IsHeld [] (after_call given station step history)
-  turn_more station step history before place in_it has next =
+      → IsDataAt given Q place (after_call given station step history)
+      → OpenLeast (facts_at given station history).links (notes_after (setup_at given station) (facts_at given station history) step)
+      → Each IsHeld [] (after_call given station step history)
+  turn_more station step history before place in_it has next least =
       one_more station step history (own_numbers given Q known before history station in_it has.is.counted.known)
-      (own_numbers given Q known place (after_call given station step history) station in_it next.counted.known) (has.is.are.well station in_it).booked has.each
+      (own_numbers given Q known place (after_call given station step history) station in_it next.counted.known) (has.is.are.well station in_it).booked least has.each
 
   octets_more : (station : ℕ) (octets : List ℕ) (history : List Event) → HaveOwnNumbers given station history → IsStationBooked given station history
       → Each IsHeld [] history → Each IsHeld [] (after_octets given station octets history)
@@ -74,7 +101,7 @@ module _ (whole : IsHeardWhole) (given : Given) (Q : Place → List Event → Ty
       let own_next = octet_own given station octet history own in
       octets_more station octets (after_call given station (HostOctet octet) history) own_next
       (call_booked given station (HostOctet octet) history (few_links.links station) own own_next (octet_unused given station octet history) booked)
-      (one_more station (HostOctet octet) history own own_next booked each)
+      (one_more station (HostOctet octet) history own own_next booked (none_least station (HostOctet octet) history refl) each)
 
   feed_more : (station : ℕ) (octets : List ℕ) (history : List Event) → HaveOwnNumbers given station history → IsStationBooked given station history
       → Each IsHeld [] history → Each IsHeld [] (after_feed given station octets history)
@@ -101,7 +128,7 @@ module _ (whole : IsHeardWhole) (given : Given) (Q : Place → List Event → Ty
         let next = kept.on_begin slot plan done left station history are due has.is in record {
           is = next;
           each = turn_more station (TurnBegins slot (plan.radio_of station)) history (AtBegins done (station ∷ left)) (AtBegins (done ++ station ∷ []) left)
-              (among given.stations done left station are) has next;
+              (among given.stations done left station are) has next (none_least station (TurnBegins slot (plan.radio_of station)) history refl);
         };
     on_begun = λ history has. record { is = kept.on_begun history has.is; each = has.each };
     on_phase = λ phases history few has. record { is = kept.on_phase phases history few has.is; each = has.each };
@@ -115,7 +142,8 @@ module _ (whole : IsHeardWhole) (given : Given) (Q : Place → List Event → Ty
         let next = kept.on_hearing phases done left station history are some has.is in record {
           is = next;
           each = turn_more station (step_of (packet_received station history)) history (AtListening phases done (station ∷ left))
-              (AtListening phases (done ++ station ∷ []) left) (among given.stations done left station are) has next;
+              (AtListening phases (done ++ station ∷ []) left) (among given.stations done left station are) has next
+              (pass_least phases done left station history (packet_received station history) are has);
         };
     on_heard = λ phases history has. record { is = kept.on_heard phases history has.is; each = has.each };
     on_phases = λ history has. record { is = kept.on_phases history has.is; each = has.each };
@@ -123,7 +151,7 @@ module _ (whole : IsHeardWhole) (given : Given) (Q : Place → List Event → Ty
         let next = kept.on_end done left station history are some has.is in record {
           is = next;
           each = turn_more station TurnEnds history (AtEnds done (station ∷ left)) (AtEnds (done ++ station ∷ []) left)
-              (among given.stations done left station are) has next;
+              (among given.stations done left station are) has next (none_least station TurnEnds history refl);
         };
     on_ended = λ history has. record { is = kept.on_ended history has.is; each = has.each };
   }
@@ -155,6 +183,7 @@ IsHeldEntry front (Sent side link number llid body) = IsOpenAt side link front
 IsHeldEntry front (Took side link number llid body) = IsOpenAt side link front
 IsHeldEntry front (Enter side link event channel) = IsOpenAt side link front
 IsHeldEntry front (Shut side link reason) = IsOpenAt side link front
+IsHeldEntry front (Opened side link handle role) = IsNextOpened link handle (links_open side front)
 IsHeldEntry front entry = ⊤
 
 note_entry : (station : ℕ) (history : List Event) (note : Note) → IsHeldNote station history note
@@ -163,7 +192,7 @@ note_entry station history (SentNote handle counted llid body) held = any_under 
 note_entry station history (TookNote handle counted llid body) held = any_under handle (number_at station handle history) (lines_at station history).links held
 note_entry station history (EnterNote handle event channel) held = any_under handle (number_at station handle history) (lines_at station history).links held
 note_entry station history (ShutNote handle reason) held = any_under handle (number_at station handle history) (lines_at station history).links held
-note_entry station history (OpenedNote handle role own peer) held = tt
+note_entry station history (OpenedNote handle role own peer) held = held
 note_entry station history (UpNote packet) held = tt
 note_entry station history note held = tt
 
@@ -201,4 +230,5 @@ lines_held whole understood taken nth apart a b script six six_too =
       took = λ front rest side link number llid body is. entry front rest (Took side link number llid body) is;
       entered = λ front rest side link event channel is. entry front rest (Enter side link event channel) is;
       shut = λ front rest side link reason is. entry front rest (Shut side link reason) is;
+      opened = λ front rest side link handle role is. entry front rest (Opened side link handle role) is;
     }

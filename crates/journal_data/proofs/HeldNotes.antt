@@ -1,14 +1,16 @@
 -- Before each note of a call, the links that the lines of its station have open are those that are open by the notes so
 -- far: a line that names a link is of an open link, and a link is opened under a handle that none has.
-use Rattle.std.proofs.Common.{◌≡◌, ℕ, ◌+◌, ◌<◌, ◌≤◌, ◌==◌, Bool, true, false, Option, Some, None, List, [], ◌∷◌, ◌++◌, map, cond, refl, ap, sym, subst, ◌∙◌, append-nil, append_assoc}
-use Rattle.std.specs.Prelude.{fold, ⊤}
-use Rattle.std.specs.List.{AllByRecursion}
+use Rattle.std.proofs.Common.{◌≡◌, ℕ, ◌<◌, ◌≤◌, ◌==◌, Bool, true, false, Some, None, List, [], ◌∷◌, ◌++◌, map, cond, refl, ap, sym, subst, ◌∙◌, append-nil, append_assoc, arith, Option}
+use Rattle.std.specs.Prelude.{◌||◌, fold, is_some, ⊤}
+use Rattle.std.specs.List.{AllByRecursion, sum_by}
+use Rattle.std.proofs.lemmas.List.Sums.{sum_by-cons}
 use Rattle.std.proofs.lemmas.Bool.{eq-eqb, eqb-true}
 use Rattle.ble_base.specs.declared.addresses.Address.{Address}
 use Rattle.ble_base.specs.declared.notes.Note.{Note}
 use Rattle.ble_base.specs.declared.notes.Note.TheVariants.{Up, Opened, Shut, Sent, Took, Enter}
 use Rattle.ble_base.specs.declared.roles.Role.{Role}
-use Rattle.controller_model.specs.Facts.{Facts, Setup}
+use Rattle.open_links.specs.OpenLinks.{IsLeastFree}
+use Rattle.controller_model.specs.Facts.{Facts}
 use Rattle.controller_model.specs.Notes.{HasHandleBelow, is_opening}
 use Rattle.controller_model.specs.Side.{facts_after, notes_after}
 use Rattle.controller_model.specs.Step.{Step}
@@ -20,13 +22,15 @@ use Rattle.run_model.specs.Run.{Given, after_call, facts_at, setup_at}
 use Rattle.run_model.proofs.LinksKnown.{links_event}
 use Rattle.journal_acks.proofs.Counting.{HaveOwnNumbers}
 use Rattle.journal_acks.proofs.Exchanging.{number_at}
-use Rattle.journal_data.specs.HostLines.{link_under}
+use Rattle.journal_data.specs.Held.{IsNextOpened, is_open_link}
+use Rattle.journal_data.specs.HostLines.{OpenUnder, link_under}
 use Rattle.journal_data.specs.Lines.{Lines}
 use Rattle.journal_data.proofs.EachLine.{call_lines, lines_at, note_lines, numbers_at}
-use Rattle.journal_data.proofs.HeldLinks.{HoldsLinks, opened_holds, under_is}
-use Rattle.journal_data.proofs.NotedLines.{AreApart, IsOfBase, note_links, number_opened, numbers_noted, numbers_quiet, one_on, still_open, with_noted}
+use Rattle.journal_data.proofs.HeldLinks.{HoldsLinks, nothing_in, opened_holds, under_is}
+use Rattle.journal_data.proofs.LeastHandles.{OpenLeast}
+use Rattle.journal_data.proofs.NotedLines.{AreApart, IsOfBase, note_links, number_opened, numbers_noted, numbers_quiet, one_on, still_open, swapped, with_noted}
 use Rattle.journal_data.proofs.Openness.{AreNot, IsNotedAs, stays, shuts, opens_first, is_open, is_shutting, note_open, past_noted}
-use Rattle.journal_data.proofs.OpenLines.{SameParts, IsOfStaying, all_front, middle, of_staying, open_mid, opened_mid, parts, shut_mid}
+use Rattle.journal_data.proofs.OpenLines.{IsOfStaying, all_front, middle, of_staying, open_mid, opened_mid, parts, shut_mid}
 use Rattle.journal_data.proofs.StationLines.{called_then, names_few, of_after, of_before, own_apart, own_facts}
 
 -- ---- notes that open no link
@@ -70,7 +74,8 @@ IsHeldNote station history (Sent handle counted llid body) = IsUnder station his
 IsHeldNote station history (Took handle counted llid body) = IsUnder station history handle
 IsHeldNote station history (Enter handle event channel) = IsUnder station history handle
 IsHeldNote station history (Shut handle reason) = IsUnder station history handle
-IsHeldNote station history (Opened handle role own peer) = link_under handle (lines_at station history).links ≡ None
+IsHeldNote station history (Opened handle role own peer) =
+    IsNextOpened ((links_of history).last_of station) handle (lines_at station history).links
 IsHeldNote station history note = ⊤
 
 abbrev pub IsHeld : List Event → Event → Type 0
@@ -84,11 +89,27 @@ noted_push : (station : ℕ) (notes : List Note) (note : Note) → map (Noted st
 noted_push station [] note = refl
 noted_push station (first ∷ notes) note = ap (λ (all : List Event). Noted station first ∷ all) (noted_push station notes note)
 
+-- no link has a number that no handle has
+none_any : (link : ℕ) (links : List OpenUnder) → sum_by (λ (one : OpenUnder). cond (one.link == link) 1 0) links ≡ 0 → is_open_link link links ≡ false
+none_any link [] none = refl
+none_any link (one ∷ links) none = by (one.link == link) refl (none_any link links)
+  where
+    by : (same : Bool) → (one.link == link) ≡ same
+        → (sum_by (λ (x : OpenUnder). cond (x.link == link) 1 0) links ≡ 0 → is_open_link link links ≡ false) → (same || is_open_link link links) ≡ false
+    by true same rest =
+        let parts = sum_by-cons (λ (x : OpenUnder). cond (x.link == link) 1 0) one links in
+        let here : ◌≡◌ {A = ℕ} (cond (one.link == link) 1 0) 1 = ap (λ (b : Bool). cond b 1 0) same in
+        absurd (omega (arith, parts, here, none))
+    by false same rest =
+        let parts = sum_by-cons (λ (x : OpenUnder). cond (x.link == link) 1 0) one links in
+        rest (omega (arith, parts, none))
+
 -- ---- a call
 
 module _ (given : Given) (station : ℕ) (step : Step) (history : List Event) (few : (setup_at given station).links ≤ 4096) (own : HaveOwnNumbers given station history)
     (own_after : HaveOwnNumbers given station (after_call given station step history))
-    (held : AreHeld (setup_at given station).links station history (is_open (facts_at given station history).links)) where
+    (held : AreHeld (setup_at given station).links station history (is_open (facts_at given station history).links))
+    (least : OpenLeast (facts_at given station history).links (notes_after (setup_at given station) (facts_at given station history) step)) where
   abbrev many : ℕ
   many = (setup_at given station).links
 
@@ -168,6 +189,38 @@ module _ (given : Given) (station : ℕ) (step : Step) (history : List Event) (f
     of_rest [] none of = tt
     of_rest (note ∷ all) none of = (of.0 none.0, of_rest all none.1 of.1)
 
+    -- the number of the link is new
+    abbrev last : ℕ
+    last = (links_of called).last_of station
+
+    others_differ : (other : ℕ) → before_open other ≡ true → (number_at station other called == last) ≡ false
+    others_differ other on = by (handle == other) refl
+      where
+        by : (same : Bool) → (handle == other) ≡ same → (number_at station other called == (links_of called).last_of station) ≡ false
+        by true same = absurd (let h : true ≡ false = sym on ∙ ap before_open (sym (eqb-true handle other same)) ∙ free in absurd cc)
+        by false differs =
+            let its = number_opened station handle called role first_own peer handle
+            ∙ ap (λ (b : Bool). cond b ((links_of called).last_of station) (number_at station handle called)) (eq-eqb handle handle refl) in
+            let other_is = number_opened station handle called role first_own peer other
+            ∙ ap (λ (b : Bool). cond b ((links_of called).last_of station) (number_at station other called)) differs in
+            swapped (number_at station other called) ((links_of called).last_of station)
+            ∙ (λ i. sym its i == sym other_is i) ∙ own_then handle other now (opens other differs ∙ on) differs
+
+    next_opened : IsLeastFree 0 handle (facts_at given station history).links → IsHeldNote station called first
+    next_opened below = record {
+      new = none_any ((links_of called).last_of station) (lines_at station called).links
+          (nothing_in many (lines_at station called).links (numbers_at station called) before_open called_held
+          (λ (one : OpenUnder). cond (one.link == (links_of called).last_of station) 1 0)
+          (λ other on. ap (λ (b : Bool). cond b 1 0) (others_differ other on)));
+      free = under handle ∙ ap (λ (b : Bool). cond b (Some (number_at station handle called)) None) free;
+      least = λ other less.
+          ap (λ (place : Option ℕ). is_some place)
+          (under other ∙ ap (λ (b : Bool). cond b (Some (number_at station other called)) None) (below.least other (omega arith) less));
+    }
+      where
+        under : (other : ℕ) → link_under other (lines_at station called).links ≡ cond (before_open other) (Some (number_at station other called)) None
+        under other = under_is many (lines_at station called).links (numbers_at station called) before_open called_held other
+
     opening_held : (earlier later : List Note) → first ∷ rest ≡ earlier ++ later → AreHeldAfter earlier
     opening_held [] later are = subst (λ (all : List Event). AreHeld many station all before_open) (sym (append-nil called)) called_held
     opening_held (note ∷ earlier) later are =
@@ -199,13 +252,6 @@ module _ (given : Given) (station : ℕ) (step : Step) (history : List Event) (f
       let mid = with_noted station called earlier in
       under_is many (lines_at station mid).links (numbers_at station mid) (λ other. fold (note_open other) (before_open other) earlier) (held_at earlier later are) handle
       ∙ ap (λ (b : Bool). cond b (Some (number_at station handle mid)) None) on
-
-  none_under : (earlier later : List Note) → notes ≡ earlier ++ later → (handle : ℕ) → fold (note_open handle) (before_open handle) earlier ≡ false
-      → link_under handle (lines_at station (with_noted station called earlier)).links ≡ None
-  none_under earlier later are handle off =
-      let mid = with_noted station called earlier in
-      under_is many (lines_at station mid).links (numbers_at station mid) (λ other. fold (note_open other) (before_open other) earlier) (held_at earlier later are) handle
-      ∙ ap (λ (b : Bool). cond b (Some (number_at station handle mid)) None) off
 
   stays_under : (earlier later : List Note) → notes ≡ earlier ++ later → (handle : ℕ) → before_open handle ≡ true → after_open handle ≡ true
       → IsUnder station (with_noted station called earlier) handle
@@ -241,7 +287,10 @@ module _ (given : Given) (station : ℕ) (step : Step) (history : List Event) (f
   note_is earlier later (Opened handle role first_own peer) are =
       let note = Opened handle role first_own peer in
       let opened = opened_mid before_open after_open notes noted_as earlier later handle role first_own peer are in
-      none_under earlier (note ∷ later) are handle (ap (fold (note_open handle) (before_open handle)) opened.is_first ∙ opened.free)
+      let whole : notes ≡ note ∷ later = are ∙ ap (λ (all : List Note). all ++ note ∷ later) opened.is_first in
+      subst (λ (all : List Note). IsHeldNote station (with_noted station called all) note) (sym opened.is_first)
+      (subst (λ (all : List Event). IsHeldNote station all note) (sym (append-nil called))
+      (next_opened handle role first_own peer later whole opened.none opened.shut opened.free opened.now opened.others (least handle role first_own peer later whole)))
   note_is earlier later (Up packet) are = tt
   note_is earlier later note are = tt
 

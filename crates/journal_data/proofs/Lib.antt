@@ -19,6 +19,7 @@ pub mod Openness
 pub mod NotedLines
 pub mod StationLines
 mod OpenLines
+pub mod LeastHandles
 pub mod HeldNotes
 pub mod LinesGrow
 mod FewComplete

@@ -1,6 +1,6 @@
 -- In a call, what is open by the notes before each of them: a note that names a link is of one that is open there, and a
 -- link is opened under a free handle.
-use Rattle.std.proofs.Common.{◌≡◌, ℕ, ◌==◌, Bool, true, false, Option, Some, None, List, [], ◌∷◌, ◌++◌, cond, refl, ap, sym, subst, ◌∙◌}
+use Rattle.std.proofs.Common.{◌≡◌, ℕ, ◌==◌, Bool, true, false, Option, List, [], ◌∷◌, ◌++◌, cond, refl, ap, sym, subst, ◌∙◌}
 use Rattle.std.specs.Prelude.{fold, is_some, ⊤}
 use Rattle.std.specs.List.{AllByRecursion, Contains}
 use Rattle.std.proofs.lemmas.Bool.{eq-eqb}
@@ -10,7 +10,7 @@ use Rattle.ble_base.specs.declared.notes.Note.{Note}
 use Rattle.ble_base.specs.declared.notes.Note.TheVariants.{Up, Opened, Shut, Enter}
 use Rattle.ble_base.specs.declared.roles.Role.{Role}
 use Rattle.open_links.specs.OpenLinks.{OpenLink}
-use Rattle.controller_model.specs.Entering.{IsEntered, begins_turn}
+use Rattle.controller_model.specs.Entering.{begins_turn}
 use Rattle.controller_model.specs.Facts.{Setup}
 use Rattle.controller_model.specs.Notes.{is_opening}
 use Rattle.controller_model.specs.Side.{facts_after, facts_of, notes_after}
@@ -120,13 +120,16 @@ module _ (before after : ℕ → Bool) (notes : List Note) where
           (subst (AreNot is_shutting) (parts (Opened other role own peer) first rest (earlier ++ Shut handle (record { 0 = reason }) ∷ later) is).tails shut) in absurd cc)
 
   -- a link is opened first, under a free handle
-  pub record IsOpenedFirst (earlier : List Note) (handle : ℕ) : Type 0 where
+  pub record IsOpenedFirst (earlier later : List Note) (handle : ℕ) : Type 0 where
     pub is_first : earlier ≡ []
+    pub none : AreNot is_opening later
+    pub shut : AreNot is_shutting later
     pub free : before handle ≡ false
     pub now : after handle ≡ true
+    pub others : (other : ℕ) → (handle == other) ≡ false → after other ≡ before other
 
   pub opened_mid : IsNotedAs before after notes → (earlier later : List Note) (handle : ℕ) (role : Role) (own peer : Address)
-      → notes ≡ earlier ++ Opened handle role own peer ∷ later → IsOpenedFirst earlier handle
+      → notes ≡ earlier ++ Opened handle role own peer ∷ later → IsOpenedFirst earlier later handle
   opened_mid (stays none shut same) earlier later handle role own peer are =
       absurd (let h : true ≡ false =
       middle (λ note. is_opening note ≡ false) earlier (Opened handle role own peer) later (subst (AreNot is_opening) are none) in absurd cc)
@@ -134,13 +137,21 @@ module _ (before after : ℕ → Bool) (notes : List Note) where
       absurd (let h : true ≡ false =
       middle (λ note. is_opening note ≡ false) earlier (Opened handle role own peer) later (subst (AreNot is_opening) are none) in absurd cc)
   opened_mid (opens_first other its_role its_own its_peer rest is none shut reports free now opens) earlier later handle role own peer are =
-      by handle role own peer rest none earlier free now (sym is ∙ are)
+      by handle role own peer rest none shut earlier free now (sym is ∙ are)
     where
-      by : (handle : ℕ) (role : Role) (own peer : Address) (rest : List Note) → AreNot is_opening rest → (earlier : List Note) → before other ≡ false → after other ≡ true
-          → Opened other its_role its_own its_peer ∷ rest ≡ earlier ++ Opened handle role own peer ∷ later → IsOpenedFirst earlier handle
-      by handle role own peer rest none [] free now is =
-          let same : other ≡ handle = cc in record { is_first = refl; free = subst (λ n. before n ≡ false) same free; now = subst (λ n. after n ≡ true) same now }
-      by handle role own peer rest none (first ∷ earlier) free now is =
+      by : (handle : ℕ) (role : Role) (own peer : Address) (rest : List Note) → AreNot is_opening rest → AreNot is_shutting rest → (earlier : List Note) → before other ≡ false → after other ≡ true
+          → Opened other its_role its_own its_peer ∷ rest ≡ earlier ++ Opened handle role own peer ∷ later → IsOpenedFirst earlier later handle
+      by handle role own peer rest none shut [] free now is =
+          let same : other ≡ handle = cc in
+          let tails : rest ≡ later = cc in record {
+            is_first = refl;
+            none = subst (AreNot is_opening) tails none;
+            shut = subst (AreNot is_shutting) tails shut;
+            free = subst (λ n. before n ≡ false) same free;
+            now = subst (λ n. after n ≡ true) same now;
+            others = subst (λ n. (one : ℕ) → (n == one) ≡ false → after one ≡ before one) same opens;
+          }
+      by handle role own peer rest none shut (first ∷ earlier) free now is =
           absurd (let h : true ≡ false =
           middle (λ note. is_opening note ≡ false) earlier (Opened handle role own peer) later
           (subst (AreNot is_opening) (parts (Opened other its_role its_own its_peer) first rest (earlier ++ Opened handle role own peer ∷ later) is).tails none) in absurd cc)

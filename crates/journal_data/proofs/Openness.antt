@@ -126,14 +126,14 @@ pub record IsQuiet (note : Note) : Type 0 where
   pub no_shutting : is_shutting note ≡ false
   pub no_report : is_report note ≡ false
 
-abbrev AreQuiet : List Note → Type 0
+abbrev pub AreQuiet : List Note → Type 0
 AreQuiet notes = AllByRecursion IsQuiet notes
 
 all_of : (P Q : Note → Type 0) → ((note : Note) → P note → Q note) → (notes : List Note) → AllByRecursion P notes → AllByRecursion Q notes
 all_of P Q to [] all = tt
 all_of P Q to (note ∷ notes) all = (to note all.0, all_of P Q to notes all.1)
 
-none_open : (notes : List Note) → AreQuiet notes → AreNot is_opening notes
+pub none_open : (notes : List Note) → AreQuiet notes → AreNot is_opening notes
 none_open notes quiet = all_of IsQuiet _ (λ note is. is.no_opening) notes quiet
 
 none_shut : (notes : List Note) → AreQuiet notes → AreNot is_shutting notes
@@ -146,7 +146,7 @@ both : (P : Note → Type 0) (xs ys : List Note) → AllByRecursion P xs → All
 both P [] ys all more = more
 both P (x ∷ xs) ys all more = (all.0, both P xs ys all.1 more)
 
-both_quiet : (xs ys : List Note) → AreQuiet xs → AreQuiet ys → AreQuiet (xs ++ ys)
+pub both_quiet : (xs ys : List Note) → AreQuiet xs → AreQuiet ys → AreQuiet (xs ++ ys)
 both_quiet xs ys all more = both IsQuiet xs ys all more
 
 both_not : (kind : Note → Bool) (xs ys : List Note) → AreNot kind xs → AreNot kind ys → AreNot kind (xs ++ ys)
@@ -226,7 +226,7 @@ sent_quiet : (slot : ℕ) (found : Option OpenLink) → AreQuiet (notes_sent slo
 sent_quiet slot None = tt
 sent_quiet slot (Some link) = sent_if _ link.setup.link.handle (facts_in link)
 
-doing_quiet : (doing : Doing) (facts : Facts) → AreQuiet (notes_doing doing facts)
+pub doing_quiet : (doing : Doing) (facts : Facts) → AreQuiet (notes_doing doing facts)
 doing_quiet (CentralSends handle) facts = sent_quiet facts.turn.slot (link_at handle facts.links)
 doing_quiet (PeripheralSends handle) facts = sent_quiet facts.turn.slot (link_at handle facts.links)
 doing_quiet (Advertises channel) facts = tt
@@ -240,7 +240,7 @@ took_by : (handle : ℕ) (room : Bool) (found : Option (List ℕ)) (facts : EndF
 took_by handle room None facts = tt
 took_by handle room (Some pdu) facts = took_if _ handle (pdu_of pdu) facts
 
-took_quiet : (slot : ℕ) (room : Bool) (found : Option OpenLink) (octets : List ℕ) → AreQuiet (notes_taken slot room found octets)
+pub took_quiet : (slot : ℕ) (room : Bool) (found : Option OpenLink) (octets : List ℕ) → AreQuiet (notes_taken slot room found octets)
 took_quiet slot room None octets = tt
 took_quiet slot room (Some link) octets = took_by link.setup.link.handle room (good_pdu link.setup (facts_in link) octets) (facts_in link)
 
@@ -613,7 +613,7 @@ report_quiet true view pdu None = tt
 report_quiet true view pdu (Some kind) = events_quiet view (report_event pdu kind ∷ []) (tt, tt)
 report_quiet false view pdu kind = tt
 
-answered_quiet : (view : View) (answer : ScanAnswer) (pdu : AdvPdu) → AreQuiet (notes_of_events view (events_reported answer pdu))
+pub answered_quiet : (view : View) (answer : ScanAnswer) (pdu : AdvPdu) → AreQuiet (notes_of_events view (events_reported answer pdu))
 answered_quiet view answer pdu = report_quiet _ view pdu (kind_of pdu)
 
 phase_as : (setup : Setup) (facts : Facts) → HaveOwnHandles setup facts → EachOutcome setup facts (OfOutcome facts)

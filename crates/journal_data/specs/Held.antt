@@ -1,19 +1,32 @@
 -- Which links the lines of a side name: only those that are open at it (Core 5.2, volume 4 part E, section 5.4.2).
-use Rattle.std.specs.Prelude.{◌≡◌, ℕ, ◌==◌, true, List, ◌∷◌, ◌++◌}
+use Rattle.std.specs.Prelude.{◌≡◌, ℕ, ◌<◌, ◌==◌, Bool, true, false, List, ◌∷◌, ◌++◌, None, IsSome}
 use Rattle.std.specs.List.{list_any}
 use Rattle.ble_base.specs.declared.ErrCode.{ErrCode}
+use Rattle.ble_base.specs.declared.roles.Role.{Role}
 use Rattle.ble_base.specs.declared.roles.Side.{Side}
 use Rattle.journal.specs.declared.entries.Entry.{Entry}
-use Rattle.journal.specs.declared.entries.Entry.TheVariants.{Enter, Shut, Sent, Took}
+use Rattle.journal.specs.declared.entries.Entry.TheVariants.{Enter, Opened, Shut, Sent, Took}
 use Rattle.journal_data.specs.Delivered.{host_buffers}
-use Rattle.journal_data.specs.HostLines.{OpenUnder}
+use Rattle.journal_data.specs.HostLines.{OpenUnder, link_under}
 use Rattle.journal_data.specs.Lines.{lines_of}
 
--- after these lines a link is open at a side: its `open` line is one of them, and its `shut` line is not
-abbrev pub IsOpenAt : Side → ℕ → List Entry → Type 0
-IsOpenAt side link front = list_any (λ (one : OpenUnder). one.link == link) (lines_of host_buffers side front).links ≡ true
+-- the links that are open at a side after these lines: their `open` lines are among them, and their `shut` lines are not
+abbrev pub links_open : Side → List Entry → List OpenUnder
+links_open side front = (lines_of host_buffers side front).links
 
--- each line of a link is of one that is open at its side, by the lines before it
+abbrev pub is_open_link : ℕ → List OpenUnder → Bool
+is_open_link link links = list_any (λ (one : OpenUnder). one.link == link) links
+
+abbrev pub IsOpenAt : Side → ℕ → List Entry → Type 0
+IsOpenAt side link front = is_open_link link (links_open side front) ≡ true
+
+-- a link that is opened while these are open is none of them, and has the least handle that none of them has (our choice)
+pub record IsNextOpened (link handle : ℕ) (links : List OpenUnder) : Type 0 where
+  pub new : is_open_link link links ≡ false
+  pub free : link_under handle links ≡ None
+  pub least : (other : ℕ) → other < handle → IsSome (link_under other links)
+
+-- each line of a link is of one that is open at its side by the lines before it, but its `open` line, which is of the next one
 pub record LinesAreOfOpenLinks (journal : List Entry) : Type 0 where
   pub sent : (front rest : List Entry) (side : Side) (link number llid : ℕ) (body : List ℕ)
       → journal ≡ front ++ Sent side link number llid body ∷ rest → IsOpenAt side link front
@@ -23,3 +36,5 @@ pub record LinesAreOfOpenLinks (journal : List Entry) : Type 0 where
       → journal ≡ front ++ Enter side link event channel ∷ rest → IsOpenAt side link front
   pub shut : (front rest : List Entry) (side : Side) (link : ℕ) (reason : ErrCode)
       → journal ≡ front ++ Shut side link reason ∷ rest → IsOpenAt side link front
+  pub opened : (front rest : List Entry) (side : Side) (link handle : ℕ) (role : Role)
+      → journal ≡ front ++ Opened side link handle role ∷ rest → IsNextOpened link handle (links_open side front)

@@ -9,7 +9,8 @@ ghost use Rattle.journal_data.specs.Held.{LinesAreOfOpenLinks};
 
 /// In the journal of a run of a pair, whole or ended by damage, each `sent`, `took`, `enter` and
 /// `shut` line names a link that is open at its side by the lines before it: that side has an
-/// `open` line of it, and no `shut` line of it since.
+/// `open` line of it, and no `shut` line of it since. Each `open` line is of a link that is not
+/// open at its side, under the least handle that no open link of that side has (our choice).
 pub fn lines_are_of_open_links_in_every_journal()
     ensures { (a b : List ℕ) (script : Script) → length script.a.public ≡ 6
         → length script.b.public ≡ 6
