@@ -1,13 +1,15 @@
 -- In each journal of a run of a pair, each line of a link is of one that is open at its side.
+use Rattle.controller_model.specs.Notes.{is_event}
+use Rattle.host_view.specs.Noted.{acl_handle, is_acl_data}
 use Rattle.std.proofs.Common.{◌≡◌, ℕ, suc, if◌then◌else◌, ◌==◌, Bool, true, false, Option, Some, None, List, [], ◌∷◌, ◌++◌, length, map, cond, refl, sym, subst, ◌∙◌, ap}
-use Rattle.std.specs.Prelude.{◌||◌, take, ⊤}
+use Rattle.std.specs.Prelude.{◌||◌, take, ⊤, IsSome}
 use Rattle.std.specs.List.{find, list_any}
 use Rattle.std.specs.Option.{option_map}
 use Rattle.std.proofs.lemmas.Bool.{eq-eqb}
 use Rattle.ble_base.specs.declared.notes.Note.{Note}
 use Rattle.ble_base.specs.declared.notes.Note.TheVariants.{Up as UpNote, Opened as OpenedNote, Shut as ShutNote, Sent as SentNote, Took as TookNote, Enter as EnterNote}
 use Rattle.journal.specs.declared.entries.Entry.{Entry}
-use Rattle.journal.specs.declared.entries.Entry.TheVariants.{Turn, Fed, Air, Enter, Opened, Shut, Sent, Took}
+use Rattle.journal.specs.declared.entries.Entry.TheVariants.{Turn, Fed, Air, Up, Enter, Opened, Shut, Sent, Took}
 use Rattle.link_model.proofs.Received.{IsHeardWhole}
 use Rattle.controller_model.specs.Side.{notes_after}
 use Rattle.controller_model.specs.Step.{Step, HostOctet, TurnBegins, TurnEnds}
@@ -36,7 +38,7 @@ use Rattle.journal_acks.proofs.Counting.{AreKnown, HaveOwnNumbers}
 use Rattle.journal_acks.proofs.Exchanging.{number_at}
 use Rattle.journal_acks.proofs.Known.{known_of}
 use Rattle.journal_acks.proofs.TwoStations.{IsOfTwo}
-use Rattle.journal_data.specs.Held.{IsNextOpened, IsOpenAt, LinesAreOfOpenLinks, links_open}
+use Rattle.journal_data.specs.Held.{IsNextOpened, IsOpenAt, LinesAreOfOpenLinks, links_open, IsOfOneLink}
 use Rattle.journal_data.specs.HostLines.{OpenUnder, link_under}
 use Rattle.journal_data.proofs.EachLine.{lines_at}
 use Rattle.journal_data.proofs.FewLinks.{HaveFewLinks, pair_links}
@@ -184,6 +186,9 @@ IsHeldEntry front (Took side link number llid body) = IsOpenAt side link front
 IsHeldEntry front (Enter side link event channel) = IsOpenAt side link front
 IsHeldEntry front (Shut side link reason) = IsOpenAt side link front
 IsHeldEntry front (Opened side link handle role) = IsNextOpened link handle (links_open side front)
+IsHeldEntry front (Up side octets) =
+    (is_acl_data octets ≡ true → IsSome (link_under (acl_handle octets) (links_open side front)))
+    × (is_event 0x13 octets ≡ true → IsOfOneLink octets (links_open side front))
 IsHeldEntry front entry = ⊤
 
 note_entry : (station : ℕ) (history : List Event) (note : Note) → IsHeldNote station history note
@@ -193,7 +198,7 @@ note_entry station history (TookNote handle counted llid body) held = any_under 
 note_entry station history (EnterNote handle event channel) held = any_under handle (number_at station handle history) (lines_at station history).links held
 note_entry station history (ShutNote handle reason) held = any_under handle (number_at station handle history) (lines_at station history).links held
 note_entry station history (OpenedNote handle role own peer) held = held
-note_entry station history (UpNote packet) held = tt
+note_entry station history (UpNote packet) held = held
 note_entry station history note held = tt
 
 event_entry : (history : List Event) (event : Event) (entry : Entry) → IsHeld history event → entries_of (links_of history) event ≡ entry ∷ []
@@ -231,4 +236,6 @@ lines_held whole understood taken nth apart a b script six six_too =
       entered = λ front rest side link event channel is. entry front rest (Enter side link event channel) is;
       shut = λ front rest side link reason is. entry front rest (Shut side link reason) is;
       opened = λ front rest side link handle role is. entry front rest (Opened side link handle role) is;
+      received = λ front rest side octets is. (entry front rest (Up side octets) is).0;
+      completed = λ front rest side octets is. (entry front rest (Up side octets) is).1;
     }

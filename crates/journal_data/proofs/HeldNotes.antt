@@ -1,8 +1,13 @@
 -- Before each note of a call, the links that the lines of its station have open are those that are open by the notes so
 -- far: a line that names a link is of an open link, and a link is opened under a handle that none has.
+use Rattle.journal_data.proofs.Reported.{IsOfOneHandle, step_one}
+use Rattle.controller_model.proofs.OpenNotes.{open_after, open_before}
+use Rattle.controller_model.specs.Since.{is_data_note}
+use Rattle.host_view.specs.Noted.{acl_handle, is_acl_data, two_octets}
+use Rattle.std.proofs.lemmas.List.Elements.{All-contains_itself, recursion_from_All}
 use Rattle.std.proofs.Common.{◌≡◌, ℕ, ◌<◌, ◌≤◌, ◌==◌, Bool, true, false, Some, None, List, [], ◌∷◌, ◌++◌, map, cond, refl, ap, sym, subst, ◌∙◌, append-nil, append_assoc, arith, Option}
-use Rattle.std.specs.Prelude.{◌||◌, fold, is_some, ⊤}
-use Rattle.std.specs.List.{AllByRecursion, sum_by}
+use Rattle.std.specs.Prelude.{◌||◌, fold, is_some, ⊤, IsSome}
+use Rattle.std.specs.List.{AllByRecursion, sum_by, Contains}
 use Rattle.std.proofs.lemmas.List.Sums.{sum_by-cons}
 use Rattle.std.proofs.lemmas.Bool.{eq-eqb, eqb-true}
 use Rattle.ble_base.specs.declared.addresses.Address.{Address}
@@ -11,7 +16,7 @@ use Rattle.ble_base.specs.declared.notes.Note.TheVariants.{Up, Opened, Shut, Sen
 use Rattle.ble_base.specs.declared.roles.Role.{Role}
 use Rattle.open_links.specs.OpenLinks.{IsLeastFree}
 use Rattle.controller_model.specs.Facts.{Facts}
-use Rattle.controller_model.specs.Notes.{HasHandleBelow, is_opening}
+use Rattle.controller_model.specs.Notes.{HasHandleBelow, is_opening, is_event}
 use Rattle.controller_model.specs.Side.{facts_after, notes_after}
 use Rattle.controller_model.specs.Step.{Step}
 use Rattle.run_model.specs.Due.{Each}
@@ -22,13 +27,13 @@ use Rattle.run_model.specs.Run.{Given, after_call, facts_at, setup_at}
 use Rattle.run_model.proofs.LinksKnown.{links_event}
 use Rattle.journal_acks.proofs.Counting.{HaveOwnNumbers}
 use Rattle.journal_acks.proofs.Exchanging.{number_at}
-use Rattle.journal_data.specs.Held.{IsNextOpened, is_open_link}
+use Rattle.journal_data.specs.Held.{IsNextOpened, is_open_link, IsOfOneLink}
 use Rattle.journal_data.specs.HostLines.{OpenUnder, link_under}
 use Rattle.journal_data.specs.Lines.{Lines}
 use Rattle.journal_data.proofs.EachLine.{call_lines, lines_at, note_lines, numbers_at}
 use Rattle.journal_data.proofs.HeldLinks.{HoldsLinks, nothing_in, opened_holds, under_is}
 use Rattle.journal_data.proofs.LeastHandles.{OpenLeast}
-use Rattle.journal_data.proofs.NotedLines.{AreApart, IsOfBase, note_links, number_opened, numbers_noted, numbers_quiet, one_on, still_open, swapped, with_noted}
+use Rattle.journal_data.proofs.NotedLines.{AreApart, IsOfBase, note_links, number_opened, numbers_noted, numbers_quiet, one_on, still_open, swapped, with_noted, completed_data, received_data}
 use Rattle.journal_data.proofs.Openness.{AreNot, IsNotedAs, stays, shuts, opens_first, is_open, is_shutting, note_open, past_noted}
 use Rattle.journal_data.proofs.OpenLines.{IsOfStaying, all_front, middle, of_staying, open_mid, opened_mid, parts, shut_mid}
 use Rattle.journal_data.proofs.StationLines.{called_then, names_few, of_after, of_before, own_apart, own_facts}
@@ -76,6 +81,9 @@ IsHeldNote station history (Enter handle event channel) = IsUnder station histor
 IsHeldNote station history (Shut handle reason) = IsUnder station history handle
 IsHeldNote station history (Opened handle role own peer) =
     IsNextOpened ((links_of history).last_of station) handle (lines_at station history).links
+IsHeldNote station history (Up packet) =
+    (is_acl_data packet.items ≡ true → IsSome (link_under (acl_handle packet.items) (lines_at station history).links))
+    × (is_event 0x13 packet.items ≡ true → IsOfOneLink packet.items (lines_at station history).links)
 IsHeldNote station history note = ⊤
 
 abbrev pub IsHeld : List Event → Event → Type 0
@@ -103,6 +111,9 @@ none_any link (one ∷ links) none = by (one.link == link) refl (none_any link l
     by false same rest =
         let parts = sum_by-cons (λ (x : OpenUnder). cond (x.link == link) 1 0) one links in
         rest (omega (arith, parts, none))
+
+each_of : (notes : List Note) → AllByRecursion (Contains notes) notes
+each_of notes = recursion_from_All (Contains notes) notes (All-contains_itself notes)
 
 -- ---- a call
 
@@ -291,7 +302,19 @@ module _ (given : Given) (station : ℕ) (step : Step) (history : List Event) (f
       subst (λ (all : List Note). IsHeldNote station (with_noted station called all) note) (sym opened.is_first)
       (subst (λ (all : List Event). IsHeldNote station all note) (sym (append-nil called))
       (next_opened handle role first_own peer later whole opened.none opened.shut opened.free opened.now opened.others (least handle role first_own peer later whole)))
-  note_is earlier later (Up packet) are = tt
+  note_is earlier later (Up packet) are =
+      let note = Up packet in
+      let setup = setup_at given station in
+      let past = past_of station history in
+      let mid = with_noted station called earlier in
+      let inside = middle (Contains notes) earlier note later (subst (λ (all : List Note). AllByRecursion (Contains notes) all) are (each_of notes)) in
+      let one = middle IsOfOneHandle earlier note later (subst (AllByRecursion IsOfOneHandle) are (step_one setup past step)) in
+      let under = λ (handle : ℕ) (of : is_data_note handle note ≡ true).
+      ap (λ (place : Option ℕ). is_some place)
+      (stays_under earlier (note ∷ later) are handle (open_before setup past step note handle few inside of) (open_after setup past step note handle few inside of)) in (
+        (λ acl. under (acl_handle packet.items) (received_data packet acl)),
+        (λ event. record { one_handle = one event; is_open = under (two_octets 4 packet.items) (completed_data packet event) }),
+      )
   note_is earlier later note are = tt
 
   each_left : (earlier left : List Note) → notes ≡ earlier ++ left → Each IsHeld (with_noted station called earlier) (map (Noted station) left)

@@ -139,13 +139,13 @@ sent_data handle counted llid body = ap (λ (b : Bool). (b || false) || (false |
 pub took_data : (handle counted llid : ℕ) (body : ArrayVec ℕ) → is_data_note handle (Took handle counted llid body) ≡ true
 took_data handle counted llid body = ap (λ (b : Bool). (false || b) || (false || false)) (eq-eqb handle handle refl)
 
-received_data : (packet : ArrayVec ℕ) → is_acl_data packet.items ≡ true → is_data_note (acl_handle packet.items) (Up packet) ≡ true
+pub received_data : (packet : ArrayVec ℕ) → is_acl_data packet.items ≡ true → is_data_note (acl_handle packet.items) (Up packet) ≡ true
 received_data packet acl =
     let octets = packet.items in
     or_one (is_acl_data octets && (acl_handle octets == acl_handle octets)) (is_event 0x13 octets && (two_octets 4 octets == acl_handle octets))
     (and_both (is_acl_data octets) (acl_handle octets == acl_handle octets) acl (eq-eqb (acl_handle octets) (acl_handle octets) refl))
 
-completed_data : (packet : ArrayVec ℕ) → is_event 0x13 packet.items ≡ true → is_data_note (two_octets 4 packet.items) (Up packet) ≡ true
+pub completed_data : (packet : ArrayVec ℕ) → is_event 0x13 packet.items ≡ true → is_data_note (two_octets 4 packet.items) (Up packet) ≡ true
 completed_data packet event =
     let octets = packet.items in
     or_other (is_acl_data octets && (acl_handle octets == two_octets 4 octets)) (is_event 0x13 octets && (two_octets 4 octets == two_octets 4 octets))

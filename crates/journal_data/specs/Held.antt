@@ -1,11 +1,14 @@
--- Which links the lines of a side name: only those that are open at it (Core 5.2, volume 4 part E, section 5.4.2).
-use Rattle.std.specs.Prelude.{◌≡◌, ℕ, ◌<◌, ◌==◌, Bool, true, false, List, ◌∷◌, ◌++◌, None, IsSome}
+-- Which links the lines of a side name: only those that are open at it (Core 5.2, volume 4 part E, sections 5.4.2 and
+-- 7.7.19).
+use Rattle.std.specs.Prelude.{◌≡◌, ℕ, ◌<◌, ◌==◌, Bool, true, false, List, ◌∷◌, ◌++◌, None, IsSome, slice_index}
 use Rattle.std.specs.List.{list_any}
 use Rattle.ble_base.specs.declared.ErrCode.{ErrCode}
 use Rattle.ble_base.specs.declared.roles.Role.{Role}
 use Rattle.ble_base.specs.declared.roles.Side.{Side}
+use Rattle.host_view.specs.Noted.{acl_handle, is_acl_data, two_octets}
 use Rattle.journal.specs.declared.entries.Entry.{Entry}
-use Rattle.journal.specs.declared.entries.Entry.TheVariants.{Enter, Opened, Shut, Sent, Took}
+use Rattle.journal.specs.declared.entries.Entry.TheVariants.{Up, Enter, Opened, Shut, Sent, Took}
+use Rattle.controller_model.specs.Notes.{is_event}
 use Rattle.journal_data.specs.Delivered.{host_buffers}
 use Rattle.journal_data.specs.HostLines.{OpenUnder, link_under}
 use Rattle.journal_data.specs.Lines.{lines_of}
@@ -26,7 +29,13 @@ pub record IsNextOpened (link handle : ℕ) (links : List OpenUnder) : Type 0 wh
   pub free : link_under handle links ≡ None
   pub least : (other : ℕ) → other < handle → IsSome (link_under other links)
 
--- each line of a link is of one that is open at its side by the lines before it, but its `open` line, which is of the next one
+-- a Number Of Completed Packets event is of one handle, which is at the place 4, and an open link has it
+pub record IsOfOneLink (octets : List ℕ) (links : List OpenUnder) : Type 0 where
+  pub one_handle : slice_index octets 3 ≡ 1
+  pub is_open : IsSome (link_under (two_octets 4 octets) links)
+
+-- each line of a link is of one that is open at its side by the lines before it, but its `open` line, which is of the next one;
+-- and what a host receives of data and of complete packets is of open links
 pub record LinesAreOfOpenLinks (journal : List Entry) : Type 0 where
   pub sent : (front rest : List Entry) (side : Side) (link number llid : ℕ) (body : List ℕ)
       → journal ≡ front ++ Sent side link number llid body ∷ rest → IsOpenAt side link front
@@ -38,3 +47,7 @@ pub record LinesAreOfOpenLinks (journal : List Entry) : Type 0 where
       → journal ≡ front ++ Shut side link reason ∷ rest → IsOpenAt side link front
   pub opened : (front rest : List Entry) (side : Side) (link handle : ℕ) (role : Role)
       → journal ≡ front ++ Opened side link handle role ∷ rest → IsNextOpened link handle (links_open side front)
+  pub received : (front rest : List Entry) (side : Side) (octets : List ℕ) → journal ≡ front ++ Up side octets ∷ rest
+      → is_acl_data octets ≡ true → IsSome (link_under (acl_handle octets) (links_open side front))
+  pub completed : (front rest : List Entry) (side : Side) (octets : List ℕ) → journal ≡ front ++ Up side octets ∷ rest
+      → is_event 0x13 octets ≡ true → IsOfOneLink octets (links_open side front)

@@ -10,7 +10,9 @@ ghost use Rattle.journal_data.specs.Held.{LinesAreOfOpenLinks};
 /// In the journal of a run of a pair, whole or ended by damage, each `sent`, `took`, `enter` and
 /// `shut` line names a link that is open at its side by the lines before it: that side has an
 /// `open` line of it, and no `shut` line of it since. Each `open` line is of a link that is not
-/// open at its side, under the least handle that no open link of that side has (our choice).
+/// open at its side, under the least handle that no open link of that side has (our choice). Data
+/// that a host receives, and complete packets that are reported to it, are of a link that is open
+/// at its side, and each Number Of Completed Packets event is of one handle.
 pub fn lines_are_of_open_links_in_every_journal()
     ensures { (a b : List ℕ) (script : Script) → length script.a.public ≡ 6
         → length script.b.public ≡ 6
