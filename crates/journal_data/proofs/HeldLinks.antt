@@ -149,7 +149,7 @@ filtered_sum of link (one ∷ links) = by (one.link == link) refl (filtered_sum 
 
 module _ (many : ℕ) (links : List OpenUnder) (number : ℕ → ℕ) (opened : ℕ → Bool) (holds : HoldsLinks many links number opened) where
   -- a sum that no handle adds to
-  nothing_in : (of : OpenUnder → ℕ) → ((handle : ℕ) → opened handle ≡ true → of (record { link = number handle; handle = handle }) ≡ 0) → sum_by of links ≡ 0
+  pub nothing_in : (of : OpenUnder → ℕ) → ((handle : ℕ) → opened handle ≡ true → of (record { link = number handle; handle = handle }) ≡ 0) → sum_by of links ≡ 0
   nothing_in of none = holds.sums of ∙ sum_zero of number opened 0 many (λ handle. by handle (opened handle) refl)
     where
       by : (handle : ℕ) (on : Bool) → opened handle ≡ on → cond on (of (record { link = number handle; handle = handle })) 0 ≡ 0

@@ -18,6 +18,10 @@ pub mod MineKept
 pub mod Openness
 pub mod NotedLines
 pub mod StationLines
+mod OpenLines
+pub mod LeastHandles
+mod Reported
+pub mod HeldNotes
 pub mod LinesGrow
 mod FewComplete
 mod Credits
@@ -35,3 +39,4 @@ mod Fronts
 pub mod CallMiddle
 mod DataInRuns
 pub mod Law
+pub mod HeldInRuns

@@ -139,13 +139,13 @@ sent_data handle counted llid body = ap (λ (b : Bool). (b || false) || (false |
 pub took_data : (handle counted llid : ℕ) (body : ArrayVec ℕ) → is_data_note handle (Took handle counted llid body) ≡ true
 took_data handle counted llid body = ap (λ (b : Bool). (false || b) || (false || false)) (eq-eqb handle handle refl)
 
-received_data : (packet : ArrayVec ℕ) → is_acl_data packet.items ≡ true → is_data_note (acl_handle packet.items) (Up packet) ≡ true
+pub received_data : (packet : ArrayVec ℕ) → is_acl_data packet.items ≡ true → is_data_note (acl_handle packet.items) (Up packet) ≡ true
 received_data packet acl =
     let octets = packet.items in
     or_one (is_acl_data octets && (acl_handle octets == acl_handle octets)) (is_event 0x13 octets && (two_octets 4 octets == acl_handle octets))
     (and_both (is_acl_data octets) (acl_handle octets == acl_handle octets) acl (eq-eqb (acl_handle octets) (acl_handle octets) refl))
 
-completed_data : (packet : ArrayVec ℕ) → is_event 0x13 packet.items ≡ true → is_data_note (two_octets 4 packet.items) (Up packet) ≡ true
+pub completed_data : (packet : ArrayVec ℕ) → is_event 0x13 packet.items ≡ true → is_data_note (two_octets 4 packet.items) (Up packet) ≡ true
 completed_data packet event =
     let octets = packet.items in
     or_other (is_acl_data octets && (acl_handle octets == two_octets 4 octets)) (is_event 0x13 octets && (two_octets 4 octets == two_octets 4 octets))
@@ -176,7 +176,7 @@ module _ (many : ℕ) (number : ℕ → ℕ) (lines : Lines) (opened : ℕ → B
   note_fits base handle (Shut other reason) apart within on of = tt
   note_fits base handle note apart within on of = tt
 
-  note_links : (base : ℕ → Bool) (side : Side) (last : ℕ) (note : Note) → AreApart number base → ((other : ℕ) → opened other ≡ true → base other ≡ true)
+  pub note_links : (base : ℕ → Bool) (side : Side) (last : ℕ) (note : Note) → AreApart number base → ((other : ℕ) → opened other ≡ true → base other ≡ true)
       → is_opening note ≡ false → IsOfBase base note
       → HoldsLinks many (line_after 8 lines (entry_of side number last note)).links number (λ handle. note_open handle (opened handle) note)
   note_links base side last (Opened other role own peer) apart within none of = absurd cc
@@ -237,7 +237,7 @@ module _ (many : ℕ) (number : ℕ → ℕ) (lines : Lines) (opened : ℕ → B
   same_note other side last note apart none = same_itself other lines
 
 -- it was open before a note that opens none
-still_open : (handle : ℕ) (linked : Bool) (note : Note) → is_opening note ≡ false → note_open handle linked note ≡ true → linked ≡ true
+pub still_open : (handle : ℕ) (linked : Bool) (note : Note) → is_opening note ≡ false → note_open handle linked note ≡ true → linked ≡ true
 still_open handle linked (Opened other role own peer) none on = absurd cc
 still_open handle linked (Shut other reason) none on = by (other == handle) on
   where
@@ -304,7 +304,7 @@ numbers_noted station history note none = ap (λ (links : Links). links.link_of 
     by (Up packet) none = refl
     by note none = refl
 
-number_opened : (station handle : ℕ) (history : List Event) (role : Role) (own peer : Address) (other : ℕ)
+pub number_opened : (station handle : ℕ) (history : List Event) (role : Role) (own peer : Address) (other : ℕ)
     → number_at station other (history ++ Noted station (Opened handle role own peer) ∷ [])
     ≡ cond (handle == other) ((links_of history).last_of station) (number_at station other history)
 number_opened station handle history role own peer other =

@@ -41,7 +41,8 @@ use Rattle.open_links.specs.declared.offers.Offer.{Offer}
 use Rattle.open_links.specs.declared.offers.Offer.TheVariants.{NoLink, Empty, Overflow, Kept}
 use Rattle.open_links.specs.Data.{completed_from, link_reported}
 use Rattle.open_links.specs.OpenLinks.{Links, OpenLink, facts_in, handles_from, link_after, link_at, link_from, new_link, without_links}
-use Rattle.open_links.specs.Turns.{end_by, ends_from, is_anchor, link_entered, links_staying, notes_entering, notes_if, reason_in, staying_by}
+use Rattle.open_links.specs.Turns.{end_by, ends_from, is_anchor, link_entered, links_staying, notes_entering, notes_if, place_staying, reason_in, staying_by}
+use Rattle.open_links.proofs.Ends.{stays_where_not_due}
 use Rattle.controller_model.specs.declared.doing.Doing.{Doing}
 use Rattle.controller_model.specs.declared.doing.Doing.TheVariants.{Advertises, CentralSends, PeripheralSends}
 use Rattle.controller_model.specs.Step.{Step, HostOctet, TurnBegins, PacketHeard, NothingHeard, TurnEnds}
@@ -88,13 +89,23 @@ is_report note = false
 abbrev pub AreNot : (Note → Bool) → List Note → Type 0
 AreNot kind notes = AllByRecursion (λ note. kind note ≡ false) notes
 
+-- a note that shuts the link under a handle
+abbrev pub is_shut_of : ℕ → Note → Bool
+is_shut_of handle (Shut other reason) = other == handle
+is_shut_of handle note = false
+
+-- that link is shut at most once
+abbrev pub IsShutOnce : ℕ → List Note → Type 0
+IsShutOnce handle [] = ⊤
+IsShutOnce handle (note ∷ notes) = (is_shut_of handle note ≡ true → AreNot (is_shut_of handle) notes) × IsShutOnce handle notes
+
 -- what the notes of a step say of the handles with open links before the step, and after it
 pub data IsNotedAs (before after : ℕ → Bool) (notes : List Note) : Type 0 where
   -- none is opened or shut
   stays : AreNot is_opening notes → AreNot is_shutting notes → ((handle : ℕ) → after handle ≡ before handle) → IsNotedAs before after notes
-  -- none is opened, and nothing is reported
+  -- none is opened, none is shut twice, and nothing is reported
   shuts : AreNot is_opening notes → AreNot is_report notes → ((handle : ℕ) → fold (note_open handle) (before handle) notes ≡ after handle)
-      → IsNotedAs before after notes
+      → ((handle : ℕ) → IsShutOnce handle notes) → IsNotedAs before after notes
   -- one is opened first, under a free handle, and then none is opened or shut, and nothing is reported
   opens_first : (handle : ℕ) (role : Role) (own peer : Address) (rest : List Note) → notes ≡ Opened handle role own peer ∷ rest
       → AreNot is_opening rest → AreNot is_shutting rest → AreNot is_report rest → before handle ≡ false → after handle ≡ true
@@ -115,14 +126,14 @@ pub record IsQuiet (note : Note) : Type 0 where
   pub no_shutting : is_shutting note ≡ false
   pub no_report : is_report note ≡ false
 
-abbrev AreQuiet : List Note → Type 0
+abbrev pub AreQuiet : List Note → Type 0
 AreQuiet notes = AllByRecursion IsQuiet notes
 
 all_of : (P Q : Note → Type 0) → ((note : Note) → P note → Q note) → (notes : List Note) → AllByRecursion P notes → AllByRecursion Q notes
 all_of P Q to [] all = tt
 all_of P Q to (note ∷ notes) all = (to note all.0, all_of P Q to notes all.1)
 
-none_open : (notes : List Note) → AreQuiet notes → AreNot is_opening notes
+pub none_open : (notes : List Note) → AreQuiet notes → AreNot is_opening notes
 none_open notes quiet = all_of IsQuiet _ (λ note is. is.no_opening) notes quiet
 
 none_shut : (notes : List Note) → AreQuiet notes → AreNot is_shutting notes
@@ -135,7 +146,7 @@ both : (P : Note → Type 0) (xs ys : List Note) → AllByRecursion P xs → All
 both P [] ys all more = more
 both P (x ∷ xs) ys all more = (all.0, both P xs ys all.1 more)
 
-both_quiet : (xs ys : List Note) → AreQuiet xs → AreQuiet ys → AreQuiet (xs ++ ys)
+pub both_quiet : (xs ys : List Note) → AreQuiet xs → AreQuiet ys → AreQuiet (xs ++ ys)
 both_quiet xs ys all more = both IsQuiet xs ys all more
 
 both_not : (kind : Note → Bool) (xs ys : List Note) → AreNot kind xs → AreNot kind ys → AreNot kind (xs ++ ys)
@@ -146,6 +157,33 @@ quiet_fold handle linked notes quiet = open_still handle linked notes (none_open
 
 stays_quiet : (before after : ℕ → Bool) (notes : List Note) → AreQuiet notes → ((handle : ℕ) → after handle ≡ before handle) → IsNotedAs before after notes
 stays_quiet before after notes quiet is = stays (none_open notes quiet) (none_shut notes quiet) is
+
+-- ---- links that are shut once
+
+not_before : (handle first : ℕ) → handle < first → (first == handle) ≡ false
+not_before handle first before = grind (arith, before)
+
+shut_none : (handle : ℕ) (note : Note) → is_shutting note ≡ false → is_shut_of handle note ≡ false
+shut_none handle (Shut other reason) none = absurd (let h : true ≡ false = none in absurd cc)
+shut_none handle (Up packet) none = refl
+shut_none handle note none = refl
+
+none_of : (handle : ℕ) (notes : List Note) → AreNot is_shutting notes → AreNot (is_shut_of handle) notes
+none_of handle notes none = all_of (λ note. is_shutting note ≡ false) (λ note. is_shut_of handle note ≡ false) (shut_none handle) notes none
+
+once_none : (handle : ℕ) (notes : List Note) → AreNot is_shutting notes → IsShutOnce handle notes
+once_none handle [] none = tt
+once_none handle (note ∷ notes) none = ((λ is. none_of handle notes none.1), once_none handle notes none.1)
+
+once_more : (handle : ℕ) (xs ys : List Note) → IsShutOnce handle xs → AreNot is_shutting ys → IsShutOnce handle (xs ++ ys)
+once_more handle [] ys once none = once_none handle ys none
+once_more handle (x ∷ xs) ys once none =
+    ((λ is. both_not (is_shut_of handle) xs ys (once.0 is) (none_of handle ys none)), once_more handle xs ys once.1 none)
+
+once_before : (handle : ℕ) (xs ys : List Note) → AreNot (is_shut_of handle) xs → IsShutOnce handle ys → IsShutOnce handle (xs ++ ys)
+once_before handle [] ys none once = once
+once_before handle (x ∷ xs) ys none once =
+    ((λ is. absurd (let h : true ≡ false = sym is ∙ none.0 in absurd cc)), once_before handle xs ys none.1 once)
 
 -- ---- events
 
@@ -188,7 +226,7 @@ sent_quiet : (slot : ℕ) (found : Option OpenLink) → AreQuiet (notes_sent slo
 sent_quiet slot None = tt
 sent_quiet slot (Some link) = sent_if _ link.setup.link.handle (facts_in link)
 
-doing_quiet : (doing : Doing) (facts : Facts) → AreQuiet (notes_doing doing facts)
+pub doing_quiet : (doing : Doing) (facts : Facts) → AreQuiet (notes_doing doing facts)
 doing_quiet (CentralSends handle) facts = sent_quiet facts.turn.slot (link_at handle facts.links)
 doing_quiet (PeripheralSends handle) facts = sent_quiet facts.turn.slot (link_at handle facts.links)
 doing_quiet (Advertises channel) facts = tt
@@ -202,7 +240,7 @@ took_by : (handle : ℕ) (room : Bool) (found : Option (List ℕ)) (facts : EndF
 took_by handle room None facts = tt
 took_by handle room (Some pdu) facts = took_if _ handle (pdu_of pdu) facts
 
-took_quiet : (slot : ℕ) (room : Bool) (found : Option OpenLink) (octets : List ℕ) → AreQuiet (notes_taken slot room found octets)
+pub took_quiet : (slot : ℕ) (room : Bool) (found : Option OpenLink) (octets : List ℕ) → AreQuiet (notes_taken slot room found octets)
 took_quiet slot room None octets = tt
 took_quiet slot room (Some link) octets = took_by link.setup.link.handle room (good_pdu link.setup (facts_in link) octets) (facts_in link)
 
@@ -295,6 +333,19 @@ all_shut first handle (Some link ∷ links) = by (first == handle) (all_shut (fi
     by true rest = keeps_shut handle (handles_from (first + 1) links)
     by false rest = rest
 
+reset_later : (handle first : ℕ) (links : Links) → handle < first → AreNot (is_shut_of handle) (map (λ one. note_shut one 0) (handles_from first links))
+reset_later handle first [] later = tt
+reset_later handle first (None ∷ links) later = reset_later handle (first + 1) links (omega (arith, later))
+reset_later handle first (Some link ∷ links) later = (not_before handle first later, reset_later handle (first + 1) links (omega (arith, later)))
+
+reset_once : (handle first : ℕ) (links : Links) → IsShutOnce handle (map (λ one. note_shut one 0) (handles_from first links))
+reset_once handle first [] = tt
+reset_once handle first (None ∷ links) = reset_once handle (first + 1) links
+reset_once handle first (Some link ∷ links) = (
+  (λ is. let equal = eqb-true first handle is in reset_later handle (first + 1) links (omega (arith, equal))),
+  reset_once handle (first + 1) links,
+)
+
 fold_quiet : (handle : ℕ) (linked : Bool) (xs ys : List Note) → AreQuiet ys → fold (note_open handle) linked (xs ++ ys) ≡ fold (note_open handle) linked xs
 fold_quiet handle linked xs ys quiet = fold-append (note_open handle) linked xs ys ∙ quiet_fold handle (fold (note_open handle) linked xs) ys quiet
 
@@ -314,6 +365,7 @@ accepted_as setup facts opcode Reset =
     (both_not is_report shut answer (shuts_not is_report (λ handle. refl) handles) (none_report answer answers)) (none_report caused causes))
     (λ handle. fold_quiet handle (is_open facts.links handle) (shut ++ answer) caused causes ∙ fold_quiet handle (is_open facts.links handle) shut answer answers
     ∙ all_shut 0 handle facts.links ∙ sym (reset_open handle facts.links))
+    (λ handle. once_more handle (shut ++ answer) caused (once_more handle shut answer (reset_once handle 0 facts.links) (none_shut answer answers)) (none_shut caused causes))
 accepted_as setup facts opcode other =
     let answer = notes_of_events facts.view (answer_to setup facts opcode (Known other)) in
     let caused = notes_of_events facts.view (events_caused facts other) in
@@ -375,9 +427,6 @@ one_end handle linked view first reason others =
     fold-append (note_open handle) shut event (flat_map (notes_ended view) others)
     ∙ ap (λ (b : Bool). fold (note_open handle) b (flat_map (notes_ended view) others)) (quiet_fold handle shut event (ended_event view first reason))
 
-not_before : (handle first : ℕ) → handle < first → (first == handle) ≡ false
-not_before handle first before = grind (arith, before)
-
 later_end : (handle : ℕ) (linked : Bool) (view : View) (first : ℕ) (reason : Option ℕ) (others : List LinkEnded) → handle < first
     → fold (note_open handle) linked (flat_map (notes_ended view) (end_by first reason ++ others))
     ≡ fold (note_open handle) linked (flat_map (notes_ended view) others)
@@ -426,6 +475,41 @@ ends_open view slot first handle (Some link ∷ links) = by (first == handle) (r
         one_end handle _ view first reason (ends_from slot (first + 1) links)
         ∙ ap (λ (b : Bool). fold (note_open handle) (cond b false (is_some (link_from (first + 1) handle links)))
         (flat_map (notes_ended view) (ends_from slot (first + 1) links))) is ∙ rest
+
+end_later : (handle : ℕ) (view : View) (first : ℕ) (reason : Option ℕ) (others : List LinkEnded) → handle < first
+    → AreNot (is_shut_of handle) (flat_map (notes_ended view) others) → AreNot (is_shut_of handle) (flat_map (notes_ended view) (end_by first reason ++ others))
+end_later handle view first None others later rest = rest
+end_later handle view first (Some reason) others later rest =
+    let event = notes_of_events view (DisconnectionComplete 0 first reason ∷ []) in (
+      not_before handle first later,
+      both_not (is_shut_of handle) event (flat_map (notes_ended view) others) (none_of handle event (none_shut event (ended_event view first reason))) rest,
+    )
+
+ends_later : (handle : ℕ) (view : View) (slot first : ℕ) (links : Links) → handle < first
+    → AreNot (is_shut_of handle) (flat_map (notes_ended view) (ends_from slot first links))
+ends_later handle view slot first [] later = tt
+ends_later handle view slot first (None ∷ links) later = ends_later handle view slot (first + 1) links (omega (arith, later))
+ends_later handle view slot first (Some link ∷ links) later =
+    end_later handle view first (reason_in slot link) (ends_from slot (first + 1) links) later
+    (ends_later handle view slot (first + 1) links (omega (arith, later)))
+
+end_once : (handle : ℕ) (view : View) (first : ℕ) (reason : Option ℕ) (others : List LinkEnded)
+    → (first ≡ handle → AreNot (is_shut_of handle) (flat_map (notes_ended view) others)) → IsShutOnce handle (flat_map (notes_ended view) others)
+    → IsShutOnce handle (flat_map (notes_ended view) (end_by first reason ++ others))
+end_once handle view first None others none once = once
+end_once handle view first (Some reason) others none once =
+    let event = notes_of_events view (DisconnectionComplete 0 first reason ∷ []) in
+    let quiet = none_of handle event (none_shut event (ended_event view first reason)) in (
+      (λ is. both_not (is_shut_of handle) event (flat_map (notes_ended view) others) quiet (none (eqb-true first handle is))),
+      once_before handle event (flat_map (notes_ended view) others) quiet once,
+    )
+
+ends_once : (handle : ℕ) (view : View) (slot first : ℕ) (links : Links) → IsShutOnce handle (flat_map (notes_ended view) (ends_from slot first links))
+ends_once handle view slot first [] = tt
+ends_once handle view slot first (None ∷ links) = ends_once handle view slot (first + 1) links
+ends_once handle view slot first (Some link ∷ links) =
+    end_once handle view first (reason_in slot link) (ends_from slot (first + 1) links)
+    (λ same. ends_later handle view slot (first + 1) links (omega (arith, same))) (ends_once handle view slot (first + 1) links)
 
 -- the links that enter an event
 applied_quiet : (handle event : ℕ) (number : Option ℕ) → AreQuiet (applied_notes handle event number)
@@ -483,6 +567,15 @@ begun_as setup facts slot on =
     (begun_reports facts setup slot on)
     (λ handle. fold_quiet handle (is_open facts.links handle) (ends ++ enters) sends sent ∙ fold_quiet handle (is_open facts.links handle) ends enters entered
     ∙ ends_open facts.view slot 0 handle facts.links ∙ sym (same_open (links_staying slot facts.links) _ (begun_opens slot on facts) handle))
+    (λ handle. once_more handle (ends ++ enters) sends (once_more handle ends enters (ends_once handle facts.view slot 0 facts.links) (none_shut enters entered)) (none_shut sends sent))
+
+-- a link that does not end is open after it
+pub staying_open : (setup : Setup) (facts : Facts) (slot : ℕ) (on : Bool) (handle : ℕ) (link : OpenLink) → link_at handle facts.links ≡ Some link
+    → reason_in slot link ≡ None → is_open (facts_after setup facts (TurnBegins slot on)).links handle ≡ true
+staying_open setup facts slot on handle link at not_due =
+    same_open (links_staying slot facts.links) _ (begun_opens slot on facts) handle
+    ∙ ap (λ (place : Option OpenLink). is_some place) (stays_where_not_due slot 0 handle facts.links ∙ ap (place_staying slot) at
+    ∙ ap (λ (reason : Option ℕ). staying_by reason link) not_due)
 
 -- ---- a phase
 
@@ -520,7 +613,7 @@ report_quiet true view pdu None = tt
 report_quiet true view pdu (Some kind) = events_quiet view (report_event pdu kind ∷ []) (tt, tt)
 report_quiet false view pdu kind = tt
 
-answered_quiet : (view : View) (answer : ScanAnswer) (pdu : AdvPdu) → AreQuiet (notes_of_events view (events_reported answer pdu))
+pub answered_quiet : (view : View) (answer : ScanAnswer) (pdu : AdvPdu) → AreQuiet (notes_of_events view (events_reported answer pdu))
 answered_quiet view answer pdu = report_quiet _ view pdu (kind_of pdu)
 
 phase_as : (setup : Setup) (facts : Facts) → HaveOwnHandles setup facts → EachOutcome setup facts (OfOutcome facts)

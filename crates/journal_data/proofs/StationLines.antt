@@ -55,7 +55,7 @@ pub all_to : (P Q : Note → Type 0) → ((note : Note) → P note → Q note) �
 all_to P Q to [] all = tt
 all_to P Q to (note ∷ notes) all = (to note all.0, all_to P Q to notes all.1)
 
-each_in : (P : Note → Type 0) (notes : List Note) → ((note : Note) → Contains notes note → P note) → AllByRecursion P notes
+pub each_in : (P : Note → Type 0) (notes : List Note) → ((note : Note) → Contains notes note → P note) → AllByRecursion P notes
 each_in P notes is = all_to (Contains notes) P is notes (recursion_from_All (Contains notes) notes (All-contains_itself notes))
 
 pub own_facts : (given : Given) (station : ℕ) (step : Step) (history : List Event)
@@ -70,7 +70,7 @@ module _ (setup : Setup) (past : List Step) (step : Step) (few : setup.links ≤
   notes_then = notes_after setup (facts_of setup past) step
 
   -- PDUs are noted, and links are shut, where they were open before the call
-  of_before : AllByRecursion (IsOfBase (is_open (facts_of setup past).links)) notes_then
+  pub of_before : AllByRecursion (IsOfBase (is_open (facts_of setup past).links)) notes_then
   of_before = each_in (IsOfBase (is_open (facts_of setup past).links)) notes_then by
     where
       was_shut : (handle reason : ℕ) → IsShut (facts_of setup past) step handle reason → is_open (facts_of setup past).links handle ≡ true
@@ -87,7 +87,7 @@ module _ (setup : Setup) (past : List Step) (step : Step) (few : setup.links ≤
       by note inside = tt
 
   -- and PDUs where they are open after it
-  of_after : AllByRecursion (λ note. is_shutting note ≡ false → IsOfBase (is_open (facts_after setup (facts_of setup past) step).links) note) notes_then
+  pub of_after : AllByRecursion (λ note. is_shutting note ≡ false → IsOfBase (is_open (facts_after setup (facts_of setup past) step).links) note) notes_then
   of_after = each_in _ notes_then by
     where
       by : (note : Note) → Contains (notes_after setup (facts_of setup past) step) note → is_shutting note ≡ false
@@ -100,7 +100,7 @@ module _ (setup : Setup) (past : List Step) (step : Step) (few : setup.links ≤
       by (Up packet) inside none = tt
       by note inside none = tt
 
-  names_few : AllByRecursion (HasHandleBelow setup.links) notes_then
+  pub names_few : AllByRecursion (HasHandleBelow setup.links) notes_then
   names_few = recursion_from_All (HasHandleBelow setup.links) notes_then (step_names_links setup past step)
 
 -- none of the open links of a station has this number
@@ -120,7 +120,7 @@ so_booked given station history booked = record {
   links = booked.links;
 }
 
-own_apart : (given : Given) (station : ℕ) (history : List Event) → HaveOwnNumbers given station history
+pub own_apart : (given : Given) (station : ℕ) (history : List Event) → HaveOwnNumbers given station history
     → AreApart (numbers_at station history) (is_open (facts_at given station history).links)
 own_apart given station history own one other on on_too differs =
     let a = is_link (link_at one (facts_at given station history).links) on in
@@ -251,7 +251,7 @@ module _ (given : Given) (station : ℕ) (step : Step) (history : List Event) (f
       by : IsNotedAs (is_open (facts_at given station history).links) (is_open (facts_after (setup_at given station) (facts_at given station history) step).links)
           (notes_after (setup_at given station) (facts_at given station history) step) → KeepsCall
       by (stays none shut same) = plain_call none (λ handle. open_still handle (before_open handle) notes none shut ∙ sym (same handle))
-      by (shuts none reports opens) = plain_call none opens
+      by (shuts none reports opens once) = plain_call none opens
       by (opens_first handle role first_own peer rest is none shut reports free now opens) = opening_call handle role first_own peer rest is none shut free now opens
 
   pub call_booked : IsStationBooked given station (after_call given station step history)
@@ -297,7 +297,7 @@ octet_own given station octet history own one other a b at at_too differs =
     let was_too = octet_was given station octet other history b at_too in
     (λ i. octet_number given station octet one history i == octet_number given station octet other history i) ∙ own one other was.link was_too.link was.is was_too.is differs
 
-octet_unused : (given : Given) (station octet : ℕ) (history : List Event) → UnusedWhereOpened given station (HostOctet octet) history
+pub octet_unused : (given : Given) (station octet : ℕ) (history : List Event) → UnusedWhereOpened given station (HostOctet octet) history
 octet_unused given station octet history handle opened =
     absurd (let h : true ≡ false = sym opened ∙ octet_opens_none given station octet handle history in absurd cc)
 

@@ -93,7 +93,7 @@ pub opened_now : (handle : ℕ) (before after : ℕ → Bool) (notes : List Note
     → OpensNow (before handle) (after handle)
 opened_now handle before after notes (stays none shut same) opened =
     absurd (let h : true ≡ false = sym opened ∙ none_opened handle notes none in absurd cc)
-opened_now handle before after notes (shuts none reports opens) opened =
+opened_now handle before after notes (shuts none reports opens once) opened =
     absurd (let h : true ≡ false = sym opened ∙ none_opened handle notes none in absurd cc)
 opened_now handle before after notes (opens_first other role own peer rest is none shut reports free now opens) opened = by (other == handle) refl
   where

@@ -2,3 +2,4 @@
 pub mod HostLines
 pub mod Lines
 pub mod Delivered
+pub mod Held

@@ -1,0 +1,25 @@
+//! That the lines of a link are between its `open` and its `shut` lines in every run of a pair.
+//! The body only calls the laws that it rests on: the contract is the law.
+ghost use Rattle.std.specs.Prelude.{◌≡◌, ℕ, List, length};
+ghost use Rattle.radio_replay.specs.Script.{Script};
+ghost use Rattle.run_model.specs.Journal.{journal_of};
+ghost use Rattle.run_model.specs.Pair.{given_of};
+ghost use Rattle.run_model.specs.Run.{history_of, run_of};
+ghost use Rattle.journal_data.specs.Held.{LinesAreOfOpenLinks};
+
+/// In the journal of a run of a pair, whole or ended by damage, each `sent`, `took`, `enter` and
+/// `shut` line names a link that is open at its side by the lines before it: that side has an
+/// `open` line of it, and no `shut` line of it since. Each `open` line is of a link that is not
+/// open at its side, under the least handle that no open link of that side has (our choice). Data
+/// that a host receives, and complete packets that are reported to it, are of a link that is open
+/// at its side, and each Number Of Completed Packets event is of one handle.
+pub fn lines_are_of_open_links_in_every_journal()
+    ensures { (a b : List ℕ) (script : Script) → length script.a.public ≡ 6
+        → length script.b.public ≡ 6
+        → LinesAreOfOpenLinks (journal_of (history_of (run_of (given_of a b script)))) }
+{
+    controller_model::a_pdu_is_understood();
+    advertise::laws::connections_are_taken();
+    scan_init::laws::searches_give_each_valid_address();
+    air_frame::laws::packet_tells_its_pdu();
+}
