@@ -21,6 +21,9 @@ pub mod Known
 pub mod Seen
 pub mod RunCounts
 pub mod EnteredLinks
+pub mod Readings
+pub mod KeptReadings
+pub mod Unentered
 pub mod ChannelLines
 pub mod KeptChannels
 pub mod FixedPdus
@@ -28,3 +31,4 @@ pub mod KeptLines
 pub mod LinkPackets
 pub mod SentInCalls
 pub mod NewPdus
+pub mod EventsInOrder
