@@ -2,7 +2,7 @@
 use Rattle.std.proofs.Common.{◌≡◌, ℕ, ◌+◌, ◌≤◌, ◌&&◌, ◌==◌, Bool, true, false, Option, Some, None, List, [], ◌∷◌, ◌++◌, refl, sym, ap, subst, ◌∙◌, append_assoc, arith}
 use Rattle.std.specs.Prelude.{All, fold, map, if◌then◌else◌}
 use Rattle.std.specs.List.{Contains}
-use Rattle.std.proofs.lemmas.List.Elements.{All-cons, All-head, All-nil, All-tail, Contains-append_left, Contains-append_right, Contains-push}
+use Rattle.std.proofs.lemmas.List.Elements.{Contains-append_left, Contains-append_right, Contains-push}
 use Rattle.std.proofs.lemmas.List.Sums.{fold-append}
 use Rattle.ble_base.specs.declared.notes.Note.{Note}
 use Rattle.ble_base.specs.declared.notes.Note.TheVariants.{Up as UpNote, Enter as EnterNote}
@@ -49,6 +49,7 @@ use Rattle.journal_acks.proofs.KeptCounts.{phased}
 use Rattle.journal_acks.proofs.KeptReadings.{AreReadAt, FitsOn, begun_value, values_kept}
 use Rattle.journal_acks.proofs.Known.{known_of}
 use Rattle.journal_acks.proofs.LinkCalls.{IsOpenedNow}
+use Rattle.journal_acks.proofs.NewPdus.{first_part}
 use Rattle.journal_acks.proofs.Readings.{after_entry, enter_note as note_counted}
 use Rattle.journal_acks.proofs.RunCounts.{counts_first}
 use Rattle.journal_acks.proofs.TwoStations.{IsOfTwo, same_number as equal_numbers}
@@ -85,7 +86,7 @@ module _ (whole : IsHeardWhole) (given : Given) (Q : Place → List Event → Ty
       none_of_new after number station station link.setup (next.unentered number station in_it) begun (ap (λ n. n + 1) new.opened ∙ slot_is ∙ sym turns) ∙ sym new.entries
 
   abbrev pub AreAt : Place → List Event → Type 0
-  AreAt = AreReadAt counts IsCount given Q distinct (AreUnenteredAt given Q)
+  AreAt = AreReadAt counts IsCount given (AreUnenteredAt given Q)
 
   pub event_counts_kept : IsKept given AreAt
   event_counts_kept = values_kept counts IsCount given Q distinct one_counted known are_two (AreUnenteredAt given Q) (record {
@@ -193,11 +194,6 @@ turn_of TurnEnds is = absurd cc
 
 in_middle : (earlier later : List Note) (note : Note) → Contains (earlier ++ note ∷ later) note
 in_middle earlier later note = Contains-append_right earlier (note ∷ later) note (Contains-append_left (note ∷ []) later note (Contains-push [] note))
-
-first_part : (P : Note → Type 0) (earlier later : List Note) → All P (earlier ++ later) → All P earlier
-first_part P [] later all = All-nil P
-first_part P (first ∷ earlier) later all =
-    All-cons P first earlier (All-head P first (earlier ++ later) all) (first_part P earlier later (All-tail P first (earlier ++ later) all))
 
 -- more lines count no fewer events
 one_more : (number : ℕ) (side : Side) (before : ℕ) (entry : Entry) → before ≤ entered_after number side before entry

@@ -193,6 +193,23 @@ module _ {X : Type 0} (reading : Reading X) (Fits : EndSetup → ℕ → X → T
       ∙ begun_value given station slot on history is_station apart handle base begun.was begun.stayed)
       (begun_fits fits anchor slot base (value_at reading (number_at station handle history) station history) (fit station handle base is begun.was))
 
+  -- ---- at each place of a run
+
+  module _ (given : Given) where
+    -- what is kept beside it, by which it fits a link that is opened
+    pub record IsBase (Q : Place → List Event → Type 0) (P : Place → List Event → Type 0) : Type 0 where
+      pub kept : IsKept given P
+      pub counted : (place : Place) (history : List Event) → P place history → AreCountedAt given Q place history
+      pub new : (phases : ℕ) (done left : List ℕ) (station : ℕ) (history : List Event) → given.stations ≡ done ++ station ∷ left → P (AtListening phases done (station ∷ left)) history
+          → P (AtListening phases (done ++ station ∷ []) left) (after_call given station (step_of (packet_received station history)) history) → (handle : ℕ) (link : OpenLink)
+          → link_at handle (facts_at given station (after_call given station (step_of (packet_received station history)) history)).links ≡ Some link
+          → IsOpenedNow (facts_at given station history).turn.slot link
+          → FitsAt station handle link (after_call given station (step_of (packet_received station history)) history)
+
+    pub record AreReadAt (P : Place → List Event → Type 0) (place : Place) (history : List Event) : Type 0 where
+      pub is : P place history
+      pub fit : AllFit given history
+
   -- ---- a phase passes
 
   module _ (given : Given) (Q : Place → List Event → Type 0) (distinct : AreDistinct given.stations) where
@@ -246,21 +263,7 @@ module _ {X : Type 0} (reading : Reading X) (Fits : EndSetup → ℕ → X → T
 
     -- ---- each step
 
-    -- what is kept beside it, by which it fits a link that is opened
-    pub record IsBase (P : Place → List Event → Type 0) : Type 0 where
-      pub kept : IsKept given P
-      pub counted : (place : Place) (history : List Event) → P place history → AreCountedAt given Q place history
-      pub new : (phases : ℕ) (done left : List ℕ) (station : ℕ) (history : List Event) → given.stations ≡ done ++ station ∷ left → P (AtListening phases done (station ∷ left)) history
-          → P (AtListening phases (done ++ station ∷ []) left) (after_call given station (step_of (packet_received station history)) history) → (handle : ℕ) (link : OpenLink)
-          → link_at handle (facts_at given station (after_call given station (step_of (packet_received station history)) history)).links ≡ Some link
-          → IsOpenedNow (facts_at given station history).turn.slot link
-          → FitsAt station handle link (after_call given station (step_of (packet_received station history)) history)
-
-    pub record AreReadAt (P : Place → List Event → Type 0) (place : Place) (history : List Event) : Type 0 where
-      pub is : P place history
-      pub fit : AllFit given history
-
-    pub values_kept : FitsOn → AreKnown given Q → IsOfTwo given → (P : Place → List Event → Type 0) → IsBase P → IsKept given (AreReadAt P)
+    pub values_kept : FitsOn → AreKnown given Q → IsOfTwo given → (P : Place → List Event → Type 0) → IsBase given Q P → IsKept given (AreReadAt given P)
     values_kept fits known are_two P base = let kept = base.kept in record {
       on_turn = λ slot plan history begun at has.
           let event = TurnBegan slot (map plan.radio_of given.stations) in record {

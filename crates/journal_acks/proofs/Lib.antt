@@ -24,7 +24,6 @@ pub mod EnteredLinks
 pub mod Readings
 pub mod KeptReadings
 pub mod Unentered
-pub mod ChannelLines
 pub mod KeptChannels
 pub mod FixedPdus
 pub mod KeptLines
