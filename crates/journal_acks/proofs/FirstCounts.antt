@@ -129,7 +129,7 @@ pub data IsCallOf (given : Given) (station : ℕ) (step : Step) (history : List 
       → All (IsOnly handle) (notes_after (setup_at given station) (facts_at given station history) step)
       → All (OpensNone handle) (notes_after (setup_at given station) (facts_at given station history) step) → IsCallOf given station step history
 
-same_turns : (one other : ℕ) → other ≡ one → one ≤ other
+pub same_turns : (one other : ℕ) → other ≡ one → one ≤ other
 same_turns one other is = omega (arith, is)
 
 module _ (given : Given) (station : ℕ) (step : Step) (history : List Event) where
@@ -184,7 +184,7 @@ pub none_first : AreFirst []
 unfolding exchange_of sent_line_of journal_of
 none_first = λ number. IsUnused (λ side. refl) (λ side. refl)
 
-too_late : (slot turns : ℕ) (X : Type 0) → slot + 1 < turns → slot + 1 ≡ turns → X
+pub too_late : (slot turns : ℕ) (X : Type 0) → slot + 1 < turns → slot + 1 ≡ turns → X
 too_late slot turns X before now = absurd (omega (arith, before, now))
 
 -- a link of this turn

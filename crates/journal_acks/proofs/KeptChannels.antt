@@ -1,299 +1,80 @@
--- Each step of a run of a pair keeps the channels that its journal says its links are on.
-use Rattle.std.proofs.Common.{◌≡◌, ℕ, suc, ◌==◌, ◌⊎◌, inl, inr, Bool, true, false, Option, Some, None, List, [], ◌∷◌, ◌++◌, refl, sym, ap, subst, ◌∙◌}
-use Rattle.std.specs.Prelude.{All, map, take, if◌then◌else◌}
-use Rattle.std.proofs.lemmas.Bool.{eqb-true}
+-- The channel that the lines of a journal say an end has entered last is that of its last event.
+use Rattle.std.proofs.Common.{◌≡◌, ℕ, true, false, Option, Some, None, List, refl, sym, ap, ◌∙◌}
+use Rattle.ble_base.specs.declared.roles.Side.{Side}
+use Rattle.journal.specs.declared.entries.Entry.{Entry}
+use Rattle.journal.specs.declared.entries.Entry.TheVariants.{Air, Enter}
+use Rattle.link_model.proofs.InEvents.{past_in}
 use Rattle.link_model.proofs.Received.{IsHeardWhole}
 use Rattle.link_model.specs.End.{facts_entered}
 use Rattle.link_model.specs.Events.{channel_after as channel_of_event, entries_in}
+use Rattle.link_model.specs.Facts.{Facts as EndFacts}
 use Rattle.link_model.specs.Setup.{Setup as EndSetup}
-use Rattle.link_model.specs.Step.{PacketReceived}
-use Rattle.open_links.specs.OpenLinks.{OpenLink, facts_in, link_after, link_at, new_link}
-use Rattle.open_links.specs.Turns.{entered_if, is_anchor}
-use Rattle.open_links.proofs.Handles.{handle_is}
-use Rattle.controller_model.specs.Step.{Step, HostOctet, TurnBegins, TurnEnds}
-use Rattle.controller_model.specs.Facts.{Facts}
-use Rattle.controller_model.specs.Heard.{has_room}
-use Rattle.controller_model.specs.Outcome.{notes_passed}
-use Rattle.controller_model.specs.Side.{facts_after, notes_after}
-use Rattle.controller_model.proofs.LinkNotes.{IsOfOthers, phase_too}
-use Rattle.controller_model.proofs.Phases.{heard_is, unheard_is}
+use Rattle.link_model.specs.Step.{EventEntered}
+use Rattle.open_links.specs.OpenLinks.{OpenLink, facts_in, link_after, link_at}
 use Rattle.run_model.specs.Feeding.{AreDistinct}
-use Rattle.run_model.specs.History.{Event, TurnBegan, HostFed, Transmitted, packet_received, steps_in, turns_begun}
-use Rattle.run_model.specs.Journal.{side_of}
+use Rattle.run_model.specs.History.{Event}
+use Rattle.run_model.specs.Journal.{journal_of, side_of}
 use Rattle.run_model.specs.LinkEnds.{HaveAddresses}
-use Rattle.run_model.specs.Run.{Given, after_call, after_feed, after_octets, facts_at, hearings_of, octets_left, setup_at, step_of}
-use Rattle.run_model.proofs.Stations.{is_in, among, not_before}
-use Rattle.run_model.proofs.Walk.{Place, AtBegins, AtListening, IsKept}
-use Rattle.run_laws.proofs.Hearings.{other_facts}
-use Rattle.run_laws.proofs.InAgreement.{IsStation, differs_back}
-use Rattle.run_laws.proofs.TurnPlaces.{Within, at_stage}
-use Rattle.journal_packets.specs.Belonging.{is_side}
-use Rattle.journal_acks.proofs.CallNotes.{begin_noted, end_noted, octet_noted}
-use Rattle.journal_acks.proofs.ChannelLines.{EntersNone, air_channel, begins_channel, channel_at, channel_called, channel_other, entered_channel, feed_channel, feeds_none, turn_channel}
-use Rattle.journal_acks.proofs.Counting.{AreKnown, HaveOwnNumbers, apart_numbers, facts_event}
-use Rattle.journal_acks.proofs.EnteredLinks.{entries_fixed, entries_received, entries_sent}
-use Rattle.journal_acks.proofs.Exchanging.{OpensNone, number_at, number_called, number_other, number_quiet, number_sent, opening_none}
-use Rattle.journal_acks.proofs.KeptCounts.{AreCountedAt, counts_kept, own_at}
-use Rattle.journal_acks.proofs.LinkCalls.{HasPassed, IsNew, IsOpenedNow, Stays, Takes, begins_under, fixed_if, passes_under, phase_quiet}
-use Rattle.journal_acks.proofs.LinkUses.{sends_under}
-use Rattle.journal_acks.proofs.Standing.{PhasedBy, phased_at}
-use Rattle.journal_acks.proofs.TwoStations.{IsOfTwo, other_is, side_differs}
-use Rattle.journal_acks.proofs.UnderHandles.{end_under, octet_under, sent_if, staying_under}
+use Rattle.run_model.specs.Run.{Given, facts_at}
+use Rattle.run_model.proofs.Stations.{is_in}
+use Rattle.run_model.proofs.Walk.{Place, IsKept}
+use Rattle.run_laws.proofs.Agreed.{step_facts}
+use Rattle.journal_acks.specs.Carried.{channel_after, channel_entered}
+use Rattle.journal_acks.proofs.Counting.{AreKnown}
+use Rattle.journal_acks.proofs.Exchanging.{number_at}
+use Rattle.journal_acks.proofs.KeptCounts.{AreCountedAt, counts_kept}
+use Rattle.journal_acks.proofs.KeptReadings.{AllFit, AreReadAt, FitsOn, values_kept}
+use Rattle.journal_acks.proofs.Readings.{Reading, is_entry}
+use Rattle.journal_acks.proofs.TwoStations.{IsOfTwo}
+
+pub not_channelled : (number : ℕ) (side : Side) (before : Option ℕ) (entry : Entry) → is_entry entry ≡ false → channel_after number side before entry ≡ before
+not_channelled number side before (Enter other link event channel) none = absurd cc
+not_channelled number side before (Air other channel octets fate verdict) none = refl
+not_channelled number side before entry none = refl
+
+abbrev pub channels : Reading (Option ℕ)
+channels = record {
+  first = None;
+  enters = λ channel before. Some channel;
+  after = λ number side before entry. channel_after number side before entry;
+  entered = λ number side other link event channel before. refl;
+  others = not_channelled;
+}
+
+-- the channel of the event that an end entered last, as the journal of a history has it
+abbrev pub channel_at : ℕ → ℕ → List Event → Option ℕ
+channel_at number station history = channel_entered number (side_of station) (journal_of history)
 
 -- an end with this setup and this number of events is on the channel of the last of them
 pub data IsOnChannel (end : EndSetup) (entries : ℕ) (may : Option ℕ) : Type 0 where
   NotYet : entries ≡ 0 → IsOnChannel end entries may
   OnChannel : may ≡ Some (channel_of_event end entries) → IsOnChannel end entries may
 
-moved : (end other : EndSetup) (entries count : ℕ) (may now : Option ℕ) → other ≡ end → count ≡ entries → now ≡ may → IsOnChannel end entries may → IsOnChannel other count now
-moved end other entries count may now setup same channel is =
-    subst (λ one. IsOnChannel one count now) (sym setup) (subst (λ n. IsOnChannel end n now) (sym same) (subst (λ m. IsOnChannel end entries m) (sym channel) is))
-
 abbrev pub AreOnChannels : Given → List Event → Type 0
 AreOnChannels given history = (station handle : ℕ) (link : OpenLink) → is_in station given.stations ≡ true → link_at handle (facts_at given station history).links ≡ Some link
     → IsOnChannel link.setup (entries_in link.past) (channel_at (number_at station handle history) station history)
 
--- ---- events and calls
+pub on_channels : (given : Given) (history : List Event) → AllFit channels IsOnChannel given history → AreOnChannels given history
+unfolding channel_entered
+on_channels given history fit = fit
 
-module _ (given : Given) where
-  channels_event : (history : List Event) (event : Event) → ((station : ℕ) → steps_in station event ≡ [])
-      → ((number station : ℕ) → channel_at number station (history ++ event ∷ []) ≡ channel_at number station history)
-      → ((station handle : ℕ) → number_at station handle (history ++ event ∷ []) ≡ number_at station handle history) → AreOnChannels given history
-      → AreOnChannels given (history ++ event ∷ [])
-  channels_event history event none channel number are = λ station handle link in_it at.
-      moved link.setup link.setup (entries_in link.past) (entries_in link.past) _ _ refl refl
-      (ap (λ n. channel_at n station (history ++ event ∷ [])) (number station handle) ∙ channel (number_at station handle history) station)
-      (are station handle link in_it (ap (λ (f : Facts). link_at handle f.links) (sym (facts_event given station history event (none station))) ∙ at))
+-- the channel of the event that is entered then
+entered_channel : (slot : ℕ) (link : OpenLink)
+    → (facts_entered link.setup slot (facts_in link)).event.channel ≡ channel_of_event link.setup (entries_in (link_after (EventEntered slot) link).past)
+entered_channel slot link =
+    ap (λ (f : EndFacts). f.event.channel) (sym (step_facts link (EventEntered slot))) ∙ (past_in link.setup (link_after (EventEntered slot) link).past).channel
 
-  channels_call : IsOfTwo given → (station : ℕ) (step : Step) (history : List Event) → is_in station given.stations ≡ true
-      → ((handle : ℕ) (link : OpenLink) → link_at handle (facts_at given station (after_call given station step history)).links ≡ Some link
-      → IsOnChannel link.setup (entries_in link.past) (channel_at (number_at station handle (after_call given station step history)) station (after_call given station step history)))
-      → AreOnChannels given history → AreOnChannels given (after_call given station step history)
-  channels_call are_two station step history is own are = λ other handle link in_it at. by other handle link in_it at (other == station) refl
-    where
-      by : (other handle : ℕ) (link : OpenLink) → is_in other given.stations ≡ true → link_at handle (facts_at given other (after_call given station step history)).links ≡ Some link
-          → (same : Bool) → (other == station) ≡ same
-          → IsOnChannel link.setup (entries_in link.past) (channel_at (number_at other handle (after_call given station step history)) other (after_call given station step history))
-      by other handle link in_it at true one =
-          let equal = eqb-true other station one in
-          let next = after_call given station step history in
-          subst (λ n. IsOnChannel link.setup (entries_in link.past) (channel_at (number_at n handle next) n next)) (sym equal)
-          (own handle link (subst (λ n. link_at handle (facts_at given n next).links ≡ Some link) equal at))
-      by other handle link in_it at false differs =
-          let next = after_call given station step history in
-          let equal = other_is given are_two other station in_it is (differs_back other station differs) in
-          let apart : is_side (side_of station) (side_of other) ≡ false = subst (λ n. is_side (side_of n) (side_of other) ≡ false) (sym equal) (side_differs other) in
-          moved link.setup link.setup (entries_in link.past) (entries_in link.past) _ _ refl refl
-          (ap (λ n. channel_at n other next) (number_other given station step history other handle differs)
-          ∙ channel_other given (number_at other handle history) station other step history apart)
-          (are other handle link in_it (ap (λ (f : Facts). link_at handle f.links) (sym (other_facts given station step history other differs)) ∙ at))
+next_channel : FitsOn channels IsOnChannel
+next_channel = λ slot link may is. OnChannel (ap Some (entered_channel slot link))
 
-  -- a call that enters no event and opens no link under the handle
-  quiet_own : (station : ℕ) (step : Step) (history : List Event) (handle : ℕ) (before after : OpenLink)
-      → All EntersNone (notes_after (setup_at given station) (facts_at given station history) step) → number_at station handle (after_call given station step history) ≡ number_at station handle history
-      → after.setup ≡ before.setup → entries_in after.past ≡ entries_in before.past
-      → IsOnChannel before.setup (entries_in before.past) (channel_at (number_at station handle history) station history)
-      → IsOnChannel after.setup (entries_in after.past) (channel_at (number_at station handle (after_call given station step history)) station (after_call given station step history))
-  quiet_own station step history handle before after none number setup entries is =
-      moved before.setup after.setup (entries_in before.past) (entries_in after.past) _ _ setup entries
-      (ap (λ n. channel_at n station (after_call given station step history)) number ∙ channel_called given (number_at station handle history) station step history none) is
-
-  octet_channels : IsOfTwo given → (station octet : ℕ) (history : List Event) → is_in station given.stations ≡ true → AreOnChannels given history
-      → AreOnChannels given (after_call given station (HostOctet octet) history)
-  octet_channels are_two station octet history is are = channels_call are_two station (HostOctet octet) history is (λ handle link at.
-      let setup = setup_at given station in
-      let facts = facts_at given station history in
-      let was = octet_under setup facts octet handle link (own_at given station (HostOctet octet) history handle link at) in
-      quiet_own station (HostOctet octet) history handle was.link link (octet_noted EntersNone feeds_none setup facts octet)
-      (number_called given station (HostOctet octet) history handle (octet_noted (OpensNone handle) (opening_none handle).starts.feeds setup facts octet)) was.setup was.entries
-      (are station handle was.link is was.was)) are
-
-  octets_channels : IsOfTwo given → (station : ℕ) (octets : List ℕ) (history : List Event) → is_in station given.stations ≡ true → AreOnChannels given history
-      → AreOnChannels given (after_octets given station octets history)
-  octets_channels are_two station [] history is are = are
-  octets_channels are_two station (octet ∷ octets) history is are =
-      octets_channels are_two station octets (after_call given station (HostOctet octet) history) is (octet_channels are_two station octet history is are)
-
-  feed_channels : IsOfTwo given → (station : ℕ) (octets : List ℕ) (history : List Event) → is_in station given.stations ≡ true → AreOnChannels given history
-      → AreOnChannels given (after_feed given station octets history)
-  feed_channels are_two station [] history is are = are
-  feed_channels are_two station (octet ∷ octets) history is are =
-      octets_channels are_two station (octet ∷ octets) (history ++ HostFed station (octet ∷ octets) ∷ []) is
-      (channels_event history (HostFed station (octet ∷ octets)) (λ one. refl) (λ number one. feed_channel number one history station (octet ∷ octets))
-      (λ one handle. number_quiet one handle history (HostFed station (octet ∷ octets)) (λ links. refl)) are)
-
--- ---- a turn begins
-
-sent_setup : (sends : Bool) (slot : ℕ) (link : OpenLink) → (sent_if sends slot link).setup ≡ link.setup
-sent_setup true slot link = refl
-sent_setup false slot link = refl
-
-fixed_setup : (fixes : Bool) (link : OpenLink) → (fixed_if fixes link).setup ≡ link.setup
-fixed_setup true link = refl
-fixed_setup false link = refl
-
-begun_on : (anchor : Bool) (slot : ℕ) (link : OpenLink) (may : Option ℕ) → IsOnChannel link.setup (entries_in link.past) may
-    → IsOnChannel link.setup (entries_in (entered_if anchor slot link).past) (if anchor then Some (facts_entered link.setup slot (facts_in link)).event.channel else may)
-begun_on true slot link may is = OnChannel (ap Some (entered_channel slot link))
-begun_on false slot link may is = is
-
-begin_own : (given : Given) → (station slot : ℕ) (on : Bool) (history : List Event) → is_in station given.stations ≡ true
-    → IsStation (setup_at given station) (facts_at given station history) → HaveOwnNumbers given station history → AreOnChannels given history
-    → (handle : ℕ) (link : OpenLink) → link_at handle (facts_at given station (after_call given station (TurnBegins slot on) history)).links ≡ Some link
-    → IsOnChannel link.setup (entries_in link.past)
-    (channel_at (number_at station handle (after_call given station (TurnBegins slot on) history)) station (after_call given station (TurnBegins slot on) history))
-begin_own given station slot on history is is_station apart are handle link at =
-    let setup = setup_at given station in
-    let facts = facts_at given station history in
-    let step = TurnBegins slot on in
-    let next = facts_after setup facts step in
-    let begun = begins_under setup facts slot on handle link (own_at given station step history handle link at) in
-    let base = begun.link in
-    let anchor = is_anchor slot base in
-    let own = handle_is 0 handle facts.links base is_station.own.handles begun.was in
-    let number = number_called given station step history handle (begin_noted (OpensNone handle) (opening_none handle) setup slot on facts) in
-    moved base.setup link.setup (entries_in (entered_if anchor slot base).past) (entries_in link.past) _ _
-    (ap (λ (l : OpenLink). l.setup) begun.is ∙ sent_setup (sends_under handle next.turn.doing) slot begun.base ∙ ap (λ (l : OpenLink). l.setup) begun.base_is
-    ∙ fixed_setup begun.fixes begun.entered ∙ begun.setup_is)
-    (ap (λ (l : OpenLink). entries_in l.past) begun.is ∙ entries_sent (sends_under handle next.turn.doing) slot begun.base ∙ ap (λ (l : OpenLink). entries_in l.past) begun.base_is
-    ∙ entries_fixed begun.fixes begun.entered ∙ ap entries_in begun.past_is)
-    (ap (λ n. channel_at n station (after_call given station step history)) number ∙ begins_channel given station slot history on handle base begun.stayed own
-    (λ other two at_other differs.
-    let was = (staying_under slot other facts.links two at_other).was in
-    ap (λ n. number_at station n history == number_at station handle history) (handle_is 0 other facts.links two is_station.own.handles was)
-    ∙ apart other handle two base was begun.was differs))
-    (begun_on anchor slot base (channel_at (number_at station handle history) station history) (are station handle base is begun.was))
-
--- ---- a phase passes
-
-others_enter_none : IsOfOthers EntersNone
-others_enter_none = record {
-  up = λ octets. refl;
-  opened = λ link. refl;
-  sent = λ handle number llid octets. refl;
-  took = λ handle number llid octets. refl;
-}
-
-phase_enters_none : (given : Given) (station : ℕ) (history : List Event) (received : Option (List ℕ))
-    → All EntersNone (notes_after (setup_at given station) (facts_at given station history) (step_of received))
-phase_enters_none given station history None =
-    let setup = setup_at given station in
-    let facts = facts_at given station history in
-    unheard_is setup facts (λ outcome. All EntersNone (notes_passed outcome)) (phase_too EntersNone others_enter_none setup facts) facts.turn.doing refl
-phase_enters_none given station history (Some octets) =
-    let setup = setup_at given station in
-    let facts = facts_at given station history in
-    heard_is setup facts (λ outcome. All EntersNone (notes_passed outcome)) (phase_too EntersNone others_enter_none setup facts) facts.turn.doing octets refl
-
-new_entries : (end : EndSetup) (link : OpenLink) → link ≡ new_link end → entries_in link.past ≡ 0
-new_entries end link is = ap (λ (l : OpenLink). entries_in l.past) is
-
-module _ (given : Given) (Q : Place → List Event → Type 0) (distinct : AreDistinct given.stations) (phases : ℕ) (done left : List ℕ) (station : ℕ) (history : List Event)
-    (are : given.stations ≡ done ++ station ∷ left) (is : AreCountedAt given Q (AtListening phases done (station ∷ left)) history) (channels : AreOnChannels given history) where
-  abbrev received : Option (List ℕ)
-  received = packet_received station history
-
-  abbrev after : List Event
-  after = after_call given station (step_of received) history
-
-  abbrev facts : Facts
-  facts = facts_at given station history
-
-  in_it : is_in station given.stations ≡ true
-  in_it = among given.stations done left station are
-
-  phased : PhasedBy given history station (at_stage (Within phases) (turns_begun history))
-  phased =
-      subst (λ b. PhasedBy given history station (if b then at_stage (Within (suc phases)) (turns_begun history) else at_stage (Within phases) (turns_begun history)))
-      (not_before given.stations done left station distinct are) (phased_at given (AtListening phases done (station ∷ left)) history is.holds.hearing.stand station in_it)
-
-  passed : (handle : ℕ) (link : OpenLink) → number_at station handle after ≡ number_at station handle history
-      → HasPassed facts (has_room (setup_at given station) facts) received handle (facts_after (setup_at given station) facts (step_of received)).turn.doing link
-      → IsOnChannel link.setup (entries_in link.past) (channel_at (number_at station handle after) station after)
-  passed handle link number (IsNew end made opened off) = NotYet (new_entries end link made)
-  passed handle link number (Stays was none nothing listened) =
-      quiet_own given station (step_of received) history handle link link (phase_enters_none given station history received) number refl refl (channels station handle link in_it was)
-  passed handle link number (Takes base octets was some on same) =
-      let sends = sends_under handle (facts_after (setup_at given station) facts (step_of received)).turn.doing in
-      let room = has_room (setup_at given station) facts in
-      let taken = link_after (PacketReceived facts.turn.slot octets room) base in
-      quiet_own given station (step_of received) history handle base link (phase_enters_none given station history received) number
-      (ap (λ (l : OpenLink). l.setup) same ∙ sent_setup sends facts.turn.slot taken)
-      (ap (λ (l : OpenLink). entries_in l.past) same ∙ entries_sent sends facts.turn.slot taken ∙ entries_received facts.turn.slot octets room base)
-      (channels station handle base in_it was)
-
-  passes_own : (handle : ℕ) (link : OpenLink) → link_at handle (facts_at given station after).links ≡ Some link
-      → IsOnChannel link.setup (entries_in link.past) (channel_at (number_at station handle after) station after)
-  passes_own handle link at = by (phase_quiet (setup_at given station) facts received handle)
-    where
-      by : All (OpensNone handle) (notes_after (setup_at given station) (facts_at given station history) (step_of (packet_received station history)))
-          ⊎ ((one : OpenLink) → link_at handle (facts_after (setup_at given station) (facts_at given station history) (step_of (packet_received station history))).links ≡ Some one
-          → IsOpenedNow (facts_at given station history).turn.slot one)
-          → IsOnChannel link.setup (entries_in link.past) (channel_at (number_at station handle after) station after)
-      by (inl quiet) =
-          passed handle link (number_called given station (step_of received) history handle quiet)
-          (passes_under (setup_at given station) facts received handle link phased.uses.in_turn.listens (own_at given station (step_of received) history handle link at))
-      by (inr new) = NotYet (new link (own_at given station (step_of received) history handle link at)).entries
-
--- ---- each step
-
-pub record AreChannelledAt (given : Given) (Q : Place → List Event → Type 0) (place : Place) (history : List Event) : Type 0 where
-  pub is : AreCountedAt given Q place history
-  pub channels : AreOnChannels given history
+abbrev pub AreChannelledAt : Given → (Place → List Event → Type 0) → Place → List Event → Type 0
+AreChannelledAt given Q = AreReadAt channels IsOnChannel given (AreCountedAt given Q)
 
 pub channels_kept : IsHeardWhole → (given : Given) (Q : Place → List Event → Type 0) → AreKnown given Q → IsOfTwo given → HaveAddresses given → AreDistinct given.stations
     → IsKept given (AreChannelledAt given Q)
-channels_kept whole given Q known are_two six distinct = let kept = counts_kept whole given Q known are_two six distinct in record {
-  on_turn = λ slot plan history begun at has.
-      let event = TurnBegan slot (map plan.radio_of given.stations) in record {
-        is = kept.on_turn slot plan history begun at has.is;
-        channels = channels_event given history event (λ one. refl) (λ number one. turn_channel number one history slot (map plan.radio_of given.stations))
-            (λ one handle. number_quiet one handle history event (λ links. refl)) has.channels;
-      };
-  on_feed = λ plan done left station history are some now has. record {
-    is = kept.on_feed plan done left station history are some now has.is;
-    channels = feed_channels given are_two station (take (plan.feed_of station) (octets_left given station history)) history (among given.stations done left station are) has.channels;
-  };
-  on_fed = λ history has. record { is = kept.on_fed history has.is; channels = has.channels };
-  on_begin = λ slot plan done left station history are due has.
-      let on = plan.radio_of station in
-      let in_it = among given.stations done left station are in record {
-        is = kept.on_begin slot plan done left station history are due has.is;
-        channels = channels_call given are_two station (TurnBegins slot on) history in_it
-            (begin_own given station slot on history in_it (has.is.holds.so_far.last.each station in_it)
-            (λ one other a b at at_other differs. apart_numbers given Q known (AtBegins done (station ∷ left)) history has.is.known station one other a b in_it at at_other differs)
-            has.channels) has.channels;
-      };
-  on_begun = λ history has. record { is = kept.on_begun history has.is; channels = has.channels };
-  on_phase = λ phases history few has. record { is = kept.on_phase phases history few has.is; channels = has.channels };
-  on_silence = λ phases done left station history are none has. record { is = kept.on_silence phases done left station history are none has.is; channels = has.channels };
-  on_packet = λ phases plan done left station channel octets history are some due has.
-      let hearings = hearings_of given plan.fates station channel octets history in record {
-        is = kept.on_packet phases plan done left station channel octets history are some due has.is;
-        channels = channels_event given history (Transmitted station channel octets hearings) (λ one. refl) (λ number one. air_channel number one history station channel octets hearings)
-            (λ one handle. number_sent one handle history station channel octets hearings) has.channels;
-      };
-  on_air = λ phases history has. record { is = kept.on_air phases history has.is; channels = has.channels };
-  on_hearing = λ phases done left station history are some has.
-      let next = kept.on_hearing phases done left station history are some has.is in
-      let in_it = among given.stations done left station are in record {
-        is = next;
-        channels = channels_call given are_two station (step_of (packet_received station history)) history in_it
-            (passes_own given Q distinct phases done left station history are has.is has.channels) has.channels;
-      };
-  on_heard = λ phases history has. record { is = kept.on_heard phases history has.is; channels = has.channels };
-  on_phases = λ history has. record { is = kept.on_phases history has.is; channels = has.channels };
-  on_end = λ done left station history are some has.
-      let in_it = among given.stations done left station are in record {
-        is = kept.on_end done left station history are some has.is;
-        channels = channels_call given are_two station TurnEnds history in_it
-            (λ handle link at.
-            let setup = setup_at given station in
-            let facts = facts_at given station history in
-            let was = end_under setup facts handle link (own_at given station TurnEnds history handle link at) in
-            quiet_own given station TurnEnds history handle was.link link (end_noted EntersNone feeds_none setup facts)
-            (number_called given station TurnEnds history handle (end_noted (OpensNone handle) (opening_none handle).starts.feeds setup facts)) was.setup was.entries
-            (has.channels station handle was.link in_it was.was)) has.channels;
-      };
-  on_ended = λ history has. record { is = kept.on_ended history has.is; channels = has.channels };
-}
+channels_kept whole given Q known are_two six distinct =
+    values_kept channels IsOnChannel given Q distinct next_channel known are_two (AreCountedAt given Q) (record {
+      kept = counts_kept whole given Q known are_two six distinct;
+      counted = λ place history is. is;
+      new = λ phases done left station history are has next handle link at new. NotYet new.entries;
+    })

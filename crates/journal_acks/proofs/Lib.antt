@@ -21,10 +21,13 @@ pub mod Known
 pub mod Seen
 pub mod RunCounts
 pub mod EnteredLinks
-pub mod ChannelLines
+pub mod Readings
+pub mod KeptReadings
+pub mod Unentered
 pub mod KeptChannels
 pub mod FixedPdus
 pub mod KeptLines
 pub mod LinkPackets
 pub mod SentInCalls
 pub mod NewPdus
+pub mod EventsInOrder

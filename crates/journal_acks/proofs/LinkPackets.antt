@@ -35,12 +35,12 @@ use Rattle.journal_acks.specs.Carried.{IsLinkPacket, bits_of, carried_of, pdu_oc
 use Rattle.journal_acks.specs.Counted.{IsCounted}
 use Rattle.journal_acks.specs.Exchange.{Exchanged, with_sent}
 use Rattle.journal_acks.proofs.AirCounts.{link_sent, own_number, sender_counted, sends_it}
-use Rattle.journal_acks.proofs.ChannelLines.{channel_at}
 use Rattle.journal_acks.proofs.Counting.{AreKnown}
 use Rattle.journal_acks.proofs.EnteredLinks.{AreEntered, HasEntered, entered_first, entered_kept, entries_sent}
 use Rattle.journal_acks.proofs.Exchanging.{exchange_at, number_at}
 use Rattle.journal_acks.proofs.FixedPdus.{sent_out}
-use Rattle.journal_acks.proofs.KeptChannels.{AreOnChannels, IsOnChannel, NotYet, OnChannel}
+use Rattle.journal_acks.proofs.KeptChannels.{IsOnChannel, NotYet, OnChannel, channel_at, channels, on_channels}
+use Rattle.journal_acks.proofs.KeptReadings.{AllFit}
 use Rattle.journal_acks.proofs.KeptLines.{AreLined, AreLinedAt, lines_kept}
 use Rattle.journal_acks.proofs.Known.{known_of}
 use Rattle.journal_acks.proofs.RunCounts.{counts_first}
@@ -101,7 +101,7 @@ module _ (whole : IsHeardWhole) (given : Given) (Q : Place → List Event → Ty
           link = begun.link;
           is_link = begun.is_link;
           in_event = on_its_channel from.link sender (channel_at number station history) channel refl (entries_sent true from.slot from.link)
-              (entered.sends from.handle sender from.is_open on) from.channel_is (has.channels station from.handle sender in_it from.is_open);
+              (entered.sends from.handle sender from.is_open on) from.channel_is (on_channels given history has.fit station from.handle sender in_it from.is_open);
           md = more_sent (facts_in from.link);
           carries = from.packet ∙ packet_is from.link end (carried_of number (journal_of history) (side_of station)) channel begun.link.fields.access begun.link.fields.crc_init from.channel_is
               (ap (λ f. f.access) begun.fields) (ap (λ f. f.crc_init) begun.fields) acked
@@ -117,7 +117,7 @@ module _ (whole : IsHeardWhole) (given : Given) (Q : Place → List Event → Ty
 abbrev AreLinkPackets : List Event → ℕ → ℕ → List ℕ → Type 0
 AreLinkPackets history station channel octets = is_advertising channel ≡ false → IsLinkPacket (journal_of history) (side_of station) channel octets
 
-none_on : (given : Given) → AreOnChannels given []
+none_on : (given : Given) → AllFit channels IsOnChannel given []
 unfolding facts_of
 none_on given = λ station handle link in_it at.
     absurd (open_has (λ one. ⊥) 0 handle (replicate (setup_at given station).links None) link (none_open (λ one. ⊥) (setup_at given station).links) at)
@@ -128,7 +128,7 @@ none_lined given = λ station handle link in_it at.
     absurd (open_has (λ one. ⊥) 0 handle (replicate (setup_at given station).links None) link (none_open (λ one. ⊥) (setup_at given station).links) at)
 
 pub lines_first : (given : Given) → AreLinedAt given (IsBelongingSoFar given) NoTurn []
-lines_first given = record { channelled = record { is = counts_first given; channels = none_on given }; lines = none_lined given }
+lines_first given = record { channelled = record { is = counts_first given; fit = none_on given }; lines = none_lined given }
 
 pub packet_of_line : IsHeardWhole → IsUnderstood → AreTaken → AreNth → AreApart → (given : Given) → IsOfTwo given → HaveAddresses given → AreDistinct given.stations
     → (front : List Entry) (side : Side) (channel : ℕ) (octets : List ℕ) (fate : Mark) (verdict : Verdict) → IsAired given front side channel octets fate verdict

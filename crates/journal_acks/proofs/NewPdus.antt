@@ -241,7 +241,7 @@ in_middle : (P : Note → Type 0) (earlier later : List Note) (note : Note) → 
 in_middle P [] later note all = All-head P note later all
 in_middle P (first ∷ earlier) later note all = in_middle P earlier later note (All-tail P first (earlier ++ note ∷ later) all)
 
-first_part : (P : Note → Type 0) (earlier later : List Note) → All P (earlier ++ later) → All P earlier
+pub first_part : (P : Note → Type 0) (earlier later : List Note) → All P (earlier ++ later) → All P earlier
 first_part P [] later all = All-nil P
 first_part P (first ∷ earlier) later all =
     All-cons P first earlier (All-head P first (earlier ++ later) all) (first_part P earlier later (All-tail P first (earlier ++ later) all))

@@ -3,12 +3,14 @@
 #![tactic(auto)]
 
 mod counts;
+mod events;
 mod exchanges;
 mod packets;
 mod rows;
 mod stations;
 
 pub use crate::counts::counts_of_any_journal;
+pub use crate::events::each_side_enters_its_events_in_order;
 pub use crate::exchanges::each_end_counts_as_the_journal_says;
 pub use crate::packets::{
     each_link_packet_carries_what_the_journal_says, each_sent_line_is_of_a_new_pdu,

@@ -7,6 +7,7 @@ ghost use Rattle.ble_base.specs.declared.verdicts.Verdict.TheVariants.{Missed};
 ghost use Rattle.journal.specs.declared.entries.Entry.TheVariants.{Air, Enter};
 ghost use Rattle.journal.specs.declared.entries.Mark.TheVariants.{Lost as WasLost};
 ghost use Rattle.journal_acks.specs.Carried.{bits_of, carried_of, channel_entered, pdu_octets};
+ghost use Rattle.journal_acks.specs.EventOrder.{entered_on};
 ghost use Rattle.journal_acks.specs.Exchange.{exchange_of};
 ghost use Rattle.journal_acks.specs.Rows.{data_heard, data_packet, data_pdu, data_sent};
 ghost use Rattle.journal_acks.specs.Rows.{data_taken};
@@ -14,7 +15,8 @@ ghost use Rattle.run_model.specs.Rows.{first_packet, one_connection_journal, one
 ghost use Rattle.run_model.specs.Rows.{turn_entry};
 
 /// After the first exchange of a link, each end has accepted the PDU of the other, and the central
-/// knows that its own is acknowledged. Where the first packet is lost nothing is accepted.
+/// knows that its own is acknowledged. Where the first packet is lost nothing is accepted. Each end
+/// has entered one event of this link, and none of another.
 pub fn worked_exchange()
     ensures central { exchange_of 1 one_event_journal B
         ≡ record { sent = 1; accepted = 1; acked = 1 } }
@@ -24,6 +26,7 @@ pub fn worked_exchange()
         ∷ Enter A 1 0 25 ∷ Enter B 1 0 25 ∷ Air B 25 first_packet WasLost Missed ∷ []) A
         ≡ record { sent = 1; accepted = 0; acked = 0 } }
     ensures channel { channel_entered 1 A one_event_journal ≡ Some 25 }
+    ensures events { (entered_on A 1 one_event_journal ≡ 1) × (entered_on A 2 one_event_journal ≡ 0) }
 {}
 
 /// A packet carries an empty PDU until a new PDU is sent, and then that one, until it is

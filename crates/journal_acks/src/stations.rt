@@ -5,7 +5,7 @@ ghost use Rattle.std.specs.List.{Contains};
 ghost use Rattle.ble_base.specs.declared.roles.Side.{Side};
 ghost use Rattle.ble_base.specs.declared.verdicts.Verdict.{Verdict};
 ghost use Rattle.journal.specs.declared.entries.Entry.{Entry};
-ghost use Rattle.journal.specs.declared.entries.Entry.TheVariants.{Air, Sent};
+ghost use Rattle.journal.specs.declared.entries.Entry.TheVariants.{Air, Enter, Sent};
 ghost use Rattle.journal.specs.declared.entries.Mark.{Mark};
 ghost use Rattle.open_links.specs.OpenLinks.{OpenLink, facts_in, link_at};
 ghost use Rattle.run_model.specs.History.{Event, TurnBegan};
@@ -15,14 +15,16 @@ ghost use Rattle.run_model.specs.Links.{is_advertising, links_of};
 ghost use Rattle.run_model.specs.Run.{Given, GoesOn, facts_at, history_of, run_of};
 ghost use Rattle.journal_acks.specs.Carried.{IsLinkPacket, IsNewPdu};
 ghost use Rattle.journal_acks.specs.Counted.{IsCounted};
+ghost use Rattle.journal_acks.specs.EventOrder.{entered_on};
 ghost use Rattle.journal_acks.specs.Exchange.{exchange_of};
 
 /// In a run of two stations, with any number of links each: before each turn, and at the end of a
 /// whole run, each open end of a link has sent and accepted as many PDUs as the journal says, and as
 /// many of its own are acknowledged to it. Each packet off the advertising channels is one of a
 /// link, with the channel, the access address, the bits and the PDU that the lines before it give;
-/// and each new PDU goes out after all PDUs of its side on its link are acknowledged (Core 5.2,
-/// volume 6 part B, sections 2.1, 2.4 and 4.5.9).
+/// and each new PDU goes out after all PDUs of its side on its link are acknowledged. Each side
+/// enters the events 0, 1, 2, .. of a link one after another, each once (Core 5.2, volume 6 part B,
+/// sections 2.1, 2.4, 4.5.1 and 4.5.9).
 pub fn links_of_two_stations_keep_to_the_journal()
     ensures counts_before_a_turn { (given : Given) (before rest : List Event) (slot : ℕ)
         (radios : List Bool) (station handle : ℕ) (link : OpenLink)
@@ -50,6 +52,12 @@ pub fn links_of_two_stations_keep_to_the_journal()
         → journal_of (history_of (run_of given))
         ≡ front ++ Sent side number count llid body ∷ rest
         → IsNewPdu number front side (record { llid = llid; body = body }) }
+    ensures events { (given : Given) (front rest : List Entry) (side : Side)
+        (number event channel : ℕ)
+        → given.stations ≡ 0 ∷ 1 ∷ [] → HaveAddresses given
+        → journal_of (history_of (run_of given))
+        ≡ front ++ Enter side number event channel ∷ rest
+        → event ≡ entered_on side number front }
 {
     controller_model::a_pdu_is_understood();
     advertise::laws::connections_are_taken();

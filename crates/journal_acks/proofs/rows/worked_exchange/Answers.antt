@@ -10,9 +10,10 @@ use Rattle.wire_fields.specs.Field.{little_endian}
 use Rattle.journal_links.specs.Begun.{links_begun}
 use Rattle.journal_packets.specs.Belonging.{is_answer, link_of_packet}
 use Rattle.journal_acks.specs.Carried.{channel_entered}
+use Rattle.journal_acks.specs.EventOrder.{entered_on}
 use Rattle.journal_acks.specs.Exchange.{exchange_of}
 use Rattle.journal_acks.proofs.rows.worked_exchange.Goals as goal
 
 pub returns : goal.returns
-unfolding exchange_of channel_entered link_of_packet is_answer links_begun pdu_heard heard_in read_of kept_bits crc crc_octets crc_of_bits remainder mask_of next_mask whitening_bit whitening_of little_endian
-returns c = record { central = refl; peripheral = refl; lost = refl; channel = refl }
+unfolding exchange_of channel_entered entered_on link_of_packet is_answer links_begun pdu_heard heard_in read_of kept_bits crc crc_octets crc_of_bits remainder mask_of next_mask whitening_bit whitening_of little_endian
+returns c = record { central = refl; peripheral = refl; lost = refl; channel = refl; events = (refl, refl) }

@@ -1,0 +1,9 @@
+-- Proof of `events::each_side_enters_its_events_in_order`.
+use Rattle.std.proofs.Common.{refl}
+use Rattle.run_model.specs.Pair.{given_of}
+use Rattle.run_model.proofs.LinkEnds.{pair_addresses}
+use Rattle.journal_acks.proofs.events.each_side_enters_its_events_in_order.Goals as goal
+
+pub returns : goal.returns
+returns c = λ a b script front rest side number event channel six six_too at.
+    c.links_of_two_stations_keep_to_the_journal.ensures.events (given_of a b script) front rest side number event channel refl (pair_addresses a b script six six_too) at
