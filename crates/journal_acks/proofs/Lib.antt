@@ -28,3 +28,6 @@ pub mod KeptLines
 pub mod LinkPackets
 pub mod SentInCalls
 pub mod NewPdus
+pub mod HeardLines
+pub mod GoodLinks
+pub mod KeptGood

@@ -2,4 +2,5 @@
 pub mod Exchange
 pub mod Carried
 pub mod Counted
+pub mod Shut
 pub mod Rows
