@@ -30,4 +30,6 @@ pub mod SentInCalls
 pub mod NewPdus
 pub mod HeardLines
 pub mod GoodLinks
+pub mod GoodCalls
+pub mod GoodPackets
 pub mod KeptGood
