@@ -33,3 +33,4 @@ pub mod GoodLinks
 pub mod GoodCalls
 pub mod GoodPackets
 pub mod KeptGood
+pub mod ShutLines
