@@ -286,7 +286,7 @@ module _ (whole : IsHeardWhole) (given : Given) (Q : Place → List Event → Ty
 
     module _ (is_too : is_in other given.stations ≡ true) (differs : (other == station) ≡ false) (seen : unseen_in octets hearings ≡ None)
         (silent : (one : ℕ) → is_in one given.stations ≡ true → (one == station) ≡ false → packet_received one history ≡ None) where
-      heard_it : has_received other hearings ≡ is_good hearing.verdict
+      pub heard_it : has_received other hearings ≡ is_good hearing.verdict
       heard_it = ap (has_received other) has ∙ other_received other hearing (same_number other)
 
       deaf_counted : is_good hearing.verdict ≡ false → (handle : ℕ) (link : OpenLink) → link_at handle (facts other).links ≡ Some link
@@ -301,7 +301,7 @@ module _ (whole : IsHeardWhole) (given : Given) (Q : Place → List Event → Ty
           (counted other handle link is_too is_open)
 
       module _ (good : is_good hearing.verdict ≡ true) where
-        listening : IsListening (facts other) channel octets
+        pub listening : IsListening (facts other) channel octets
         listening =
             let is_judged = judged (use_at given other history) (fate_at fates (fates_used history)) channel (facts other) (damaged_packet (fate_at fates (fates_used history)) octets) good in
             let same = unchanged octets hearing (ap (unseen_in octets) (sym has) ∙ seen) good in
@@ -311,7 +311,7 @@ module _ (whole : IsHeardWhole) (given : Given) (Q : Place → List Event → Ty
 
         -- the link on which it listens
         module _ (handle : ℕ) (link : OpenLink) (is_open : link_at handle (facts other).links ≡ Some link) (listens : listens_under handle (facts other).turn.doing ≡ true) where
-          one : AreOne handle listening.handle link listening.link
+          pub one : AreOne handle listening.handle link listening.link
           one = one_listened (facts other).links (facts other).turn.doing handle listening.handle link listening.link listens listening.on is_open listening.is_open
 
           begins : take 4 octets ≡ access_octets link.setup.link.fields.access

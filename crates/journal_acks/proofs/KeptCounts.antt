@@ -465,7 +465,7 @@ module _ (whole : IsHeardWhole) (given : Given) (Q : Place → List Event → Ty
       ∙ silent other sender is_other is_sender differs (not_in_more sender done station out (sender == station) refl)
 
   -- a packet of a link is sent in a turn after that of its CONNECT_IND
-  sent_later : (phases : ℕ) (done left : List ℕ) (station channel : ℕ) (octets : List ℕ) (history : List Event) → given.stations ≡ done ++ station ∷ left
+  pub sent_later : (phases : ℕ) (done left : List ℕ) (station channel : ℕ) (octets : List ℕ) (history : List Event) → given.stations ≡ done ++ station ∷ left
       → use_at given station history ≡ Sends channel octets → is_advertising channel ≡ false → AreCountedAt given Q (AtPackets phases done (station ∷ left)) history
       → (sent : IsOfSendersLink given history station channel octets) → sent.link.setup.opened + 1 < turns_begun history
   sent_later phases done left station channel octets history are wanted off is sent =

@@ -31,3 +31,9 @@ pub mod LinkPackets
 pub mod SentInCalls
 pub mod NewPdus
 pub mod EventsInOrder
+pub mod HeardLines
+pub mod GoodLinks
+pub mod GoodCalls
+pub mod GoodPackets
+pub mod KeptGood
+pub mod ShutLines

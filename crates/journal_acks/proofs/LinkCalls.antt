@@ -9,7 +9,7 @@ use Rattle.hci_evt.specs.declared.event.Event.{Event}
 use Rattle.host_view.specs.View.{View}
 use Rattle.link_model.specs.declared.setup.LinkSetup.{LinkSetup}
 use Rattle.link_model.specs.Acknowledgement.{Pdu}
-use Rattle.link_model.specs.End.{took_notes, took_notes_if}
+use Rattle.link_model.specs.End.{facts_of as end_facts, took_notes, took_notes_if}
 use Rattle.link_model.specs.Events.{entries_in}
 use Rattle.link_model.specs.Facts.{Facts as EndFacts}
 use Rattle.link_model.specs.Setup.{Setup as EndSetup}
@@ -299,13 +299,22 @@ passes_under setup facts received handle after listens is = passes_by setup fact
 
 -- ---- what is noted of links that are opened
 
--- a link that was opened in this slot, which has not entered an event
+-- a link that was opened in this slot, which has not entered an event or received a good packet
 pub record IsOpenedNow (slot : ℕ) (link : OpenLink) : Type 0 where
   pub opened : link.setup.opened ≡ slot
   pub entries : entries_in link.past ≡ 0
+  pub good : (facts_in link).last_good ≡ None
+
+pub new_good : (end : EndSetup) (link : OpenLink) → link ≡ new_link end → (facts_in link).last_good ≡ None
+unfolding end_facts
+new_good end link is = ap (λ (l : OpenLink). (facts_in l).last_good) is
 
 new_now : (slot : ℕ) (end : EndSetup) (link : OpenLink) → link ≡ new_link end → end.opened ≡ slot → IsOpenedNow slot link
-new_now slot end link is now = record { opened = ap (λ (l : OpenLink). l.setup.opened) is ∙ now; entries = ap (λ (l : OpenLink). entries_in l.past) is }
+new_now slot end link is now = record {
+  opened = ap (λ (l : OpenLink). l.setup.opened) is ∙ now;
+  entries = ap (λ (l : OpenLink). entries_in l.past) is;
+  good = new_good end link is;
+}
 
 -- no link is opened under the handle, or the one that is open there then is new
 IsQuiet : ℕ → Facts → Outcome → Type 0

@@ -168,7 +168,7 @@ fixing_under handle doing links after is = nothing_fixed (link_at handle links) 
 
 -- ---- what the host gives, and what is reported to it
 
--- the link that was there before has sent, accepted and entered the same
+-- the link that was there before has sent, accepted, entered and heard the same
 pub record WasAlike (place : Option OpenLink) (after : OpenLink) : Type 0 where
   pub link : OpenLink
   pub was : place ≡ Some link
@@ -176,9 +176,10 @@ pub record WasAlike (place : Option OpenLink) (after : OpenLink) : Type 0 where
   pub ack : ack_of after ≡ ack_of link
   pub entries : entries_in after.past ≡ entries_in link.past
   pub heard : (facts_in after).event.heard ≡ (facts_in link).event.heard
+  pub good : (facts_in after).last_good ≡ (facts_in link).last_good
 
 alike_same : (place : Option OpenLink) (after : OpenLink) → place ≡ Some after → WasAlike place after
-alike_same place after is = record { link = after; was = is; setup = refl; ack = refl; entries = refl; heard = refl }
+alike_same place after is = record { link = after; was = is; setup = refl; ack = refl; entries = refl; heard = refl; good = refl }
 
 entries_after : (link : OpenLink) (step : EndStep) → entries_in (link_after step link).past ≡ count_entry (entries_in link.past) step
 entries_after link step = fold-append count_entry 0 link.past (step ∷ [])
@@ -191,6 +192,7 @@ given_alike place start body link is = record {
   ack = ack_given start body link;
   entries = entries_after link (DataGiven start body);
   heard = ap (λ (f : EndFacts). f.event.heard) (step_facts link (DataGiven start body));
+  good = ap (λ (f : EndFacts). f.last_good) (step_facts link (DataGiven start body));
 }
 
 reported_alike : (place : Option OpenLink) (link : OpenLink) → place ≡ Some link → WasAlike place (link_after DataReported link)
@@ -201,6 +203,7 @@ reported_alike place link is = record {
   ack = ack_reported link;
   entries = entries_after link DataReported;
   heard = ap (λ (f : EndFacts). f.event.heard) (step_facts link DataReported);
+  good = ap (λ (f : EndFacts). f.last_good) (step_facts link DataReported);
 }
 
 alike_is : (place : Option OpenLink) (one after : OpenLink) → after ≡ one → WasAlike place one → WasAlike place after

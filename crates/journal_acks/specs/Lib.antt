@@ -3,4 +3,5 @@ pub mod Exchange
 pub mod Carried
 pub mod Counted
 pub mod EventOrder
+pub mod Shut
 pub mod Rows

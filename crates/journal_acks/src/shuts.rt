@@ -1,0 +1,31 @@
+//! Why links are shut, from the lines of a journal before. The body only calls the laws that it
+//! rests on: the contract is the law.
+ghost use Rattle.std.specs.Prelude.{◌≡◌, ◌++◌, ◌∷◌, ℕ, List, length};
+ghost use Rattle.ble_base.specs.declared.error_codes.ErrCode.{ErrCode};
+ghost use Rattle.ble_base.specs.declared.roles.Side.{Side};
+ghost use Rattle.journal.specs.declared.entries.Entry.{Entry};
+ghost use Rattle.journal.specs.declared.entries.Entry.TheVariants.{Shut};
+ghost use Rattle.radio_replay.specs.Script.{Script};
+ghost use Rattle.run_model.specs.Journal.{journal_of};
+ghost use Rattle.run_model.specs.Pair.{given_of};
+ghost use Rattle.run_model.specs.Run.{history_of, run_of};
+ghost use Rattle.journal_acks.specs.Shut.{IsShutWithReason};
+
+/// In the journal of a run of a pair, each line of a link that is shut has its reason by the lines
+/// before it, and there are three. With 3E its side judged no packet of the other side on that link
+/// good, and six intervals have passed since the turn of the CONNECT_IND. With 08 the supervision
+/// timeout has passed since the turn of the last such packet (Core 5.2, volume 6 part B, section
+/// 4.5.2). Any other is 00.
+pub fn each_shut_line_has_its_reason()
+    ensures { (a b : List ℕ) (script : Script) (front rest : List Entry) (side : Side)
+        (number : ℕ) (reason : ErrCode)
+        → length script.a.public ≡ 6 → length script.b.public ≡ 6
+        → journal_of (history_of (run_of (given_of a b script)))
+        ≡ front ++ Shut side number reason ∷ rest
+        → IsShutWithReason front side number reason.0 }
+{
+    controller_model::a_pdu_is_understood();
+    advertise::laws::connections_are_taken();
+    scan_init::laws::searches_give_each_valid_address();
+    air_frame::laws::packet_tells_its_pdu();
+}
