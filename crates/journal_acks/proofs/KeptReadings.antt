@@ -31,7 +31,7 @@ use Rattle.journal_acks.proofs.Counting.{AreKnown, HaveOwnNumbers, apart_numbers
 use Rattle.journal_acks.proofs.EnteredLinks.{entries_fixed, entries_received, entries_sent}
 use Rattle.journal_acks.proofs.Exchanging.{OpensNone, number_at, number_called, number_other, number_quiet, number_sent, opening_none}
 use Rattle.journal_acks.proofs.KeptCounts.{AreCountedAt, own_at}
-use Rattle.journal_acks.proofs.LinkCalls.{HasPassed, IsNew, IsOpenedNow, Stays, Takes, begins_under, fixed_if, passes_under, phase_quiet}
+use Rattle.journal_acks.proofs.LinkCalls.{HasPassed, IsNew, IsOpenedNow, Stays, Takes, begins_under, fixed_if, new_now, passes_under, phase_quiet}
 use Rattle.journal_acks.proofs.LinkUses.{sends_under}
 use Rattle.journal_acks.proofs.Readings.{EntersNone, Reading, after_entry, air_value, begins_value, feed_value, feeds_none, turn_value, value_at, value_called, value_other}
 use Rattle.journal_acks.proofs.Standing.{PhasedBy, phased_at}
@@ -236,7 +236,7 @@ module _ {X : Type 0} (reading : Reading X) (Fits : EndSetup → ℕ → X → T
           → HasPassed facts (has_room (setup_at given station) facts) received handle (facts_after (setup_at given station) facts (step_of received)).turn.doing link
           → FitsAt station handle link after
       passed handle link new number (IsNew end made opened off) =
-          new (record { opened = ap (λ (l : OpenLink). l.setup.opened) made ∙ opened; entries = ap (λ (l : OpenLink). entries_in l.past) made })
+          new (new_now facts.turn.slot end link made opened)
       passed handle link new number (Stays was none nothing listened) =
           quiet_own given station (step_of received) history handle link link (phase_enters_none given station history received) number refl refl (fit station handle link in_it was)
       passed handle link new number (Takes base octets was some on same) =

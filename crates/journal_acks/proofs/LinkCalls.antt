@@ -309,7 +309,7 @@ pub new_good : (end : EndSetup) (link : OpenLink) → link ≡ new_link end → 
 unfolding end_facts
 new_good end link is = ap (λ (l : OpenLink). (facts_in l).last_good) is
 
-new_now : (slot : ℕ) (end : EndSetup) (link : OpenLink) → link ≡ new_link end → end.opened ≡ slot → IsOpenedNow slot link
+pub new_now : (slot : ℕ) (end : EndSetup) (link : OpenLink) → link ≡ new_link end → end.opened ≡ slot → IsOpenedNow slot link
 new_now slot end link is now = record {
   opened = ap (λ (l : OpenLink). l.setup.opened) is ∙ now;
   entries = ap (λ (l : OpenLink). entries_in l.past) is;

@@ -1,15 +1,19 @@
 -- What is promised of the turns, the links and the data of each journal.
 use Rattle.std.specs.Prelude.{◌≡◌, ℕ, List, ◌∷◌, ◌++◌}
+use Rattle.ble_base.specs.declared.ErrCode.{ErrCode}
 use Rattle.ble_base.specs.declared.roles.Role.{Role}
 use Rattle.ble_base.specs.declared.roles.Side.{Side}
 use Rattle.journal.specs.declared.entries.Entry.{Entry}
-use Rattle.journal.specs.declared.entries.Entry.TheVariants.{Enter, Opened}
+use Rattle.journal.specs.declared.entries.Entry.TheVariants.{Enter, Opened, Shut}
 use Rattle.radio_replay.specs.Script.{Script}
 use Rattle.journal_links.specs.Entered.{IsEnteredInTime}
 use Rattle.journal_links.specs.Opened.{IsOpenedInTime}
 use Rattle.journal_links.specs.Procedures.{NoneNamesAProcedure}
 use Rattle.journal_packets.specs.Addresses.{AllAddressesAreNext}
+use Rattle.journal_acks.specs.EventOrder.{entered_on}
+use Rattle.journal_acks.specs.Shut.{IsShutWithReason}
 use Rattle.journal_data.specs.Delivered.{AllDataArrives}
+use Rattle.journal_data.specs.Held.{LinesAreOfOpenLinks}
 use Rattle.journal_turns.specs.Follows.{FollowsSchedule}
 use Rattle.journal_turns.specs.Scheduled.{AreAllTurns}
 use Rattle.journal_pdus.specs.Exchanged.{IsAtRest, PdusAreDue}
@@ -25,6 +29,16 @@ abbrev pub AllAreEntered : List Entry → Type 0
 AllAreEntered journal = (front rest : List Entry) (side : Side) (number event channel : ℕ)
     → journal ≡ front ++ Enter side number event channel ∷ rest → IsEnteredInTime front number event channel
 
+-- each side enters the events 0, 1, 2, .. of a link one after another, each once
+abbrev pub AllAreInOrder : List Entry → Type 0
+AllAreInOrder journal = (front rest : List Entry) (side : Side) (number event channel : ℕ)
+    → journal ≡ front ++ Enter side number event channel ∷ rest → event ≡ entered_on side number front
+
+-- each link that is shut has its reason
+abbrev pub AllHaveReasons : List Entry → Type 0
+AllHaveReasons journal = (front rest : List Entry) (side : Side) (number : ℕ) (reason : ErrCode)
+    → journal ≡ front ++ Shut side number reason ∷ rest → IsShutWithReason front side number reason.0
+
 -- a journal of a run of these streams by this script, up to its end or to some place in a turn
 pub record IsLawful (a b : List ℕ) (script : Script) (journal : List Entry) : Type 0 where
   -- its turns, what is fed in them, and the fates of packets are those of the script
@@ -33,6 +47,10 @@ pub record IsLawful (a b : List ℕ) (script : Script) (journal : List Entry) : 
   pub addresses : AllAddressesAreNext script journal
   pub opened : AllAreOpened journal
   pub entered : AllAreEntered journal
+  pub events : AllAreInOrder journal
+  -- lines name links that are open at their side, and a link is opened under the next free handle
+  pub held : LinesAreOfOpenLinks journal
+  pub shut : AllHaveReasons journal
   -- no line is of a control procedure
   pub procedures : NoneNamesAProcedure journal
   -- what goes out on links and what is taken is what is due, line by line

@@ -10,8 +10,9 @@ ghost use Rattle.journal_pdus.specs.Lawful.{IsLawful, IsWhole};
 
 /// The journal of a run of a pair, whole or ended by damage, follows its schedule
 /// (`journal_turns::each_journal_follows_its_schedule`). Links and their events are those of their
-/// CONNECT_INDs, each of which has the next access address of its side; no line is of a control
-/// procedure, since none is built; and data arrives in order
+/// CONNECT_INDs, each of which has the next access address of its side; each side enters the events
+/// of a link one after another; lines name links that are open at their side; each link that is shut
+/// has its reason; no line is of a control procedure, since none is built; and data arrives in order
 /// (`journal_data::data_arrives_in_order_in_every_journal`). Line by line (Core 5.2, volume 6 part B,
 /// sections 4.5.6 and 4.5.9, and volume 4 part E, section 7.7.19):
 ///
@@ -49,5 +50,8 @@ pub fn each_journal_is_lawful()
     journal_links::no_line_names_a_procedure();
     journal_packets::each_link_has_the_next_address();
     journal_acks::each_sent_line_is_of_a_new_pdu();
+    journal_acks::each_side_enters_its_events_in_order();
+    journal_acks::each_shut_line_has_its_reason();
+    journal_data::lines_are_of_open_links_in_every_journal();
     journal_data::data_arrives_in_order_in_every_journal();
 }

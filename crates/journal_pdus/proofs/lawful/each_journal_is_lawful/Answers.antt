@@ -9,6 +9,9 @@ returns-clause-lawful c = λ a b script six six_too. record {
   addresses = c.each_link_has_the_next_address.ensures a b script six six_too;
   opened = λ front rest side number handle role at. c.each_opened_line_names_its_link.ensures a b script front rest side number handle role six six_too at;
   entered = λ front rest side number event channel at. c.each_enter_line_is_at_its_anchor.ensures a b script front rest side number event channel six six_too at;
+  events = λ front rest side number event channel at. c.each_side_enters_its_events_in_order.ensures a b script front rest side number event channel six six_too at;
+  held = c.lines_are_of_open_links_in_every_journal.ensures a b script six six_too;
+  shut = λ front rest side number reason at. c.each_shut_line_has_its_reason.ensures a b script front rest side number reason six six_too at;
   procedures = c.no_line_names_a_procedure.ensures a b script;
   due = journal_due c.packet_tells_its_pdu.ensures.heard c.a_pdu_is_understood.ensures.says c.connections_are_taken.ensures.taken
       c.searches_give_each_valid_address.ensures.valid c.searches_give_each_valid_address.ensures.distinct a b script six six_too
