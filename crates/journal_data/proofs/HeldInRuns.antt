@@ -1,8 +1,8 @@
 -- In each journal of a run of a pair, each line of a link is of one that is open at its side.
 use Rattle.controller_model.specs.Notes.{is_event}
-use Rattle.host_view.specs.Noted.{acl_handle, is_acl_data}
+use Rattle.host_view.specs.Noted.{is_acl_data}
 use Rattle.std.proofs.Common.{◌≡◌, ℕ, suc, if◌then◌else◌, ◌==◌, Bool, true, false, Option, Some, None, List, [], ◌∷◌, ◌++◌, length, map, cond, refl, sym, subst, ◌∙◌, ap}
-use Rattle.std.specs.Prelude.{◌||◌, take, ⊤, IsSome}
+use Rattle.std.specs.Prelude.{◌||◌, take, ⊤}
 use Rattle.std.specs.List.{find, list_any}
 use Rattle.std.specs.Option.{option_map}
 use Rattle.std.proofs.lemmas.Bool.{eq-eqb}
@@ -38,7 +38,7 @@ use Rattle.journal_acks.proofs.Counting.{AreKnown, HaveOwnNumbers}
 use Rattle.journal_acks.proofs.Exchanging.{number_at}
 use Rattle.journal_acks.proofs.Known.{known_of}
 use Rattle.journal_acks.proofs.TwoStations.{IsOfTwo}
-use Rattle.journal_data.specs.Held.{IsNextOpened, IsOpenAt, LinesAreOfOpenLinks, links_open, IsOfOneLink}
+use Rattle.journal_data.specs.Held.{IsNextOpened, IsOpenAt, LinesAreOfOpenLinks, links_open, IsOfOneLink, IsDataOfLink}
 use Rattle.journal_data.specs.HostLines.{OpenUnder, link_under}
 use Rattle.journal_data.proofs.EachLine.{lines_at}
 use Rattle.journal_data.proofs.FewLinks.{HaveFewLinks, pair_links}
@@ -187,7 +187,7 @@ IsHeldEntry front (Enter side link event channel) = IsOpenAt side link front
 IsHeldEntry front (Shut side link reason) = IsOpenAt side link front
 IsHeldEntry front (Opened side link handle role) = IsNextOpened link handle (links_open side front)
 IsHeldEntry front (Up side octets) =
-    (is_acl_data octets ≡ true → IsSome (link_under (acl_handle octets) (links_open side front)))
+    (is_acl_data octets ≡ true → IsDataOfLink octets (links_open side front))
     × (is_event 0x13 octets ≡ true → IsOfOneLink octets (links_open side front))
 IsHeldEntry front entry = ⊤
 

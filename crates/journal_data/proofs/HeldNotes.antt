@@ -1,12 +1,12 @@
 -- Before each note of a call, the links that the lines of its station have open are those that are open by the notes so
 -- far: a line that names a link is of an open link, and a link is opened under a handle that none has.
-use Rattle.journal_data.proofs.Reported.{IsOfOneHandle, step_one}
+use Rattle.journal_data.proofs.Reported.{IsOfOneHandle, step_one, HasItsLength, step_lengths}
 use Rattle.controller_model.proofs.OpenNotes.{open_after, open_before}
 use Rattle.controller_model.specs.Since.{is_data_note}
 use Rattle.host_view.specs.Noted.{acl_handle, is_acl_data, two_octets}
 use Rattle.std.proofs.lemmas.List.Elements.{All-contains_itself, recursion_from_All}
 use Rattle.std.proofs.Common.{◌≡◌, ℕ, ◌<◌, ◌≤◌, ◌==◌, Bool, true, false, Some, None, List, [], ◌∷◌, ◌++◌, map, cond, refl, ap, sym, subst, ◌∙◌, append-nil, append_assoc, arith, Option}
-use Rattle.std.specs.Prelude.{◌||◌, fold, is_some, ⊤, IsSome}
+use Rattle.std.specs.Prelude.{◌||◌, fold, is_some, ⊤}
 use Rattle.std.specs.List.{AllByRecursion, sum_by, Contains}
 use Rattle.std.proofs.lemmas.List.Sums.{sum_by-cons}
 use Rattle.std.proofs.lemmas.Bool.{eq-eqb, eqb-true}
@@ -27,7 +27,7 @@ use Rattle.run_model.specs.Run.{Given, after_call, facts_at, setup_at}
 use Rattle.run_model.proofs.LinksKnown.{links_event}
 use Rattle.journal_acks.proofs.Counting.{HaveOwnNumbers}
 use Rattle.journal_acks.proofs.Exchanging.{number_at}
-use Rattle.journal_data.specs.Held.{IsNextOpened, is_open_link, IsOfOneLink}
+use Rattle.journal_data.specs.Held.{IsNextOpened, is_open_link, IsOfOneLink, IsDataOfLink}
 use Rattle.journal_data.specs.HostLines.{OpenUnder, link_under}
 use Rattle.journal_data.specs.Lines.{Lines}
 use Rattle.journal_data.proofs.EachLine.{call_lines, lines_at, note_lines, numbers_at}
@@ -82,7 +82,7 @@ IsHeldNote station history (Shut handle reason) = IsUnder station history handle
 IsHeldNote station history (Opened handle role own peer) =
     IsNextOpened ((links_of history).last_of station) handle (lines_at station history).links
 IsHeldNote station history (Up packet) =
-    (is_acl_data packet.items ≡ true → IsSome (link_under (acl_handle packet.items) (lines_at station history).links))
+    (is_acl_data packet.items ≡ true → IsDataOfLink packet.items (lines_at station history).links)
     × (is_event 0x13 packet.items ≡ true → IsOfOneLink packet.items (lines_at station history).links)
 IsHeldNote station history note = ⊤
 
@@ -309,10 +309,11 @@ module _ (given : Given) (station : ℕ) (step : Step) (history : List Event) (f
       let mid = with_noted station called earlier in
       let inside = middle (Contains notes) earlier note later (subst (λ (all : List Note). AllByRecursion (Contains notes) all) are (each_of notes)) in
       let one = middle IsOfOneHandle earlier note later (subst (AllByRecursion IsOfOneHandle) are (step_one setup past step)) in
+      let its_length = middle HasItsLength earlier note later (subst (AllByRecursion HasItsLength) are (step_lengths setup past step)) in
       let under = λ (handle : ℕ) (of : is_data_note handle note ≡ true).
       ap (λ (place : Option ℕ). is_some place)
       (stays_under earlier (note ∷ later) are handle (open_before setup past step note handle few inside of) (open_after setup past step note handle few inside of)) in (
-        (λ acl. under (acl_handle packet.items) (received_data packet acl)),
+        (λ acl. record { is_open = under (acl_handle packet.items) (received_data packet acl); length_is = its_length acl }),
         (λ event. record { one_handle = one event; is_open = under (two_octets 4 packet.items) (completed_data packet event) }),
       )
   note_is earlier later note are = tt

@@ -20,6 +20,7 @@ pub mod NotedLines
 pub mod StationLines
 mod OpenLines
 pub mod LeastHandles
+mod PieceLengths
 mod Reported
 pub mod HeldNotes
 pub mod LinesGrow

@@ -541,7 +541,7 @@ begun_opens slot on facts =
     on slot (winner_before_doing slot facts) (facts_before_doing slot facts)
     (mapped_opens (link_entered slot) (facts_ending slot facts).links ∙ ap (λ (held : Facts). opens held.links) (ending_is slot facts))
 
-begun_reports : (facts : Facts) (setup : Setup) (slot : ℕ) (on : Bool) → AreNot is_report (notes_after setup facts (TurnBegins slot on))
+pub begun_reports : (facts : Facts) (setup : Setup) (slot : ℕ) (on : Bool) → AreNot is_report (notes_after setup facts (TurnBegins slot on))
 begun_reports facts setup slot on =
     let outcome = outcome_begun slot on facts in
     let ends = notes_ending slot facts in
@@ -672,7 +672,7 @@ opens_where_free setup past step handle link at =
 
 -- ---- a step of a turn that notes PDUs which are taken reports nothing
 
-abbrev NoReport : Outcome → Type 0
+abbrev pub NoReport : Outcome → Type 0
 NoReport outcome = AreNot is_report (notes_passed outcome)
 
 passed_reports : (outcome : Outcome) → AreQuiet outcome.notes → NoReport outcome
@@ -686,7 +686,7 @@ opened_reports link facts =
     let quiet = events_quiet facts.view (events_opened facts.view link) (complete_other (wants_enhanced facts.view) link, (tt, tt)) in
     (refl, none_report (events ++ []) (both_quiet events [] quiet tt))
 
-phase_reports : (setup : Setup) (facts : Facts) → EachOutcome setup facts NoReport
+pub phase_reports : (setup : Setup) (facts : Facts) → EachOutcome setup facts NoReport
 phase_reports setup facts = record {
   rests = tt;
   awaits_request = λ channel doing. tt;

@@ -1,6 +1,14 @@
--- What a controller reports of complete packets, in any step: an event is of one handle.
-use Rattle.std.proofs.Common.{◌≡◌, ℕ, ◌==◌, Bool, true, false, List, [], ◌∷◌, ◌++◌, cond, refl, sym, ap, ◌∙◌}
-use Rattle.std.specs.Prelude.{filter, map, slice_index, ⊤}
+-- What a controller reports of data and of complete packets, in any step: the length of an ACL packet is that of its data,
+-- and a Number Of Completed Packets event is of one handle.
+use Rattle.journal_data.proofs.PieceLengths.{AreShort, all_short, packet_length}
+use Rattle.journal_data.proofs.Openness.{AreNot, NoReport, begun_reports, is_report, phase_reports}
+use Rattle.controller_model.proofs.Phases.{heard_is, unheard_is}
+use Rattle.open_links.specs.Data.{completed_from}
+use Rattle.host_view.specs.Noted.{is_acl_data, two_octets}
+use Rattle.acl_banks.specs.declared.pieces.Piece.{Piece}
+use Rattle.std.proofs.lemmas.Bool.{or_parts}
+use Rattle.std.proofs.Common.{◌≡◌, ℕ, ◌==◌, Bool, true, false, List, [], ◌∷◌, ◌++◌, refl, sym, ◌∙◌, length}
+use Rattle.std.specs.Prelude.{filter, map, slice_index, ⊤, drop}
 use Rattle.std.specs.List.{AllByRecursion}
 use Rattle.std.proofs.lemmas.List.Elements.{recursion_from_All}
 use Rattle.ble_base.specs.declared.notes.Note.{Note}
@@ -24,7 +32,7 @@ use Rattle.open_links.specs.OpenLinks.{handles_from}
 use Rattle.wire_fields.specs.Field.{little_endian}
 use Rattle.controller_model.specs.Answers.{answer_to}
 use Rattle.controller_model.specs.Commands.{events_caused, notes_commanded, notes_known}
-use Rattle.controller_model.specs.Data.{notes_offered, offer_of}
+use Rattle.controller_model.specs.Data.{notes_offered, offer_of, event_completed, note_received}
 use Rattle.controller_model.specs.Events.{notes_of_events, passes}
 use Rattle.controller_model.specs.Facts.{Facts, Setup}
 use Rattle.controller_model.specs.Links.{note_shut, notes_reset}
@@ -40,63 +48,74 @@ abbrev pub IsOfOneHandle : Note → Type 0
 IsOfOneHandle (Up packet) = is_event 0x13 packet.items ≡ true → slice_index packet.items 3 ≡ 1
 IsOfOneHandle note = ⊤
 
-abbrev AreOfOneHandle : List Note → Type 0
-AreOfOneHandle notes = AllByRecursion IsOfOneHandle notes
-
 event_one : (event : Event) → IsOfOneHandle (Up (record { items = written event }))
 unfolding little_endian
 event_one (CompletedPackets handle count) is = refl
 event_one event is = absurd (let h : false ≡ true = is in absurd cc)
 
-both_one : (xs ys : List Note) → AreOfOneHandle xs → AreOfOneHandle ys → AreOfOneHandle (xs ++ ys)
-both_one [] ys all more = more
-both_one (x ∷ xs) ys all more = (all.0, both_one xs ys all.1 more)
+-- the length of an ACL packet is that of what follows
+abbrev pub HasItsLength : Note → Type 0
+HasItsLength (Up packet) = is_acl_data packet.items ≡ true → two_octets 3 packet.items ≡ length (drop 5 packet.items)
+HasItsLength note = ⊤
 
-packets_one : (events : List Event) → AreOfOneHandle (map (λ event. Up (record { items = written event })) events)
-packets_one [] = tt
-packets_one (event ∷ events) = (event_one event, packets_one events)
+event_length : (event : Event) → HasItsLength (Up (record { items = written event }))
+unfolding little_endian
+event_length (CompletedPackets handle count) is = absurd (let h : false ≡ true = is in absurd cc)
+event_length event is = absurd (let h : false ≡ true = is in absurd cc)
 
-events_one : (view : View) (events : List Event) → AreOfOneHandle (notes_of_events view events)
-events_one view events = packets_one (filter (λ event. passes view (mask_bit_of event)) events)
+-- ---- events, and links that are shut
 
--- ---- an octet of the host
+module _ (P : Note → Type 0) (of_event : (event : Event) → P (Up (record { items = written event }))) (of_shut : (handle : ℕ) → P (note_shut handle 0)) where
+  both : (xs ys : List Note) → AllByRecursion P xs → AllByRecursion P ys → AllByRecursion P (xs ++ ys)
+  both [] ys all more = more
+  both (x ∷ xs) ys all more = (all.0, both xs ys all.1 more)
 
-shuts_one : (handles : List ℕ) → AreOfOneHandle (map (λ handle. note_shut handle 0) handles)
-shuts_one [] = tt
-shuts_one (handle ∷ handles) = (tt, shuts_one handles)
+  of_packets : (events : List Event) → AllByRecursion P (map (λ event. Up (record { items = written event })) events)
+  of_packets [] = tt
+  of_packets (event ∷ events) = (of_event event, of_packets events)
 
-accepted_one : (setup : Setup) (facts : Facts) (opcode : ℕ) (command : Command) → AreOfOneHandle (notes_known true setup facts opcode command)
-accepted_one setup facts opcode Reset =
-    let answer = notes_of_events facts.view (answer_to setup facts opcode (Known Reset)) in
-    let caused = notes_of_events facts.view (events_caused facts Reset) in
-    both_one (notes_reset facts ++ answer) caused
-    (both_one (notes_reset facts) answer (shuts_one (handles_from 0 facts.links)) (events_one facts.view (answer_to setup facts opcode (Known Reset))))
-    (events_one facts.view (events_caused facts Reset))
-accepted_one setup facts opcode other =
-    let answer = notes_of_events facts.view (answer_to setup facts opcode (Known other)) in
-    let caused = notes_of_events facts.view (events_caused facts other) in
-    both_one answer caused (events_one facts.view (answer_to setup facts opcode (Known other))) (events_one facts.view (events_caused facts other))
+  of_events : (view : View) (events : List Event) → AllByRecursion P (notes_of_events view events)
+  of_events view events = of_packets (filter (λ event. passes view (mask_bit_of event)) events)
 
-known_one : (accepted : Bool) (setup : Setup) (facts : Facts) (opcode : ℕ) (command : Command) → AreOfOneHandle (notes_known accepted setup facts opcode command)
-known_one true setup facts opcode command = accepted_one setup facts opcode command
-known_one false setup facts opcode command = events_one facts.view (answer_to setup facts opcode (Known command))
+  of_shuts : (handles : List ℕ) → AllByRecursion P (map (λ handle. note_shut handle 0) handles)
+  of_shuts [] = tt
+  of_shuts (handle ∷ handles) = (of_shut handle, of_shuts handles)
 
-read_one : (setup : Setup) (facts : Facts) (opcode : ℕ) (read : CmdRead) → AreOfOneHandle (notes_commanded setup facts opcode read)
-read_one setup facts opcode (Known command) = known_one (status_of facts.view command == 0) setup facts opcode command
-read_one setup facts opcode UnknownOpcode = events_one facts.view (answer_to setup facts opcode UnknownOpcode)
-read_one setup facts opcode BadLength = events_one facts.view (answer_to setup facts opcode BadLength)
+  -- ---- an octet of the host
 
-offered_one : (view : View) (offer : Offer) (handle : ℕ) → AreOfOneHandle (notes_offered view offer handle)
-offered_one view NoLink handle = tt
-offered_one view Empty handle = events_one view (CompletedPackets handle 1 ∷ [])
-offered_one view Overflow handle = events_one view (BufferOverflow 1 ∷ [])
-offered_one view Kept handle = tt
+  of_accepted : (setup : Setup) (facts : Facts) (opcode : ℕ) (command : Command) → AllByRecursion P (notes_known true setup facts opcode command)
+  of_accepted setup facts opcode Reset =
+      let answer = notes_of_events facts.view (answer_to setup facts opcode (Known Reset)) in
+      let caused = notes_of_events facts.view (events_caused facts Reset) in
+      both (notes_reset facts ++ answer) caused
+      (both (notes_reset facts) answer (of_shuts (handles_from 0 facts.links)) (of_events facts.view (answer_to setup facts opcode (Known Reset))))
+      (of_events facts.view (events_caused facts Reset))
+  of_accepted setup facts opcode other =
+      let answer = notes_of_events facts.view (answer_to setup facts opcode (Known other)) in
+      let caused = notes_of_events facts.view (events_caused facts other) in
+      both answer caused (of_events facts.view (answer_to setup facts opcode (Known other))) (of_events facts.view (events_caused facts other))
 
-fed_one : (setup : Setup) (facts : Facts) (fed : Fed) → AreOfOneHandle (notes_fed setup facts fed)
-fed_one setup facts (Packet (HostCommand opcode body)) = read_one setup facts opcode (command_of opcode body.items)
-fed_one setup facts (Packet (Acl handle start count body)) = offered_one facts.view (offer_of setup facts handle count) handle
-fed_one setup facts LostSync = events_one facts.view (HardwareError 0x01 ∷ [])
-fed_one setup facts More = tt
+  of_known : (accepted : Bool) (setup : Setup) (facts : Facts) (opcode : ℕ) (command : Command)
+      → AllByRecursion P (notes_known accepted setup facts opcode command)
+  of_known true setup facts opcode command = of_accepted setup facts opcode command
+  of_known false setup facts opcode command = of_events facts.view (answer_to setup facts opcode (Known command))
+
+  of_read : (setup : Setup) (facts : Facts) (opcode : ℕ) (read : CmdRead) → AllByRecursion P (notes_commanded setup facts opcode read)
+  of_read setup facts opcode (Known command) = of_known (status_of facts.view command == 0) setup facts opcode command
+  of_read setup facts opcode UnknownOpcode = of_events facts.view (answer_to setup facts opcode UnknownOpcode)
+  of_read setup facts opcode BadLength = of_events facts.view (answer_to setup facts opcode BadLength)
+
+  of_offered : (view : View) (offer : Offer) (handle : ℕ) → AllByRecursion P (notes_offered view offer handle)
+  of_offered view NoLink handle = tt
+  of_offered view Empty handle = of_events view (CompletedPackets handle 1 ∷ [])
+  of_offered view Overflow handle = of_events view (BufferOverflow 1 ∷ [])
+  of_offered view Kept handle = tt
+
+  of_fed : (setup : Setup) (facts : Facts) (fed : Fed) → AllByRecursion P (notes_fed setup facts fed)
+  of_fed setup facts (Packet (HostCommand opcode body)) = of_read setup facts opcode (command_of opcode body.items)
+  of_fed setup facts (Packet (Acl handle start count body)) = of_offered facts.view (offer_of setup facts handle count) handle
+  of_fed setup facts LostSync = of_events facts.view (HardwareError 0x01 ∷ [])
+  of_fed setup facts More = tt
 
 -- ---- each step
 
@@ -112,14 +131,46 @@ each_one most = record {
   took = λ handle number llid octets below. tt;
 }
 
-turn_one : (setup : Setup) (past : List Step) (step : Step) → IsInTurn step → AreOfOneHandle (notes_after setup (facts_of setup past) step)
+turn_one : (setup : Setup) (past : List Step) (step : Step) → IsInTurn step → AllByRecursion IsOfOneHandle (notes_after setup (facts_of setup past) step)
 turn_one setup past step turn =
     recursion_from_All IsOfOneHandle (notes_after setup (facts_of setup past) step)
     (turn_noted setup.links IsOfOneHandle (each_one setup.links) setup (facts_of setup past) step refl (own_handles setup past) turn)
 
 pub step_one : (setup : Setup) (past : List Step) (step : Step) → AllByRecursion IsOfOneHandle (notes_after setup (facts_of setup past) step)
-step_one setup past (HostOctet octet) = fed_one setup (facts_of setup past) (result_of (facts_of setup past).octets octet)
+step_one setup past (HostOctet octet) = of_fed IsOfOneHandle event_one (λ handle. tt) setup (facts_of setup past) (result_of (facts_of setup past).octets octet)
 step_one setup past (TurnBegins slot on) = turn_one setup past (TurnBegins slot on) tt
 step_one setup past (PacketHeard octets) = turn_one setup past (PacketHeard octets) tt
 step_one setup past NothingHeard = turn_one setup past NothingHeard tt
 step_one setup past TurnEnds = turn_one setup past TurnEnds tt
+
+-- ---- lengths
+
+no_length : (notes : List Note) → AreNot is_report notes → AllByRecursion HasItsLength notes
+no_length [] none = tt
+no_length (note ∷ notes) none = (by note none.0, no_length notes none.1)
+  where
+    by : (note : Note) → is_report note ≡ false → HasItsLength note
+    by (Up packet) none =
+        λ acl. absurd (let h : true ≡ false = sym acl ∙ (or_parts (is_acl_data packet.items) (is_event 0x13 packet.items) none).0 in absurd cc)
+    by note none = tt
+
+of_pieces : (pieces : List (ℕ × Piece)) → AreShort pieces → AllByRecursion HasItsLength (map note_received pieces)
+of_pieces [] short = tt
+of_pieces (piece ∷ pieces) short = ((λ acl. packet_length piece short.0), of_pieces pieces short.1)
+
+pub step_lengths : (setup : Setup) (past : List Step) (step : Step) → AllByRecursion HasItsLength (notes_after setup (facts_of setup past) step)
+step_lengths setup past (HostOctet octet) =
+    of_fed HasItsLength event_length (λ handle. tt) setup (facts_of setup past) (result_of (facts_of setup past).octets octet)
+step_lengths setup past (TurnBegins slot on) =
+    no_length (notes_after setup (facts_of setup past) (TurnBegins slot on)) (begun_reports (facts_of setup past) setup slot on)
+step_lengths setup past (PacketHeard octets) =
+    let facts = facts_of setup past in
+    no_length (notes_after setup facts (PacketHeard octets)) (heard_is setup facts NoReport (phase_reports setup facts) facts.turn.doing octets refl)
+step_lengths setup past NothingHeard =
+    let facts = facts_of setup past in
+    no_length (notes_after setup facts NothingHeard) (unheard_is setup facts NoReport (phase_reports setup facts) facts.turn.doing refl)
+step_lengths setup past TurnEnds =
+    let facts = facts_of setup past in
+    let events = map event_completed (completed_from 0 facts.links) in
+    both HasItsLength event_length (λ handle. tt) (map note_received facts.received) (notes_of_events facts.view events)
+    (of_pieces facts.received (all_short setup past)) (of_events HasItsLength event_length (λ handle. tt) facts.view events)

@@ -1,6 +1,6 @@
 -- Which links the lines of a side name: only those that are open at it (Core 5.2, volume 4 part E, sections 5.4.2 and
 -- 7.7.19).
-use Rattle.std.specs.Prelude.{◌≡◌, ℕ, ◌<◌, ◌==◌, Bool, true, false, List, ◌∷◌, ◌++◌, None, IsSome, slice_index}
+use Rattle.std.specs.Prelude.{◌≡◌, ℕ, ◌<◌, ◌==◌, Bool, true, false, List, ◌∷◌, ◌++◌, None, IsSome, drop, length, slice_index}
 use Rattle.std.specs.List.{list_any}
 use Rattle.ble_base.specs.declared.ErrCode.{ErrCode}
 use Rattle.ble_base.specs.declared.roles.Role.{Role}
@@ -29,6 +29,11 @@ pub record IsNextOpened (link handle : ℕ) (links : List OpenUnder) : Type 0 wh
   pub free : link_under handle links ≡ None
   pub least : (other : ℕ) → other < handle → IsSome (link_under other links)
 
+-- data for the host is of an open link, and its length, at the places 3 and 4, is that of what follows
+pub record IsDataOfLink (octets : List ℕ) (links : List OpenUnder) : Type 0 where
+  pub is_open : IsSome (link_under (acl_handle octets) links)
+  pub length_is : two_octets 3 octets ≡ length (drop 5 octets)
+
 -- a Number Of Completed Packets event is of one handle, which is at the place 4, and an open link has it
 pub record IsOfOneLink (octets : List ℕ) (links : List OpenUnder) : Type 0 where
   pub one_handle : slice_index octets 3 ≡ 1
@@ -48,6 +53,6 @@ pub record LinesAreOfOpenLinks (journal : List Entry) : Type 0 where
   pub opened : (front rest : List Entry) (side : Side) (link handle : ℕ) (role : Role)
       → journal ≡ front ++ Opened side link handle role ∷ rest → IsNextOpened link handle (links_open side front)
   pub received : (front rest : List Entry) (side : Side) (octets : List ℕ) → journal ≡ front ++ Up side octets ∷ rest
-      → is_acl_data octets ≡ true → IsSome (link_under (acl_handle octets) (links_open side front))
+      → is_acl_data octets ≡ true → IsDataOfLink octets (links_open side front)
   pub completed : (front rest : List Entry) (side : Side) (octets : List ℕ) → journal ≡ front ++ Up side octets ∷ rest
       → is_event 0x13 octets ≡ true → IsOfOneLink octets (links_open side front)

@@ -12,7 +12,8 @@ ghost use Rattle.journal_data.specs.Held.{LinesAreOfOpenLinks};
 /// `open` line of it, and no `shut` line of it since. Each `open` line is of a link that is not
 /// open at its side, under the least handle that no open link of that side has (our choice). Data
 /// that a host receives, and complete packets that are reported to it, are of a link that is open
-/// at its side, and each Number Of Completed Packets event is of one handle.
+/// at its side; the length in an ACL packet is that of its data, and each Number Of Completed
+/// Packets event is of one handle (Core 5.2, volume 4 part E, sections 5.4.2 and 7.7.19).
 pub fn lines_are_of_open_links_in_every_journal()
     ensures { (a b : List ℕ) (script : Script) → length script.a.public ≡ 6
         → length script.b.public ≡ 6
