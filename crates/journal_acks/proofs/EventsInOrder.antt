@@ -2,10 +2,9 @@
 use Rattle.std.proofs.Common.{◌≡◌, ℕ, ◌+◌, ◌≤◌, ◌&&◌, ◌==◌, Bool, true, false, Option, Some, None, List, [], ◌∷◌, ◌++◌, refl, sym, ap, subst, ◌∙◌, append_assoc, arith}
 use Rattle.std.specs.Prelude.{All, fold, map, if◌then◌else◌}
 use Rattle.std.specs.List.{Contains}
-use Rattle.std.proofs.lemmas.List.Elements.{Contains-append_left, Contains-append_right, Contains-push}
 use Rattle.std.proofs.lemmas.List.Sums.{fold-append}
 use Rattle.ble_base.specs.declared.notes.Note.{Note}
-use Rattle.ble_base.specs.declared.notes.Note.TheVariants.{Up as UpNote, Enter as EnterNote}
+use Rattle.ble_base.specs.declared.notes.Note.TheVariants.{Enter as EnterNote}
 use Rattle.ble_base.specs.declared.roles.Side.{Side}
 use Rattle.journal.specs.declared.entries.Entry.{Entry}
 use Rattle.journal.specs.declared.entries.Entry.TheVariants.{Air, Enter}
@@ -16,16 +15,15 @@ use Rattle.link_model.proofs.Received.{IsHeardWhole}
 use Rattle.open_links.specs.OpenLinks.{OpenLink, link_at}
 use Rattle.open_links.specs.Turns.{is_anchor, links_staying, place_staying, reason_in, staying_by}
 use Rattle.open_links.proofs.Ends.{stays_where_not_due}
-use Rattle.controller_model.specs.Entering.{begins_turn}
-use Rattle.controller_model.specs.Step.{Step, HostOctet, TurnBegins, PacketHeard, NothingHeard, TurnEnds}
+use Rattle.controller_model.specs.Step.{Step, TurnBegins}
 use Rattle.controller_model.specs.Facts.{Facts}
 use Rattle.controller_model.specs.Side.{notes_after}
 use Rattle.controller_model.proofs.Entries.{enters_as_turns_begin, enters_at_anchors}
 use Rattle.run_model.specs.Feeding.{AreDistinct}
-use Rattle.run_model.specs.History.{Event, TurnBegan, HostFed, Called, Noted, Transmitted, packet_received, past_of, turns_begun}
-use Rattle.run_model.specs.Journal.{entries_of, entry_of, journal_from, journal_of, side_of}
+use Rattle.run_model.specs.History.{Event, Called, Noted, packet_received, past_of, turns_begun}
+use Rattle.run_model.specs.Journal.{journal_from, journal_of, side_of}
 use Rattle.run_model.specs.LinkEnds.{HaveAddresses}
-use Rattle.run_model.specs.Links.{Links, links_of}
+use Rattle.run_model.specs.Links.{links_of}
 use Rattle.run_model.specs.Run.{Given, after_call, facts_at, history_of, run_of, setup_at, step_of}
 use Rattle.run_model.proofs.CallNotes.{noted_in_call}
 use Rattle.run_model.proofs.Calls.{turns_called}
@@ -37,6 +35,7 @@ use Rattle.run_model.proofs.Stations.{among}
 use Rattle.run_model.proofs.Walk.{Place, AtBegins, AtListening, IsKept}
 use Rattle.run_laws.proofs.DistinctAccess.{AreApart}
 use Rattle.run_laws.proofs.OpenSteps.{none_open, open_has}
+use Rattle.journal_links.proofs.EnterLines.{enter_note, in_middle, turn_of}
 use Rattle.journal_packets.proofs.AccessOrder.{AreNth}
 use Rattle.journal_packets.proofs.SoFar.{IsBelongingSoFar}
 use Rattle.journal_packets.specs.Belonging.{is_side}
@@ -142,58 +141,7 @@ module _ (whole : IsHeardWhole) (given : Given) (Q : Place → List Event → Ty
     ends = λ station history. (λ slot on is. absurd cc);
   }
 
--- ---- the note of a line
-
-record IsEnterNote (links : Links) (event : Event) (side : Side) (number entered channel : ℕ) : Type 0 where
-  station : ℕ
-  handle : ℕ
-  is : event ≡ Noted station (EnterNote handle (record { 0 = entered }) channel)
-  side_is : side ≡ side_of station
-  number_is : number ≡ links.link_of station handle
-
-note_is : (links : Links) (station : ℕ) (note : Note) (side : Side) (number entered channel : ℕ)
-    → entry_of (side_of station) (links.link_of station) (links.last_of station) note ∷ [] ≡ Enter side number entered channel ∷ []
-    → IsEnterNote links (Noted station note) side number entered channel
-note_is links station (EnterNote handle event on) side number entered channel is =
-    let same : Enter (side_of station) (links.link_of station handle) event.0 on ≡ Enter side number entered channel = cc in
-    let sides : side_of station ≡ side = cc in
-    let numbers : links.link_of station handle ≡ number = cc in
-    let events : event.0 ≡ entered = cc in
-    let channels : on ≡ channel = cc in record {
-      station = station;
-      handle = handle;
-      is = λ i. Noted station (EnterNote handle (record { 0 = events i }) (channels i));
-      side_is = sym sides;
-      number_is = sym numbers;
-    }
-note_is links station (UpNote packet) side number entered channel is = absurd cc
-note_is links station note side number entered channel is = absurd cc
-
-enter_note : (links : Links) (event : Event) (side : Side) (number entered channel : ℕ) → entries_of links event ≡ Enter side number entered channel ∷ []
-    → IsEnterNote links event side number entered channel
-enter_note links (TurnBegan slot radios) side number entered channel is = absurd cc
-enter_note links (HostFed station octets) side number entered channel is = absurd cc
-enter_note links (Called station step) side number entered channel is = absurd cc
-enter_note links (Noted station note) side number entered channel is = note_is links station note side number entered channel is
-enter_note links (Transmitted station on octets []) side number entered channel is = absurd cc
-enter_note links (Transmitted station on octets (hearing ∷ hearings)) side number entered channel is = absurd cc
-
--- ---- its call
-
-record IsTurn (step : Step) : Type 0 where
-  slot : ℕ
-  on : Bool
-  is : step ≡ TurnBegins slot on
-
-turn_of : (step : Step) → begins_turn step ≡ true → IsTurn step
-turn_of (TurnBegins slot on) is = record { slot = slot; on = on; is = refl }
-turn_of (HostOctet octet) is = absurd cc
-turn_of (PacketHeard octets) is = absurd cc
-turn_of NothingHeard is = absurd cc
-turn_of TurnEnds is = absurd cc
-
-in_middle : (earlier later : List Note) (note : Note) → Contains (earlier ++ note ∷ later) note
-in_middle earlier later note = Contains-append_right earlier (note ∷ later) note (Contains-append_left (note ∷ []) later note (Contains-push [] note))
+-- ---- a line
 
 -- more lines count no fewer events
 one_more : (number : ℕ) (side : Side) (before : ℕ) (entry : Entry) → before ≤ entered_after number side before entry
@@ -217,8 +165,6 @@ count_more number station history more =
     subst (λ n. count_at number station history ≤ n)
     (sym (ap (fold count 0) (journal_more history more) ∙ fold-append count 0 (journal_of history) (journal_from (links_of history) more)))
     (entries_more number (side_of station) (count_at number station history) (journal_from (links_of history) more))
-
--- ---- a line
 
 -- the events before the line, up to the call that it comes from
 record IsEnteredInCall (given : Given) (front : List Entry) (side : Side) (number event channel : ℕ) : Type 0 where

@@ -1,5 +1,5 @@
 -- The order in which a side enters the events of a link (Core 5.2, volume 6 part B, section 4.5.1).
-use Rattle.std.specs.Prelude.{ℕ, ◌+◌, ◌==◌, ◌&&◌, List, fold, if◌then◌else◌}
+use Rattle.std.specs.Prelude.{◌≡◌, ℕ, ◌+◌, ◌==◌, ◌&&◌, List, ◌∷◌, ◌++◌, fold, if◌then◌else◌}
 use Rattle.ble_base.specs.declared.roles.Side.{Side}
 use Rattle.journal.specs.declared.entries.Entry.{Entry}
 use Rattle.journal.specs.declared.entries.Entry.TheVariants.{Enter}
@@ -14,3 +14,8 @@ entered_after number side count _ = count
 -- so this is also the number of the next one
 unfoldable pub entered_on : Side → ℕ → List Entry → ℕ
 entered_on side number front = fold (entered_after number side) 0 front
+
+-- each line of an event has the number of the next one
+abbrev pub AllAreInOrder : List Entry → Type 0
+AllAreInOrder journal = (front rest : List Entry) (side : Side) (number event channel : ℕ)
+    → journal ≡ front ++ Enter side number event channel ∷ rest → event ≡ entered_on side number front

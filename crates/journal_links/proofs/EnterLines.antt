@@ -47,17 +47,19 @@ use Rattle.journal_links.proofs.Numbered.{IsLinkOf, link_of_number}
 
 -- ---- the note of a line
 
-record IsEnterNote (links : Links) (event : Event) (number entered channel : ℕ) : Type 0 where
+pub record IsEnterNote (links : Links) (event : Event) (side : Side) (number entered channel : ℕ) : Type 0 where
   pub station : ℕ
   pub handle : ℕ
   pub is : event ≡ Noted station (EnterNote handle (record { 0 = entered }) channel)
+  pub side_is : side ≡ side_of station
   pub number_is : number ≡ links.link_of station handle
 
 note_is : (links : Links) (station : ℕ) (note : Note) (side : Side) (number entered channel : ℕ)
     → entry_of (side_of station) (links.link_of station) (links.last_of station) note ∷ [] ≡ Enter side number entered channel ∷ []
-    → IsEnterNote links (Noted station note) number entered channel
+    → IsEnterNote links (Noted station note) side number entered channel
 note_is links station (EnterNote handle event on) side number entered channel is =
     let same : Enter (side_of station) (links.link_of station handle) event.0 on ≡ Enter side number entered channel = cc in
+    let sides : side_of station ≡ side = cc in
     let numbers : links.link_of station handle ≡ number = cc in
     let events : event.0 ≡ entered = cc in
     let channels : on ≡ channel = cc in record {
@@ -65,13 +67,14 @@ note_is links station (EnterNote handle event on) side number entered channel is
       handle = handle;
       is = ap (λ n. Noted station (EnterNote handle (record { 0 = n }) on)) events
           ∙ ap (λ n. Noted station (EnterNote handle (record { 0 = entered }) n)) channels;
+      side_is = sym sides;
       number_is = sym numbers;
     }
 note_is links station (UpNote packet) side number entered channel is = absurd cc
 note_is links station note side number entered channel is = absurd cc
 
-enter_note : (links : Links) (event : Event) (side : Side) (number entered channel : ℕ) → entries_of links event ≡ Enter side number entered channel ∷ []
-    → IsEnterNote links event number entered channel
+pub enter_note : (links : Links) (event : Event) (side : Side) (number entered channel : ℕ) → entries_of links event ≡ Enter side number entered channel ∷ []
+    → IsEnterNote links event side number entered channel
 enter_note links (TurnBegan slot radios) side number entered channel is = absurd cc
 enter_note links (HostFed station octets) side number entered channel is = absurd cc
 enter_note links (Called station step) side number entered channel is = absurd cc
@@ -81,15 +84,15 @@ enter_note links (Transmitted station on octets (hearing ∷ hearings)) side num
 
 -- ---- its call
 
-in_middle : (earlier later : List Note) (note : Note) → Contains (earlier ++ note ∷ later) note
+pub in_middle : (earlier later : List Note) (note : Note) → Contains (earlier ++ note ∷ later) note
 in_middle earlier later note = Contains-append_right earlier (note ∷ later) note (Contains-append_left (note ∷ []) later note (Contains-push [] note))
 
-record IsTurn (step : Step) : Type 0 where
+pub record IsTurn (step : Step) : Type 0 where
   pub slot : ℕ
   pub on : Bool
   pub is : step ≡ TurnBegins slot on
 
-turn_of : (step : Step) → begins_turn step ≡ true → IsTurn step
+pub turn_of : (step : Step) → begins_turn step ≡ true → IsTurn step
 turn_of (TurnBegins slot on) is = record { slot = slot; on = on; is = refl }
 turn_of (HostOctet octet) is = absurd cc
 turn_of (PacketHeard octets) is = absurd cc

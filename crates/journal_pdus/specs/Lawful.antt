@@ -10,7 +10,7 @@ use Rattle.journal_links.specs.Entered.{IsEnteredInTime}
 use Rattle.journal_links.specs.Opened.{IsOpenedInTime}
 use Rattle.journal_links.specs.Procedures.{NoneNamesAProcedure}
 use Rattle.journal_packets.specs.Addresses.{AllAddressesAreNext}
-use Rattle.journal_acks.specs.EventOrder.{entered_on}
+use Rattle.journal_acks.specs.EventOrder.{AllAreInOrder}
 use Rattle.journal_acks.specs.Shut.{IsShutWithReason}
 use Rattle.journal_data.specs.Delivered.{AllDataArrives}
 use Rattle.journal_data.specs.Held.{LinesAreOfOpenLinks}
@@ -28,11 +28,6 @@ AllAreOpened journal = (front rest : List Entry) (side : Side) (number handle : 
 abbrev pub AllAreEntered : List Entry → Type 0
 AllAreEntered journal = (front rest : List Entry) (side : Side) (number event channel : ℕ)
     → journal ≡ front ++ Enter side number event channel ∷ rest → IsEnteredInTime front number event channel
-
--- each side enters the events 0, 1, 2, .. of a link one after another, each once
-abbrev pub AllAreInOrder : List Entry → Type 0
-AllAreInOrder journal = (front rest : List Entry) (side : Side) (number event channel : ℕ)
-    → journal ≡ front ++ Enter side number event channel ∷ rest → event ≡ entered_on side number front
 
 -- each link that is shut has its reason
 abbrev pub AllHaveReasons : List Entry → Type 0

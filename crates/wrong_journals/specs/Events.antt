@@ -1,5 +1,5 @@
 -- Journals of a link whose lines of links and events are not those of its CONNECT_IND.
-use Rattle.std.specs.Prelude.{List, [], ◌∷◌, ◌++◌}
+use Rattle.std.specs.Prelude.{ℕ, zero, suc, ◌+◌, List, [], ◌∷◌, ◌++◌}
 use Rattle.ble_base.specs.declared.procedure_kinds.Kind.TheVariants.{Version}
 use Rattle.ble_base.specs.declared.roles.Role.TheVariants.{Central}
 use Rattle.ble_base.specs.declared.roles.Side.TheVariants.{A, B}
@@ -38,3 +38,31 @@ procedure_begun = one_connection_journal ++ Began A 1 Version ∷ []
 -- an indication takes effect
 abbrev pub indication_applied : List Entry
 indication_applied = one_connection_journal ++ Applied A 1 1 0 ∷ []
+
+-- ---- an order of events
+
+abbrev pub turns_before_first : List Entry
+turns_before_first = one_connection_journal ++ turn_entry 1 ∷ turn_entry 2 ∷ []
+
+-- this many turns, from the one in this slot on
+abbrev pub turn_entries : ℕ → ℕ → List Entry
+turn_entries slot zero = []
+turn_entries slot (suc count) = turn_entry slot ∷ turn_entries (slot + 1) count
+
+abbrev pub turns_before_second : List Entry
+turns_before_second = one_connection_journal ++ turn_entries 1 26
+
+-- a side enters event 0 twice
+abbrev pub entered_twice : List Entry
+entered_twice = turns_before_first ++ Enter A 1 0 25 ∷ Enter A 1 0 25 ∷ []
+
+-- a side enters event 1, in its turn and on its channel, and has not entered event 0
+abbrev pub left_out : List Entry
+left_out = turns_before_second ++ Enter A 1 1 20 ∷ []
+
+-- so it is where only the other side has entered event 0
+abbrev pub turns_of_other : List Entry
+turns_of_other = turns_before_first ++ Enter B 1 0 25 ∷ turn_entries 3 24
+
+abbrev pub entered_by_other : List Entry
+entered_by_other = turns_of_other ++ Enter A 1 1 20 ∷ []

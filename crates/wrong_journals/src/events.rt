@@ -1,10 +1,11 @@
-//! Lines of links and events that do not follow from a CONNECT_IND.
+//! Lines of links and events that do not follow from a CONNECT_IND, or do not come in their order.
+ghost use Rattle.journal_acks.specs.EventOrder.{AllAreInOrder};
 ghost use Rattle.journal_links.specs.Procedures.{NoneNamesAProcedure};
 ghost use Rattle.journal_pdus.specs.Lawful.{AllAreEntered, AllAreOpened};
-ghost use Rattle.wrong_journals.specs.Events.{entered_elsewhere, entered_late};
-ghost use Rattle.wrong_journals.specs.Events.{entered_misnumbered, indication_applied};
-ghost use Rattle.wrong_journals.specs.Events.{opened_from_nothing, opened_late};
-ghost use Rattle.wrong_journals.specs.Events.{procedure_begun, roles_exchanged};
+ghost use Rattle.wrong_journals.specs.Events.{entered_by_other, entered_elsewhere, entered_late};
+ghost use Rattle.wrong_journals.specs.Events.{entered_misnumbered, entered_twice, left_out};
+ghost use Rattle.wrong_journals.specs.Events.{indication_applied, opened_from_nothing};
+ghost use Rattle.wrong_journals.specs.Events.{opened_late, procedure_begun, roles_exchanged};
 
 /// A link is opened in the turn of its CONNECT_IND, by the side that sent it as the central; and an
 /// event is entered in the turn of its anchor and on its channel. No line is of a control procedure.
@@ -17,4 +18,11 @@ pub fn wrong_links_are_refused()
     ensures another_event { AllAreEntered entered_misnumbered → ⊥ }
     ensures procedure { NoneNamesAProcedure procedure_begun → ⊥ }
     ensures indication { NoneNamesAProcedure indication_applied → ⊥ }
+{}
+
+/// A side enters each event of a link once, and leaves none out, whatever the other side enters.
+pub fn wrong_orders_of_events_are_refused()
+    ensures twice { AllAreInOrder entered_twice → ⊥ }
+    ensures left { AllAreInOrder left_out → ⊥ }
+    ensures other { AllAreInOrder entered_by_other → ⊥ }
 {}

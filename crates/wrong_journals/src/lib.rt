@@ -7,7 +7,7 @@ mod exchanges;
 mod hosts;
 mod turns;
 
-pub use crate::events::wrong_links_are_refused;
+pub use crate::events::{wrong_links_are_refused, wrong_orders_of_events_are_refused};
 pub use crate::exchanges::{
     wrong_packets_are_refused, wrong_sending_is_refused, wrong_taking_is_refused,
     wrong_turns_of_exchanges_are_refused,
