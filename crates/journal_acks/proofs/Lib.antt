@@ -34,3 +34,4 @@ pub mod GoodCalls
 pub mod GoodPackets
 pub mod KeptGood
 pub mod ShutLines
+pub mod FeedCalls
