@@ -35,3 +35,4 @@ pub mod GoodPackets
 pub mod KeptGood
 pub mod ShutLines
 pub mod FeedCalls
+pub mod ResetLines
