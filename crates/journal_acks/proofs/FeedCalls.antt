@@ -1,9 +1,7 @@
 -- Each octet that a controller takes is one of the octets that its host sent last.
 use Rattle.std.proofs.Common.{◌≡◌, ℕ, ◌==◌, Bool, true, false, Option, Some, None, List, [], ◌∷◌, ◌++◌, refl, sym, ap, subst, ◌∙◌, append-nil, append_assoc}
 use Rattle.std.specs.Prelude.{⊤, map, take}
-use Rattle.std.specs.List.{AllByRecursion}
 use Rattle.std.proofs.lemmas.Bool.{eqb-true}
-use Rattle.ble_base.specs.declared.notes.Note.{Note}
 use Rattle.ble_base.specs.declared.roles.Side.{Side}
 use Rattle.journal.specs.declared.entries.Entry.{Entry}
 use Rattle.journal.specs.declared.entries.Entry.TheVariants.{Fed}
@@ -15,7 +13,7 @@ use Rattle.controller_model.proofs.Feds.{more_octets, turn_octets}
 use Rattle.run_model.specs.Due.{Each}
 use Rattle.run_model.specs.History.{Event, TurnBegan, HostFed, Called, Noted, Transmitted, fed_to, octets_in, packet_received, steps_in}
 use Rattle.run_model.specs.Journal.{journal_of, side_of}
-use Rattle.run_model.specs.Order.{AreNotes, side_of_note}
+use Rattle.run_model.specs.Order.{AreNotes}
 use Rattle.run_model.specs.Run.{Given, after_call, after_feed, after_octets, facts_at, hearings_of, history_of, octets_left, run_of, setup_at, step_of}
 use Rattle.run_model.proofs.Calls.{flat_nothing, same_station}
 use Rattle.run_model.proofs.Dues.{fed_called, fed_own}

@@ -1,13 +1,11 @@
 -- Each line of a link that is shut with 00 comes of a Reset.
-use Rattle.std.proofs.Common.{◌≡◌, ℕ, ◌+◌, ◌⊎◌, inl, inr, Some, List, [], ◌∷◌, ◌++◌, refl, sym, ap, subst, ◌∙◌, append_assoc, arith}
+use Rattle.std.proofs.Common.{◌≡◌, ℕ, ◌⊎◌, inl, inr, Some, List, [], ◌∷◌, ◌++◌, refl, sym, ap, subst, ◌∙◌, append_assoc, arith}
 use Rattle.std.specs.Prelude.{map}
 use Rattle.ble_base.specs.declared.error_codes.ErrCode.{ErrCode}
 use Rattle.ble_base.specs.declared.notes.Note.{Note}
 use Rattle.ble_base.specs.declared.notes.Note.TheVariants.{Up as UpNote}
 use Rattle.ble_base.specs.declared.roles.Side.{Side}
 use Rattle.hci_cmd.specs.declared.command.Command.TheVariants.{Reset}
-use Rattle.h4_frames.specs.declared.packet.HostPacket.TheVariants.{Command as HostCommand}
-use Rattle.h4_frames.specs.declared.packet.Fed.TheVariants.{Packet}
 use Rattle.journal.specs.declared.entries.Entry.{Entry}
 use Rattle.journal.specs.declared.entries.Entry.TheVariants.{Fed, Shut}
 use Rattle.controller_model.specs.Host.{commands_accepted_after}

@@ -11,7 +11,7 @@ use Rattle.ble_base.specs.declared.roles.Side.{Side}
 use Rattle.journal.specs.declared.entries.Entry.{Entry}
 use Rattle.journal.specs.declared.entries.Entry.TheVariants.{Shut}
 use Rattle.link_model.proofs.Received.{IsHeardWhole}
-use Rattle.open_links.specs.OpenLinks.{OpenLink, facts_in, link_at}
+use Rattle.open_links.specs.OpenLinks.{OpenLink, link_at}
 use Rattle.controller_model.specs.Shutting.{IsOverdue, IsShut, not_established, overdue, reset, timed_out}
 use Rattle.controller_model.specs.Side.{notes_after}
 use Rattle.controller_model.specs.Step.{Step, HostOctet, TurnBegins, PacketHeard, NothingHeard, TurnEnds}
@@ -19,7 +19,7 @@ use Rattle.controller_model.proofs.Shuts.{shuts_with_reason}
 use Rattle.run_model.specs.Due.{IsCallDue, IsDue}
 use Rattle.run_model.specs.Feeding.{AreDistinct}
 use Rattle.run_model.specs.History.{Event, TurnBegan, HostFed, Called, Noted, Transmitted, packet_received, past_of, turns_begun}
-use Rattle.run_model.specs.Journal.{entries_of, entry_of, journal_from, journal_of, side_of}
+use Rattle.run_model.specs.Journal.{entries_of, entry_of, journal_of, side_of}
 use Rattle.run_model.specs.LinkEnds.{HaveAddresses}
 use Rattle.run_model.specs.Links.{Links, links_of}
 use Rattle.run_model.specs.OnAir.{ends_phase}
@@ -42,7 +42,7 @@ use Rattle.journal_links.specs.Begun.{link_numbered}
 use Rattle.journal_links.proofs.LinksBegun.{number_stays}
 use Rattle.journal_packets.proofs.AccessOrder.{AreNth}
 use Rattle.journal_packets.proofs.SoFar.{IsBelongingSoFar}
-use Rattle.journal_acks.specs.Shut.{CompletesReset, HasTimedOut, IsNotEstablished, IsShutWithReason, last_heard}
+use Rattle.journal_acks.specs.Shut.{CompletesReset, IsShutWithReason, last_heard}
 use Rattle.journal_acks.proofs.Counting.{AreKnown, IsBegun}
 use Rattle.journal_acks.proofs.EachCall.{HaveCalls, OfCall, run_calls}
 use Rattle.journal_acks.proofs.Exchanging.{number_at}

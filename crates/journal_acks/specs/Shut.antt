@@ -1,6 +1,6 @@
 -- Why a link is shut, from the lines of a journal alone (Core 5.2, volume 6 part B, section 4.5.2, and volume 4 part E,
 -- section 7.3.2).
-use Rattle.std.specs.Prelude.{◌≡◌, ℕ, ◌+◌, ◌-◌, ◌*◌, ◌<◌, ◌==◌, ◌&&◌, ◌⊎◌, not, Bool, List, [], ◌∷◌, ◌++◌, length, Option, Some, None, if◌then◌else◌}
+use Rattle.std.specs.Prelude.{◌≡◌, ℕ, ◌+◌, ◌-◌, ◌*◌, ◌<◌, ◌&&◌, ◌⊎◌, not, Bool, List, [], ◌∷◌, ◌++◌, length, Option, Some, None, if◌then◌else◌}
 use Rattle.h4_frames.specs.declared.packet.HostPacket.TheVariants.{Command as HostCommand}
 use Rattle.h4_frames.specs.declared.packet.Fed.TheVariants.{Packet}
 use Rattle.ble_base.specs.Side.{other_side}
