@@ -1,5 +1,5 @@
 -- Each step of a run of a pair keeps when each open end received its last good packet, as its journal says.
-use Rattle.std.proofs.Common.{◌≡◌, ℕ, ◌+◌, Bool, false, Some, None, List, [], ◌∷◌, ◌++◌, replicate, refl, sym, ap, ◌∙◌}
+use Rattle.std.proofs.Common.{◌≡◌, ℕ, Bool, false, Some, None, List, [], ◌∷◌, ◌++◌, replicate, refl, sym, ap, ◌∙◌}
 use Rattle.std.specs.Prelude.{map, take}
 use Rattle.link_model.proofs.Received.{IsHeardWhole}
 use Rattle.open_links.specs.OpenLinks.{OpenLink, link_at}

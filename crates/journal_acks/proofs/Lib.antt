@@ -37,3 +37,5 @@ pub mod GoodCalls
 pub mod GoodPackets
 pub mod KeptGood
 pub mod ShutLines
+pub mod FeedCalls
+pub mod ResetLines

@@ -11,7 +11,7 @@ use Rattle.ble_base.specs.declared.roles.Side.{Side}
 use Rattle.journal.specs.declared.entries.Entry.{Entry}
 use Rattle.journal.specs.declared.entries.Entry.TheVariants.{Shut}
 use Rattle.link_model.proofs.Received.{IsHeardWhole}
-use Rattle.open_links.specs.OpenLinks.{OpenLink, facts_in, link_at}
+use Rattle.open_links.specs.OpenLinks.{OpenLink, link_at}
 use Rattle.controller_model.specs.Shutting.{IsOverdue, IsShut, not_established, overdue, reset, timed_out}
 use Rattle.controller_model.specs.Side.{notes_after}
 use Rattle.controller_model.specs.Step.{Step, HostOctet, TurnBegins, PacketHeard, NothingHeard, TurnEnds}
@@ -19,7 +19,7 @@ use Rattle.controller_model.proofs.Shuts.{shuts_with_reason}
 use Rattle.run_model.specs.Due.{IsCallDue, IsDue}
 use Rattle.run_model.specs.Feeding.{AreDistinct}
 use Rattle.run_model.specs.History.{Event, TurnBegan, HostFed, Called, Noted, Transmitted, packet_received, past_of, turns_begun}
-use Rattle.run_model.specs.Journal.{entries_of, entry_of, journal_from, journal_of, side_of}
+use Rattle.run_model.specs.Journal.{entries_of, entry_of, journal_of, side_of}
 use Rattle.run_model.specs.LinkEnds.{HaveAddresses}
 use Rattle.run_model.specs.Links.{Links, links_of}
 use Rattle.run_model.specs.OnAir.{ends_phase}
@@ -42,7 +42,7 @@ use Rattle.journal_links.specs.Begun.{link_numbered}
 use Rattle.journal_links.proofs.LinksBegun.{number_stays}
 use Rattle.journal_packets.proofs.AccessOrder.{AreNth}
 use Rattle.journal_packets.proofs.SoFar.{IsBelongingSoFar}
-use Rattle.journal_acks.specs.Shut.{HasTimedOut, IsNotEstablished, IsShutWithReason, last_heard}
+use Rattle.journal_acks.specs.Shut.{CompletesReset, IsShutWithReason, last_heard}
 use Rattle.journal_acks.proofs.Counting.{AreKnown, IsBegun}
 use Rattle.journal_acks.proofs.EachCall.{HaveCalls, OfCall, run_calls}
 use Rattle.journal_acks.proofs.Exchanging.{number_at}
@@ -91,21 +91,21 @@ shut_note links (Transmitted station on octets (hearing ∷ hearings)) side numb
 -- ---- its call
 
 -- the line comes after the entries of these events, and its note after these notes of the call
-record IsShutInCall (given : Given) (front : List Entry) (side : Side) (number : ℕ) (reason : ErrCode) : Type 0 where
-  station : ℕ
-  handle : ℕ
-  step : Step
-  base : List Event
-  earlier : List Note
-  later : List Note
-  after : List Event
-  called : history_of (run_of given) ≡ base ++ Called station step ∷ after
-  notes_are : notes_after (setup_at given station) (facts_at given station base) step ≡ earlier ++ ShutNote handle reason ∷ later
-  front_is : front ≡ journal_of (base ++ Called station step ∷ map (Noted station) earlier)
-  side_is : side_of station ≡ side
-  number_is : number_at station handle (base ++ Called station step ∷ map (Noted station) earlier) ≡ number
+pub record IsShutInCall (given : Given) (front : List Entry) (side : Side) (number : ℕ) (reason : ErrCode) : Type 0 where
+  pub station : ℕ
+  pub handle : ℕ
+  pub step : Step
+  pub base : List Event
+  pub earlier : List Note
+  pub later : List Note
+  pub after : List Event
+  pub called : history_of (run_of given) ≡ base ++ Called station step ∷ after
+  pub notes_are : notes_after (setup_at given station) (facts_at given station base) step ≡ earlier ++ ShutNote handle reason ∷ later
+  pub front_is : front ≡ journal_of (base ++ Called station step ∷ map (Noted station) earlier)
+  pub side_is : side_of station ≡ side
+  pub number_is : number_at station handle (base ++ Called station step ∷ map (Noted station) earlier) ≡ number
 
-shut_in_call : (given : Given) (front rest : List Entry) (side : Side) (number : ℕ) (reason : ErrCode)
+pub shut_in_call : (given : Given) (front rest : List Entry) (side : Side) (number : ℕ) (reason : ErrCode)
     → journal_of (history_of (run_of given)) ≡ front ++ Shut side number reason ∷ rest → IsShutInCall given front side number reason
 shut_in_call given front rest side number reason is =
     let history = history_of (run_of given) in
@@ -131,6 +131,14 @@ shut_in_call given front rest side number reason is =
 
 in_middle : (earlier later : List Note) (note : Note) → Contains (earlier ++ note ∷ later) note
 in_middle earlier later note = Contains-append_right earlier (note ∷ later) note (Contains-append_left (note ∷ []) later note (Contains-push [] note))
+
+-- why it is shut
+pub shut_in : (given : Given) (front : List Entry) (side : Side) (number : ℕ) (reason : ErrCode) (call : IsShutInCall given front side number reason)
+    → IsShut (facts_at given call.station call.base) call.step call.handle reason.0
+shut_in given front side number reason call =
+    let note = ShutNote call.handle reason in
+    (shuts_with_reason (setup_at given call.station) (past_of call.station call.base) call.step call.handle reason.0).0
+    (subst (λ xs. Contains xs note) (sym call.notes_are) (in_middle call.earlier call.later note))
 
 neither : (one other : Bool) → (one || other) ≡ false → one ≡ false
 neither true other is = absurd cc
@@ -220,6 +228,7 @@ module _ (given : Given) (station handle slot reason : ℕ) (on : Bool) (base : 
   overdue_reason : IsOverdue slot link reason → IsShutWithReason front (side_of station) number reason
   overdue_reason (not_established none passed code) = record {
     one_of = inr (inl code);
+    reset = λ is. absurd (let h : 0x3E ≡ 0x00 = sym code ∙ is in omega (arith, h));
     not_established = λ is. record {
       link = told.begun.link;
       is_link = is_numbered;
@@ -231,6 +240,7 @@ module _ (given : Given) (station handle slot reason : ℕ) (on : Bool) (base : 
   }
   overdue_reason (timed_out good some passed code) = record {
     one_of = inr (inr code);
+    reset = λ is. absurd (let h : 0x08 ≡ 0x00 = sym code ∙ is in omega (arith, h));
     not_established = λ is. absurd (let h : 0x3E ≡ 0x08 = sym is ∙ code in omega (arith, h));
     timed_out = λ is. record {
       link = told.begun.link;
@@ -246,7 +256,7 @@ module _ (given : Given) (station handle slot reason : ℕ) (on : Bool) (base : 
 
 module _ (whole : IsHeardWhole) (understood : IsUnderstood) (taken : AreTaken) (nth : AreNth) (apart : AreApart) (given : Given) (are_two : IsOfTwo given) (six : HaveAddresses given)
     (distinct : AreDistinct given.stations) (front rest : List Entry) (side : Side) (number : ℕ) (reason : ErrCode)
-    (is : journal_of (history_of (run_of given)) ≡ front ++ Shut side number reason ∷ rest) where
+    (is : journal_of (history_of (run_of given)) ≡ front ++ Shut side number reason ∷ rest) (resets : reason.0 ≡ 0x00 → CompletesReset front side) where
   call : IsShutInCall given front side number reason
   call = shut_in_call given front rest side number reason is
 
@@ -260,11 +270,6 @@ module _ (whole : IsHeardWhole) (understood : IsUnderstood) (taken : AreTaken) (
       each_at (OfCall given (AreTold given)) (history_of (run_of given)) call.base call.after (Called call.station call.step)
       (run_calls given (AreTold given) (AreGoodAt given Q) (good_kept whole given Q known are_two six distinct) (have_told given Q known) (good_first given)) call.called
 
-  is_shut : IsShut (facts_at given call.station call.base) call.step call.handle reason.0
-  is_shut =
-      let note = ShutNote call.handle reason in
-      (shuts_with_reason (setup_at given call.station) (past_of call.station call.base) call.step call.handle reason.0).0
-      (subst (λ xs. Contains xs note) (sym call.notes_are) (in_middle call.earlier call.later note))
 
   -- what holds after the call holds before the line
   to_line : ends_phase call.step ≡ false → IsSo (number_at call.station call.handle call.base) (journal_of (call.base ++ Called call.station call.step ∷ map (Noted call.station) call.earlier)) (side_of call.station)
@@ -286,9 +291,10 @@ module _ (whole : IsHeardWhole) (understood : IsUnderstood) (taken : AreTaken) (
       (overdue_reason given call.station call.handle slot reason.0 on call.base call.earlier link told due_then.slot_is due))
   reason_of (reset link completed is_open code) = record {
     one_of = inl code;
+    reset = resets;
     not_established = λ is. absurd (let h : 0x00 ≡ 0x3E = sym code ∙ is in omega (arith, h));
     timed_out = λ is. absurd (let h : 0x00 ≡ 0x08 = sym code ∙ is in omega (arith, h));
   }
 
   pub shut_line_has_reason : IsSo number front side
-  shut_line_has_reason = reason_of is_shut
+  shut_line_has_reason = reason_of (shut_in given front side number reason call)

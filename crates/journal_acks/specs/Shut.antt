@@ -1,13 +1,17 @@
 -- Why a link is shut, from the lines of a journal alone (Core 5.2, volume 6 part B, section 4.5.2, and volume 4 part E,
 -- section 7.3.2).
-use Rattle.std.specs.Prelude.{◌≡◌, ℕ, ◌+◌, ◌-◌, ◌*◌, ◌<◌, ◌==◌, ◌&&◌, ◌⊎◌, not, Bool, List, [], ◌∷◌, ◌++◌, length, Option, Some, None, if◌then◌else◌}
+use Rattle.std.specs.Prelude.{◌≡◌, ℕ, ◌+◌, ◌-◌, ◌*◌, ◌<◌, ◌&&◌, ◌⊎◌, not, Bool, List, [], ◌∷◌, ◌++◌, length, Option, Some, None, if◌then◌else◌}
+use Rattle.h4_frames.specs.declared.packet.HostPacket.TheVariants.{Command as HostCommand}
+use Rattle.h4_frames.specs.declared.packet.Fed.TheVariants.{Packet}
 use Rattle.ble_base.specs.Side.{other_side}
 use Rattle.ble_base.specs.declared.roles.Side.{Side}
 use Rattle.journal.specs.declared.entries.Entry.{Entry}
-use Rattle.journal.specs.declared.entries.Entry.TheVariants.{Air}
+use Rattle.journal.specs.declared.entries.Entry.TheVariants.{Air, Fed}
+use Rattle.controller_model.specs.Side.{result_of}
 use Rattle.run_model.specs.History.{is_good}
 use Rattle.run_model.specs.Links.{is_advertising}
-use Rattle.run_model.specs.Readers.{turns_of}
+use Rattle.run_model.specs.Order.{AreNotes}
+use Rattle.run_model.specs.Readers.{fed_to_side, turns_of}
 use Rattle.journal_links.specs.Begun.{LinkBegun, link_numbered}
 use Rattle.journal_packets.specs.Belonging.{is_side, link_of_packet}
 use Rattle.journal_acks.specs.Exchange.{is_number}
@@ -37,6 +41,20 @@ last_heard number side journal = heard_from number side [] None journal
 
 -- ---- the reasons
 
+-- an octet of the last line of the host of a side, which is in this turn, completes an HCI_Reset after all that the host
+-- sent before: the command 0C03, with no parameters
+pub record CompletesReset (front : List Entry) (side : Side) : Type 0 where
+  pub before : List Entry
+  pub octets : List ℕ
+  pub notes : List Entry
+  pub front_is : front ≡ before ++ Fed side octets ∷ notes
+  pub are_notes : AreNotes side notes
+  pub first : List ℕ
+  pub last : ℕ
+  pub more : List ℕ
+  pub octets_are : octets ≡ first ++ last ∷ more
+  pub completes : result_of (fed_to_side side before ++ first) last ≡ Packet (HostCommand 0x0C03 (record { items = [] }))
+
 -- a side judged no packet of the other side on this link good, and this turn is six intervals or more after that of its
 -- CONNECT_IND
 pub record IsNotEstablished (front : List Entry) (side : Side) (number : ℕ) : Type 0 where
@@ -53,8 +71,9 @@ pub record HasTimedOut (front : List Entry) (side : Side) (number : ℕ) : Type 
   pub heard : last_heard number side front ≡ Some slot
   pub passed : slot + 8 * link.fields.timeout < length (turns_of front)
 
--- a line that comes after these entries says that a side shuts this link for this reason: there is one
+-- a line that comes after these entries says that a side shuts this link with this code, for one of three reasons
 pub record IsShutWithReason (front : List Entry) (side : Side) (number reason : ℕ) : Type 0 where
   pub one_of : (reason ≡ 0x00) ⊎ ((reason ≡ 0x3E) ⊎ (reason ≡ 0x08))
+  pub reset : reason ≡ 0x00 → CompletesReset front side
   pub not_established : reason ≡ 0x3E → IsNotEstablished front side number
   pub timed_out : reason ≡ 0x08 → HasTimedOut front side number

@@ -1,0 +1,101 @@
+-- Each line of a link that is shut with 00 comes of a Reset.
+use Rattle.std.proofs.Common.{◌≡◌, ℕ, ◌⊎◌, inl, inr, Some, List, [], ◌∷◌, ◌++◌, refl, sym, ap, subst, ◌∙◌, append_assoc, arith}
+use Rattle.std.specs.Prelude.{map}
+use Rattle.ble_base.specs.declared.error_codes.ErrCode.{ErrCode}
+use Rattle.ble_base.specs.declared.notes.Note.{Note}
+use Rattle.ble_base.specs.declared.notes.Note.TheVariants.{Up as UpNote}
+use Rattle.ble_base.specs.declared.roles.Side.{Side}
+use Rattle.hci_cmd.specs.declared.command.Command.TheVariants.{Reset}
+use Rattle.journal.specs.declared.entries.Entry.{Entry}
+use Rattle.journal.specs.declared.entries.Entry.TheVariants.{Fed, Shut}
+use Rattle.controller_model.specs.Host.{commands_accepted_after}
+use Rattle.controller_model.specs.Shutting.{IsOverdue, IsShut, not_established, overdue, reset, timed_out}
+use Rattle.controller_model.specs.Side.{result_of}
+use Rattle.controller_model.specs.Step.{Step, HostOctet, TurnBegins, PacketHeard, NothingHeard, TurnEnds}
+use Rattle.controller_model.proofs.Resets.{resets}
+use Rattle.open_links.specs.OpenLinks.{OpenLink}
+use Rattle.radio_replay.specs.Script.{Script}
+use Rattle.run_model.specs.History.{Event, Called, Noted, fed_to, past_of}
+use Rattle.run_model.specs.Journal.{entry_of, journal_from, journal_of, side_of}
+use Rattle.run_model.specs.Links.{Links, links_after, links_of}
+use Rattle.run_model.specs.Order.{AreNotes, side_of_note}
+use Rattle.run_model.specs.Pair.{given_of}
+use Rattle.run_model.specs.Readers.{fed_to_side, station_of}
+use Rattle.run_model.specs.Run.{Given, facts_at, history_of, run_of, setup_at}
+use Rattle.run_model.proofs.Journals.{pair_fed, two}
+use Rattle.run_model.proofs.OfStations.{OfStations, run_of_stations}
+use Rattle.run_model.proofs.Parts.{journal_more}
+use Rattle.run_model.proofs.Places.{each_at}
+use Rattle.journal_acks.specs.Shut.{CompletesReset}
+use Rattle.journal_acks.proofs.FeedCalls.{IsFedNow, OfFeed, both_notes, run_feeds}
+use Rattle.journal_acks.proofs.ShutLines.{IsShutInCall, shut_in, shut_in_call}
+
+note_side : (side : Side) (link_of : ℕ → ℕ) (last : ℕ) (note : Note) → side_of_note (entry_of side link_of last note) ≡ Some side
+note_side side link_of last (UpNote packet) = refl
+note_side side link_of last note = refl
+
+notes_noted : (links : Links) (station : ℕ) (notes : List Note) → AreNotes (side_of station) (journal_from links (map (Noted station) notes))
+notes_noted links station [] = tt
+notes_noted links station (note ∷ notes) =
+    (note_side (side_of station) (links.link_of station) (links.last_of station) note, notes_noted (links_after links (Noted station note)) station notes)
+
+module _ (a b : List ℕ) (script : Script) where
+  abbrev given : Given
+  given = given_of a b script
+
+  own_station : (station : ℕ) → (station ≡ 0) ⊎ (station ≡ 1) → station_of (side_of station) ≡ station
+  own_station station (inl is) = subst (λ n. station_of (side_of n) ≡ n) (sym is) refl
+  own_station station (inr is) = subst (λ n. station_of (side_of n) ≡ n) (sym is) refl
+
+  completed : (base after : List Event) (station octet : ℕ) (earlier : List Note) → history_of (run_of given) ≡ base ++ Called station (HostOctet octet) ∷ after
+      → commands_accepted_after (facts_at given station base) (HostOctet octet) ≡ Reset ∷ []
+      → CompletesReset (journal_of (base ++ Called station (HostOctet octet) ∷ map (Noted station) earlier)) (side_of station)
+  completed base after station octet earlier at accepted =
+      let history = history_of (run_of given) in
+      let called = Called station (HostOctet octet) in
+      let fed : IsFedNow given base station octet = each_at (OfFeed given) history base after called (run_feeds given) at in
+      let in_it = each_at (OfStations given) history base after called (run_of_stations given) at in
+      let added = journal_from (links_of base) (called ∷ map (Noted station) earlier) in
+      let from_start : history ≡ fed.start ++ (fed.later ++ called ∷ after) = at ∙ ap (λ xs. xs ++ called ∷ after) fed.is_front ∙ append_assoc fed.start fed.later (called ∷ after) in
+      let same : fed_to_side (side_of station) (journal_of fed.start) ≡ fed_to station fed.start =
+      pair_fed a b script fed.start (fed.later ++ called ∷ after) (side_of station) from_start ∙ ap (λ n. fed_to n fed.start) (own_station station (two station in_it)) in record {
+        before = journal_of fed.start;
+        octets = fed.octets;
+        notes = fed.entries ++ added;
+        front_is = journal_more base (called ∷ map (Noted station) earlier) ∙ ap (λ xs. xs ++ added) fed.journal_is
+            ∙ append_assoc (journal_of fed.start) (Fed (side_of station) fed.octets ∷ fed.entries) added;
+        are_notes = both_notes (side_of station) fed.entries added fed.are_notes (notes_noted (links_of base) station earlier);
+        first = fed.first;
+        last = octet;
+        more = fed.more;
+        octets_are = fed.octets_are;
+        completes = ap (λ xs. result_of xs octet) (ap (λ xs. xs ++ fed.first) same ∙ sym fed.held)
+            ∙ (resets (setup_at given station) (past_of station base) octet).0 accepted;
+      }
+
+  by_step : (base after : List Event) (station : ℕ) (step : Step) (earlier : List Note) → history_of (run_of given) ≡ base ++ Called station step ∷ after
+      → commands_accepted_after (facts_at given station base) step ≡ Reset ∷ []
+      → CompletesReset (journal_of (base ++ Called station step ∷ map (Noted station) earlier)) (side_of station)
+  by_step base after station (HostOctet octet) earlier at accepted = completed base after station octet earlier at accepted
+  by_step base after station (TurnBegins slot on) earlier at accepted = absurd cc
+  by_step base after station (PacketHeard octets) earlier at accepted = absurd cc
+  by_step base after station NothingHeard earlier at accepted = absurd cc
+  by_step base after station TurnEnds earlier at accepted = absurd cc
+
+  not_zero : (slot : ℕ) (link : OpenLink) (reason : ℕ) (X : Type 0) → IsOverdue slot link reason → reason ≡ 0x00 → X
+  not_zero slot link reason X (not_established none passed code) is = absurd (let h : 0x3E ≡ 0x00 = sym code ∙ is in omega (arith, h))
+  not_zero slot link reason X (timed_out good some passed code) is = absurd (let h : 0x08 ≡ 0x00 = sym code ∙ is in omega (arith, h))
+
+  by_reason : (front : List Entry) (side : Side) (number : ℕ) (reason : ErrCode) (call : IsShutInCall given front side number reason)
+      → IsShut (facts_at given call.station call.base) call.step call.handle reason.0 → reason.0 ≡ 0x00 → CompletesReset front side
+  by_reason front side number reason call (overdue slot on link begins is_open due) is = not_zero slot link reason.0 _ due is
+  by_reason front side number reason call (reset link accepted is_open code) is =
+      subst (λ xs. CompletesReset xs side) (sym call.front_is)
+      (subst (CompletesReset (journal_of (call.base ++ Called call.station call.step ∷ map (Noted call.station) call.earlier))) call.side_is
+      (by_step call.base call.after call.station call.step call.earlier call.called accepted))
+
+  pub reset_completed : (front rest : List Entry) (side : Side) (number : ℕ) (reason : ErrCode) → journal_of (history_of (run_of given)) ≡ front ++ Shut side number reason ∷ rest
+      → reason.0 ≡ 0x00 → CompletesReset front side
+  reset_completed front rest side number reason is =
+      let call = shut_in_call given front rest side number reason is in
+      by_reason front side number reason call (shut_in given front side number reason call)
