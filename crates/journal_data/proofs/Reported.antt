@@ -125,7 +125,6 @@ each_one most = record {
   received = λ piece is. absurd (let h : false ≡ true = is in absurd cc);
   opened = λ link below. tt;
   shut = λ handle reason below. tt;
-  applied = λ handle number event below. tt;
   entered = λ handle event channel below. tt;
   sent = λ handle number llid octets below. tt;
   took = λ handle number llid octets below. tt;
