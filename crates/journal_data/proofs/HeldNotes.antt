@@ -1,24 +1,23 @@
 -- Before each note of a call, the links that the lines of its station have open are those that are open by the notes so
 -- far: a line that names a link is of an open link, and a link is opened under a handle that none has.
-use Rattle.journal_data.proofs.Reported.{IsOfOneHandle, step_one, HasItsLength, step_lengths}
-use Rattle.controller_model.proofs.OpenNotes.{open_after, open_before}
-use Rattle.controller_model.specs.Since.{is_data_note}
-use Rattle.host_view.specs.Noted.{acl_handle, is_acl_data, two_octets}
-use Rattle.std.proofs.lemmas.List.Elements.{All-contains_itself, recursion_from_All}
-use Rattle.std.proofs.Common.{◌≡◌, ℕ, ◌<◌, ◌≤◌, ◌==◌, Bool, true, false, Some, None, List, [], ◌∷◌, ◌++◌, map, cond, refl, ap, sym, subst, ◌∙◌, append-nil, append_assoc, arith, Option}
 use Rattle.std.specs.Prelude.{◌||◌, fold, is_some, ⊤}
 use Rattle.std.specs.List.{AllByRecursion, sum_by, Contains}
+use Rattle.std.proofs.Common.{◌≡◌, ℕ, ◌<◌, ◌≤◌, ◌==◌, Bool, true, false, Some, None, List, [], ◌∷◌, ◌++◌, map, cond, refl, ap, sym, subst, ◌∙◌, append-nil, append_assoc, arith, Option}
+use Rattle.std.proofs.lemmas.List.Elements.{All-contains_itself, recursion_from_All}
 use Rattle.std.proofs.lemmas.List.Sums.{sum_by-cons}
 use Rattle.std.proofs.lemmas.Bool.{eq-eqb, eqb-true}
 use Rattle.ble_base.specs.declared.addresses.Address.{Address}
 use Rattle.ble_base.specs.declared.notes.Note.{Note}
 use Rattle.ble_base.specs.declared.notes.Note.TheVariants.{Up, Opened, Shut, Sent, Took, Enter}
 use Rattle.ble_base.specs.declared.roles.Role.{Role}
+use Rattle.host_view.specs.Noted.{acl_handle, is_acl_data, two_octets}
 use Rattle.open_links.specs.OpenLinks.{IsLeastFree}
+use Rattle.controller_model.specs.Since.{is_data_note}
 use Rattle.controller_model.specs.Facts.{Facts}
 use Rattle.controller_model.specs.Notes.{HasHandleBelow, is_opening, is_event}
 use Rattle.controller_model.specs.Side.{facts_after, notes_after}
 use Rattle.controller_model.specs.Step.{Step}
+use Rattle.controller_model.proofs.OpenNotes.{open_after, open_before}
 use Rattle.run_model.specs.Due.{Each}
 use Rattle.run_model.specs.History.{Event, TurnBegan, HostFed, Called, Noted, Transmitted, past_of}
 use Rattle.run_model.specs.Journal.{side_of}
@@ -30,6 +29,7 @@ use Rattle.journal_acks.proofs.Exchanging.{number_at}
 use Rattle.journal_data.specs.Held.{IsNextOpened, is_open_link, IsOfOneLink, IsDataOfLink}
 use Rattle.journal_data.specs.HostLines.{OpenUnder, link_under}
 use Rattle.journal_data.specs.Lines.{Lines}
+use Rattle.journal_data.proofs.Reported.{NamesOneHandle, step_one, HasItsLength, step_lengths}
 use Rattle.journal_data.proofs.EachLine.{call_lines, lines_at, note_lines, numbers_at}
 use Rattle.journal_data.proofs.HeldLinks.{HoldsLinks, nothing_in, opened_holds, under_is}
 use Rattle.journal_data.proofs.LeastHandles.{OpenLeast}
@@ -308,12 +308,12 @@ module _ (given : Given) (station : ℕ) (step : Step) (history : List Event) (f
       let past = past_of station history in
       let mid = with_noted station called earlier in
       let inside = middle (Contains notes) earlier note later (subst (λ (all : List Note). AllByRecursion (Contains notes) all) are (each_of notes)) in
-      let one = middle IsOfOneHandle earlier note later (subst (AllByRecursion IsOfOneHandle) are (step_one setup past step)) in
+      let one = middle NamesOneHandle earlier note later (subst (AllByRecursion NamesOneHandle) are (step_one setup past step)) in
       let its_length = middle HasItsLength earlier note later (subst (AllByRecursion HasItsLength) are (step_lengths setup past step)) in
       let under = λ (handle : ℕ) (of : is_data_note handle note ≡ true).
       ap (λ (place : Option ℕ). is_some place)
       (stays_under earlier (note ∷ later) are handle (open_before setup past step note handle few inside of) (open_after setup past step note handle few inside of)) in (
-        (λ acl. record { is_open = under (acl_handle packet.items) (received_data packet acl); length_is = its_length acl }),
+        (λ acl. record { is_open = under (acl_handle packet.items) (received_data packet acl); whole = its_length acl }),
         (λ event. record { one_handle = one event; is_open = under (two_octets 4 packet.items) (completed_data packet event) }),
       )
   note_is earlier later note are = tt

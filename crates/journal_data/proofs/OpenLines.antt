@@ -1,8 +1,8 @@
 -- In a call, what is open by the notes before each of them: a note that names a link is of one that is open there, and a
 -- link is opened under a free handle.
-use Rattle.std.proofs.Common.{◌≡◌, ℕ, ◌==◌, Bool, true, false, Option, List, [], ◌∷◌, ◌++◌, cond, refl, ap, sym, subst, ◌∙◌}
 use Rattle.std.specs.Prelude.{fold, is_some, ⊤}
 use Rattle.std.specs.List.{AllByRecursion, Contains}
+use Rattle.std.proofs.Common.{◌≡◌, ℕ, ◌==◌, Bool, true, false, Option, List, [], ◌∷◌, ◌++◌, cond, refl, ap, sym, subst, ◌∙◌}
 use Rattle.std.proofs.lemmas.Bool.{eq-eqb}
 use Rattle.std.proofs.lemmas.List.Sums.{fold-append}
 use Rattle.ble_base.specs.declared.addresses.Address.{Address}
