@@ -1,6 +1,6 @@
 -- In a turn a link is opened under the least handle that no open link has.
-use Rattle.std.specs.Prelude.{◌&&◌, ⊤}
 use Rattle.std.proofs.Common.{◌≡◌, ℕ, Bool, true, false, Option, Some, None, List, [], ◌∷◌, refl, ap, subst}
+use Rattle.std.specs.Prelude.{◌&&◌, ⊤}
 use Rattle.adv_pdu.specs.declared.pdu.AdvPdu.{AdvPdu}
 use Rattle.ble_base.specs.declared.addresses.Address.{Address}
 use Rattle.ble_base.specs.declared.notes.Note.{Note}

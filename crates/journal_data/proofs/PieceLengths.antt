@@ -1,8 +1,8 @@
 -- What a host receives of data is the payload of a PDU, so its length fits into the length of an ACL packet.
+use Rattle.std.proofs.Common.{◌≡◌, ℕ, ◌≤◌, ◌%◌, ◌==◌, Bool, true, false, Option, Some, None, List, [], ◌∷◌, ◌++◌, length, cond, refl, ◌∙◌, arith, ◌*◌, ◌/◌, ◌+◌}
 use Rattle.std.specs.Prelude.{IfSome, not, take, if◌then◌else◌}
 use Rattle.std.specs.List.{AllByRecursion}
 use Rattle.std.specs.Str.{bytes_eq}
-use Rattle.std.proofs.Common.{◌≡◌, ℕ, ◌≤◌, ◌%◌, ◌==◌, Bool, true, false, Option, Some, None, List, [], ◌∷◌, ◌++◌, length, cond, refl, ◌∙◌, arith, ◌*◌, ◌/◌, ◌+◌}
 use Rattle.std.proofs.lemmas.Bool.{and_parts}
 use Rattle.std.proofs.lemmas.List.{length-drop}
 use Rattle.acl_banks.specs.declared.pieces.Piece.{Piece}

@@ -1,8 +1,8 @@
 -- What a controller reports of data and of complete packets, in any step: the length of an ACL packet is that of its data,
 -- and a Number Of Completed Packets event is of one handle.
+use Rattle.std.proofs.Common.{◌≡◌, ℕ, ◌==◌, Bool, true, false, List, [], ◌∷◌, ◌++◌, refl, sym, ◌∙◌, length, ◌+◌}
 use Rattle.std.specs.Prelude.{filter, map, ⊤}
 use Rattle.std.specs.List.{AllByRecursion}
-use Rattle.std.proofs.Common.{◌≡◌, ℕ, ◌==◌, Bool, true, false, List, [], ◌∷◌, ◌++◌, refl, sym, ◌∙◌, length, ◌+◌}
 use Rattle.std.proofs.lemmas.Bool.{or_parts}
 use Rattle.std.proofs.lemmas.List.Elements.{recursion_from_All}
 use Rattle.acl_banks.specs.declared.pieces.Piece.{Piece}
