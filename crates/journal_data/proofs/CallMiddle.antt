@@ -18,6 +18,7 @@ use Rattle.journal_data.specs.HostLines.{Submitted, link_under}
 use Rattle.journal_data.specs.Lines.{Lines, Received, data_received, line_after, pdus_on, received_on, submitted_on}
 use Rattle.journal_data.proofs.Arriving.{Grows}
 use Rattle.journal_data.proofs.EachLine.{call_leaves, lines_at}
+use Rattle.journal_data.proofs.Fronts.{front_all}
 use Rattle.journal_data.proofs.Middle.{IsBetween}
 use Rattle.journal_data.proofs.Openness.{AreNot, is_report, turn_kinds}
 use Rattle.journal_data.proofs.LinesGrow.{GrowsOn, IsLonger, lines_grow}
@@ -60,8 +61,7 @@ front_called station step notes (event ∷ mid) rest is =
     noted parts.front parts.back (λ i. sym first i ∷ parts.mid_is i) parts.notes_are
 
 front_not : (kind : Note → Bool) (front back : List Note) → AreNot kind (front ++ back) → AreNot kind front
-front_not kind [] back none = tt
-front_not kind (note ∷ front) back none = (none.0, front_not kind front back none.1)
+front_not kind front back none = front_all (λ note. kind note ≡ false) front back none
 
 -- ---- the PDUs that are taken, and the data that is received
 

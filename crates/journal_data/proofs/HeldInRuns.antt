@@ -1,6 +1,4 @@
 -- In each journal of a run of a pair, each line of a link is of one that is open at its side.
-use Rattle.controller_model.specs.Notes.{is_event}
-use Rattle.host_view.specs.Noted.{is_acl_data}
 use Rattle.std.proofs.Common.{◌≡◌, ℕ, suc, if◌then◌else◌, ◌==◌, Bool, true, false, Option, Some, None, List, [], ◌∷◌, ◌++◌, length, map, cond, refl, sym, subst, ◌∙◌, ap}
 use Rattle.std.specs.Prelude.{◌||◌, take, ⊤}
 use Rattle.std.specs.List.{find, list_any}
@@ -8,9 +6,11 @@ use Rattle.std.specs.Option.{option_map}
 use Rattle.std.proofs.lemmas.Bool.{eq-eqb}
 use Rattle.ble_base.specs.declared.notes.Note.{Note}
 use Rattle.ble_base.specs.declared.notes.Note.TheVariants.{Up as UpNote, Opened as OpenedNote, Shut as ShutNote, Sent as SentNote, Took as TookNote, Enter as EnterNote}
+use Rattle.host_view.specs.Noted.{is_acl_data}
 use Rattle.journal.specs.declared.entries.Entry.{Entry}
 use Rattle.journal.specs.declared.entries.Entry.TheVariants.{Turn, Fed, Air, Up, Enter, Opened, Shut, Sent, Took}
 use Rattle.link_model.proofs.Received.{IsHeardWhole}
+use Rattle.controller_model.specs.Notes.{is_event}
 use Rattle.controller_model.specs.Side.{notes_after}
 use Rattle.controller_model.specs.Step.{Step, HostOctet, TurnBegins, TurnEnds}
 use Rattle.radio_replay.specs.Script.{Script}
@@ -22,9 +22,9 @@ use Rattle.run_model.specs.LinkEnds.{HaveAddresses}
 use Rattle.run_model.specs.Links.{links_of}
 use Rattle.run_model.specs.Pair.{given_of}
 use Rattle.run_model.specs.Run.{Given, after_call, after_feed, after_octets, facts_at, hearings_of, history_of, octets_left, run_of, setup_at, step_of}
+use Rattle.run_model.specs.OnAir.{ends_phase}
 use Rattle.run_model.proofs.EntryEvents.{is_of_event}
 use Rattle.run_model.proofs.LinkEnds.{AreTaken, IsUnderstood, pair_addresses}
-use Rattle.run_model.specs.OnAir.{ends_phase}
 use Rattle.run_model.proofs.OpenedNotes.{is_opened, outside_open}
 use Rattle.run_model.proofs.Ordered.{pair_distinct}
 use Rattle.run_model.proofs.Places.{each_append, each_at, each_event}

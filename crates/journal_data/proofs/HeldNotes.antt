@@ -1,24 +1,23 @@
 -- Before each note of a call, the links that the lines of its station have open are those that are open by the notes so
 -- far: a line that names a link is of an open link, and a link is opened under a handle that none has.
-use Rattle.journal_data.proofs.Reported.{IsOfOneHandle, step_one, HasItsLength, step_lengths}
-use Rattle.controller_model.proofs.OpenNotes.{open_after, open_before}
-use Rattle.controller_model.specs.Since.{is_data_note}
-use Rattle.host_view.specs.Noted.{acl_handle, is_acl_data, two_octets}
-use Rattle.std.proofs.lemmas.List.Elements.{All-contains_itself, recursion_from_All}
 use Rattle.std.proofs.Common.{◌≡◌, ℕ, ◌<◌, ◌≤◌, ◌==◌, Bool, true, false, Some, None, List, [], ◌∷◌, ◌++◌, map, cond, refl, ap, sym, subst, ◌∙◌, append-nil, append_assoc, arith, Option}
 use Rattle.std.specs.Prelude.{◌||◌, fold, is_some, ⊤}
 use Rattle.std.specs.List.{AllByRecursion, sum_by, Contains}
+use Rattle.std.proofs.lemmas.List.Elements.{All-contains_itself, recursion_from_All}
 use Rattle.std.proofs.lemmas.List.Sums.{sum_by-cons}
 use Rattle.std.proofs.lemmas.Bool.{eq-eqb, eqb-true}
 use Rattle.ble_base.specs.declared.addresses.Address.{Address}
 use Rattle.ble_base.specs.declared.notes.Note.{Note}
 use Rattle.ble_base.specs.declared.notes.Note.TheVariants.{Up, Opened, Shut, Sent, Took, Enter}
 use Rattle.ble_base.specs.declared.roles.Role.{Role}
+use Rattle.host_view.specs.Noted.{acl_handle, is_acl_data, two_octets}
 use Rattle.open_links.specs.OpenLinks.{IsLeastFree}
+use Rattle.controller_model.specs.Since.{is_data_note}
 use Rattle.controller_model.specs.Facts.{Facts}
 use Rattle.controller_model.specs.Notes.{HasHandleBelow, is_opening, is_event}
 use Rattle.controller_model.specs.Side.{facts_after, notes_after}
 use Rattle.controller_model.specs.Step.{Step}
+use Rattle.controller_model.proofs.OpenNotes.{open_after, open_before}
 use Rattle.run_model.specs.Due.{Each}
 use Rattle.run_model.specs.History.{Event, TurnBegan, HostFed, Called, Noted, Transmitted, past_of}
 use Rattle.run_model.specs.Journal.{side_of}
@@ -30,12 +29,14 @@ use Rattle.journal_acks.proofs.Exchanging.{number_at}
 use Rattle.journal_data.specs.Held.{IsNextOpened, is_open_link, IsOfOneLink, IsDataOfLink}
 use Rattle.journal_data.specs.HostLines.{OpenUnder, link_under}
 use Rattle.journal_data.specs.Lines.{Lines}
+use Rattle.journal_data.proofs.Reported.{NamesOneHandle, step_one, HasItsLength, step_lengths}
 use Rattle.journal_data.proofs.EachLine.{call_lines, lines_at, note_lines, numbers_at}
+use Rattle.journal_data.proofs.Fronts.{front_all}
 use Rattle.journal_data.proofs.HeldLinks.{HoldsLinks, nothing_in, opened_holds, under_is}
 use Rattle.journal_data.proofs.LeastHandles.{OpenLeast}
 use Rattle.journal_data.proofs.NotedLines.{AreApart, IsOfBase, note_links, number_opened, numbers_noted, numbers_quiet, one_on, still_open, swapped, with_noted, completed_data, received_data}
 use Rattle.journal_data.proofs.Openness.{AreNot, IsNotedAs, stays, shuts, opens_first, is_open, is_shutting, note_open, past_noted}
-use Rattle.journal_data.proofs.OpenLines.{IsOfStaying, all_front, middle, of_staying, open_mid, opened_mid, parts, shut_mid}
+use Rattle.journal_data.proofs.OpenLines.{IsOfStaying, middle, of_staying, open_mid, opened_mid, parts, shut_mid}
 use Rattle.journal_data.proofs.StationLines.{called_then, names_few, of_after, of_before, own_apart, own_facts}
 
 -- ---- notes that open no link
@@ -154,8 +155,8 @@ module _ (given : Given) (station : ℕ) (step : Step) (history : List Event) (f
   plain_held none earlier later are =
       notes_held many station called before_open before_open earlier
       (subst (λ (number : ℕ → ℕ). AreApart number before_open) (sym numbers_called) (own_apart given station history own)) (λ handle on. on)
-      (all_front (λ note. is_opening note ≡ false) earlier later (subst (AreNot is_opening) are none))
-      (all_front (IsOfBase before_open) earlier later
+      (front_all (λ note. is_opening note ≡ false) earlier later (subst (AreNot is_opening) are none))
+      (front_all (IsOfBase before_open) earlier later
       (subst (AllByRecursion (IsOfBase before_open)) are (of_before (setup_at given station) (past_of station history) step few))) called_held
 
   module _ (handle : ℕ) (role : Role) (first_own peer : Address) (rest : List Note) (is : notes ≡ Opened handle role first_own peer ∷ rest) (none : AreNot is_opening rest)
@@ -242,8 +243,8 @@ module _ (given : Given) (station : ℕ) (step : Step) (history : List Event) (f
         (subst (λ (all : List Event). AreHeld many station all (λ other. fold (note_open other) (note_open other (before_open other) first) earlier))
         (one_on station called first earlier)
         (notes_held many station next (λ other. note_open other (before_open other) first) after_open earlier own_then within
-        (all_front (λ note. is_opening note ≡ false) earlier later (subst (AreNot is_opening) same.tails none))
-        (all_front (IsOfBase after_open) earlier later (subst (AllByRecursion (IsOfBase after_open)) same.tails of)) first_held))
+        (front_all (λ note. is_opening note ≡ false) earlier later (subst (AreNot is_opening) same.tails none))
+        (front_all (IsOfBase after_open) earlier later (subst (AllByRecursion (IsOfBase after_open)) same.tails of)) first_held))
 
   held_at : (earlier later : List Note) → notes ≡ earlier ++ later → AreHeldAfter earlier
   held_at earlier later are = by noted_as
@@ -308,12 +309,12 @@ module _ (given : Given) (station : ℕ) (step : Step) (history : List Event) (f
       let past = past_of station history in
       let mid = with_noted station called earlier in
       let inside = middle (Contains notes) earlier note later (subst (λ (all : List Note). AllByRecursion (Contains notes) all) are (each_of notes)) in
-      let one = middle IsOfOneHandle earlier note later (subst (AllByRecursion IsOfOneHandle) are (step_one setup past step)) in
+      let one = middle NamesOneHandle earlier note later (subst (AllByRecursion NamesOneHandle) are (step_one setup past step)) in
       let its_length = middle HasItsLength earlier note later (subst (AllByRecursion HasItsLength) are (step_lengths setup past step)) in
       let under = λ (handle : ℕ) (of : is_data_note handle note ≡ true).
       ap (λ (place : Option ℕ). is_some place)
       (stays_under earlier (note ∷ later) are handle (open_before setup past step note handle few inside of) (open_after setup past step note handle few inside of)) in (
-        (λ acl. record { is_open = under (acl_handle packet.items) (received_data packet acl); length_is = its_length acl }),
+        (λ acl. record { is_open = under (acl_handle packet.items) (received_data packet acl); whole = its_length acl }),
         (λ event. record { one_handle = one event; is_open = under (two_octets 4 packet.items) (completed_data packet event) }),
       )
   note_is earlier later note are = tt

@@ -18,9 +18,9 @@ use Rattle.controller_model.specs.Outcome.{Outcome, facts_passed, notes_passed}
 use Rattle.controller_model.specs.Packets.{facts_doing, notes_doing}
 use Rattle.controller_model.specs.Side.{facts_after, facts_of, notes_after}
 use Rattle.controller_model.specs.Step.{Step}
+use Rattle.controller_model.specs.Notes.{is_opening}
 use Rattle.controller_model.proofs.Always.{MayBegin, left_doing, opening_passes}
 use Rattle.controller_model.proofs.Phases.{EachOutcome, heard_is, unheard_is}
-use Rattle.controller_model.specs.Notes.{is_opening}
 use Rattle.run_model.specs.Run.{step_of}
 use Rattle.run_laws.proofs.TurnPlaces.{Between, Stage, Standing, Within, IsTurned, standing, turned}
 use Rattle.journal_data.proofs.Openness.{AreNot, AreQuiet, answered_quiet, both_quiet, doing_quiet, none_open, took_quiet}

@@ -16,6 +16,7 @@ use Rattle.controller_model.specs.Notes.{is_opening}
 use Rattle.controller_model.specs.Side.{facts_after, facts_of, notes_after}
 use Rattle.controller_model.specs.Step.{Step, HostOctet, TurnBegins, PacketHeard, NothingHeard, TurnEnds}
 use Rattle.controller_model.proofs.Entries.{enters_as_turns_begin, enters_at_anchors}
+use Rattle.journal_data.proofs.Fronts.{front_all}
 use Rattle.journal_data.proofs.NotedLines.{still_open}
 use Rattle.journal_data.proofs.Openness.{AreNot, IsNotedAs, stays, shuts, opens_first, IsShutOnce, is_open, is_shut_of, is_shutting, note_open, open_still, staying_open}
 use Rattle.journal_data.proofs.StationLines.{each_in}
@@ -25,10 +26,6 @@ use Rattle.journal_data.proofs.StationLines.{each_in}
 pub middle : (P : Note → Type 0) (earlier : List Note) (note : Note) (later : List Note) → AllByRecursion P (earlier ++ note ∷ later) → P note
 middle P [] note later all = all.0
 middle P (first ∷ earlier) note later all = middle P earlier note later all.1
-
-pub all_front : (P : Note → Type 0) (earlier later : List Note) → AllByRecursion P (earlier ++ later) → AllByRecursion P earlier
-all_front P [] later all = tt
-all_front P (note ∷ earlier) later all = (all.0, all_front P earlier later all.1)
 
 all_back : (P : Note → Type 0) (earlier later : List Note) → AllByRecursion P (earlier ++ later) → AllByRecursion P later
 all_back P [] later all = all
@@ -81,8 +78,8 @@ module _ (before after : ℕ → Bool) (notes : List Note) where
   pub open_mid : IsNotedAs before after notes → (earlier later : List Note) (handle : ℕ) → notes ≡ earlier ++ later → before handle ≡ true → after handle ≡ true
       → fold (note_open handle) (before handle) earlier ≡ true
   open_mid (stays none shut same) earlier later handle are on then =
-      open_still handle (before handle) earlier (all_front _ earlier later (subst (AreNot is_opening) are none))
-      (all_front _ earlier later (subst (AreNot is_shutting) are shut)) ∙ on
+      open_still handle (before handle) earlier (front_all _ earlier later (subst (AreNot is_opening) are none))
+      (front_all _ earlier later (subst (AreNot is_shutting) are shut)) ∙ on
   open_mid (shuts none reports opens once) earlier later handle are on then =
       was_open handle (fold (note_open handle) (before handle) earlier) later (all_back _ earlier later (subst (AreNot is_opening) are none))
       (sym (fold-append (note_open handle) (before handle) earlier later) ∙ ap (fold (note_open handle) (before handle)) (sym are) ∙ opens handle ∙ then)
@@ -96,7 +93,7 @@ module _ (before after : ℕ → Bool) (notes : List Note) where
           let same = parts (Opened other role own peer) first rest (earlier ++ later) is in
           subst (λ (note : Note). fold (note_open handle) (note_open handle (before handle) note) earlier ≡ true) same.heads
           (open_still handle (note_open handle (before handle) (Opened other role own peer)) earlier
-          (all_front _ earlier later (subst (AreNot is_opening) same.tails none)) (all_front _ earlier later (subst (AreNot is_shutting) same.tails shut))
+          (front_all _ earlier later (subst (AreNot is_opening) same.tails none)) (front_all _ earlier later (subst (AreNot is_shutting) same.tails shut))
           ∙ one_kept handle (before handle) (Opened other role own peer) refl on)
 
   -- a link that is shut is open just before

@@ -1,6 +1,6 @@
 -- What a host receives of data is the payload of a PDU, so its length fits into the length of an ACL packet.
-use Rattle.std.proofs.Common.{◌≡◌, ℕ, ◌≤◌, ◌%◌, ◌==◌, Bool, true, false, Option, Some, None, List, [], ◌∷◌, ◌++◌, length, cond, refl, ◌∙◌, arith}
-use Rattle.std.specs.Prelude.{IfSome, drop, not, take, if◌then◌else◌}
+use Rattle.std.proofs.Common.{◌≡◌, ℕ, ◌≤◌, ◌%◌, ◌==◌, Bool, true, false, Option, Some, None, List, [], ◌∷◌, ◌++◌, length, cond, refl, ◌∙◌, arith, ◌*◌, ◌/◌, ◌+◌}
+use Rattle.std.specs.Prelude.{IfSome, not, take, if◌then◌else◌}
 use Rattle.std.specs.List.{AllByRecursion}
 use Rattle.std.specs.Str.{bytes_eq}
 use Rattle.std.proofs.lemmas.Bool.{and_parts}
@@ -153,6 +153,9 @@ small : (n : ℕ) → n ≤ 255 → n % 65536 ≡ n
 small n few = omega (arith, few)
 
 pub packet_length : (piece : ℕ × Piece) → length piece.1.body.items ≤ 255
-    → two_octets 3 (acl_packet piece) ≡ length (drop 5 (acl_packet piece))
+    → length (acl_packet piece) ≡ 5 + two_octets 3 (acl_packet piece)
 unfolding little_endian
-packet_length piece short = two_octets_hold (length piece.1.body.items) ∙ small (length piece.1.body.items) short
+packet_length piece short =
+    let octets = length piece.1.body.items in
+    let is : octets % 256 + 256 * (octets / 256 % 256) ≡ octets = two_octets_hold octets ∙ small octets short in
+    omega (arith, is)

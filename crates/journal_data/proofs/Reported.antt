@@ -1,16 +1,11 @@
 -- What a controller reports of data and of complete packets, in any step: the length of an ACL packet is that of its data,
 -- and a Number Of Completed Packets event is of one handle.
-use Rattle.journal_data.proofs.PieceLengths.{AreShort, all_short, packet_length}
-use Rattle.journal_data.proofs.Openness.{AreNot, NoReport, begun_reports, is_report, phase_reports}
-use Rattle.controller_model.proofs.Phases.{heard_is, unheard_is}
-use Rattle.open_links.specs.Data.{completed_from}
-use Rattle.host_view.specs.Noted.{is_acl_data, two_octets}
-use Rattle.acl_banks.specs.declared.pieces.Piece.{Piece}
-use Rattle.std.proofs.lemmas.Bool.{or_parts}
-use Rattle.std.proofs.Common.{◌≡◌, ℕ, ◌==◌, Bool, true, false, List, [], ◌∷◌, ◌++◌, refl, sym, ◌∙◌, length}
-use Rattle.std.specs.Prelude.{filter, map, slice_index, ⊤, drop}
+use Rattle.std.proofs.Common.{◌≡◌, ℕ, ◌==◌, Bool, true, false, List, [], ◌∷◌, ◌++◌, refl, sym, ◌∙◌, length, ◌+◌}
+use Rattle.std.specs.Prelude.{filter, map, ⊤}
 use Rattle.std.specs.List.{AllByRecursion}
+use Rattle.std.proofs.lemmas.Bool.{or_parts}
 use Rattle.std.proofs.lemmas.List.Elements.{recursion_from_All}
+use Rattle.acl_banks.specs.declared.pieces.Piece.{Piece}
 use Rattle.ble_base.specs.declared.notes.Note.{Note}
 use Rattle.ble_base.specs.declared.notes.Note.TheVariants.{Up}
 use Rattle.h4_frames.specs.declared.packet.HostPacket.TheVariants.{Command as HostCommand, Acl}
@@ -24,8 +19,10 @@ use Rattle.hci_cmd.specs.declared.command.CmdRead.TheVariants.{Known, UnknownOpc
 use Rattle.hci_evt.specs.Event.{mask_bit_of, written}
 use Rattle.hci_evt.specs.declared.event.Event.{Event}
 use Rattle.hci_evt.specs.declared.event.Event.TheVariants.{BufferOverflow, CompletedPackets, HardwareError}
+use Rattle.host_view.specs.Noted.{is_acl_data, two_octets}
 use Rattle.host_view.specs.Unbuilt.{status_of}
 use Rattle.host_view.specs.View.{View}
+use Rattle.open_links.specs.Data.{completed_from}
 use Rattle.open_links.specs.declared.offers.Offer.{Offer}
 use Rattle.open_links.specs.declared.offers.Offer.TheVariants.{NoLink, Empty, Overflow, Kept}
 use Rattle.open_links.specs.OpenLinks.{handles_from}
@@ -39,23 +36,27 @@ use Rattle.controller_model.specs.Links.{note_shut, notes_reset}
 use Rattle.controller_model.specs.Notes.{is_event}
 use Rattle.controller_model.specs.Side.{facts_of, notes_after, notes_fed, result_of}
 use Rattle.controller_model.specs.Step.{Step, HostOctet, TurnBegins, PacketHeard, NothingHeard, TurnEnds}
+use Rattle.controller_model.proofs.Phases.{heard_is, unheard_is}
 use Rattle.controller_model.proofs.Always.{IsInTurn}
 use Rattle.controller_model.proofs.Handles.{own_handles}
 use Rattle.controller_model.proofs.TurnNotes.{EachNote, turn_noted}
+use Rattle.journal_data.specs.Held.{IsOfOneHandle}
+use Rattle.journal_data.proofs.PieceLengths.{AreShort, all_short, packet_length}
+use Rattle.journal_data.proofs.Openness.{AreNot, NoReport, begun_reports, is_report, phase_reports}
 
 -- a Number Of Completed Packets event is of one handle
-abbrev pub IsOfOneHandle : Note → Type 0
-IsOfOneHandle (Up packet) = is_event 0x13 packet.items ≡ true → slice_index packet.items 3 ≡ 1
-IsOfOneHandle note = ⊤
+abbrev pub NamesOneHandle : Note → Type 0
+NamesOneHandle (Up packet) = is_event 0x13 packet.items ≡ true → IsOfOneHandle packet.items
+NamesOneHandle note = ⊤
 
-event_one : (event : Event) → IsOfOneHandle (Up (record { items = written event }))
+event_one : (event : Event) → NamesOneHandle (Up (record { items = written event }))
 unfolding little_endian
-event_one (CompletedPackets handle count) is = refl
+event_one (CompletedPackets handle count) is = record { size = refl; whole = refl; one = refl }
 event_one event is = absurd (let h : false ≡ true = is in absurd cc)
 
 -- the length of an ACL packet is that of what follows
 abbrev pub HasItsLength : Note → Type 0
-HasItsLength (Up packet) = is_acl_data packet.items ≡ true → two_octets 3 packet.items ≡ length (drop 5 packet.items)
+HasItsLength (Up packet) = is_acl_data packet.items ≡ true → length packet.items ≡ 5 + two_octets 3 packet.items
 HasItsLength note = ⊤
 
 event_length : (event : Event) → HasItsLength (Up (record { items = written event }))
@@ -119,7 +120,7 @@ module _ (P : Note → Type 0) (of_event : (event : Event) → P (Up (record { i
 
 -- ---- each step
 
-each_one : (most : ℕ) → EachNote most IsOfOneHandle
+each_one : (most : ℕ) → EachNote most NamesOneHandle
 each_one most = record {
   up = λ event of. event_one event;
   received = λ piece is. absurd (let h : false ≡ true = is in absurd cc);
@@ -130,13 +131,13 @@ each_one most = record {
   took = λ handle number llid octets below. tt;
 }
 
-turn_one : (setup : Setup) (past : List Step) (step : Step) → IsInTurn step → AllByRecursion IsOfOneHandle (notes_after setup (facts_of setup past) step)
+turn_one : (setup : Setup) (past : List Step) (step : Step) → IsInTurn step → AllByRecursion NamesOneHandle (notes_after setup (facts_of setup past) step)
 turn_one setup past step turn =
-    recursion_from_All IsOfOneHandle (notes_after setup (facts_of setup past) step)
-    (turn_noted setup.links IsOfOneHandle (each_one setup.links) setup (facts_of setup past) step refl (own_handles setup past) turn)
+    recursion_from_All NamesOneHandle (notes_after setup (facts_of setup past) step)
+    (turn_noted setup.links NamesOneHandle (each_one setup.links) setup (facts_of setup past) step refl (own_handles setup past) turn)
 
-pub step_one : (setup : Setup) (past : List Step) (step : Step) → AllByRecursion IsOfOneHandle (notes_after setup (facts_of setup past) step)
-step_one setup past (HostOctet octet) = of_fed IsOfOneHandle event_one (λ handle. tt) setup (facts_of setup past) (result_of (facts_of setup past).octets octet)
+pub step_one : (setup : Setup) (past : List Step) (step : Step) → AllByRecursion NamesOneHandle (notes_after setup (facts_of setup past) step)
+step_one setup past (HostOctet octet) = of_fed NamesOneHandle event_one (λ handle. tt) setup (facts_of setup past) (result_of (facts_of setup past).octets octet)
 step_one setup past (TurnBegins slot on) = turn_one setup past (TurnBegins slot on) tt
 step_one setup past (PacketHeard octets) = turn_one setup past (PacketHeard octets) tt
 step_one setup past NothingHeard = turn_one setup past NothingHeard tt

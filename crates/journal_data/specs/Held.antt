@@ -1,6 +1,6 @@
 -- Which links the lines of a side name: only those that are open at it (Core 5.2, volume 4 part E, sections 5.4.2 and
 -- 7.7.19).
-use Rattle.std.specs.Prelude.{◌≡◌, ℕ, ◌<◌, ◌==◌, Bool, true, false, List, ◌∷◌, ◌++◌, None, IsSome, drop, length, slice_index}
+use Rattle.std.specs.Prelude.{◌≡◌, ℕ, ◌+◌, ◌<◌, ◌==◌, Bool, true, false, List, ◌∷◌, ◌++◌, None, IsSome, length, slice_index}
 use Rattle.std.specs.List.{list_any}
 use Rattle.ble_base.specs.declared.ErrCode.{ErrCode}
 use Rattle.ble_base.specs.declared.roles.Role.{Role}
@@ -29,18 +29,24 @@ pub record IsNextOpened (link handle : ℕ) (links : List OpenUnder) : Type 0 wh
   pub free : link_under handle links ≡ None
   pub least : (other : ℕ) → other < handle → IsSome (link_under other links)
 
--- data for the host is of an open link, and its length, at the places 3 and 4, is that of what follows
+-- data for the host is of an open link; the number of its octets is at the places 3 and 4, and they are after that
 pub record IsDataOfLink (octets : List ℕ) (links : List OpenUnder) : Type 0 where
   pub is_open : IsSome (link_under (acl_handle octets) links)
-  pub length_is : two_octets 3 octets ≡ length (drop 5 octets)
+  pub whole : length octets ≡ 5 + two_octets 3 octets
+
+-- an event with five octets of parameters, of one handle
+pub record IsOfOneHandle (octets : List ℕ) : Type 0 where
+  pub size : slice_index octets 2 ≡ 5
+  pub whole : length octets ≡ 8
+  pub one : slice_index octets 3 ≡ 1
 
 -- a Number Of Completed Packets event is of one handle, which is at the place 4, and an open link has it
 pub record IsOfOneLink (octets : List ℕ) (links : List OpenUnder) : Type 0 where
-  pub one_handle : slice_index octets 3 ≡ 1
   pub is_open : IsSome (link_under (two_octets 4 octets) links)
+  pub one_handle : IsOfOneHandle octets
 
--- each line of a link is of one that is open at its side by the lines before it, but its `open` line, which is of the next one;
--- and what a host receives of data and of complete packets is of open links
+-- each line of a link is of one that is open at its side by the lines before it, but its `open` line, which is of the
+-- next one; and what a host receives of data and of complete packets is of open links
 pub record LinesAreOfOpenLinks (journal : List Entry) : Type 0 where
   pub sent : (front rest : List Entry) (side : Side) (link number llid : ℕ) (body : List ℕ)
       → journal ≡ front ++ Sent side link number llid body ∷ rest → IsOpenAt side link front

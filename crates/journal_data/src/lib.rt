@@ -11,6 +11,6 @@ pub use crate::delivery::{
 };
 pub use crate::held::lines_are_of_open_links_in_every_journal;
 pub use crate::rows::{
-    worked_buffers, worked_delivery, worked_dropped, worked_next_link, worked_received,
-    worked_submitted,
+    worked_buffers, worked_delivery, worked_dropped, worked_next_link, worked_open_links,
+    worked_received, worked_submitted,
 };

@@ -1,11 +1,13 @@
 //! Worked examples, which the definitions compute.
 #![tactic(auto, unfolding(crate::specs::Lines::lines_of, h4_frames::specs::Frames::frames))]
 
-ghost use Rattle.std.specs.Prelude.{◌≡◌, ◌++◌, [], ◌∷◌, true, false, replicate};
+ghost use Rattle.std.specs.Prelude.{◌≡◌, ◌++◌, [], ◌∷◌, None, Some, true, false, replicate};
 ghost use Rattle.ble_base.specs.declared.roles.Role.TheVariants.{Central, Peripheral};
 ghost use Rattle.ble_base.specs.declared.roles.Side.TheVariants.{A, B};
 ghost use Rattle.journal.specs.declared.entries.Entry.TheVariants.{Fed, Up, Opened, Shut};
 ghost use Rattle.journal.specs.declared.entries.Entry.TheVariants.{Sent, Took};
+ghost use Rattle.journal_data.specs.Held.{is_open_link, links_open};
+ghost use Rattle.journal_data.specs.HostLines.{link_under};
 ghost use Rattle.journal_data.specs.Lines.{accepted_on, credited_on, data_on, empties_on};
 ghost use Rattle.journal_data.specs.Lines.{lines_of, pdus_on, received_on, submitted_on};
 
@@ -177,4 +179,17 @@ pub fn worked_next_link()
         × (accepted_on 1 b ≡ (true, 0xA1) ∷ []) × (accepted_on 2 b ≡ (true, 0xA3) ∷ [])
         × (received_on 1 b ≡ (true, 0xA1) ∷ []) × (received_on 2 b ≡ (true, 0xA3) ∷ [])
         × (credited_on 1 a ≡ 1) × (credited_on 2 a ≡ 1) }
+{}
+
+/// A link is open at a side from its `open` line to its `shut` line, and so has its handle there.
+pub fn worked_open_links()
+    ensures opened { is_open_link 1 (links_open A (Opened A 1 0 Central ∷ [])) ≡ true }
+    ensures other_link { is_open_link 2 (links_open A (Opened A 1 0 Central ∷ [])) ≡ false }
+    ensures other_side { is_open_link 1 (links_open B (Opened A 1 0 Central ∷ [])) ≡ false }
+    ensures shut { is_open_link 1 (links_open A (Opened A 1 0 Central ∷ Opened A 2 1 Central
+        ∷ Shut A 1 (record { 0 = 0x08 }) ∷ [])) ≡ false }
+    ensures free { link_under 0 (links_open A (Opened A 1 0 Central ∷ Opened A 2 1 Central
+        ∷ Shut A 1 (record { 0 = 0x08 }) ∷ [])) ≡ None }
+    ensures second { link_under 1 (links_open A (Opened A 1 0 Central ∷ Opened A 2 1 Central
+        ∷ Shut A 1 (record { 0 = 0x08 }) ∷ [])) ≡ Some 2 }
 {}

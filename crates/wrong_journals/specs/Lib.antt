@@ -1,5 +1,6 @@
 -- The journals of this crate.
 pub mod Events
 pub mod Exchanges
+pub mod Held
 pub mod Hosts
 pub mod Turns

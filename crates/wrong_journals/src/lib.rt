@@ -4,6 +4,7 @@
 
 mod events;
 mod exchanges;
+mod held;
 mod hosts;
 mod turns;
 
@@ -12,6 +13,7 @@ pub use crate::exchanges::{
     wrong_packets_are_refused, wrong_sending_is_refused, wrong_taking_is_refused,
     wrong_turns_of_exchanges_are_refused,
 };
+pub use crate::held::{lines_of_no_link_are_refused, packets_of_no_link_are_refused};
 pub use crate::hosts::{wrong_credits_are_refused, wrong_data_is_refused};
 pub use crate::turns::{
     wrong_fates_are_refused, wrong_feeds_are_refused, wrong_radios_are_refused,
