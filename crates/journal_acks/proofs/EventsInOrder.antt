@@ -1,6 +1,6 @@
 -- Each line of an event that a side enters has the number of events that it entered before.
 use Rattle.std.proofs.Common.{◌≡◌, ℕ, ◌+◌, ◌≤◌, ◌&&◌, ◌==◌, Bool, true, false, Option, Some, None, List, [], ◌∷◌, ◌++◌, refl, sym, ap, subst, ◌∙◌, append_assoc, arith}
-use Rattle.std.specs.Prelude.{All, fold, map, if◌then◌else◌}
+use Rattle.std.specs.Prelude.{All, fold, if◌then◌else◌, map, replicate}
 use Rattle.std.specs.List.{Contains}
 use Rattle.std.proofs.lemmas.List.Sums.{fold-append}
 use Rattle.ble_base.specs.declared.notes.Note.{Note}
@@ -17,7 +17,7 @@ use Rattle.open_links.specs.Turns.{is_anchor, links_staying, place_staying, reas
 use Rattle.open_links.proofs.Ends.{stays_where_not_due}
 use Rattle.controller_model.specs.Step.{Step, TurnBegins}
 use Rattle.controller_model.specs.Facts.{Facts}
-use Rattle.controller_model.specs.Side.{notes_after}
+use Rattle.controller_model.specs.Side.{facts_of, notes_after}
 use Rattle.controller_model.proofs.Entries.{enters_as_turns_begin, enters_at_anchors}
 use Rattle.run_model.specs.Feeding.{AreDistinct}
 use Rattle.run_model.specs.History.{Event, Called, Noted, packet_received, past_of, turns_begun}
@@ -53,8 +53,6 @@ use Rattle.journal_acks.proofs.Readings.{after_entry, enter_note as note_counted
 use Rattle.journal_acks.proofs.RunCounts.{counts_first}
 use Rattle.journal_acks.proofs.TwoStations.{IsOfTwo, same_number as equal_numbers}
 use Rattle.journal_acks.proofs.Unentered.{AreUnenteredAt, AreUnentered, IsNone, count_at, counts, none_of_new, unentered_kept}
-use Rattle.controller_model.specs.Side.{facts_of}
-use Rattle.std.specs.Prelude.{replicate}
 
 -- ---- the lines of an open end count its events
 
@@ -114,20 +112,14 @@ module _ (whole : IsHeardWhole) (given : Given) (Q : Place → List Event → Ty
 
   begin_one : (slot : ℕ) (on : Bool) (done left : List ℕ) (station : ℕ) (history : List Event) → given.stations ≡ done ++ station ∷ left
       → AreAt (AtBegins done (station ∷ left)) history → EntersOne history station (TurnBegins slot on)
-  begin_one slot on done left station history are has = λ now radio is handle link is_open stays. by now radio is handle link is_open stays
-    where
-      by : (now : ℕ) (radio : Bool) → TurnBegins slot on ≡ TurnBegins now radio → (handle : ℕ) (link : OpenLink) → link_at handle (facts_at given station history).links ≡ Some link
-          → reason_in now link ≡ None
-          → (count_at (number_at station handle history) station history ≡ entries_in link.past)
-          × (count_at (number_at station handle history) station (after_call given station (TurnBegins slot on) history) ≤ entries_in link.past + 1)
-      by now radio is handle link is_open stays =
-          let same : now ≡ slot = cc in
-          let in_it = among given.stations done left station are in
-          let counted = has.fit station handle link in_it is_open in
-          let value = begun_value counts IsCount given station slot on history (has.is.is.holds.so_far.last.each station in_it)
-          (λ one other a b at at_other differs. apart_numbers given Q known (AtBegins done (station ∷ left)) history has.is.is.known station one other a b in_it at at_other differs)
-          handle link is_open (staying_at slot handle (facts_at given station history) link is_open (subst (λ n. reason_in n link ≡ None) same stays)) in
-          (counted, at_most (is_anchor slot link) slot (entries_in link.past) _ _ link value counted)
+  begin_one slot on done left station history are has = λ now radio is handle link is_open stays.
+      let same : now ≡ slot = cc in
+      let in_it = among given.stations done left station are in
+      let counted = has.fit station handle link in_it is_open in
+      let value = begun_value counts IsCount given station slot on history (has.is.is.holds.so_far.last.each station in_it)
+      (λ one other a b at at_other differs. apart_numbers given Q known (AtBegins done (station ∷ left)) history has.is.is.known station one other a b in_it at at_other differs)
+      handle link is_open (staying_at slot handle (facts_at given station history) link is_open (subst (λ n. reason_in n link ≡ None) same stays)) in
+      (counted, at_most (is_anchor slot link) slot (entries_in link.past) _ _ link value counted)
 
   not_begun : (received : Option (List ℕ)) (slot : ℕ) (on : Bool) (X : Type 0) → step_of received ≡ TurnBegins slot on → X
   not_begun None slot on X is = absurd cc
@@ -135,10 +127,10 @@ module _ (whole : IsHeardWhole) (given : Given) (Q : Place → List Event → Ty
 
   have_one : HaveCalls given EntersOne AreAt
   have_one = record {
-    feeds = λ station octet history. (λ slot on is. absurd cc);
+    feeds = λ station octet history slot on is. absurd cc;
     begins = λ plan slot done left station history are has next. begin_one slot (plan.radio_of station) done left station history are has;
-    passes = λ phases done left station history are has next. (λ slot on is. not_begun (packet_received station history) slot on _ is);
-    ends = λ station history. (λ slot on is. absurd cc);
+    passes = λ phases done left station history are has next slot on is. not_begun (packet_received station history) slot on _ is;
+    ends = λ station history slot on is. absurd cc;
   }
 
 -- ---- a line

@@ -26,7 +26,8 @@ pub fn worked_exchange()
         ∷ Enter A 1 0 25 ∷ Enter B 1 0 25 ∷ Air B 25 first_packet WasLost Missed ∷ []) A
         ≡ record { sent = 1; accepted = 0; acked = 0 } }
     ensures channel { channel_entered 1 A one_event_journal ≡ Some 25 }
-    ensures events { (entered_on A 1 one_event_journal ≡ 1) × (entered_on A 2 one_event_journal ≡ 0) }
+    ensures events { entered_on A 1 one_event_journal ≡ 1 }
+    ensures other_events { entered_on A 2 one_event_journal ≡ 0 }
 {}
 
 /// A packet carries an empty PDU until a new PDU is sent, and then that one, until it is

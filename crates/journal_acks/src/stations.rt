@@ -19,8 +19,8 @@ ghost use Rattle.journal_acks.specs.EventOrder.{entered_on};
 ghost use Rattle.journal_acks.specs.Exchange.{exchange_of};
 
 /// In a run of two stations, with any number of links each: before each turn, and at the end of a
-/// whole run, each open end of a link has sent and accepted as many PDUs as the journal says, and as
-/// many of its own are acknowledged to it. Each packet off the advertising channels is one of a
+/// whole run, each open end of a link has sent and accepted as many PDUs as the journal says, and
+/// as many of its own are acknowledged to it. Each packet off the advertising channels is one of a
 /// link, with the channel, the access address, the bits and the PDU that the lines before it give;
 /// and each new PDU goes out after all PDUs of its side on its link are acknowledged. Each side
 /// enters the events 0, 1, 2, .. of a link one after another, each once (Core 5.2, volume 6 part B,

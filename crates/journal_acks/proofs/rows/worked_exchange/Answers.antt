@@ -16,4 +16,4 @@ use Rattle.journal_acks.proofs.rows.worked_exchange.Goals as goal
 
 pub returns : goal.returns
 unfolding exchange_of channel_entered entered_on link_of_packet is_answer links_begun pdu_heard heard_in read_of kept_bits crc crc_octets crc_of_bits remainder mask_of next_mask whitening_bit whitening_of little_endian
-returns c = record { central = refl; peripheral = refl; lost = refl; channel = refl; events = (refl, refl) }
+returns c = record { central = refl; peripheral = refl; lost = refl; channel = refl; events = refl; other_events = refl }
