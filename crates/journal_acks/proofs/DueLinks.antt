@@ -7,7 +7,6 @@ use Rattle.adv_pdu.specs.declared.pdu.ConnectFields.{ConnectFields}
 use Rattle.adv_pdu.specs.Ranges.{IsInRange}
 use Rattle.instants.specs.declared.indications.Params.{Params}
 use Rattle.link_model.specs.declared.events.Reception.{Reception}
-use Rattle.link_model.specs.declared.setup.LinkSetup.{LinkSetup}
 use Rattle.link_model.specs.End.{facts_received}
 use Rattle.link_model.specs.Facts.{Facts as EndFacts}
 use Rattle.link_model.specs.Packets.{good_pdu}
@@ -15,11 +14,11 @@ use Rattle.link_model.specs.Setup.{Setup as EndSetup}
 use Rattle.link_model.specs.Step.{PacketReceived}
 use Rattle.link_model.specs.Times.{has_failed, has_timed_out, reason_due}
 use Rattle.link_model.proofs.InEvents.{past_in}
-use Rattle.open_links.specs.OpenLinks.{OpenLink, facts_in, link_after, link_at, new_link}
+use Rattle.open_links.specs.OpenLinks.{OpenLink, facts_in, link_after, link_at}
 use Rattle.open_links.specs.Turns.{is_anchor, link_entered, reason_in}
 use Rattle.open_links.proofs.Ends.{entered_setup}
 use Rattle.controller_model.specs.Facts.{Setup, Facts, first_facts}
-use Rattle.controller_model.specs.Heard.{has_room, link_taken}
+use Rattle.controller_model.specs.Heard.{has_room}
 use Rattle.controller_model.specs.Shutting.{IsOverdue, not_established, timed_out}
 use Rattle.controller_model.specs.Side.{facts_after}
 use Rattle.controller_model.specs.Step.{TurnBegins}
@@ -32,7 +31,7 @@ use Rattle.run_laws.proofs.OpenSteps.{EachOpen, IsKeptByHosts, IsKeptOpen, IsKep
 use Rattle.run_laws.proofs.TurnPlaces.{Between, IsTurned, Stage, Within}
 use Rattle.run_laws.proofs.TurnSteps.{MakesWell}
 use Rattle.journal_acks.proofs.GoodLinks.{good_alike, good_base, good_of, good_sent, slot_of}
-use Rattle.journal_acks.proofs.LinkCalls.{HasBegun, HasPassed, IsNew, Stays, Takes, begins_under, fixed_if, new_good, passes_under}
+use Rattle.journal_acks.proofs.LinkCalls.{HasPassed, IsNew, Stays, Takes, begins_under, fixed_if, new_good, passes_under}
 use Rattle.journal_acks.proofs.LinkUses.{sends_under}
 use Rattle.journal_acks.proofs.UnderHandles.{end_under, octet_under, sent_if, staying_under}
 
