@@ -36,6 +36,7 @@ pub mod GoodLinks
 pub mod GoodCalls
 pub mod GoodPackets
 pub mod KeptGood
+pub mod DueLinks
 pub mod ShutLines
 pub mod FeedCalls
 pub mod ResetLines

@@ -1,5 +1,5 @@
 -- Each line of a link that is shut has its reason by the lines before it.
-use Rattle.std.proofs.Common.{◌≡◌, ℕ, ◌+◌, ◌*◌, ◌<◌, ◌≤◌, ◌||◌, inl, inr, Bool, true, false, Option, Some, None, List, [], ◌∷◌, ◌++◌, length, refl, sym, ap, subst, ◌∙◌, append_assoc, arith}
+use Rattle.std.proofs.Common.{◌≡◌, ℕ, ◌+◌, ◌-◌, ◌*◌, ◌≤◌, ◌||◌, inl, inr, Bool, true, false, Option, Some, None, List, [], ◌∷◌, ◌++◌, length, refl, sym, ap, subst, ◌∙◌, append_assoc, arith}
 use Rattle.std.specs.Prelude.{⊤, map, if◌then◌else◌}
 use Rattle.std.specs.List.{Contains}
 use Rattle.std.proofs.lemmas.List.Elements.{Contains-append_left, Contains-append_right, Contains-push}
@@ -35,15 +35,17 @@ use Rattle.run_model.proofs.LinksKnown.{link_by_own}
 use Rattle.run_model.proofs.OpenedNotes.{is_opened, opens_under, outside_open}
 use Rattle.run_model.proofs.Parts.{journal_more}
 use Rattle.run_model.proofs.Places.{each_at}
-use Rattle.run_model.proofs.Stations.{among}
+use Rattle.run_model.proofs.Stations.{among, not_before}
 use Rattle.run_model.proofs.Walk.{Place, AtBegins}
 use Rattle.run_laws.proofs.DistinctAccess.{AreApart}
+use Rattle.run_laws.proofs.TurnPlaces.{Between, Standing, Within, at_stage, stands_at, turned}
 use Rattle.journal_links.specs.Begun.{link_numbered}
 use Rattle.journal_links.proofs.LinksBegun.{number_stays}
 use Rattle.journal_packets.proofs.AccessOrder.{AreNth}
 use Rattle.journal_packets.proofs.SoFar.{IsBelongingSoFar}
 use Rattle.journal_acks.specs.Shut.{CompletesReset, IsShutWithReason, last_heard}
 use Rattle.journal_acks.proofs.Counting.{AreKnown, IsBegun}
+use Rattle.journal_acks.proofs.DueLinks.{AreLater, end_of, ends_by, ends_now, later_first, later_kept}
 use Rattle.journal_acks.proofs.EachCall.{HaveCalls, OfCall, run_calls}
 use Rattle.journal_acks.proofs.Exchanging.{number_at}
 use Rattle.journal_acks.proofs.GoodCalls.{AreGoodAt, plain}
@@ -161,6 +163,8 @@ number_before given station handle step base earlier later outside are =
 record IsTold (given : Given) (history : List Event) (station handle : ℕ) (link : OpenLink) : Type 0 where
   begun : IsBegun history (number_at station handle history) station link.setup
   heard : heard_at (number_at station handle history) (side_of station) history ≡ good_of link
+  -- it does not end before this turn
+  later : turns_begun history - 1 ≤ end_of link
 
 AreTold : Given → List Event → ℕ → Step → Type 0
 AreTold given history station (TurnBegins slot on) = (handle : ℕ) (link : OpenLink) → link_at handle (facts_at given station history).links ≡ Some link → IsTold given history station handle link
@@ -174,15 +178,29 @@ unfolding AreTold
 any_passes given history station None = tt
 any_passes given history station (Some octets) = tt
 
-have_told : (given : Given) (Q : Place → List Event → Type 0) → AreKnown given Q → HaveCalls given (AreTold given) (AreGoodAt given Q)
+abbrev LaterBy : Given → List Event → ℕ → Standing → Type 0
+LaterBy given history station at = AreLater (setup_at given station) at.stage at.begun (facts_at given station history)
+
+-- a station that has not begun the turn
+later_between : AreTaken → (given : Given) (Q : Place → List Event → Type 0) (distinct : AreDistinct given.stations) (done left : List ℕ) (station : ℕ) (history : List Event)
+    → given.stations ≡ done ++ station ∷ left → AreGoodAt given Q (AtBegins done (station ∷ left)) history → LaterBy given history station (at_stage Between (turns_begun history - 1))
+later_between taken given Q distinct done left station history are has =
+    let setup = setup_at given station in
+    subst (λ b. LaterBy given history station (if b then at_stage (Within 0) (turns_begun history) else at_stage Between (turns_begun history - 1)))
+    (not_before given.stations done left station distinct are)
+    (turned setup (AreLater setup) (later_kept taken setup) (past_of station history) (stands_at (AtBegins done (station ∷ left)) station (turns_begun history)) (later_first setup)
+    (has.is.holds.hearing.stand station (among given.stations done left station are)))
+
+have_told : AreTaken → (given : Given) (Q : Place → List Event → Type 0) → AreKnown given Q → AreDistinct given.stations → HaveCalls given (AreTold given) (AreGoodAt given Q)
 unfolding AreTold
-have_told given Q known = record {
+have_told taken given Q known distinct = record {
   feeds = λ station octet history. tt;
   begins = λ plan slot done left station history are has next. λ handle link at.
       let in_it = among given.stations done left station are in record {
         begun = known.begun (AtBegins done (station ∷ left)) history has.is.known station handle link in_it at;
         heard = plain (packet_received station history) handle (facts_at given station history).turn link _ (λ listens. has.is.holds.hearing.hears station in_it)
             (has.good station handle link in_it at);
+        later = (later_between taken given Q distinct done left station history are has).later handle link at;
       };
   passes = λ phases done left station history are has next. any_passes given history station (packet_received station history);
   ends = λ station history. tt;
@@ -195,12 +213,11 @@ told_as_begun given history station slot on handle link told at = told handle li
 
 -- ---- the reasons
 
-passed_by : (count opened slot units own_slot own_units turns : ℕ) → own_slot ≡ opened → own_units ≡ units → turns ≡ slot + 1 → opened + count * units ≤ slot → own_slot + count * own_units < turns
-passed_by count opened slot units own_slot own_units turns slots times now passed =
-    subst (λ n. own_slot + count * n < turns) (sym times) (subst (λ n. n + count * units < turns) (sym slots) (less (opened + count * units) slot turns now passed))
-  where
-    less : (sum slot turns : ℕ) → turns ≡ slot + 1 → sum ≤ slot → sum < turns
-    less sum slot turns now passed = omega (arith, now, passed)
+exact_by : (count opened slot units own_slot own_units turns : ℕ) → own_slot ≡ opened → own_units ≡ units → turns ≡ slot + 1 → slot ≡ opened + count * units → turns ≡ own_slot + count * own_units + 1
+exact_by count opened slot units own_slot own_units turns slots times now is = now ∙ ap (λ n. n + 1) is ∙ (λ i. sym slots i + count * sym times i + 1)
+
+from_now : (begun slot last : ℕ) → begun - 1 ≤ last → begun ≡ slot + 1 → slot ≤ last
+from_now begun slot last later now = omega (arith, later, now)
 
 -- a link that is overdue as a turn begins
 module _ (given : Given) (station handle slot reason : ℕ) (on : Bool) (base : List Event) (earlier : List Note) (link : OpenLink) (told : IsTold given base station handle link)
@@ -225,6 +242,9 @@ module _ (given : Given) (station handle slot reason : ℕ) (on : Bool) (base : 
   heard_now : last_heard number (side_of station) front ≡ good_of link
   heard_now = heard_in_call number (side_of station) station (TurnBegins slot on) base earlier ∙ told.heard
 
+  ends_at_once : IsOverdue slot link reason → slot ≡ end_of link
+  ends_at_once due = ends_now slot link reason (from_now (turns_begun base) slot (end_of link) told.later now) due
+
   overdue_reason : IsOverdue slot link reason → IsShutWithReason front (side_of station) number reason
   overdue_reason (not_established none passed code) = record {
     one_of = inr (inl code);
@@ -233,8 +253,9 @@ module _ (given : Given) (station handle slot reason : ℕ) (on : Bool) (base : 
       link = told.begun.link;
       is_link = is_numbered;
       none_heard = heard_now ∙ ap slot_of none;
-      passed = passed_by 6 link.setup.opened slot link.setup.link.fields.interval told.begun.link.slot told.begun.link.fields.interval (length (turns_of front)) told.begun.slot
-          (ap (λ f. f.interval) told.begun.fields) turns_now passed;
+      in_turn = exact_by 6 link.setup.opened slot link.setup.link.fields.interval told.begun.link.slot told.begun.link.fields.interval (length (turns_of front)) told.begun.slot
+          (ap (λ f. f.interval) told.begun.fields) turns_now
+          (ends_at_once (not_established none passed code) ∙ ap (λ may. ends_by link.setup.opened link.setup.link.fields (slot_of may)) none);
     };
     timed_out = λ is. absurd (let h : 0x3E ≡ 0x08 = sym code ∙ is in omega (arith, h));
   }
@@ -247,8 +268,9 @@ module _ (given : Given) (station handle slot reason : ℕ) (on : Bool) (base : 
       is_link = is_numbered;
       slot = good.slot;
       heard = heard_now ∙ ap slot_of some;
-      passed = passed_by 8 good.slot slot link.setup.link.fields.timeout good.slot told.begun.link.fields.timeout (length (turns_of front)) refl
-          (ap (λ f. f.timeout) told.begun.fields) turns_now passed;
+      in_turn = exact_by 8 good.slot slot link.setup.link.fields.timeout good.slot told.begun.link.fields.timeout (length (turns_of front)) refl
+          (ap (λ f. f.timeout) told.begun.fields) turns_now
+          (ends_at_once (timed_out good some passed code) ∙ ap (λ may. ends_by link.setup.opened link.setup.link.fields (slot_of may)) some);
     };
   }
 
@@ -268,8 +290,7 @@ module _ (whole : IsHeardWhole) (understood : IsUnderstood) (taken : AreTaken) (
       let Q = IsBelongingSoFar given in
       let known = known_of understood taken nth apart given are_two six in
       each_at (OfCall given (AreTold given)) (history_of (run_of given)) call.base call.after (Called call.station call.step)
-      (run_calls given (AreTold given) (AreGoodAt given Q) (good_kept whole given Q known are_two six distinct) (have_told given Q known) (good_first given)) call.called
-
+      (run_calls given (AreTold given) (AreGoodAt given Q) (good_kept whole given Q known are_two six distinct) (have_told taken given Q known distinct) (good_first given)) call.called
 
   -- what holds after the call holds before the line
   to_line : ends_phase call.step ≡ false → IsSo (number_at call.station call.handle call.base) (journal_of (call.base ++ Called call.station call.step ∷ map (Noted call.station) call.earlier)) (side_of call.station)

@@ -1,6 +1,6 @@
 -- Why a link is shut, from the lines of a journal alone (Core 5.2, volume 6 part B, section 4.5.2, and volume 4 part E,
 -- section 7.3.2).
-use Rattle.std.specs.Prelude.{◌≡◌, ℕ, ◌+◌, ◌-◌, ◌*◌, ◌<◌, ◌&&◌, ◌⊎◌, not, Bool, List, [], ◌∷◌, ◌++◌, length, Option, Some, None, if◌then◌else◌}
+use Rattle.std.specs.Prelude.{◌≡◌, ℕ, ◌+◌, ◌-◌, ◌*◌, ◌&&◌, ◌⊎◌, not, Bool, List, [], ◌∷◌, ◌++◌, length, Option, Some, None, if◌then◌else◌}
 use Rattle.h4_frames.specs.declared.packet.HostPacket.TheVariants.{Command as HostCommand}
 use Rattle.h4_frames.specs.declared.packet.Fed.TheVariants.{Packet}
 use Rattle.ble_base.specs.Side.{other_side}
@@ -55,21 +55,22 @@ pub record CompletesReset (front : List Entry) (side : Side) : Type 0 where
   pub octets_are : octets ≡ first ++ last ∷ more
   pub completes : result_of (fed_to_side side before ++ first) last ≡ Packet (HostCommand 0x0C03 (record { items = [] }))
 
--- a side judged no packet of the other side on this link good, and this turn is six intervals or more after that of its
+-- a side judged no packet of the other side on this link good, and this turn is that of six intervals after its
 -- CONNECT_IND
 pub record IsNotEstablished (front : List Entry) (side : Side) (number : ℕ) : Type 0 where
   pub link : LinkBegun
   pub is_link : link_numbered number front ≡ Some link
   pub none_heard : last_heard number side front ≡ None
-  pub passed : link.slot + 6 * link.fields.interval < length (turns_of front)
+  pub in_turn : length (turns_of front) ≡ link.slot + 6 * link.fields.interval + 1
 
--- the supervision timeout, in units of 10 ms, which are eight slots, has passed since the turn of the last such packet
+-- this turn is that in which the supervision timeout, in units of 10 ms, which are eight slots, has passed since the turn
+-- of the last such packet
 pub record HasTimedOut (front : List Entry) (side : Side) (number : ℕ) : Type 0 where
   pub link : LinkBegun
   pub is_link : link_numbered number front ≡ Some link
   pub slot : ℕ
   pub heard : last_heard number side front ≡ Some slot
-  pub passed : slot + 8 * link.fields.timeout < length (turns_of front)
+  pub in_turn : length (turns_of front) ≡ slot + 8 * link.fields.timeout + 1
 
 -- a line that comes after these entries says that a side shuts this link with this code, for one of three reasons
 pub record IsShutWithReason (front : List Entry) (side : Side) (number reason : ℕ) : Type 0 where

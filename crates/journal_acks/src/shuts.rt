@@ -14,9 +14,9 @@ ghost use Rattle.journal_acks.specs.Shut.{IsShutWithReason};
 /// In the journal of a run of a pair, each line of a link that is shut has its reason by the lines
 /// before it, and there are three. With 00, an octet that the host of its side sent in this turn
 /// completes an HCI_Reset (Core 5.2, volume 4 part E, section 7.3.2). With 3E, its side judged no
-/// packet of the other side on that link good, and six intervals have passed since the turn of the
-/// CONNECT_IND. With 08, the supervision timeout has passed since the turn of the last such packet
-/// (volume 6 part B, section 4.5.2).
+/// packet of the other side on that link good, and the turn is that of six intervals after the
+/// CONNECT_IND. With 08, it is that of the supervision timeout after the turn of the last such
+/// packet (volume 6 part B, section 4.5.2).
 pub fn each_shut_line_has_its_reason()
     ensures { (a b : List ℕ) (script : Script) (front rest : List Entry) (side : Side)
         (number : ℕ) (reason : ErrCode)
