@@ -3,7 +3,6 @@
 use Rattle.std.proofs.Common.{◌≡◌, ℕ, ◌<◌, ◌≤◌, ◌==◌, Bool, true, false, Some, None, List, [], ◌∷◌, ◌++◌, map, cond, refl, ap, sym, subst, ◌∙◌, append-nil, append_assoc, arith, Option}
 use Rattle.std.specs.Prelude.{◌||◌, fold, is_some, ⊤}
 use Rattle.std.specs.List.{AllByRecursion, sum_by, Contains}
-use Rattle.std.proofs.lemmas.List.Elements.{All-contains_itself, recursion_from_All}
 use Rattle.std.proofs.lemmas.List.Sums.{sum_by-cons}
 use Rattle.std.proofs.lemmas.Bool.{eq-eqb, eqb-true}
 use Rattle.ble_base.specs.declared.addresses.Address.{Address}
@@ -37,7 +36,7 @@ use Rattle.journal_data.proofs.LeastHandles.{OpenLeast}
 use Rattle.journal_data.proofs.NotedLines.{AreApart, IsOfBase, note_links, number_opened, numbers_noted, numbers_quiet, one_on, still_open, swapped, with_noted, completed_data, received_data}
 use Rattle.journal_data.proofs.Openness.{AreNot, IsNotedAs, stays, shuts, opens_first, is_open, is_shutting, note_open, past_noted}
 use Rattle.journal_data.proofs.OpenLines.{IsOfStaying, middle, of_staying, open_mid, opened_mid, parts, shut_mid}
-use Rattle.journal_data.proofs.StationLines.{called_then, names_few, of_after, of_before, own_apart, own_facts}
+use Rattle.journal_data.proofs.StationLines.{called_then, each_in, names_few, of_after, of_before, own_apart, own_facts}
 
 -- ---- notes that open no link
 
@@ -112,9 +111,6 @@ none_any link (one ∷ links) none = by (one.link == link) refl (none_any link l
     by false same rest =
         let parts = sum_by-cons (λ (x : OpenUnder). cond (x.link == link) 1 0) one links in
         rest (omega (arith, parts, none))
-
-each_of : (notes : List Note) → AllByRecursion (Contains notes) notes
-each_of notes = recursion_from_All (Contains notes) notes (All-contains_itself notes)
 
 -- ---- a call
 
@@ -308,7 +304,7 @@ module _ (given : Given) (station : ℕ) (step : Step) (history : List Event) (f
       let setup = setup_at given station in
       let past = past_of station history in
       let mid = with_noted station called earlier in
-      let inside = middle (Contains notes) earlier note later (subst (λ (all : List Note). AllByRecursion (Contains notes) all) are (each_of notes)) in
+      let inside = middle (Contains notes) earlier note later (subst (λ (all : List Note). AllByRecursion (Contains notes) all) are (each_in (Contains notes) notes (λ one is. is))) in
       let one = middle NamesOneHandle earlier note later (subst (AllByRecursion NamesOneHandle) are (step_one setup past step)) in
       let its_length = middle HasItsLength earlier note later (subst (AllByRecursion HasItsLength) are (step_lengths setup past step)) in
       let under = λ (handle : ℕ) (of : is_data_note handle note ≡ true).

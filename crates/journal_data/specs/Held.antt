@@ -13,17 +13,19 @@ use Rattle.journal_data.specs.Delivered.{host_buffers}
 use Rattle.journal_data.specs.HostLines.{OpenUnder, link_under}
 use Rattle.journal_data.specs.Lines.{lines_of}
 
--- the links that are open at a side after these lines: their `open` lines are among them, and their `shut` lines are not
+-- the links that are open at a side after these lines: each has its `open` line among them, and no `shut` line since
 abbrev pub links_open : Side → List Entry → List OpenUnder
 links_open side front = (lines_of host_buffers side front).links
 
 abbrev pub is_open_link : ℕ → List OpenUnder → Bool
 is_open_link link links = list_any (λ (one : OpenUnder). one.link == link) links
 
+-- by these lines a link is open at a side
 abbrev pub IsOpenAt : Side → ℕ → List Entry → Type 0
 IsOpenAt side link front = is_open_link link (links_open side front) ≡ true
 
--- a link that is opened while these are open is none of them, and has the least handle that none of them has (our choice)
+-- a link that is opened while these are open is none of them, and has the least handle that none of them has (our
+-- choice)
 pub record IsNextOpened (link handle : ℕ) (links : List OpenUnder) : Type 0 where
   pub new : is_open_link link links ≡ false
   pub free : link_under handle links ≡ None
