@@ -64,7 +64,7 @@ pub record IsNotEstablished (front : List Entry) (side : Side) (number : ℕ) : 
   pub none_heard : last_heard number side front ≡ None
   pub in_turn : length (turns_of front) ≡ link.slot + 6 * link.fields.interval + 1
 
--- this turn is that of the supervision timeout, in units of 10 ms, which are eight slots, after the turn of the last such
+-- this turn is that of the supervision timeout, in units of 10 ms, which are eight slots, after that of the last such
 -- packet
 pub record HasTimedOut (front : List Entry) (side : Side) (number : ℕ) : Type 0 where
   pub link : LinkBegun

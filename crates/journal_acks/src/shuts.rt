@@ -16,8 +16,8 @@ ghost use Rattle.journal_acks.specs.Shut.{IsShutWithReason};
 /// is shut has its reason by the lines before it, and there are three. With 00, an octet that the
 /// host of its side sent in this turn completes an HCI_Reset (Core 5.2, volume 4 part E, section
 /// 7.3.2). With 3E, its side judged no packet of the other side on that link good, and the turn is
-/// that of six intervals after the CONNECT_IND. With 08, it is that of the supervision timeout after
-/// the turn of the last such packet (volume 6 part B, section 4.5.2).
+/// that of six intervals after the CONNECT_IND. With 08, it is that of the supervision timeout
+/// after the turn of the last such packet (volume 6 part B, section 4.5.2).
 pub fn each_shut_line_of_two_stations_has_its_reason()
     ensures { (given : Given) (front rest : List Entry) (side : Side) (number : ℕ)
         (reason : ErrCode)
