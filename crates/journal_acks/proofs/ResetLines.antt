@@ -1,6 +1,7 @@
 -- Each line of a link that is shut with 00 comes of a Reset.
-use Rattle.std.proofs.Common.{◌≡◌, ℕ, ◌⊎◌, inl, inr, Some, List, [], ◌∷◌, ◌++◌, refl, sym, ap, subst, ◌∙◌, append_assoc, arith}
-use Rattle.std.specs.Prelude.{map}
+use Rattle.std.proofs.Common.{◌≡◌, ℕ, ◌⊎◌, inl, inr, Some, List, [], ◌∷◌, ◌++◌, refl, sym, ap, subst, ◌∙◌, append_assoc, arith, ◌==◌, true, append-nil}
+use Rattle.std.specs.Prelude.{flat_map, map, if◌then◌else◌}
+use Rattle.std.proofs.lemmas.Grind.{flat_map-append}
 use Rattle.ble_base.specs.declared.error_codes.ErrCode.{ErrCode}
 use Rattle.ble_base.specs.declared.notes.Note.{Note}
 use Rattle.ble_base.specs.declared.notes.Note.TheVariants.{Up as UpNote}
@@ -14,20 +15,21 @@ use Rattle.controller_model.specs.Side.{result_of}
 use Rattle.controller_model.specs.Step.{Step, HostOctet, TurnBegins, PacketHeard, NothingHeard, TurnEnds}
 use Rattle.controller_model.proofs.Resets.{resets}
 use Rattle.open_links.specs.OpenLinks.{OpenLink}
-use Rattle.radio_replay.specs.Script.{Script}
-use Rattle.run_model.specs.History.{Event, Called, Noted, fed_to, past_of}
-use Rattle.run_model.specs.Journal.{entry_of, journal_from, journal_of, side_of}
-use Rattle.run_model.specs.Links.{Links, links_after, links_of}
+use Rattle.run_model.specs.Due.{Each}
+use Rattle.run_model.specs.History.{Event, TurnBegan, HostFed, Called, Noted, Transmitted, fed_to, octets_in, past_of}
+use Rattle.run_model.specs.Journal.{entries_of, entry_of, journal_from, journal_of, side_of}
+use Rattle.run_model.specs.Links.{Links, first_links, links_after, links_of}
 use Rattle.run_model.specs.Order.{AreNotes, side_of_note}
-use Rattle.run_model.specs.Pair.{given_of}
-use Rattle.run_model.specs.Readers.{fed_to_side, station_of}
+use Rattle.run_model.specs.Readers.{IsOfStations, fed_in, fed_to_side, of_side}
 use Rattle.run_model.specs.Run.{Given, facts_at, history_of, run_of, setup_at}
-use Rattle.run_model.proofs.Journals.{pair_fed, two}
+use Rattle.run_model.proofs.Journals.{each_front, two}
 use Rattle.run_model.proofs.OfStations.{OfStations, run_of_stations}
 use Rattle.run_model.proofs.Parts.{journal_more}
 use Rattle.run_model.proofs.Places.{each_at}
+use Rattle.run_model.proofs.Stations.{is_in}
 use Rattle.journal_acks.specs.Shut.{CompletesReset}
 use Rattle.journal_acks.proofs.FeedCalls.{IsFedNow, OfFeed, both_notes, run_feeds}
+use Rattle.journal_acks.proofs.TwoStations.{IsOfTwo}
 use Rattle.journal_acks.proofs.ShutLines.{IsShutInCall, shut_in, shut_in_call}
 
 note_side : (side : Side) (link_of : ℕ → ℕ) (last : ℕ) (note : Note) → side_of_note (entry_of side link_of last note) ≡ Some side
@@ -39,13 +41,52 @@ notes_noted links station [] = tt
 notes_noted links station (note ∷ notes) =
     (note_side (side_of station) (links.link_of station) (links.last_of station) note, notes_noted (links_after links (Noted station note)) station notes)
 
-module _ (a b : List ℕ) (script : Script) where
-  abbrev given : Given
-  given = given_of a b script
+-- ---- what a side was fed, of two
 
-  own_station : (station : ℕ) → (station ≡ 0) ⊎ (station ≡ 1) → station_of (side_of station) ≡ station
-  own_station station (inl is) = subst (λ n. station_of (side_of n) ≡ n) (sym is) refl
-  own_station station (inr is) = subst (λ n. station_of (side_of n) ≡ n) (sym is) refl
+abbrev IsOne : ℕ → Type 0
+IsOne station = (station ≡ 0) ⊎ (station ≡ 1)
+
+own_octets : (station other : ℕ) (octets : List ℕ) → IsOne station → IsOne other → of_side (side_of station) (side_of other) octets ≡ (if station == other then octets else [])
+own_octets station other octets (inl a) (inl b) = (λ i. of_side (side_of (a i)) (side_of (b i)) octets) ∙ sym (λ i. if a i == b i then octets else [])
+own_octets station other octets (inl a) (inr b) = (λ i. of_side (side_of (a i)) (side_of (b i)) octets) ∙ sym (λ i. if a i == b i then octets else [])
+own_octets station other octets (inr a) (inl b) = (λ i. of_side (side_of (a i)) (side_of (b i)) octets) ∙ sym (λ i. if a i == b i then octets else [])
+own_octets station other octets (inr a) (inr b) = (λ i. of_side (side_of (a i)) (side_of (b i)) octets) ∙ sym (λ i. if a i == b i then octets else [])
+
+note_fed : (side other : Side) (link_of : ℕ → ℕ) (last : ℕ) (note : Note) → fed_in side (entry_of other link_of last note) ≡ []
+note_fed side other link_of last (UpNote packet) = refl
+note_fed side other link_of last note = refl
+
+event_fed : (station : ℕ) → IsOne station → (links : Links) (event : Event) → IsOfStations (0 ∷ 1 ∷ []) event → flat_map (fed_in (side_of station)) (entries_of links event) ≡ octets_in station event
+event_fed station one links (TurnBegan slot radios) is = refl
+event_fed station one links (HostFed other octets) is = append-nil (of_side (side_of station) (side_of other) octets) ∙ own_octets station other octets one (two other is)
+event_fed station one links (Called other step) is = refl
+event_fed station one links (Noted other note) is = ap (λ xs. xs ++ []) (note_fed (side_of station) (side_of other) (links.link_of other) (links.last_of other) note)
+event_fed station one links (Transmitted other channel octets []) is = refl
+event_fed station one links (Transmitted other channel octets (hearing ∷ hearings)) is = refl
+
+fed_from : (station : ℕ) → IsOne station → (links : Links) (before history : List Event) → Each (λ early event. IsOfStations (0 ∷ 1 ∷ []) event) before history
+    → flat_map (fed_in (side_of station)) (journal_from links history) ≡ flat_map (octets_in station) history
+fed_from station one links before [] each = refl
+fed_from station one links before (event ∷ history) each =
+    flat_map-append (fed_in (side_of station)) (entries_of links event) (journal_from (links_after links event) history)
+    ∙ ap (λ xs. xs ++ flat_map (fed_in (side_of station)) (journal_from (links_after links event) history)) (event_fed station one links event each.0)
+    ∙ ap (λ xs. octets_in station event ++ xs) (fed_from station one (links_after links event) (before ++ event ∷ []) history each.1)
+
+side_fed : (station : ℕ) → IsOne station → (history : List Event) → Each (λ early event. IsOfStations (0 ∷ 1 ∷ []) event) [] history
+    → fed_to_side (side_of station) (journal_of history) ≡ fed_to station history
+unfolding journal_of
+side_fed station one history each = fed_from station one first_links [] history each
+
+-- ---- a line
+
+module _ (given : Given) (are_two : IsOfTwo given) where
+  fed_before : (station : ℕ) (before rest : List Event) → is_in station given.stations ≡ true → history_of (run_of given) ≡ before ++ rest
+      → fed_to_side (side_of station) (journal_of before) ≡ fed_to station before
+  fed_before station before rest in_it at =
+      side_fed station (two station (ap (is_in station) (sym are_two) ∙ in_it)) before
+      (each_front (λ early event. IsOfStations (0 ∷ 1 ∷ []) event) [] before rest
+      (subst (Each (λ early event. IsOfStations (0 ∷ 1 ∷ []) event) []) at
+      (subst (λ xs. Each (λ early event. IsOfStations xs event) [] (history_of (run_of given))) are_two (run_of_stations given))))
 
   completed : (base after : List Event) (station octet : ℕ) (earlier : List Note) → history_of (run_of given) ≡ base ++ Called station (HostOctet octet) ∷ after
       → commands_accepted_after (facts_at given station base) (HostOctet octet) ≡ Reset ∷ []
@@ -58,7 +99,7 @@ module _ (a b : List ℕ) (script : Script) where
       let added = journal_from (links_of base) (called ∷ map (Noted station) earlier) in
       let from_start : history ≡ fed.start ++ (fed.later ++ called ∷ after) = at ∙ ap (λ xs. xs ++ called ∷ after) fed.is_front ∙ append_assoc fed.start fed.later (called ∷ after) in
       let same : fed_to_side (side_of station) (journal_of fed.start) ≡ fed_to station fed.start =
-      pair_fed a b script fed.start (fed.later ++ called ∷ after) (side_of station) from_start ∙ ap (λ n. fed_to n fed.start) (own_station station (two station in_it)) in record {
+      fed_before station fed.start (fed.later ++ called ∷ after) in_it from_start in record {
         before = journal_of fed.start;
         octets = fed.octets;
         notes = fed.entries ++ added;

@@ -41,8 +41,8 @@ last_heard number side journal = heard_from number side [] None journal
 
 -- ---- the reasons
 
--- an octet of the last line of the host of a side, which is in this turn, completes an HCI_Reset after all that the host
--- sent before: the command 0C03, with no parameters
+-- an octet of the last line of the host of a side, which is in this turn, completes an HCI_Reset, after all octets that
+-- the host sent before: the command 0C03, with no parameters
 pub record CompletesReset (front : List Entry) (side : Side) : Type 0 where
   pub before : List Entry
   pub octets : List ℕ
@@ -53,7 +53,8 @@ pub record CompletesReset (front : List Entry) (side : Side) : Type 0 where
   pub last : ℕ
   pub more : List ℕ
   pub octets_are : octets ≡ first ++ last ∷ more
-  pub completes : result_of (fed_to_side side before ++ first) last ≡ Packet (HostCommand 0x0C03 (record { items = [] }))
+  pub completes : result_of (fed_to_side side before ++ first) last
+      ≡ Packet (HostCommand 0x0C03 (record { items = [] }))
 
 -- a side judged no packet of the other side on this link good, and this turn is that of six intervals after its
 -- CONNECT_IND
@@ -63,8 +64,8 @@ pub record IsNotEstablished (front : List Entry) (side : Side) (number : ℕ) : 
   pub none_heard : last_heard number side front ≡ None
   pub in_turn : length (turns_of front) ≡ link.slot + 6 * link.fields.interval + 1
 
--- this turn is that in which the supervision timeout, in units of 10 ms, which are eight slots, has passed since the turn
--- of the last such packet
+-- this turn is that of the supervision timeout, in units of 10 ms, which are eight slots, after that of the last such
+-- packet
 pub record HasTimedOut (front : List Entry) (side : Side) (number : ℕ) : Type 0 where
   pub link : LinkBegun
   pub is_link : link_numbered number front ≡ Some link
