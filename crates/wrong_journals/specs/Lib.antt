@@ -2,4 +2,5 @@
 pub mod Events
 pub mod Exchanges
 pub mod Hosts
+pub mod Shuts
 pub mod Turns

@@ -5,6 +5,7 @@
 mod events;
 mod exchanges;
 mod hosts;
+mod shuts;
 mod turns;
 
 pub use crate::events::wrong_links_are_refused;
@@ -13,6 +14,7 @@ pub use crate::exchanges::{
     wrong_turns_of_exchanges_are_refused,
 };
 pub use crate::hosts::{wrong_credits_are_refused, wrong_data_is_refused};
+pub use crate::shuts::wrong_reasons_are_refused;
 pub use crate::turns::{
     wrong_fates_are_refused, wrong_feeds_are_refused, wrong_radios_are_refused,
     wrong_turns_are_refused, wrong_verdicts_are_refused,
