@@ -2,3 +2,4 @@
 pub mod Differing
 pub mod Packets
 pub mod Turning
+pub mod Shutting

@@ -3,4 +3,5 @@ pub mod Events
 pub mod Exchanges
 pub mod Held
 pub mod Hosts
+pub mod Shuts
 pub mod Turns

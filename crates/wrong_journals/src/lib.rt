@@ -6,6 +6,7 @@ mod events;
 mod exchanges;
 mod held;
 mod hosts;
+mod shuts;
 mod turns;
 
 pub use crate::events::{wrong_links_are_refused, wrong_orders_of_events_are_refused};
@@ -15,6 +16,7 @@ pub use crate::exchanges::{
 };
 pub use crate::held::{lines_of_no_link_are_refused, packets_of_no_link_are_refused};
 pub use crate::hosts::{wrong_credits_are_refused, wrong_data_is_refused};
+pub use crate::shuts::wrong_reasons_are_refused;
 pub use crate::turns::{
     wrong_fates_are_refused, wrong_feeds_are_refused, wrong_radios_are_refused,
     wrong_turns_are_refused, wrong_verdicts_are_refused,

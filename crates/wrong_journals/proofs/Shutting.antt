@@ -1,0 +1,48 @@
+-- What a line of a link that is shut cannot say.
+use Rattle.std.proofs.Common.{◌≡◌, ℕ, nat_eq, ◌⊎◌, inl, inr, Bool, true, false, Some, List, [], ◌∷◌, ◌++◌, refl, sym, ap, ◌∙◌}
+use Rattle.ble_base.specs.declared.roles.Side.{Side}
+use Rattle.journal.specs.declared.entries.Entry.{Entry}
+use Rattle.journal.specs.declared.entries.Entry.TheVariants.{Turn, Fed}
+use Rattle.run_model.specs.Order.{AreNotes, side_of_note}
+use Rattle.journal_acks.specs.Shut.{CompletesReset}
+use Rattle.wrong_journals.proofs.Differing.{numbers_differ, truths_differ}
+
+abbrev pub is_turn : Entry → Bool
+is_turn (Turn slot a b) = true
+is_turn entry = false
+
+-- the last of these entries, the first of which is this one, begins a turn
+abbrev pub ends_in_turn : Entry → List Entry → Bool
+ends_in_turn entry [] = is_turn entry
+ends_in_turn entry (next ∷ entries) = ends_in_turn next entries
+
+abbrev pub turn_last : List Entry → Bool
+turn_last [] = false
+turn_last (entry ∷ entries) = ends_in_turn entry entries
+
+note_no_turn : (side : Side) (entry : Entry) → side_of_note entry ≡ Some side → is_turn entry ≡ false
+note_no_turn side (Turn slot a b) is = absurd cc
+note_no_turn side entry is = refl
+
+notes_no_turn : (side : Side) (entry : Entry) (notes : List Entry) → is_turn entry ≡ false → AreNotes side notes → ends_in_turn entry notes ≡ false
+notes_no_turn side entry [] none are = none
+notes_no_turn side entry (note ∷ notes) none are = notes_no_turn side note notes (note_no_turn side note are.0) are.1
+
+after_fed : (side : Side) (octets : List ℕ) (before notes : List Entry) (first : Entry) → AreNotes side notes → ends_in_turn first (before ++ Fed side octets ∷ notes) ≡ false
+after_fed side octets [] notes first are = notes_no_turn side (Fed side octets) notes refl are
+after_fed side octets (next ∷ before) notes first are = after_fed side octets before notes next are
+
+fed_last : (side : Side) (octets : List ℕ) (before notes : List Entry) → AreNotes side notes → turn_last (before ++ Fed side octets ∷ notes) ≡ false
+fed_last side octets [] notes are = notes_no_turn side (Fed side octets) notes refl are
+fed_last side octets (first ∷ before) notes are = after_fed side octets before notes first are
+
+pub no_octets_yet : (front : List Entry) (side : Side) → turn_last front ≡ true → CompletesReset front side → ⊥
+no_octets_yet front side last resets =
+    truths_differ (sym last ∙ ap turn_last resets.front_is ∙ fed_last side resets.octets resets.before resets.notes resets.are_notes)
+
+-- ---- a code that is none of three
+
+pub one_code : (code : ℕ) → nat_eq code 0x00 ≡ false → nat_eq code 0x3E ≡ false → nat_eq code 0x08 ≡ false → (code ≡ 0x00) ⊎ ((code ≡ 0x3E) ⊎ (code ≡ 0x08)) → ⊥
+one_code code a b c (inl is) = numbers_differ code 0x00 a is
+one_code code a b c (inr (inl is)) = numbers_differ code 0x3E b is
+one_code code a b c (inr (inr is)) = numbers_differ code 0x08 c is
