@@ -1,34 +1,30 @@
 -- Journals at whose end a link may be shut, and others at whose end it may not.
-use Rattle.std.specs.Prelude.{ℕ, zero, suc, ◌+◌, List, [], ◌∷◌, ◌++◌}
+use Rattle.std.specs.Prelude.{List, [], ◌∷◌, ◌++◌}
 use Rattle.ble_base.specs.declared.roles.Side.TheVariants.{A}
 use Rattle.journal.specs.declared.entries.Entry.{Entry}
 use Rattle.journal.specs.declared.entries.Entry.TheVariants.{Fed}
 use Rattle.run_model.specs.Rows.{one_connection_journal, one_event_journal, reset, turn_entry}
-
--- so many turns, from this one on
-abbrev pub turns_more : ℕ → ℕ → List Entry
-turns_more slot zero = []
-turns_more slot (suc count) = turn_entry slot ∷ turns_more (slot + 1) count
+use Rattle.wrong_journals.specs.Events.{turn_entries}
 
 -- nothing is heard on the link of turn 0, whose interval is 24, up to turn 144
 abbrev pub failing : List Entry
-failing = one_connection_journal ++ turns_more 1 144
+failing = one_connection_journal ++ turn_entries 1 144
 
 -- and up to the turn before that
 abbrev pub before_failing : List Entry
-before_failing = one_connection_journal ++ turns_more 1 143
+before_failing = one_connection_journal ++ turn_entries 1 143
 
 -- up to turn 144, but A heard B in turn 2
 abbrev pub heard_once : List Entry
-heard_once = one_event_journal ++ turns_more 3 142
+heard_once = one_event_journal ++ turn_entries 3 142
 
 -- the supervision timeout of 72 units has passed since then
 abbrev pub silent : List Entry
-silent = one_event_journal ++ turns_more 3 576
+silent = one_event_journal ++ turn_entries 3 576
 
 -- one turn before that
 abbrev pub before_silent : List Entry
-before_silent = one_event_journal ++ turns_more 3 575
+before_silent = one_event_journal ++ turn_entries 3 575
 
 -- the host of A resets its controller in turn 1
 abbrev pub reset_now : List Entry
