@@ -39,6 +39,29 @@ fn words_of(alloc: Global, name: &str) -> Result<Vec<String>, AllocError> {
     Ok(words)
 }
 
+/// What a call left.
+#[derive(Drop)]
+struct Ending {
+    status: u8,
+    out: MemSink,
+    err: MemSink,
+}
+
+/// Makes the run over these files.
+fn call(alloc: Global, words: &Vec<String>, files: &mut MemFiles) -> Ending {
+    let mut out = MemSink::new(alloc);
+    let mut err = MemSink::new(alloc);
+    let status = ble_tool(alloc, words, files, &mut out, &mut err);
+    Ending { status, out, err }
+}
+
+/// Makes the run.
+fn ending_of(alloc: Global, run: Run<'_>) -> Result<Ending, AllocError> {
+    let mut files = files_of(alloc, run)?;
+    let words = words_of(alloc, run.name)?;
+    Ok(call(alloc, &words, &mut files))
+}
+
 /// Makes the run, and compares its status, its journal and its error line.
 pub(crate) fn check_run(
     rt: &impl Abort,
@@ -46,13 +69,9 @@ pub(crate) fn check_run(
     run: Run<'_>,
     (status, journal, line): (u8, &str, &str),
 ) -> Result<(), AllocError> {
-    let mut files = files_of(alloc, run)?;
-    let words = words_of(alloc, run.name)?;
-    let mut out = MemSink::new(alloc);
-    let mut err = MemSink::new(alloc);
-    let ended = ble_tool(alloc, &words, &mut files, &mut out, &mut err);
-    assert_eq!(rt; err.octets(), line.as_bytes());
-    assert_eq!(rt; out.octets(), journal.as_bytes());
-    assert_eq!(rt; ended, status);
+    let ending = ending_of(alloc, run)?;
+    assert_eq!(rt; ending.err.octets(), line.as_bytes());
+    assert_eq!(rt; ending.out.octets(), journal.as_bytes());
+    assert_eq!(rt; ending.status, status);
     Ok(())
 }
