@@ -222,14 +222,11 @@ held_entry history each front rest entry is =
     subst (λ (xs : List Entry). IsHeldEntry xs entry) (sym at.front_is)
     (event_entry at.before at.event entry (each_at IsHeld history at.before at.after at.event each at.is_at) at.entry_is)
 
-pub lines_held : IsHeardWhole → IsUnderstood → AreTaken → AreNth → AreApart → (a b : List ℕ) (script : Script) → length script.a.public ≡ 6 → length script.b.public ≡ 6
-    → LinesAreOfOpenLinks (journal_of (history_of (run_of (given_of a b script))))
-lines_held whole understood taken nth apart a b script six six_too =
-    let given = given_of a b script in
-    let addresses = pair_addresses a b script six six_too in
-    let distinct = pair_distinct a b script in
-    let each = run_held whole given (IsBelongingSoFar given) (known_of understood taken nth apart given refl addresses) refl (pair_links a b script) addresses distinct
-    (eight_of a b script) (first_data given).is in
+pub held_of_two : IsHeardWhole → IsUnderstood → AreTaken → AreNth → AreApart → (given : Given) → IsOfTwo given → HaveFewLinks given → HaveAddresses given
+    → AreDistinct given.stations → ((station : ℕ) → (setup_at given station).host_buffers ≡ 8) → LinesAreOfOpenLinks (journal_of (history_of (run_of given)))
+held_of_two whole understood taken nth apart given two few addresses distinct eight =
+    let each = run_held whole given (IsBelongingSoFar given) (known_of understood taken nth apart given two addresses) two few addresses distinct
+    eight (first_data given).is in
     let entry = held_entry (history_of (run_of given)) each in record {
       sent = λ front rest side link number llid body is. entry front rest (Sent side link number llid body) is;
       took = λ front rest side link number llid body is. entry front rest (Took side link number llid body) is;
@@ -239,3 +236,9 @@ lines_held whole understood taken nth apart a b script six six_too =
       received = λ front rest side octets is. (entry front rest (Up side octets) is).0;
       completed = λ front rest side octets is. (entry front rest (Up side octets) is).1;
     }
+
+pub lines_held : IsHeardWhole → IsUnderstood → AreTaken → AreNth → AreApart → (a b : List ℕ) (script : Script) → length script.a.public ≡ 6 → length script.b.public ≡ 6
+    → LinesAreOfOpenLinks (journal_of (history_of (run_of (given_of a b script))))
+lines_held whole understood taken nth apart a b script six six_too =
+    held_of_two whole understood taken nth apart (given_of a b script) refl (pair_links a b script) (pair_addresses a b script six six_too) (pair_distinct a b script)
+    (eight_of a b script)

@@ -1,10 +1,11 @@
 //! That the lines of a link are between its `open` and its `shut` lines in every run of a pair.
 //! The body only calls the laws that it rests on: the contract is the law.
-ghost use Rattle.std.specs.Prelude.{◌≡◌, ℕ, List, length};
+ghost use Rattle.std.specs.Prelude.{◌≡◌, ◌≤◌, ◌∷◌, [], ℕ, List, length};
 ghost use Rattle.radio_replay.specs.Script.{Script};
 ghost use Rattle.run_model.specs.Journal.{journal_of};
+ghost use Rattle.run_model.specs.LinkEnds.{HaveAddresses};
 ghost use Rattle.run_model.specs.Pair.{given_of};
-ghost use Rattle.run_model.specs.Run.{history_of, run_of};
+ghost use Rattle.run_model.specs.Run.{Given, history_of, run_of, setup_at};
 ghost use Rattle.journal_data.specs.Held.{LinesAreOfOpenLinks};
 
 /// In the journal of a run of a pair, whole or ended by damage, each `sent`, `took`, `enter` and
@@ -18,6 +19,20 @@ pub fn lines_are_of_open_links_in_every_journal()
     ensures { (a b : List ℕ) (script : Script) → length script.a.public ≡ 6
         → length script.b.public ≡ 6
         → LinesAreOfOpenLinks (journal_of (history_of (run_of (given_of a b script)))) }
+{
+    controller_model::a_pdu_is_understood();
+    advertise::laws::connections_are_taken();
+    scan_init::laws::searches_give_each_valid_address();
+    air_frame::laws::packet_tells_its_pdu();
+}
+
+/// The same holds in any run of two controllers, with any number of links each that handles of 12
+/// bits can name, where each has eight buffers for packets of its host.
+pub fn lines_of_two_stations_are_of_open_links()
+    ensures { (given : Given) → given.stations ≡ 0 ∷ 1 ∷ [] → HaveAddresses given
+        → ((station : ℕ) → (setup_at given station).links ≤ 4096)
+        → ((station : ℕ) → (setup_at given station).host_buffers ≡ 8)
+        → LinesAreOfOpenLinks (journal_of (history_of (run_of given))) }
 {
     controller_model::a_pdu_is_understood();
     advertise::laws::connections_are_taken();

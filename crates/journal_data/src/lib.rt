@@ -9,7 +9,9 @@ mod rows;
 pub use crate::delivery::{
     data_arrives_in_order_in_every_journal, data_of_two_stations_arrives_in_order,
 };
-pub use crate::held::lines_are_of_open_links_in_every_journal;
+pub use crate::held::{
+    lines_are_of_open_links_in_every_journal, lines_of_two_stations_are_of_open_links,
+};
 pub use crate::rows::{
     worked_buffers, worked_delivery, worked_dropped, worked_next_link, worked_open_links,
     worked_received, worked_submitted,

@@ -31,15 +31,19 @@ pair_buffers = 8
 abbrev pub station_with : Setup → List ℕ → Station
 station_with setup stream = record { setup = setup; stream = stream }
 
--- the streams of both hosts, whole, and the schedule
-abbrev pub given_of : List ℕ → List ℕ → Script → Given
-given_of a b script = record {
+-- two controllers that can hold so many links each: the streams of both hosts, whole, and the schedule
+abbrev pub given_with : ℕ → List ℕ → List ℕ → Script → Given
+given_with links a b script = record {
   stations = 0 ∷ 1 ∷ [];
   station_of = one_of
-      (station_with (setup_of script.a pair_links pair_buffers pair_buffers) a)
-      (station_with (setup_of script.b pair_links pair_buffers pair_buffers) b);
+      (station_with (setup_of script.a links pair_buffers pair_buffers) a)
+      (station_with (setup_of script.b links pair_buffers pair_buffers) b);
   plans = map plan_of script.turns;
 }
+
+-- what a pair is given
+abbrev pub given_of : List ℕ → List ℕ → Script → Given
+given_of a b script = given_with pair_links a b script
 
 -- this is the journal of a whole run
 pub record IsRun (given : Given) (journal : List Entry) : Type 0 where
