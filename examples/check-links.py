@@ -1,0 +1,198 @@
+#!/usr/bin/env python3
+"""Compares the lines of the links of a journal with each other.
+
+    python3 examples/check-links.py [JOURNAL ..]
+
+JOURNAL is a file with a journal; without one, those of all examples are looked at. It shows, by a plain reading of the text:
+
+- a `sent`, `took`, `enter` or `shut` line names a link that is open at its side, and an `open` line one that is not, under
+  the least handle that is free there;
+- data for a host is of an open link and as long as its header says, and a Number Of Completed Packets event is of one
+  handle, of an open link;
+- each side enters the events 0, 1, 2, .. of a link, each once;
+- a link is shut with 3E six intervals after its CONNECT_IND, where its side heard nothing good on it; with 08 as the
+  supervision timeout has passed since the last good packet; and with 00 where its host completes a Reset;
+- no line is of a control procedure.
+
+These are clauses of a lawful journal (docs/lawful-journals.md), for links whose access addresses differ. It shares no code
+with the program. The last line is `links as they must be`; otherwise the first line that is not is named, and the status
+is 1.
+"""
+import glob
+import os
+import sys
+
+HERE = os.path.dirname(os.path.abspath(__file__))
+OTHER = {"a": "b", "b": "a"}
+
+
+class Fault(Exception):
+    """A line of the journal is not as it must be."""
+
+
+def whitened(channel, octets):
+    """The octets of a PDU, whitened or no longer (Core 5.2, volume 6 part B, section 3.2): x^7 + x^4 + 1."""
+    register = 0x40 | channel
+    out = []
+    for octet in octets:
+        for place in range(8):
+            bit = register & 1
+            octet ^= bit << place
+            register = register >> 1 ^ 0x44 * bit
+        out.append(octet)
+    return bytes(out)
+
+
+def number(octets):
+    return int.from_bytes(octets, "little")
+
+
+def connect_ind(channel, packet):
+    """The access address, the interval and the supervision timeout in slots of a CONNECT_IND, or None."""
+    pdu = whitened(channel, packet[4:])
+    if pdu[0] & 15 != 5:
+        return None
+    fields = pdu[14:36]
+    return packet_address(fields), number(fields[10:12]), 8 * number(fields[14:16])
+
+
+def packet_address(packet):
+    return packet[:4].hex()
+
+
+def completes_reset(octets, since):
+    """Whether a Reset ends in these octets of a host, after the first `since` of them."""
+    at = 0
+    while at < len(octets):
+        size = 4 + octets[at + 3] if octets[at] == 1 else 5 + number(octets[at + 3 : at + 5])
+        if octets[at : at + size] == b"\x01\x03\x0c\x00" and at + size > since:
+            return True
+        at += size
+    return False
+
+
+class Side:
+    """What the lines of a side say so far."""
+
+    def __init__(self):
+        self.open = {}
+        self.entered = {}
+        self.heard = {}
+        self.fed = b""
+        self.since = 0
+
+    def name(self, link):
+        if link not in self.open:
+            raise Fault("a link that is not open at this side")
+
+
+class Reader:
+    """What the lines of a journal say so far."""
+
+    def __init__(self):
+        self.slot = -1
+        self.links = []
+        self.sides = {"a": Side(), "b": Side()}
+
+    def turn(self, slot, _radios):
+        self.slot = int(slot)
+
+    def fed(self, side, octets):
+        side = self.sides[side]
+        side.since = len(side.fed)
+        side.fed += bytes.fromhex(octets)
+
+    def up(self, side, octets):
+        octets = bytes.fromhex(octets)
+        handles = self.sides[side].open.values()
+        if octets[0] == 2:
+            if number(octets[1:3]) & 0xFFF not in handles or number(octets[3:5]) != len(octets) - 5:
+                raise Fault("data of no open link, or of another length")
+        if octets[:2] == b"\x04\x13":
+            if octets[2:4] != b"\x05\x01" or len(octets) != 8 or number(octets[4:6]) not in handles:
+                raise Fault("complete packets of no open link, or of several handles")
+
+    def air(self, side, channel, octets, _fate, verdict):
+        packet = bytes.fromhex(octets)
+        if int(channel) >= 37:
+            found = connect_ind(int(channel), packet)
+            if found:
+                self.links.append((*found, self.slot))
+        elif verdict == "good":
+            for link, (address, _, _, _) in enumerate(self.links, 1):
+                if address == packet_address(packet):
+                    self.sides[OTHER[side]].heard[link] = self.slot
+
+    def open(self, side, link, handle, _role):
+        side = self.sides[side]
+        free = next(it for it in range(len(side.open) + 1) if it not in side.open.values())
+        if int(link) in side.open or int(handle) != free or not 1 <= int(link) <= len(self.links):
+            raise Fault("not a new link under the next free handle")
+        side.open[int(link)] = int(handle)
+
+    def enter(self, side, link, event, _channel):
+        side, link = self.sides[side], int(link)
+        side.name(link)
+        if int(event) != side.entered.get(link, 0):
+            raise Fault("not the next event of the link")
+        side.entered[link] = int(event) + 1
+
+    def pdu(self, side, link, *_words):
+        self.sides[side].name(int(link))
+
+    def shut(self, side, link, reason):
+        side, link = self.sides[side], int(link)
+        side.name(link)
+        _, interval, timeout, slot = self.links[link - 1]
+        heard = side.heard.get(link)
+        due = {
+            "3e": heard is None and self.slot == slot + 6 * interval,
+            "08": heard is not None and self.slot == heard + timeout,
+            "00": completes_reset(side.fed, side.since),
+        }
+        if not due.get(reason, False):
+            raise Fault("a link that is shut without this reason")
+        del side.open[link]
+
+    def line(self, text):
+        kind, *words = text.split(" ")
+        if kind in ("applied", "began", "refused", "done"):
+            raise Fault("a line of a control procedure")
+        steps = {
+            "turn": self.turn,
+            "in": self.fed,
+            "up": self.up,
+            "air": self.air,
+            "open": self.open,
+            "enter": self.enter,
+            "sent": self.pdu,
+            "took": self.pdu,
+            "shut": self.shut,
+        }
+        steps[kind](*words)
+
+
+def check(path):
+    reader = Reader()
+    with open(path, encoding="ascii") as it:
+        lines = it.read().split("\n")[:-1]
+    for place, text in enumerate(lines, 1):
+        try:
+            reader.line(text)
+        except Fault as fault:
+            raise Fault(f"{path}, line {place}: {fault}") from None
+
+
+def main():
+    paths = sys.argv[1:] or sorted(glob.glob(os.path.join(HERE, "*", "journal")))
+    try:
+        for path in paths:
+            check(path)
+    except Fault as fault:
+        print(fault)
+        sys.exit(1)
+    print("links as they must be")
+
+
+if __name__ == "__main__":
+    main()
