@@ -164,7 +164,13 @@ peripheral unknown = 345
 
 #[test]
 fn phases_of_both_ends(rt: HostRuntime) -> Result<(), AllocError> {
-    check(&rt, rt.alloc(), PHASES)
+    check(&rt, rt.alloc(), PHASES)?;
+    counters_rise_by_one();
+    sent_is_opened();
+    sealing_follows_what_was_taken();
+    leaving_changes_no_sealing();
+    clear_directions_have_counter_0();
+    Ok(())
 }
 
 /// A central that asked for encryption.
@@ -285,13 +291,4 @@ fn no_phase_is_copied() {
     let NotThere = pausing().clone();
     let NotThere = pausing().unlock().clone();
     let NotThere = Phase::Secure(secure()).clone();
-}
-
-#[test]
-fn laws_hold_of_each_end() {
-    counters_rise_by_one();
-    sent_is_opened();
-    sealing_follows_what_was_taken();
-    leaving_changes_no_sealing();
-    clear_directions_have_counter_0();
 }

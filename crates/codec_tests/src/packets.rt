@@ -33,12 +33,9 @@ plain 37 ffffffff 000001 030a09080706050403020100 = yes yes yes
 
 #[test]
 fn packets(rt: HostRuntime) -> Result<(), AllocError> {
-    check(&rt, rt.alloc(), PACKETS)
-}
-
-#[test]
-fn laws_are_called() {
+    check(&rt, rt.alloc(), PACKETS)?;
     laws::pdu_form_is_a_count();
     laws::packet_tells_its_pdu();
     laws::short_damage_is_never_whole();
+    Ok(())
 }

@@ -119,11 +119,7 @@ whitens 39 = yes
 
 #[test]
 fn sums_and_whitening(rt: HostRuntime) -> Result<(), AllocError> {
-    check(&rt, rt.alloc(), SUMS)
-}
-
-#[test]
-fn laws_are_called() {
+    check(&rt, rt.alloc(), SUMS)?;
     remainder_is_modulo();
     crc_goes_on();
     crc_is_linear();
@@ -131,4 +127,5 @@ fn laws_are_called() {
     short_change_is_seen();
     whitening_goes_bit_by_bit();
     whitening_is_linear();
+    Ok(())
 }

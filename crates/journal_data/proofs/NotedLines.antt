@@ -40,7 +40,7 @@ pub record IsUnused (link : ℕ) (lines : Lines) : Type 0 where
   pub received : received_on link lines ≡ []
   pub credited : credited_on link lines ≡ 0
 
--- the lines say the same of a link
+-- what the lines say of a link stays
 pub record IsSameOn (link : ℕ) (before after : Lines) : Type 0 where
   pub sent : pdus_on link after.sent ≡ pdus_on link before.sent
   pub taken : pdus_on link after.taken ≡ pdus_on link before.taken

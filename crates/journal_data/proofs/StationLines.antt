@@ -419,7 +419,7 @@ pub event_facts : (given : Given) (station : ℕ) (history : List Event) (event 
 event_facts given station history event outside =
     ap (facts_of (setup_at given station)) (flat_nothing (steps_in station) history event (no_steps station event outside))
 
--- where its notes, its past and its links stay, and its lines say the same of its links
+-- where its notes, its past and its links stay, and so does what its lines say of its links
 pub same_booked : (given : Given) (station : ℕ) (history after : List Event) → numbers_at station after ≡ numbers_at station history
     → facts_at given station after ≡ facts_at given station history → noted_by station after ≡ noted_by station history
     → SaysSame (lines_at station history) (lines_at station after) → IsStationBooked given station history → IsStationBooked given station after

@@ -1,5 +1,5 @@
-//! Tests at the limits: the most of each thing is taken, and what is over it is refused with its
-//! own fault, and not as a want of memory.
+//! Tests at the limits: the most of each thing is taken, and one more is refused with the fault for
+//! that, and not with out of memory.
 #![tactic(auto)]
 
 #[cfg(test)]

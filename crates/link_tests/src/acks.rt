@@ -56,11 +56,7 @@ ack send = DataHeader { llid: 1, nesn: true, sn: false, md: false, length: 0 }
 
 #[test]
 fn bits_go_as_in_an_exchange(rt: HostRuntime) -> Result<(), AllocError> {
-    check(&rt, rt.alloc(), EXCHANGE)
-}
-
-#[test]
-fn laws_hold_of_any_pdu() {
+    check(&rt, rt.alloc(), EXCHANGE)?;
     numbers_are_counts();
     ends_stay_in_step::<u8>();
     each_pdu_at_most_once_and_in_order::<u8>();
@@ -69,4 +65,5 @@ fn laws_hold_of_any_pdu() {
     bits_say_what_was_accepted::<u8>();
     arrival_acknowledges_all_accepted::<u8>();
     nonempty_pdus_at_most_once_and_in_order::<u8>();
+    Ok(())
 }

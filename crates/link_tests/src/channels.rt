@@ -81,7 +81,10 @@ channel plain 001fff8000 4294967040 = same
 
 #[test]
 fn channels_of_events(rt: HostRuntime) -> Result<(), AllocError> {
-    check(&rt, rt.alloc(), CHANNELS)
+    check(&rt, rt.alloc(), CHANNELS)?;
+    hop_is_added_each_event();
+    numbers_of_the_sample_data();
+    Ok(())
 }
 
 /// The channel of an event by algorithm #1 with a hop increment of 16.
@@ -125,10 +128,4 @@ fn differs_by_number(map: &ChannelMap, event: u32) -> bool {
 fn differs_with(access: u32, map: &ChannelMap, event: u32) -> bool {
     let event = u64::from(event);
     Selector::two(access).channel(EventNo(event), map) != plain_by_number(access, event, map.bits())
-}
-
-#[test]
-fn laws_are_called() {
-    hop_is_added_each_event();
-    numbers_of_the_sample_data();
 }

@@ -73,12 +73,9 @@ track anchor = 386
 
 #[test]
 fn indications(rt: HostRuntime) -> Result<(), AllocError> {
-    check(&rt, rt.alloc(), INDICATIONS)
-}
-
-#[test]
-fn laws_are_called() {
+    check(&rt, rt.alloc(), INDICATIONS)?;
     calls_follow_indications();
     track_follows_indications();
     ends_agree();
+    Ok(())
 }

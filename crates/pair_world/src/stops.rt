@@ -3,8 +3,8 @@ use arrayvec::ArrayVec;
 use ble_base::AIR_PACKET_OCTETS;
 use std::alloc::AllocError;
 
-/// A changed packet that would be judged good. It is held in place, so that it is told apart from
-/// want of memory with no memory.
+/// A changed packet that would be judged good. Its octets are held in place, so that a run stops
+/// here without an allocation.
 #[derive(Drop)]
 pub(crate) struct UnseenPacket {
     /// Its place among the packets of the turn, counted from 1.

@@ -31,7 +31,8 @@ pair_buffers = 8
 abbrev pub station_with : Setup → List ℕ → Station
 station_with setup stream = record { setup = setup; stream = stream }
 
--- two controllers that can hold so many links each: the streams of both hosts, whole, and the schedule
+-- the input of two controllers, each of which can hold this number of links: the whole streams of both hosts, and the
+-- schedule
 abbrev pub given_with : ℕ → List ℕ → List ℕ → Script → Given
 given_with links a b script = record {
   stations = 0 ∷ 1 ∷ [];
