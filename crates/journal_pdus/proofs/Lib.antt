@@ -4,6 +4,7 @@ mod NextPieces
 mod FixedNow
 mod SettledEnds
 mod SettledRuns
+mod EndingLater
 mod PendingLines
 mod TakenPdus
 mod TakenInRuns
@@ -16,4 +17,5 @@ mod Resting
 mod NextPdus
 mod WhatWaits
 mod WhatWaitsInRuns
+mod StoppedRuns
 mod Law
