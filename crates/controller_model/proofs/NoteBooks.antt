@@ -35,7 +35,7 @@ ended_from setup facts (first ∷ past) step =
     ap (λ rest. end_notes setup facts first ++ rest) (ended_from setup (end_after setup facts first) past step)
     ∙ sym (append_assoc (end_notes setup facts first) _ _)
 
-notes_grow : (setup : EndSetup) (past : List EndStep) (step : EndStep)
+pub notes_grow : (setup : EndSetup) (past : List EndStep) (step : EndStep)
     → end_notes_of setup (past ++ step ∷ []) ≡ end_notes_of setup past ++ end_notes setup (end_facts setup past) step
 unfolding end_notes_of end_facts
 notes_grow setup past step = ended_from setup (first_end setup) past step
