@@ -26,7 +26,8 @@ use Rattle.journal_links.specs.Opened.{central_side}
 use Rattle.journal_links.proofs.Numbered.{other_of}
 use Rattle.journal_packets.specs.Belonging.{first_number}
 use Rattle.journal_packets.proofs.AccessOrder.{AreNth, first_is, sent_ordered}
-use Rattle.journal_links.proofs.OfTwo.{are_distinct, of_two_stations}
+use Rattle.journal_links.proofs.LineNotes.{lines_of_end}
+use Rattle.journal_links.proofs.OfTwo.{are_distinct, of_two_stations, two_apart}
 use Rattle.journal_packets.proofs.SentLinks.{IsOfTwo, begun_are_sent, link_begun, links_sent, sent_at}
 use Rattle.journal_packets.proofs.SoFar.{IsBelongingSoFar, belonging_kept, sends_on_its_link}
 use Rattle.journal_acks.proofs.Counting.{AreKnown, IsBegun}
@@ -88,6 +89,10 @@ known_of understood taken nth apart given are_two six = record {
   alone = λ at history q station one other a b in_it is_open is_open_too same.
       let front = front_at given at history q.front in
       opened_once given history front.rest station one other a b (are_distinct given are_two) in_it front.at is_open is_open_too same;
+  lines = λ at history q station handle link in_it is_open.
+      let front = front_at given at history q.front in
+      lines_of_end understood taken given (are_distinct given are_two) six station (two_apart given are_two station in_it) history front.rest handle link front.at
+      q.numbered.numbered (q.noted.noted station) is_open;
   agree = λ whole at history q one other in_it in_too differs.
       let front = front_at given at history q.front in
       all_agree whole understood taken apart given six (are_distinct given are_two) (of_both given 0 1 are_two) history front.rest front.at one other in_it in_too differs;
