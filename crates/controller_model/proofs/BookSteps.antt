@@ -1,11 +1,11 @@
 -- Each step of a controller keeps the book of a handle.
-use Rattle.std.proofs.Common.{◌≡◌, ℕ, ◌+◌, ◌==◌, Bool, true, false, Option, Some, None, List, [], ◌∷◌, ◌++◌, map, cond, refl, sym, subst}
+use Rattle.std.proofs.Common.{ℕ, Bool, true, false, Option, Some, None, List, ◌++◌, refl, sym, subst}
 use Rattle.std.specs.Prelude.{filter}
 use Rattle.std.specs.Option.{option_map}
 use Rattle.acl_banks.specs.declared.pieces.Piece.{Piece}
 use Rattle.ble_base.specs.declared.notes.Note.{Note}
 use Rattle.link_model.specs.Step.{Step as EndStep, EventEntered, PduFixed, PacketSent, PacketReceived}
-use Rattle.open_links.specs.OpenLinks.{Links, OpenLink, HaveHandles, link_after, link_at, link_from, link_served, with_change}
+use Rattle.open_links.specs.OpenLinks.{Links, OpenLink, HaveHandles, link_after, link_at, link_served, with_change}
 use Rattle.open_links.specs.Turns.{entered_if, is_anchor, link_entered, links_entered}
 use Rattle.open_links.proofs.Handles.{changed_is, has_its_handle, other_stays}
 use Rattle.open_links.proofs.UnderHandles.{map_at}

@@ -30,16 +30,16 @@ use Rattle.slot_plan.specs.declared.Activity.TheVariants.{Link, Advertise, Scan,
 use Rattle.instants.specs.Track.{next_number}
 use Rattle.link_model.specs.declared.setup.LinkSetup.{LinkSetup}
 use Rattle.link_model.specs.Acknowledgement.{Pdu}
-use Rattle.link_model.specs.Delivery.{notes_of as end_notes_of}
-use Rattle.link_model.specs.End.{applied_notes, facts_entered, notes_after as end_notes, sent_notes_if, took_notes, took_notes_if}
-use Rattle.link_model.specs.Facts.{Facts as EndFacts}
+use Rattle.link_model.specs.Delivery.{notes_from as end_notes_from, notes_of as end_notes_of}
+use Rattle.link_model.specs.End.{applied_notes, facts_after as end_after, facts_of as end_facts, notes_after as end_notes, sent_notes_if, took_notes, took_notes_if}
+use Rattle.link_model.specs.Facts.{Facts as EndFacts, first_facts as first_end}
 use Rattle.link_model.specs.Packets.{good_pdu, pdu_of}
 use Rattle.link_model.specs.Setup.{Setup as EndSetup}
 use Rattle.link_model.specs.Step.{Step as EndStep, DataGiven, EventEntered, PduFixed, PacketSent, PacketReceived, DataReported}
 use Rattle.open_links.specs.Data.{complete_in, completed_from, link_reported, links_reported}
 use Rattle.open_links.specs.declared.offers.Offer.{Offer}
 use Rattle.open_links.specs.declared.offers.Offer.TheVariants.{NoLink, Empty, Overflow, Kept}
-use Rattle.open_links.specs.OpenLinks.{Links, OpenLink, HasHandle, HaveHandles, facts_in, handles_from, link_after, link_at, link_from, link_served, new_link, with_change, with_link, without_links}
+use Rattle.open_links.specs.OpenLinks.{Links, OpenLink, HasHandle, HaveHandles, facts_in, handles_from, link_after, link_at, link_from, link_served, new_link, with_change, with_link}
 use Rattle.open_links.specs.Turns.{end_by, ends_from, entered_if, is_anchor, link_entered, links_entered, links_staying, notes_entering, notes_if, place_staying, reason_in, staying_by}
 use Rattle.open_links.proofs.Ends.{stay_with_handles, stays_where_not_due}
 use Rattle.open_links.proofs.UnderHandles.{map_at}
@@ -53,16 +53,15 @@ use Rattle.controller_model.specs.Commands.{events_caused, facts_commanded, fact
 use Rattle.controller_model.specs.Data.{event_completed, facts_offered, note_received, notes_ended_turn, notes_offered, offer_of}
 use Rattle.controller_model.specs.Events.{notes_of_events, passes}
 use Rattle.controller_model.specs.Heard.{asks_if, events_reported, has_room, link_heard, link_received, link_taken, notes_taken, opens, replies_in, reply_if, scanner_after, with_scanner}
-use Rattle.controller_model.specs.Links.{ends_in, events_opened, facts_ending, note_opened, note_shut, notes_ended, notes_ending, notes_opened}
-use Rattle.controller_model.specs.Outcome.{Outcome, facts_passed, goes_on, notes_passed}
+use Rattle.controller_model.specs.Links.{events_opened, note_opened, note_shut, notes_ended, notes_ending, notes_opened}
+use Rattle.controller_model.specs.Outcome.{Outcome, facts_passed, notes_passed}
 use Rattle.controller_model.specs.Packets.{facts_doing, links_sending, notes_doing, notes_sent}
-use Rattle.controller_model.specs.Radio.{fixing, links_fixing, outcome_begun, turn_begins}
+use Rattle.controller_model.specs.Radio.{fixing, links_fixing, outcome_begun}
 use Rattle.controller_model.specs.Side.{facts_after, facts_fed, facts_of, notes_after, notes_fed, notes_from, notes_of, result_of}
 use Rattle.controller_model.specs.Since.{AreOfShutLink, is_under, note_under, notes_opened_on, notes_under, opens_under, was_opened}
 use Rattle.controller_model.proofs.Always.{ending_is, facts_before_doing, holds_step, left_entering, links_won, opening_passes, served_is, winner_before_doing}
 use Rattle.controller_model.proofs.Books.{by_handle, is_not}
 use Rattle.controller_model.proofs.Handles.{HaveOwnHandles, IsNew, change_opens, free_is_new, handles_kept, own_handles}
-use Rattle.controller_model.proofs.NoteBooks.{notes_grow}
 use Rattle.controller_model.proofs.Phases.{EachOutcome, heard_is, unheard_is}
 use Rattle.controller_model.proofs.Places.{at_changed}
 
@@ -100,11 +99,11 @@ pub some_under : (handle : ℕ) (notes : List Note) (X : Type 0) → was_opened 
 some_under handle notes X opened none = absurd (let h : true ≡ false = sym opened ∙ (none_under handle [] notes none).1 in absurd cc)
 
 -- a note of the link that is open under a handle
-record IsOn (own : ℕ) (note : Note) : Type 0 where
-  opens : (handle : ℕ) → opens_under handle note ≡ false
-  under : (handle : ℕ) → is_under handle note ≡ (own == handle)
+pub record IsOn (own : ℕ) (note : Note) : Type 0 where
+  pub opens : (handle : ℕ) → opens_under handle note ≡ false
+  pub under : (handle : ℕ) → is_under handle note ≡ (own == handle)
 
-abbrev AreOn : ℕ → List Note → Type 0
+abbrev pub AreOn : ℕ → List Note → Type 0
 AreOn own notes = AllByRecursion (IsOn own) notes
 
 both_on : (own : ℕ) (xs ys : List Note) → AreOn own xs → AreOn own ys → AreOn own (xs ++ ys)
@@ -137,6 +136,30 @@ step_on setup facts PduFixed = tt
 step_on setup facts (PacketSent slot) = sent_on _ setup.link.handle facts
 step_on setup facts (PacketReceived slot octets room) = found_on setup.link.handle room (good_pdu setup facts octets) facts
 step_on setup facts DataReported = tt
+
+-- what an end notes over one more step
+ended_from : (setup : EndSetup) (facts : EndFacts) (past : List EndStep) (step : EndStep)
+    → end_notes_from setup facts (past ++ step ∷ []) ≡ end_notes_from setup facts past ++ end_notes setup (fold (end_after setup) facts past) step
+ended_from setup facts [] step = append-nil (end_notes setup facts step)
+ended_from setup facts (first ∷ past) step =
+    ap (λ rest. end_notes setup facts first ++ rest) (ended_from setup (end_after setup facts first) past step)
+    ∙ sym (append_assoc (end_notes setup facts first) _ _)
+
+notes_grow : (setup : EndSetup) (past : List EndStep) (step : EndStep)
+    → end_notes_of setup (past ++ step ∷ []) ≡ end_notes_of setup past ++ end_notes setup (end_facts setup past) step
+unfolding end_notes_of end_facts
+notes_grow setup past step = ended_from setup (first_end setup) past step
+
+from_on : (setup : EndSetup) (facts : EndFacts) (past : List EndStep) → AreOn setup.link.handle (end_notes_from setup facts past)
+from_on setup facts [] = tt
+from_on setup facts (step ∷ past) =
+    both_on setup.link.handle (end_notes setup facts step) (end_notes_from setup (end_after setup facts step) past) (step_on setup facts step)
+    (from_on setup (end_after setup facts step) past)
+
+-- and so is all that it notes
+pub end_on : (setup : EndSetup) (past : List EndStep) → AreOn setup.link.handle (end_notes_of setup past)
+unfolding end_notes_of
+end_on setup past = from_on setup (first_end setup) past
 
 -- ---- one handle
 
