@@ -1,11 +1,11 @@
 -- The events among the notes of a link: they are numbered one after another, and what is read of their lines is read of
 -- them.
-use Rattle.std.proofs.Common.{◌≡◌, ℕ, zero, suc, ◌+◌, ◌-◌, ◌==◌, ◌&&◌, ◌⊎◌, inl, inr, Bool, true, false, Option, Some, None, List, [], ◌∷◌, ◌++◌, refl, sym, ap, subst, ◌∙◌, append-nil, arith}
+use Rattle.std.proofs.Common.{◌≡◌, ℕ, zero, suc, ◌+◌, ◌-◌, ◌==◌, ◌&&◌, Bool, true, false, Option, Some, None, List, [], ◌∷◌, ◌++◌, refl, sym, ap, subst, ◌∙◌, arith}
 use Rattle.std.specs.Prelude.{fold, map, ⊤, if◌then◌else◌}
 use Rattle.std.proofs.lemmas.Bool.{eq-eqb}
 use Rattle.std.proofs.lemmas.List.Sums.{fold-append}
 use Rattle.ble_base.specs.declared.notes.Note.{Note}
-use Rattle.ble_base.specs.declared.notes.Note.TheVariants.{Up, Applied, Enter}
+use Rattle.ble_base.specs.declared.notes.Note.TheVariants.{Up, Enter}
 use Rattle.ble_base.specs.declared.roles.Side.{Side}
 use Rattle.ble_base.specs.declared.roles.Side.TheVariants.{A, B}
 use Rattle.instants.specs.Track.{next_number}
@@ -47,7 +47,7 @@ abbrev pub read_note : {X : Type 0} → Reading X → X → Note → X
 read_note reading before (Enter handle event channel) = reading.enters channel before
 read_note reading before note = before
 
-unnamed : (side other : Side) (same : Bool) (line : Entry) → of_side side other (if same then line ∷ [] else []) ≡ [] → (is_side other side && same) ≡ false
+pub unnamed : (side other : Side) (same : Bool) (line : Entry) → of_side side other (if same then line ∷ [] else []) ≡ [] → (is_side other side && same) ≡ false
 unnamed A A true line none = absurd cc
 unnamed B B true line none = absurd cc
 unnamed A B true line none = refl

@@ -20,8 +20,8 @@ use Rattle.controller_model.proofs.Entries.{enters_as_turns_begin, enters_at_anc
 use Rattle.controller_model.proofs.Pasts.{notes_more}
 use Rattle.controller_model.proofs.UnderNotes.{open_noted, shut_noted}
 use Rattle.run_model.specs.Feeding.{AreDistinct}
-use Rattle.run_model.specs.History.{Event, Called, Noted, noted_by, past_of}
-use Rattle.run_model.specs.Journal.{journal_of, side_of}
+use Rattle.run_model.specs.History.{Called, Noted, noted_by, past_of}
+use Rattle.run_model.specs.Journal.{journal_of}
 use Rattle.run_model.specs.LinkEnds.{HaveAddresses}
 use Rattle.run_model.specs.NoteLines.{enter_line}
 use Rattle.run_model.specs.OnAir.{ends_phase}

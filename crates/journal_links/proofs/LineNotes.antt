@@ -235,9 +235,6 @@ module _ (station : ℕ) (history : List Event) (are : AreSorted station history
     opened_by handle here is =
         ap (was_opened handle) (note_added station history opening) ∙ opened_more handle notes opening ∙ ap (λ b. was_opened handle notes || b) is
 
-    was_before : (handle : ℕ) → (under == handle) ≡ false → was_opened handle (noted_by station opened_then) ≡ was_opened handle notes
-    was_before handle is = opened_by handle false is ∙ or_none (was_opened handle notes)
-
     number_then : (handle : ℕ) (here : Bool) → (under == handle) ≡ here → number_at station handle opened_then ≡ (if here then last else number handle)
     number_then handle here is =
         ap (λ (l : Links). l.link_of station handle) (links_event history (Noted station opening))
