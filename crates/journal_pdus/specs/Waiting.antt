@@ -22,18 +22,19 @@ data_of_lines lines = flat_map (λ (one : PduLine). data_in one.pdu) lines
 abbrev pub octets_sent : ℕ → Lines → ℕ
 octets_sent link lines = length (data_of_lines (pdus_on link lines.sent))
 
--- a PDU has at most this number of octets of data, until the ends agree on more
-abbrev pub piece_octets : ℕ
-piece_octets = first_payload_octets
+-- the most octets of data in a PDU that a side sends on a link after these entries: 27, until the ends agree on more
+abbrev pub limit_of : Side → ℕ → List Entry → ℕ
+limit_of side link front = first_payload_octets
 
 -- the next PDU of these packets, of which this number of octets were sent: a piece of the first packet that was not
--- sent whole, which starts a message or continues it; and an empty one where there is none
-abbrev pub next_pdu : List HostData → ℕ → Pdu
-next_pdu [] sent = empty_pdu
-next_pdu (packet ∷ packets) sent =
+-- sent whole, which has at most `limit` octets and starts a message or continues it; and an empty one where there is
+-- none
+abbrev pub next_pdu : ℕ → List HostData → ℕ → Pdu
+next_pdu limit [] sent = empty_pdu
+next_pdu limit (packet ∷ packets) sent =
     if nat_lt sent (length packet.body)
-    then record { llid = llid_of (packet.start && sent == 0); body = take piece_octets (drop sent packet.body) }
-    else next_pdu packets (sent - length packet.body)
+    then record { llid = llid_of (packet.start && sent == 0); body = take limit (drop sent packet.body) }
+    else next_pdu limit packets (sent - length packet.body)
 
 -- not all octets that the host submitted were sent
 abbrev pub data_waits : ℕ → Lines → Bool
@@ -42,7 +43,8 @@ data_waits link lines = nat_lt (octets_sent link lines) (length (octets_of (data
 -- a new PDU that a side sends after these entries is the next one of its host's data, and has the next number
 pub record IsNextPdu (link : ℕ) (front : List Entry) (side : Side) (count : ℕ) (pdu : Pdu) : Type 0 where
   pub next : pdu
-      ≡ next_pdu (data_on link (lines_of host_buffers side front)) (octets_sent link (lines_of host_buffers side front))
+      ≡ next_pdu (limit_of side link front) (data_on link (lines_of host_buffers side front))
+      (octets_sent link (lines_of host_buffers side front))
   pub numbered : count ≡ length (pdus_on link (lines_of host_buffers side front).sent) + 1
 
 -- MD in a packet that a side sends after these entries says whether more data waits; and it carries an empty PDU as a

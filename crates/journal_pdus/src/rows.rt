@@ -19,19 +19,19 @@ ghost use Rattle.journal_pdus.specs.Waiting.{data_waits, next_pdu};
 /// second is a PDU of its own. Only the first piece of a packet can start a message.
 #[tactic(auto)]
 pub fn worked_next_pdu()
-    ensures first { next_pdu (record { start = true; body = replicate 28 0xA1 } ∷ []) 0
+    ensures first { next_pdu 27 (record { start = true; body = replicate 28 0xA1 } ∷ []) 0
         ≡ record { llid = 2; body = replicate 27 0xA1 } }
-    ensures second { next_pdu (record { start = true; body = replicate 28 0xA1 } ∷ []) 27
+    ensures second { next_pdu 27 (record { start = true; body = replicate 28 0xA1 } ∷ []) 27
         ≡ record { llid = 1; body = 0xA1 ∷ [] } }
-    ensures last { next_pdu (record { start = true; body = replicate 28 0xA1 } ∷ []) 28
+    ensures last { next_pdu 27 (record { start = true; body = replicate 28 0xA1 } ∷ []) 28
         ≡ empty_pdu }
-    ensures one_packet { next_pdu (record { start = true; body = 0xA1 ∷ [] }
+    ensures one_packet { next_pdu 27 (record { start = true; body = 0xA1 ∷ [] }
         ∷ record { start = true; body = 0xA2 ∷ [] } ∷ []) 0
         ≡ record { llid = 2; body = 0xA1 ∷ [] } }
-    ensures next_packet { next_pdu (record { start = true; body = 0xA1 ∷ [] }
+    ensures next_packet { next_pdu 27 (record { start = true; body = 0xA1 ∷ [] }
         ∷ record { start = true; body = 0xA2 ∷ [] } ∷ []) 1
         ≡ record { llid = 2; body = 0xA2 ∷ [] } }
-    ensures continuation { next_pdu (record { start = false; body = 0xA1 ∷ [] } ∷ []) 0
+    ensures continuation { next_pdu 27 (record { start = false; body = 0xA1 ∷ [] } ∷ []) 0
         ≡ record { llid = 1; body = 0xA1 ∷ [] } }
 {}
 

@@ -36,7 +36,7 @@ use Rattle.link_end.specs.Held.{Held, acks_piece, carries_next, count_if, got_of
 use Rattle.link_model.specs.Kept.{kept_from, kept_of}
 use Rattle.link_end.specs.Knowing.{Goes, Knows}
 use Rattle.link_end.specs.Tied.{HoldsData, IsAfterAck, IsTied, bank_went_if}
-use Rattle.link_end.proofs.Banked.{holds_acked, holds_given, holds_reported, holds_sent, next_same, out_same, piece_body, unsent_same}
+use Rattle.link_end.proofs.Banked.{holds_acked, holds_given, holds_reported, holds_sent, cut_same, next_same, out_same, piece_body, unsent_same}
 
 -- what an end that knows its past holds
 pub held_is : (setup : Setup) (held : Held) (past : List Step) → Knows setup held past → held ≡ held_of setup (facts_of setup past)
@@ -160,16 +160,15 @@ sent setup held new past slot before noted is notes knows =
     }
 
 pub sent_holds : (setup : Setup) (held : Held) (past : List Step) (slot : ℕ) (before after : Bank)
-    → after ≡ bank_went_if (carries_next held) before held.setup.link.handle → Knows setup held past
+    → after ≡ bank_went_if (carries_next held) before held.setup.link.handle (length held.fixed.body) → Knows setup held past
     → HoldsData setup.link.handle before (facts_of setup past).outgoing
     → HoldsData setup.link.handle after (facts_of setup (past ++ PacketSent slot ∷ [])).outgoing
 sent_holds setup held past slot before after is knows holds =
     let facts = facts_of setup past in
     holds_after setup past (PacketSent slot) after
     (subst (λ (bank : Bank). HoldsData setup.link.handle bank (facts_sent slot facts).outgoing)
-    (sym (is ∙ ap (λ (h : Held). bank_went_if (carries_next h) before h.setup.link.handle) (held_is setup held past knows)))
-    (holds_sent setup.link.handle before facts.outgoing (is_acked facts.acknowledgement) (is_data facts.outgoing.fixed) refl
-    (limit_is setup past) holds))
+    (sym (is ∙ ap (λ (h : Held). bank_went_if (carries_next h) before h.setup.link.handle (length h.fixed.body)) (held_is setup held past knows)))
+    (holds_sent setup.link.handle before facts.outgoing (is_acked facts.acknowledgement) (is_data facts.outgoing.fixed) refl holds))
 
 pub packed : (setup : Setup) (held : Held) (past : List Step) (octets : List ℕ)
     → octets ≡ on_air held.event.channel held.setup.link.fields.access held.setup.link.fields.crc_init
@@ -324,7 +323,7 @@ knows_tied setup held past bank knows holds =
     subst (λ (h : Held). IsTied h bank) (sym (held_is setup held past knows))
     (record {
       out = ap is_some (out_same handle bank outgoing holds) ∙ piece_out_where_waits setup past;
-      next = λ carries. ap pdu_with (next_same handle bank outgoing holds (limit_is setup past)) ∙ fixed_is_next setup past carries;
+      next = λ carries. ap pdu_with (cut_same handle bank outgoing holds (length outgoing.fixed.body)) ∙ fixed_is_next setup past carries;
     })
 
 given_of : (setup : Setup) (facts : Facts) (start : Bool) (body : List ℕ)

@@ -101,13 +101,13 @@ data_fixed outgoing =
       more = nat_lt (length (pdu_with (next_piece outgoing)).body) (length (unsent_of outgoing));
     }
 
--- the fixed PDU is sent
+-- the fixed PDU is sent: as many octets go out as it has, whatever the limit is by now
 abbrev pub data_sent : Data → Data
 data_sent outgoing =
     record outgoing {
       packets =
           (if is_data outgoing.fixed
-          then with_first is_unsent (packet_after_went outgoing.limit) outgoing.packets
+          then with_first is_unsent (packet_after_went (length outgoing.fixed.body)) outgoing.packets
           else outgoing.packets);
       fixed = empty_pdu;
       more = false;
