@@ -78,7 +78,7 @@ fixed_of : (setup : Setup) (facts : Facts) (bank : Bank) → facts.outgoing.limi
     → HoldsData setup.link.handle bank facts.outgoing
     → held_fixed (bank_next bank setup.link.handle 27) (nat_lt (next_length bank setup.link.handle 27) (length (bank_unsent bank setup.link.handle)))
     (held_of setup facts)
-    ≡ held_of setup (record facts { outgoing = data_fixed facts.outgoing })
+    ≡ held_of setup (record facts { outgoing = data_fixed [] [] facts.outgoing })
 fixed_of setup facts bank limit holds =
     let handle = setup.link.handle in
     let same = next_same handle bank facts.outgoing holds limit in

@@ -5,6 +5,7 @@ pub mod Received
 pub mod Sending
 pub mod Pieces
 pub mod Taking
+pub mod Waiting
 pub mod Pairs
 pub mod Numbering
 pub mod Pasts

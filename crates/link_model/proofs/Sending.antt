@@ -94,7 +94,7 @@ next-found : (packets : List DataPacket) (limit : ℕ) (first : Option DataPacke
 next-found packets limit None some found = none_next refl
 next-found packets limit (Some packet) some found = piece_next packet limit some found refl
 
-fixed_together : (ack : Acknowledgement) (outgoing : Data) → IsTogether ack outgoing → IsTogether ack (data_fixed outgoing)
+fixed_together : (ack : Acknowledgement) (outgoing : Data) → IsTogether ack outgoing → IsTogether ack (data_fixed [] [] outgoing)
 fixed_together ack outgoing are =
     record {
       kept = are.kept;

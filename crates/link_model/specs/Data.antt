@@ -1,6 +1,6 @@
 -- The data of one end of a link: what its host gave it and what became of that (Core 5.2, volume 4 part E, section 4.1;
 -- volume 6 part B, sections 2.4.1 and 4.5.10).
-use Rattle.std.specs.Prelude.{ℕ, ◌+◌, ◌==◌, ◌&&◌, ◌||◌, nat_lt, Bool, false, not, List, [], ◌∷◌, ◌++◌, length, Option, Some, None, if◌then◌else◌}
+use Rattle.std.specs.Prelude.{ℕ, ◌+◌, ◌==◌, ◌&&◌, ◌||◌, nat_lt, Bool, true, false, not, List, [], ◌∷◌, ◌++◌, length, Option, Some, None, is_some, if◌then◌else◌}
 use Rattle.std.specs.List.{filter, find, flat_map}
 use Rattle.std.specs.Option.{option_map}
 use Rattle.ble_base.specs.Limits.{first_payload_octets}
@@ -52,6 +52,9 @@ pdu_with (Some piece) = record { llid = llid_of piece.start; body = piece.body.i
 abbrev pub is_empty : Pdu → Bool
 is_empty pdu = pdu.llid == 0 || length pdu.body == 0
 
+abbrev pub is_control : Pdu → Bool
+is_control pdu = pdu.llid == 3
+
 abbrev pub is_data : Pdu → Bool
 is_data pdu = (pdu.llid == 1 || pdu.llid == 2) && not (length pdu.body == 0)
 
@@ -82,6 +85,24 @@ unsent_of outgoing = flat_map unsent_octets outgoing.packets
 abbrev pub next_piece : Data → Option Piece
 next_piece outgoing = option_map (piece_of outgoing.limit) (find is_unsent outgoing.packets)
 
+-- ---- what goes out next
+
+-- the PDU that goes out next: the first control PDU that may be sent, then the next piece of data, then the empty PDU
+-- (section 2.4; the order is our choice)
+abbrev pub next_of : List Pdu → Option Piece → Pdu
+next_of [] piece = pdu_with piece
+next_of (control ∷ controls) piece = control
+
+abbrev pub has_some : List Pdu → Bool
+has_some [] = false
+has_some (pdu ∷ pdus) = true
+
+-- a further PDU waits behind that: behind a control PDU another one, also one that may not be sent yet, or a piece of
+-- data; behind a piece the octets that it does not have (section 4.5.6; what counts is our choice)
+abbrev pub waits_behind : List Pdu → List Pdu → Option Piece → ℕ → Bool
+waits_behind [] held piece unsent = nat_lt (length (pdu_with piece).body) unsent
+waits_behind (control ∷ controls) held piece unsent = has_some controls || has_some held || is_some piece
+
 -- ---- steps
 
 -- the host gives a packet, which is kept; one of no octet has nothing to be sent
@@ -93,12 +114,13 @@ data_given handle start (octet ∷ octets) outgoing =
       packets = outgoing.packets ++ new_packet handle start (octet ∷ octets) ∷ [];
     }
 
--- as a turn begins, the PDU that may be sent next is fixed (our choice)
-abbrev pub data_fixed : Data → Data
-data_fixed outgoing =
+-- as a turn begins, the PDU that may be sent next is fixed, by the control PDUs that may be sent and those that are held
+-- back (our choice)
+abbrev pub data_fixed : List Pdu → List Pdu → Data → Data
+data_fixed controls held outgoing =
     record outgoing {
-      fixed = pdu_with (next_piece outgoing);
-      more = nat_lt (length (pdu_with (next_piece outgoing)).body) (length (unsent_of outgoing));
+      fixed = next_of controls (next_piece outgoing);
+      more = waits_behind controls held (next_piece outgoing) (length (unsent_of outgoing));
     }
 
 -- the fixed PDU is sent: as many octets go out as it has, whatever the limit is by now

@@ -14,7 +14,7 @@ use Rattle.link_model.specs.Step.{Step, DataGiven, EventEntered, PduFixed, Packe
 use Rattle.link_model.specs.Acknowledgement.{Pdu, after_sending, bits_of, is_acked, received_by}
 use Rattle.link_model.specs.Data.{data_acked_if, data_fixed, data_given, data_reported, data_sent_if, is_data, is_empty, numbered}
 use Rattle.link_model.specs.declared.events.ConnectionEvent.{ConnectionEvent}
-use Rattle.link_model.specs.Facts.{Facts, first_facts}
+use Rattle.link_model.specs.Facts.{Facts, controls_held, controls_ready, first_facts}
 use Rattle.link_model.specs.Packets.{good_pdu, more_sent, pdu_of}
 
 -- ---- it enters an event (section 4.5.1)
@@ -140,7 +140,8 @@ abbrev pub facts_after : Setup → Facts → Step → Facts
 facts_after setup facts (DataGiven start body) =
     record facts { outgoing = data_given setup.link.handle start body facts.outgoing }
 facts_after setup facts (EventEntered slot) = facts_entered setup slot facts
-facts_after setup facts PduFixed = record facts { outgoing = data_fixed facts.outgoing }
+facts_after setup facts PduFixed =
+    record facts { outgoing = data_fixed (controls_ready facts) (controls_held facts) facts.outgoing }
 facts_after setup facts (PacketSent slot) = facts_sent slot facts
 facts_after setup facts (PacketReceived slot octets room) =
     facts_received slot room (good_pdu setup facts octets) facts

@@ -1,14 +1,16 @@
 //! Laws of one end of a link, and of both. The bodies only call the laws that they rest on: the
 //! contracts are the laws.
 ghost use Rattle.std.specs.Prelude.{◌≡◌, ◌≤◌, ◌+◌, ℕ, Bool, true, List, [], ◌∷◌, ◌++◌};
-ghost use Rattle.std.specs.Prelude.{Some, false, length, take};
+ghost use Rattle.std.specs.Prelude.{Option, Some, None, false, length, nat_lt, take};
 ghost use Rattle.ble_base.specs.declared.roles.Role.TheVariants.{Central};
 ghost use Rattle.ble_base.specs.declared.verdicts.Verdict.TheVariants.{Good};
 ghost use Rattle.data_pdu.specs.Header.{header_in, octets_of};
 ghost use Rattle.link_model.specs.Setup.{Setup};
-ghost use Rattle.link_model.specs.Step.{Step};
+ghost use Rattle.link_model.specs.Step.{Step, PduFixed};
 ghost use Rattle.link_model.specs.Facts.{Facts};
-ghost use Rattle.link_model.specs.Acknowledgement.{Acknowledgement};
+ghost use Rattle.acl_banks.specs.declared.pieces.Piece.{Piece};
+ghost use Rattle.link_model.specs.Acknowledgement.{Acknowledgement, Pdu};
+ghost use Rattle.link_model.specs.Data.{next_of, next_piece, pdu_with, unsent_of, waits_behind};
 ghost use Rattle.link_model.specs.Packets.{good_pdu, header_sent, packet_sent, pdu_of, pdu_sent};
 ghost use Rattle.link_model.specs.Packets.{verdict_of};
 ghost use Rattle.link_model.specs.Delivery.{AreNumbered, IsDelivered, IsInOrder};
@@ -113,6 +115,33 @@ pub fn a_packet_tells_what_was_accepted()
 /// was acknowledged (Core 5.2, volume 4 part E, section 4.1).
 pub fn data_is_sent_in_order()
     ensures { (setup : Setup) (past : List Step) → IsInOrder (facts_of setup past) }
+{}
+
+/// A control PDU that may be sent goes out before data, and MD in its packet is 0 only where nothing
+/// waits behind it: no other control PDU, also none that is held back, and no piece of data. Where
+/// none may be sent, the next piece goes out, or an empty PDU where there is none, and MD tells
+/// whether octets of data wait behind it (Core 5.2, volume 6 part B, section 4.5.6).
+#[tactic(auto, using(crate::proofs::Waiting::none_behind))]
+pub fn control_pdus_go_before_data()
+    ensures control { (control : Pdu) (controls : List Pdu) (piece : Option Piece)
+        → next_of (control ∷ controls) piece ≡ control }
+    ensures behind_control { (control : Pdu) (controls held : List Pdu) (piece : Option Piece)
+        (unsent : ℕ) → waits_behind (control ∷ controls) held piece unsent ≡ false
+        → (controls ≡ []) × (held ≡ []) × (piece ≡ None) }
+    ensures data { (piece : Option Piece) → next_of [] piece ≡ pdu_with piece }
+    ensures behind_data { (held : List Pdu) (piece : Option Piece) (unsent : ℕ)
+        → waits_behind [] held piece unsent ≡ nat_lt (length (pdu_with piece).body) unsent }
+{}
+
+/// As long as links have no control PDUs, the PDU that an end fixes is the next piece of its data,
+/// or an empty one, and MD tells whether octets wait behind it.
+#[tactic(auto)]
+pub fn the_next_piece_is_fixed()
+    ensures fixed { (setup : Setup) (facts : Facts)
+        → (facts_after setup facts PduFixed).outgoing.fixed ≡ pdu_with (next_piece facts.outgoing) }
+    ensures more { (setup : Setup) (facts : Facts) → (facts_after setup facts PduFixed).outgoing.more
+        ≡ nat_lt (length (pdu_with (next_piece facts.outgoing)).body)
+        (length (unsent_of facts.outgoing)) }
 {}
 
 /// Whatever an end receives, it takes no PDU for acknowledged that it did not send, and sends none

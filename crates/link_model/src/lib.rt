@@ -9,9 +9,10 @@ mod setup;
 
 pub use crate::events::{ConnectionEvent, Reception};
 pub use crate::laws::{
-    a_packet_is_understood, a_packet_tells_what_was_accepted, data_is_sent_in_order,
-    ends_agree_in_each_event, ends_stay_in_agreement, events_follow_the_connect_ind,
-    notes_are_numbered, one_pdu_is_out_at_a_time, only_latency_skips_events, past_grows,
+    a_packet_is_understood, a_packet_tells_what_was_accepted,
+    control_pdus_go_before_data, data_is_sent_in_order, ends_agree_in_each_event,
+    ends_stay_in_agreement, events_follow_the_connect_ind, notes_are_numbered,
+    one_pdu_is_out_at_a_time, only_latency_skips_events, past_grows, the_next_piece_is_fixed,
     what_is_taken_was_given,
 };
 pub use crate::rows::{worked_data, worked_events, worked_exchange, worked_latency, worked_times};
