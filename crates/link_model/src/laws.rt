@@ -1,21 +1,24 @@
 //! Laws of one end of a link, and of both. The bodies only call the laws that they rest on: the
 //! contracts are the laws.
-ghost use Rattle.std.specs.Prelude.{◌≡◌, ◌≤◌, ◌+◌, ℕ, Bool, true, List, [], ◌∷◌, ◌++◌};
+ghost use Rattle.std.specs.Prelude.{◌≡◌, ◌≤◌, ◌+◌, ◌&&◌, ℕ, Bool, true, List, [], ◌∷◌, ◌++◌};
 ghost use Rattle.std.specs.Prelude.{Option, Some, None, false, length, nat_lt, take};
 ghost use Rattle.ble_base.specs.declared.roles.Role.TheVariants.{Central};
 ghost use Rattle.ble_base.specs.declared.verdicts.Verdict.TheVariants.{Good};
+ghost use Rattle.data_pdu.specs.declared.header.DataHeader.{DataHeader};
 ghost use Rattle.data_pdu.specs.Header.{header_in, octets_of};
 ghost use Rattle.link_model.specs.Setup.{Setup};
 ghost use Rattle.link_model.specs.Step.{Step, PduFixed};
 ghost use Rattle.link_model.specs.Facts.{Facts};
 ghost use Rattle.acl_banks.specs.declared.pieces.Piece.{Piece};
-ghost use Rattle.link_model.specs.Acknowledgement.{Acknowledgement, Pdu};
-ghost use Rattle.link_model.specs.Data.{next_of, next_piece, pdu_with, unsent_of, waits_behind};
+ghost use Rattle.link_model.specs.Acknowledgement.{Acknowledgement, Pdu, received_by};
+ghost use Rattle.link_model.specs.Data.{data_acked_if, is_data, next_of, next_piece, pdu_with};
+ghost use Rattle.link_model.specs.Data.{unsent_of, waits_behind};
 ghost use Rattle.link_model.specs.Packets.{good_pdu, header_sent, packet_sent, pdu_of, pdu_sent};
 ghost use Rattle.link_model.specs.Packets.{verdict_of};
 ghost use Rattle.link_model.specs.Delivery.{AreNumbered, IsDelivered, IsInOrder};
 ghost use Rattle.link_model.specs.Times.{has_nothing_to_send, wants_of};
-ghost use Rattle.link_model.specs.End.{facts_of, facts_after};
+ghost use Rattle.link_model.specs.End.{event_heard, facts_after, facts_hearing, facts_of};
+ghost use Rattle.link_model.specs.End.{has_acknowledged, has_new_pdu, is_accepted};
 ghost use Rattle.link_model.specs.Events.{IsInEvent, entries_in};
 ghost use Rattle.link_model.specs.Pair.{AreInAgreement, AreInOneEvent, AreOneLink, Move, pair_of};
 ghost use Rattle.link_model.specs.Pair.{receiver_after, sender_after};
@@ -142,6 +145,23 @@ pub fn the_next_piece_is_fixed()
     ensures more { (setup : Setup) (facts : Facts) → (facts_after setup facts PduFixed).outgoing.more
         ≡ nat_lt (length (pdu_with (next_piece facts.outgoing)).body)
         (length (unsent_of facts.outgoing)) }
+{}
+
+/// Of what exists now, the steps of a reception make this together: the event and the last good
+/// packet, what is acknowledged and what is accepted, and the data that is acknowledged.
+#[tactic(auto)]
+pub fn a_reception_is_its_steps()
+    ensures { (slot : ℕ) (room : Bool) (header : DataHeader) (pdu : Pdu) (facts : Facts)
+        → facts_hearing slot room header pdu facts ≡ record facts {
+          event = event_heard slot header.md facts.event;
+          acknowledgement =
+              received_by (has_acknowledged facts header)
+              (is_accepted room (has_new_pdu facts header) pdu) pdu facts.acknowledgement;
+          outgoing =
+              data_acked_if (has_acknowledged facts header && is_data facts.acknowledgement.last)
+              facts.outgoing;
+          last_good = Some (record { slot = slot; event = facts.event.number });
+        } }
 {}
 
 /// Whatever an end receives, it takes no PDU for acknowledged that it did not send, and sends none
