@@ -24,10 +24,11 @@ use Rattle.link_model.specs.Step.{Step, DataGiven, DataReported, EventEntered, P
 use Rattle.link_model.specs.Acknowledgement.{Acknowledgement, Pdu, bits_of, empty_pdu, is_acked, next_sent}
 use Rattle.link_model.specs.Data.{Data, data_acked_if, data_fixed, data_given, data_sent_if, is_data, is_empty, numbered, pdu_with}
 use Rattle.link_model.specs.Facts.{Facts}
-use Rattle.link_model.specs.Packets.{good_in, good_pdu, packet_sent, pdu_of, verdict_by, verdict_of}
+use Rattle.link_model.specs.Packets.{good_in, good_pdu, more_sent, packet_sent, pdu_of, pdu_sent, verdict_by, verdict_of}
 use Rattle.link_model.specs.Times.{skips_by, wants_of}
 use Rattle.link_model.specs.End.{applied_notes, facts_after, facts_entered, facts_of, facts_received, facts_sent, has_acknowledged, has_new_pdu, is_accepted, notes_after, replies_by, replies_of, took_notes}
 use Rattle.link_model.proofs.Pasts.{grows}
+use Rattle.link_model.proofs.Payloads.{past_payload}
 use Rattle.link_model.proofs.Pieces.{fixed_is_next, limit_is, piece_out_where_waits}
 use Rattle.link_model.proofs.Received.{received_ends}
 use Rattle.link_model.proofs.Sending.{past_counted}
@@ -176,9 +177,13 @@ pub packed : (setup : Setup) (held : Held) (past : List Step) (octets : List ℕ
     → Knows setup held past → octets ≡ packet_sent setup (facts_of setup past)
 unfolding packet_sent
 packed setup held past octets is knows =
+    let facts = facts_of setup past in
     is ∙ ap (λ (h : Held). on_air h.event.channel h.setup.link.fields.access h.setup.link.fields.crc_init
     (octets_of (header_of h.bits (pdu_out h).llid (more_out h) (length (pdu_out h).body)) ++ (pdu_out h).body))
     (held_is setup held past knows)
+    ∙ ap (λ payload. on_air facts.event.channel setup.link.fields.access setup.link.fields.crc_init
+    (octets_of (header_of (bits_of facts.acknowledgement) (pdu_sent facts).llid (more_sent facts) (length payload)) ++ payload))
+    (sym (past_payload setup past))
 
 -- ---- it receives
 

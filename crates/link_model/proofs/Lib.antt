@@ -4,6 +4,7 @@ pub mod Payloads
 pub mod Received
 pub mod Sending
 pub mod Pieces
+mod Repeating
 pub mod Taking
 pub mod Waiting
 pub mod Pairs

@@ -8,6 +8,7 @@ use Rattle.acl_banks.specs.declared.pieces.Piece.{Piece}
 use Rattle.acl_banks.specs.History.{HostData}
 use Rattle.acl_banks.specs.Packets.{DataPacket, Marked, is_all_sent, marked_octets, new_packet, packet_after_acked, packet_after_went, piece_of, sent_length, unsent_octets, with_first, without_first}
 use Rattle.link_model.specs.Acknowledgement.{Pdu, empty_pdu}
+use Rattle.link_model.specs.Payload.{payload_of}
 
 pub record Data : Type 0 where
   -- the packets of the host that were kept to be sent, in order
@@ -24,6 +25,8 @@ pub record Data : Type 0 where
   -- then
   pub fixed : Pdu
   pub more : Bool
+  -- the payload of the PDU that was sent last, as it was on the air
+  pub payload : List ℕ
 
 -- payloads have at most 27 octets until the ends agree on more (section 4.5.10)
 abbrev pub first_data : Data
@@ -35,6 +38,7 @@ first_data = record {
   limit = first_payload_octets;
   fixed = empty_pdu;
   more = false;
+  payload = payload_of empty_pdu;
 }
 
 -- ---- PDUs
@@ -123,7 +127,8 @@ data_fixed controls held outgoing =
       more = waits_behind controls held (next_piece outgoing) (length (unsent_of outgoing));
     }
 
--- the fixed PDU is sent: as many octets go out as it has, whatever the limit is by now
+-- the fixed PDU is sent: as many octets go out as it has, whatever the limit is by now. Its payload is made here, and is
+-- kept for sending it again
 abbrev pub data_sent : Data → Data
 data_sent outgoing =
     record outgoing {
@@ -133,6 +138,7 @@ data_sent outgoing =
           else outgoing.packets);
       fixed = empty_pdu;
       more = false;
+      payload = payload_of outgoing.fixed;
     }
 
 abbrev pub data_sent_if : Bool → Data → Data

@@ -13,6 +13,7 @@ use Rattle.ack_bit.specs.AckBits.{header_of}
 use Rattle.link_model.specs.Setup.{Setup}
 use Rattle.link_model.specs.Acknowledgement.{Pdu, bits_of, is_acked}
 use Rattle.link_model.specs.Data.{is_empty}
+use Rattle.link_model.specs.Payload.{opened_of, payload_of}
 use Rattle.link_model.specs.Facts.{Facts}
 
 -- the PDU in the packet that it sends: the last one again until that is acknowledged, and then the fixed one (section
@@ -25,16 +26,21 @@ pdu_sent facts = if is_acked facts.acknowledgement then facts.outgoing.fixed els
 abbrev pub more_sent : Facts → Bool
 more_sent facts = if is_acked facts.acknowledgement then facts.outgoing.more else not (is_empty facts.outgoing.fixed)
 
+-- the payload of that packet: it is made as the PDU is first sent, and the same octets are sent again (section 4.5.9)
+abbrev pub payload_sent : Facts → List ℕ
+payload_sent facts =
+    if is_acked facts.acknowledgement then payload_of facts.outgoing.fixed else facts.outgoing.payload
+
 -- the header of that packet (section 2.4)
 abbrev pub header_sent : Facts → DataHeader
 header_sent facts =
-    header_of (bits_of facts.acknowledgement) (pdu_sent facts).llid (more_sent facts) (length (pdu_sent facts).body)
+    header_of (bits_of facts.acknowledgement) (pdu_sent facts).llid (more_sent facts) (length (payload_sent facts))
 
 -- the packet that it sends, on the channel of the event (section 2.1)
 unfoldable pub packet_sent : Setup → Facts → List ℕ
 packet_sent setup facts =
     on_air facts.event.channel setup.link.fields.access setup.link.fields.crc_init
-    (octets_of (header_sent facts) ++ (pdu_sent facts).body)
+    (octets_of (header_sent facts) ++ payload_sent facts)
 
 -- what it hears on the channel of the event: its access address, and a CRC from its CRCInit (sections 2.1.2 and 3.1.1)
 abbrev pub heard_of : Setup → Facts → List ℕ → Heard
@@ -69,4 +75,4 @@ verdict_of setup facts octets = verdict_by setup.link.max_rx (heard_of setup fac
 
 -- the PDU in these octets
 abbrev pub pdu_of : List ℕ → Pdu
-pdu_of octets = record { llid = (header_in octets).llid; body = drop 2 octets }
+pdu_of octets = record { llid = (header_in octets).llid; body = opened_of (drop 2 octets) }

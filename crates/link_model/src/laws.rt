@@ -10,14 +10,15 @@ ghost use Rattle.link_model.specs.Setup.{Setup};
 ghost use Rattle.link_model.specs.Step.{Step, PduFixed};
 ghost use Rattle.link_model.specs.Facts.{Facts};
 ghost use Rattle.acl_banks.specs.declared.pieces.Piece.{Piece};
-ghost use Rattle.link_model.specs.Acknowledgement.{Acknowledgement, Pdu, received_by};
+ghost use Rattle.link_model.specs.Acknowledgement.{Acknowledgement, Pdu, is_acked, received_by};
+ghost use Rattle.link_model.specs.Payload.{payload_of};
 ghost use Rattle.link_model.specs.Data.{data_acked_if, is_data, next_of, next_piece, pdu_with};
 ghost use Rattle.link_model.specs.Data.{unsent_of, waits_behind};
-ghost use Rattle.link_model.specs.Packets.{good_pdu, header_sent, packet_sent, pdu_of, pdu_sent};
+ghost use Rattle.link_model.specs.Packets.{good_pdu, header_sent, packet_sent, payload_sent, pdu_of, pdu_sent};
 ghost use Rattle.link_model.specs.Packets.{verdict_of};
 ghost use Rattle.link_model.specs.Delivery.{AreNumbered, IsDelivered, IsInOrder};
 ghost use Rattle.link_model.specs.Times.{has_nothing_to_send, wants_of};
-ghost use Rattle.link_model.specs.End.{event_heard, facts_after, facts_hearing, facts_of};
+ghost use Rattle.link_model.specs.End.{event_heard, facts_after, facts_hearing, facts_of, facts_sent};
 ghost use Rattle.link_model.specs.End.{has_acknowledged, has_new_pdu, is_accepted};
 ghost use Rattle.link_model.specs.Events.{IsInEvent, entries_in};
 ghost use Rattle.link_model.specs.Pair.{AreInAgreement, AreInOneEvent, AreOneLink, Move, pair_of};
@@ -59,12 +60,12 @@ pub fn a_packet_is_understood()
         → 27 ≤ to.link.max_rx → (facts_of from past).event.channel ≡ listener.event.channel
         → let sender = facts_of from past in
         good_pdu to listener (packet_sent from sender)
-        ≡ Some (octets_of (header_sent sender) ++ (pdu_sent sender).body) }
+        ≡ Some (octets_of (header_sent sender) ++ payload_sent sender) }
     ensures header { (from : Setup) (past : List Step) → let sender = facts_of from past in
-        header_in (octets_of (header_sent sender) ++ (pdu_sent sender).body)
+        header_in (octets_of (header_sent sender) ++ payload_sent sender)
         ≡ header_sent sender }
     ensures body { (from : Setup) (past : List Step) → let sender = facts_of from past in
-        pdu_of (octets_of (header_sent sender) ++ (pdu_sent sender).body) ≡ pdu_sent sender }
+        pdu_of (octets_of (header_sent sender) ++ payload_sent sender) ≡ pdu_sent sender }
 {
     air_frame::laws::packet_tells_its_pdu();
 }
@@ -162,6 +163,26 @@ pub fn a_reception_is_its_steps()
               facts.outgoing;
           last_good = Some (record { slot = slot; event = facts.event.number });
         } }
+{}
+
+/// What an end sends again has the payload octets of its first packet: until the last PDU is
+/// acknowledged, whatever happens keeps them, and its packets have them (Core 5.2, volume 6 part B,
+/// section 4.5.9).
+pub fn a_payload_is_sent_again()
+    ensures sent { (facts : Facts) → is_acked facts.acknowledgement ≡ false
+        → payload_sent facts ≡ facts.outgoing.payload }
+    ensures kept { (setup : Setup) (facts : Facts) (step : Step)
+        → is_acked facts.acknowledgement ≡ false
+        → (facts_after setup facts step).outgoing.payload ≡ facts.outgoing.payload }
+    ensures first { (facts : Facts) (slot : ℕ) → is_acked facts.acknowledgement ≡ true
+        → (facts_sent slot facts).outgoing.payload ≡ payload_of facts.outgoing.fixed }
+{}
+
+/// As long as no payload is sealed, the payload of a packet is the body of its PDU.
+#[tactic(auto, using(crate::proofs::Payloads::past_payload))]
+pub fn a_payload_is_the_body()
+    ensures { (setup : Setup) (past : List Step) → payload_sent (facts_of setup past)
+        ≡ (pdu_sent (facts_of setup past)).body }
 {}
 
 /// Whatever an end receives, it takes no PDU for acknowledged that it did not send, and sends none
