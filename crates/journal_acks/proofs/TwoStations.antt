@@ -241,7 +241,7 @@ air_of_link number other station channel octets history hearings hearing are off
     ∙ ap (λ may. after_air (is_number may number) (side_of station) (is_good hearing.verdict) empty (exchange_at number history)) belongs
 
 -- whether the packet of a link carries an empty PDU
-in_form : (count : ℕ) → count ≤ 27 → (nat_le 2 (suc (suc count)) && nat_le (suc (suc count)) 257 && (suc (suc count) == 2 + count)) ≡ true
+in_form : (count : ℕ) → count ≤ 255 → (nat_le 2 (suc (suc count)) && nat_le (suc (suc count)) 257 && (suc (suc count) == 2 + count)) ≡ true
 in_form count short = grind (arith, nat_tests)
 
 sent_in_form : (facts : EndFacts) → IsInForm facts → IsPdu (octets_of (header_sent facts) ++ payload_sent facts)

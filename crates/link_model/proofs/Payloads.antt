@@ -9,7 +9,7 @@ use Rattle.link_model.specs.Step.{Step, DataGiven, EventEntered, PduFixed, Packe
 use Rattle.link_model.specs.Acknowledgement.{Pdu, empty_pdu, is_acked}
 use Rattle.link_model.specs.Data.{Data, data_acked_if, data_given, data_sent_if, is_data, is_unsent, llid_of, pdu_with}
 use Rattle.link_model.specs.Facts.{Facts, first_facts}
-use Rattle.link_model.specs.Packets.{good_pdu, payload_sent, pdu_sent}
+use Rattle.link_model.specs.Packets.{FitsReceiver, good_pdu, payload_sent, pdu_sent}
 use Rattle.link_model.specs.Payload.{opened_of, payload_of}
 use Rattle.link_model.specs.End.{facts_after, facts_of, facts_received, has_acknowledged}
 use Rattle.data_pdu.specs.Header.{header_in}
@@ -119,7 +119,7 @@ past_payload setup past = sent_payload (facts_of setup past) (past_short setup p
 -- the packet that an end sends is in form, and its PDU is read of its payload
 pub record IsInForm (facts : Facts) : Type 0 where
   pub llid : ((pdu_sent facts).llid ≡ 1) ⊎ ((pdu_sent facts).llid ≡ 2)
-  pub short : length (payload_sent facts) ≤ 27
+  pub short : length (payload_sent facts) ≤ 255
   pub opened : opened_of (payload_sent facts) ≡ (pdu_sent facts).body
 
 pub form : (facts : Facts) → AreShort facts.outgoing facts.acknowledgement.last → IsInForm facts
@@ -133,3 +133,14 @@ form facts are =
 
 pub past_form : (setup : Setup) (past : List Step) → IsInForm (facts_of setup past)
 past_form setup past = form (facts_of setup past) (past_short setup past)
+
+-- as long as payloads are short, each fits what an end receives
+pub short_fits : (sender : Facts) (to : Setup) (listener : Facts) → AreShort sender.outgoing sender.acknowledgement.last
+    → 27 ≤ to.link.max_rx → FitsReceiver sender to listener
+short_fits sender to listener are room =
+    let short = sent_pdu_short sender are in
+    omega (arith, short.short, ap length (sent_payload sender are), room)
+
+pub past_fits : (from : Setup) (past : List Step) (to : Setup) (listener : Facts) → 27 ≤ to.link.max_rx
+    → FitsReceiver (facts_of from past) to listener
+past_fits from past to listener room = short_fits (facts_of from past) to listener (past_short from past) room

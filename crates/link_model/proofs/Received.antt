@@ -15,7 +15,7 @@ use Rattle.link_model.specs.Setup.{Setup}
 use Rattle.link_model.specs.Acknowledgement.{Acknowledgement, Pdu, bits_of, end_of, received_by}
 use Rattle.link_model.specs.Data.{is_data}
 use Rattle.link_model.specs.Facts.{Facts}
-use Rattle.link_model.specs.Packets.{header_sent, more_sent, packet_sent, payload_sent, pdu_sent, heard_of, has_room_for, good_in, good_pdu, verdict_by, verdict_of, pdu_of}
+use Rattle.link_model.specs.Packets.{FitsReceiver, header_sent, more_sent, most_received, packet_sent, payload_sent, pdu_sent, heard_of, has_room_for, good_in, good_pdu, verdict_by, verdict_of, pdu_of}
 use Rattle.link_model.specs.End.{is_accepted}
 use Rattle.link_model.specs.Pair.{AreOneLink}
 use Rattle.link_model.proofs.Payloads.{IsInForm}
@@ -66,7 +66,7 @@ pub pdu_read : (facts : Facts) → IsInForm facts
     → pdu_of (octets_of (header_sent facts) ++ payload_sent facts) ≡ pdu_sent facts
 pdu_read facts form = λ i. record { llid = (header_read facts form i).llid; body = form.opened i }
 
-in_form : (count : ℕ) → count ≤ 27 → (nat_le 2 (suc (suc count)) && nat_le (suc (suc count)) 257 && (suc (suc count) == 2 + count)) ≡ true
+in_form : (count : ℕ) → count ≤ 255 → (nat_le 2 (suc (suc count)) && nat_le (suc (suc count)) 257 && (suc (suc count) == 2 + count)) ≡ true
 in_form count short = grind (arith, nat_tests)
 
 heard_whole : (whole : IsHeardWhole) (from to : Setup) (sender facts : Facts) → AreOneLink from to → IsInForm sender
@@ -78,27 +78,27 @@ heard_whole whole from to sender facts one form channel =
     ∙ whole sender.event.channel from.link.fields.access from.link.fields.crc_init
     (octets_of (header_sent sender) ++ payload_sent sender) (in_form (length (payload_sent sender)) form.short)
 
-room_for : (max_rx : ℕ) (facts : Facts) → IsInForm facts → 27 ≤ max_rx
+room_for : (max_rx : ℕ) (facts : Facts) → length (payload_sent facts) ≤ max_rx
     → has_room_for max_rx (octets_of (header_sent facts) ++ payload_sent facts) ≡ true
-room_for max_rx facts form room =
-    le-leb (suc (suc (length (payload_sent facts)))) (2 + max_rx) (omega (arith, form.short))
+room_for max_rx facts fits =
+    le-leb (suc (suc (length (payload_sent facts)))) (2 + max_rx) (omega (arith, fits))
 
-pub heard_good : (whole : IsHeardWhole) (from to : Setup) (sender facts : Facts) → AreOneLink from to → 27 ≤ to.link.max_rx
+pub heard_good : (whole : IsHeardWhole) (from to : Setup) (sender facts : Facts) → AreOneLink from to → FitsReceiver sender to facts
     → IsInForm sender → sender.event.channel ≡ facts.event.channel
     → good_pdu to facts (packet_sent from sender) ≡ Some (octets_of (header_sent sender) ++ payload_sent sender)
 unfolding good_pdu
-heard_good whole from to sender facts one room form channel =
-    ap (good_in to.link.max_rx) (heard_whole whole from to sender facts one form channel)
-    ∙ ap (λ fits. if fits then Some (octets_of (header_sent sender) ++ payload_sent sender) else None)
-    (room_for to.link.max_rx sender form room)
+heard_good whole from to sender facts one fits form channel =
+    ap (good_in (most_received to facts)) (heard_whole whole from to sender facts one form channel)
+    ∙ ap (λ b. if b then Some (octets_of (header_sent sender) ++ payload_sent sender) else None)
+    (room_for (most_received to facts) sender fits)
 
-pub judged_good : (whole : IsHeardWhole) (from to : Setup) (sender facts : Facts) → AreOneLink from to → 27 ≤ to.link.max_rx
+pub judged_good : (whole : IsHeardWhole) (from to : Setup) (sender facts : Facts) → AreOneLink from to → FitsReceiver sender to facts
     → IsInForm sender → sender.event.channel ≡ facts.event.channel
     → verdict_of to facts (packet_sent from sender) ≡ Good
 unfolding verdict_of
-judged_good whole from to sender facts one room form channel =
-    ap (verdict_by to.link.max_rx) (heard_whole whole from to sender facts one form channel)
-    ∙ ap (λ fits. if fits then Good else Broken) (room_for to.link.max_rx sender form room)
+judged_good whole from to sender facts one fits form channel =
+    ap (verdict_by (most_received to facts)) (heard_whole whole from to sender facts one form channel)
+    ∙ ap (λ b. if b then Good else Broken) (room_for (most_received to facts) sender fits)
 
 -- ---- the bits of an end that receives are its counts
 

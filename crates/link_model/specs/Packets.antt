@@ -1,6 +1,6 @@
 -- The packets of one end of a link: what it sends, and its verdict on what reaches it (Core 5.2, volume 6 part B,
 -- sections 2.1, 2.4 and 4.5).
-use Rattle.std.specs.Prelude.{ℕ, ◌+◌, nat_le, not, Bool, List, ◌++◌, length, drop, Option, Some, None, if◌then◌else◌}
+use Rattle.std.specs.Prelude.{ℕ, ◌+◌, ◌≤◌, nat_le, not, Bool, List, ◌++◌, length, drop, Option, Some, None, if◌then◌else◌}
 use Rattle.ble_base.specs.declared.verdicts.Verdict.{Verdict}
 use Rattle.ble_base.specs.declared.verdicts.Verdict.TheVariants.{Missed, Broken, Good}
 use Rattle.air_frame.specs.declared.Heard.{Heard}
@@ -47,7 +47,15 @@ abbrev pub heard_of : Setup → Facts → List ℕ → Heard
 heard_of setup facts octets =
     heard_in facts.event.channel setup.link.fields.access setup.link.fields.crc_init octets
 
--- the payload of a PDU is not longer than what this end receives (section 4.5.10)
+-- the most octets of a payload that an end receives (section 4.5.10)
+abbrev pub most_received : Setup → Facts → ℕ
+most_received setup facts = setup.link.max_rx
+
+-- the packet that an end sends fits the other end: its payload is not longer than what that receives
+abbrev pub FitsReceiver : Facts → Setup → Facts → Type 0
+FitsReceiver sender to listener = length (payload_sent sender) ≤ most_received to listener
+
+-- the payload of a PDU is not longer than that
 abbrev pub has_room_for : ℕ → List ℕ → Bool
 has_room_for max_rx pdu = nat_le (length pdu) (2 + max_rx)
 
@@ -61,7 +69,7 @@ good_in max_rx Faulty = None
 good_in max_rx (Whole pdu) = pdu_by (has_room_for max_rx pdu.items) pdu.items
 
 unfoldable pub good_pdu : Setup → Facts → List ℕ → Option (List ℕ)
-good_pdu setup facts octets = good_in setup.link.max_rx (heard_of setup facts octets)
+good_pdu setup facts octets = good_in (most_received setup facts) (heard_of setup facts octets)
 
 -- the verdict on octets (our choice): missed where they do not begin with the access address; broken where they are the
 -- packet of no PDU, or where the payload is longer than what this end receives; else good
@@ -71,7 +79,7 @@ verdict_by max_rx Faulty = Broken
 verdict_by max_rx (Whole pdu) = if has_room_for max_rx pdu.items then Good else Broken
 
 unfoldable pub verdict_of : Setup → Facts → List ℕ → Verdict
-verdict_of setup facts octets = verdict_by setup.link.max_rx (heard_of setup facts octets)
+verdict_of setup facts octets = verdict_by (most_received setup facts) (heard_of setup facts octets)
 
 -- the PDU in these octets
 abbrev pub pdu_of : List ℕ → Pdu

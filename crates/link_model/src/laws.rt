@@ -14,7 +14,8 @@ ghost use Rattle.link_model.specs.Acknowledgement.{Acknowledgement, Pdu, is_acke
 ghost use Rattle.link_model.specs.Payload.{payload_of};
 ghost use Rattle.link_model.specs.Data.{data_acked_if, is_data, next_of, next_piece, pdu_with};
 ghost use Rattle.link_model.specs.Data.{unsent_of, waits_behind};
-ghost use Rattle.link_model.specs.Packets.{good_pdu, header_sent, packet_sent, payload_sent, pdu_of, pdu_sent};
+ghost use Rattle.link_model.specs.Packets.{FitsReceiver, good_pdu, header_sent, packet_sent};
+ghost use Rattle.link_model.specs.Packets.{payload_sent, pdu_of, pdu_sent};
 ghost use Rattle.link_model.specs.Packets.{verdict_of};
 ghost use Rattle.link_model.specs.Delivery.{AreNumbered, IsDelivered, IsInOrder};
 ghost use Rattle.link_model.specs.Times.{has_nothing_to_send, wants_of};
@@ -50,14 +51,19 @@ pub fn ends_agree_in_each_event()
 {}
 
 /// The packet that an end sends is good at the other end of the link where that listens on its
-/// channel, and what is read in it is its header and its PDU. Each end receives payloads of at
-/// least 27 octets (Core 5.2, volume 6 part B, section 4.5.10), and none sends a longer one.
+/// channel and its payload is not longer than what that receives, and what is read in it is its
+/// header and its PDU. Each end receives payloads of at least 27 octets (Core 5.2, volume 6 part B,
+/// section 4.5.10), and none sends a longer one yet, so each packet fits.
 pub fn a_packet_is_understood()
+    ensures fits { (from to : Setup) (past : List Step) (listener : Facts) → 27 ≤ to.link.max_rx
+        → FitsReceiver (facts_of from past) to listener }
     ensures good { (from to : Setup) (past : List Step) (listener : Facts) → AreOneLink from to
-        → 27 ≤ to.link.max_rx → (facts_of from past).event.channel ≡ listener.event.channel
+        → FitsReceiver (facts_of from past) to listener
+        → (facts_of from past).event.channel ≡ listener.event.channel
         → verdict_of to listener (packet_sent from (facts_of from past)) ≡ Good }
     ensures pdu { (from to : Setup) (past : List Step) (listener : Facts) → AreOneLink from to
-        → 27 ≤ to.link.max_rx → (facts_of from past).event.channel ≡ listener.event.channel
+        → FitsReceiver (facts_of from past) to listener
+        → (facts_of from past).event.channel ≡ listener.event.channel
         → let sender = facts_of from past in
         good_pdu to listener (packet_sent from sender)
         ≡ Some (octets_of (header_sent sender) ++ payload_sent sender) }
@@ -98,13 +104,13 @@ pub fn ends_stay_in_agreement()
 /// section 4.5.9).
 pub fn a_packet_tells_what_was_accepted()
     ensures acknowledged { (from to : Setup) (past : List Step) (slot : ℕ) (room : Bool)
-        (listener : Facts) → AreOneLink from to → 27 ≤ to.link.max_rx
+        (listener : Facts) → AreOneLink from to → FitsReceiver (facts_of from past) to listener
         → (facts_of from past).event.channel ≡ listener.event.channel
         → AreInAgreement (facts_of from past).acknowledgement listener.acknowledgement
         → (receiver_after from (facts_of from past) to slot room listener).acknowledgement.acked
         ≡ length (facts_of from past).acknowledgement.accepted }
     ensures accepted { (from to : Setup) (past : List Step) (slot : ℕ) (listener : Facts)
-        → AreOneLink from to → 27 ≤ to.link.max_rx
+        → AreOneLink from to → FitsReceiver (facts_of from past) to listener
         → (facts_of from past).event.channel ≡ listener.event.channel
         → AreInAgreement (facts_of from past).acknowledgement listener.acknowledgement
         → let sender = facts_of from past in

@@ -1,8 +1,11 @@
 -- Proof of `laws::a_packet_is_understood`.
 use Rattle.link_model.proofs.Received.{header_read, heard_good, judged_good, pdu_read}
-use Rattle.link_model.proofs.Payloads.{past_form}
+use Rattle.link_model.proofs.Payloads.{past_fits, past_form}
 use Rattle.link_model.specs.End.{facts_of}
 use Rattle.link_model.proofs.laws.a_packet_is_understood.Goals as goal
+
+pub returns-clause-fits : goal.returns-clause-fits
+returns-clause-fits c = λ from to past listener room. past_fits from past to listener room
 
 pub returns-clause-good : goal.returns-clause-good
 returns-clause-good c = λ from to past listener one fits.
