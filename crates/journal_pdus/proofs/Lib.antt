@@ -4,6 +4,7 @@ mod NextPieces
 mod FixedNow
 mod SettledEnds
 mod SettledRuns
+mod EndingLater
 mod PendingLines
 mod TakenPdus
 mod TakenInRuns
@@ -17,4 +18,5 @@ mod ShutEarly
 mod NextPdus
 mod WhatWaits
 mod WhatWaitsInRuns
+mod StoppedRuns
 mod Law

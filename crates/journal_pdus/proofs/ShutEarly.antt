@@ -6,6 +6,7 @@ use Rattle.ble_base.specs.declared.notes.Note.{Note}
 use Rattle.ble_base.specs.declared.notes.Note.TheVariants.{Up as UpNote}
 use Rattle.ble_base.specs.declared.roles.Side.{Side}
 use Rattle.journal.specs.declared.entries.Entry.{Entry}
+use Rattle.journal.specs.declared.entries.Entry.TheVariants.{Shut}
 use Rattle.controller_model.specs.Facts.{Facts}
 use Rattle.controller_model.specs.Shutting.{IsShut, overdue, reset}
 use Rattle.controller_model.specs.Side.{notes_after}
@@ -21,7 +22,9 @@ use Rattle.run_model.proofs.Parts.{journal_event}
 use Rattle.run_model.proofs.Places.{each_at, each_called, each_event}
 use Rattle.run_model.proofs.Walk.{Place, AtFeeds, AtBegins, IsKept, IsStopped, IsWhole, ends_with, run_kept}
 use Rattle.journal_acks.proofs.Exchanging.{any_note, call_keeps, notes_keep}
-use Rattle.journal_acks.proofs.ShutLines.{shut_in, shut_in_call}
+use Rattle.run_model.proofs.NoteLines.{line_in_call}
+use Rattle.run_model.specs.NoteLines.{shut_line}
+use Rattle.journal_acks.proofs.ShutLines.{shut_in}
 use Rattle.journal_pdus.specs.Exchanged.{AllAreSettledAsShut}
 use Rattle.journal_pdus.specs.Settled.{packets_passed, passed_after}
 
@@ -183,9 +186,9 @@ shuts_early facts step handle reason (reset link completed is_open code) = reset
 
 pub settled_as_shut : (given : Given) → AllAreSettledAsShut (journal_of (history_of (run_of given)))
 settled_as_shut given = λ front rest side link reason is passed.
-    let call = shut_in_call given front rest side link reason is in
+    let call = line_in_call given front rest (Shut side link reason) (shut_line side link reason) refl is in
     let early = shuts_early (facts_at given call.station call.base) call.step call.handle reason.0 (shut_in given front side link reason call) in
     let none = each_at IsEarlyCall (history_of (run_of given)) call.base call.after (Called call.station call.step) (run_early given) call.called early in
     let not_passed : packets_passed front ≡ false =
-    ap packets_passed call.front_is ∙ in_call_passed call.station call.step call.base call.earlier ∙ none in
+    ap packets_passed call.front_is ∙ ap passed_at call.before_is ∙ in_call_passed call.station call.step call.base call.earlier ∙ none in
     absurd (let h : true ≡ false = sym passed ∙ not_passed in cc)
