@@ -78,7 +78,12 @@ ends_by own wanted used lengths is_open drafts =
     record {
       features = record { own = features_stage own; queue = pdus_of features_pdu drafts; closed = not is_open };
       lengths =
-          record { own = lengths_stage own; lengths = lengths; queue = pdus_of lengths_pdu drafts; closed = not is_open };
+          record {
+            own = lengths_stage own;
+            lengths = lengths;
+            queue = pdus_of lengths_pdu drafts;
+            closed = not is_open;
+          };
       versions =
           record {
             own = version_stage own;
