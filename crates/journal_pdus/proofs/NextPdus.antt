@@ -196,7 +196,7 @@ next_at given station handle history step base few eight well sending =
     ap length (sym (data_nonempty (ack_of base).sent) ∙ sym (lines_data number 1 (nonempty is_empty (ack_of base).sent)))
     ∙ ap (λ (all : List PduLine). length (data_of_lines all)) lines_are in
     record {
-      next = sending.fixed.next ∙ piece_is_next base.setup base.past ∙ (λ i. next_pdu (given_is i) (sent_is i));
+      next = sending.fixed.next ∙ piece_is_next base.setup base.past ∙ (λ i. next_pdu [] 27 (given_is i) (sent_is i));
       numbered = ap (λ n. n + 1) (sym (lines_length number 1 (nonempty is_empty (ack_of base).sent)) ∙ ap length lines_are);
     }
 
@@ -389,7 +389,7 @@ same_next : (number station count : ℕ) (pdu : Pdu) (history after : List Event
 same_next number station count pdu history after submitted sent is =
     let lines = lines_at station history in record {
       next = is.next
-          ∙ (λ i. next_pdu (data_on number (record lines { submitted = sym submitted i })) (octets_sent number (record lines { sent = sym sent i })));
+          ∙ (λ i. next_pdu [] 27 (data_on number (record lines { submitted = sym submitted i })) (octets_sent number (record lines { sent = sym sent i })));
       numbered = is.numbered ∙ ap (λ (all : List PduLine). length (pdus_on number all) + 1) (sym sent);
     }
 
