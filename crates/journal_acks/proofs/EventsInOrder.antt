@@ -24,18 +24,19 @@ use Rattle.run_model.specs.History.{Event, Called, Noted, packet_received, past_
 use Rattle.run_model.specs.Journal.{journal_from, journal_of, side_of}
 use Rattle.run_model.specs.LinkEnds.{HaveAddresses}
 use Rattle.run_model.specs.Links.{links_of}
+use Rattle.run_model.specs.NoteLines.{enter_line}
+use Rattle.run_model.specs.OnAir.{ends_phase}
 use Rattle.run_model.specs.Run.{Given, after_call, facts_at, history_of, run_of, setup_at, step_of}
-use Rattle.run_model.proofs.CallNotes.{noted_in_call}
 use Rattle.run_model.proofs.Calls.{turns_called}
-use Rattle.run_model.proofs.EntryEvents.{is_of_event}
 use Rattle.run_model.proofs.LinkEnds.{AreTaken, IsUnderstood}
+use Rattle.run_model.proofs.NoteLines.{is_contained, line_in_call, number_then}
 use Rattle.run_model.proofs.Parts.{journal_more}
 use Rattle.run_model.proofs.Places.{each_at}
 use Rattle.run_model.proofs.Stations.{among}
 use Rattle.run_model.proofs.Walk.{Place, AtBegins, AtListening, IsKept}
 use Rattle.run_laws.proofs.DistinctAccess.{AreApart}
 use Rattle.run_laws.proofs.OpenSteps.{none_open, open_has}
-use Rattle.journal_links.proofs.EnterLines.{enter_note, in_middle, turn_of}
+use Rattle.journal_links.proofs.EnterLines.{turn_of}
 use Rattle.journal_packets.proofs.AccessOrder.{AreNth}
 use Rattle.journal_packets.proofs.SoFar.{IsBelongingSoFar}
 use Rattle.journal_packets.specs.Belonging.{is_side}
@@ -158,51 +159,6 @@ count_more number station history more =
     (sym (ap (fold count 0) (journal_more history more) ∙ fold-append count 0 (journal_of history) (journal_from (links_of history) more)))
     (entries_more number (side_of station) (count_at number station history) (journal_from (links_of history) more))
 
--- the events before the line, up to the call that it comes from
-record IsEnteredInCall (given : Given) (front : List Entry) (side : Side) (number event channel : ℕ) : Type 0 where
-  station : ℕ
-  handle : ℕ
-  base : List Event
-  slot : ℕ
-  on : Bool
-  earlier : List Note
-  later : List Note
-  after : List Event
-  called : history_of (run_of given) ≡ base ++ Called station (TurnBegins slot on) ∷ after
-  notes_are : notes_after (setup_at given station) (facts_at given station base) (TurnBegins slot on) ≡ earlier ++ EnterNote handle (record { 0 = event }) channel ∷ later
-  front_is : front ≡ journal_of (base ++ Called station (TurnBegins slot on) ∷ map (Noted station) earlier)
-  side_is : side ≡ side_of station
-  number_is : number ≡ number_at station handle (base ++ Called station (TurnBegins slot on) ∷ map (Noted station) earlier)
-
-entered_in_call : (given : Given) (front rest : List Entry) (side : Side) (number event channel : ℕ)
-    → journal_of (history_of (run_of given)) ≡ front ++ Enter side number event channel ∷ rest → IsEnteredInCall given front side number event channel
-entered_in_call given front rest side number event channel is =
-    let history = history_of (run_of given) in
-    let one = is_of_event history front rest (Enter side number event channel) is in
-    let note = enter_note (links_of one.before) one.event side number event channel one.entry_is in
-    let noted = EnterNote note.handle (record { 0 = event }) channel in
-    let at : history ≡ one.before ++ Noted note.station noted ∷ one.after = one.is_at ∙ ap (λ e. one.before ++ e ∷ one.after) note.is in
-    let call = noted_in_call given one.before one.after note.station noted at in
-    let is_noted = subst (λ xs. Contains xs noted) (sym call.notes_are) (in_middle call.earlier call.later noted) in
-    let turn = turn_of call.step (enters_as_turns_begin (setup_at given note.station) (past_of note.station call.base) call.step note.handle event channel is_noted) in
-    let before : one.before ≡ call.base ++ Called note.station (TurnBegins turn.slot turn.on) ∷ map (Noted note.station) call.earlier =
-    call.before_is ∙ ap (λ step. call.base ++ Called note.station step ∷ map (Noted note.station) call.earlier) turn.is in record {
-      station = note.station;
-      handle = note.handle;
-      base = call.base;
-      slot = turn.slot;
-      on = turn.on;
-      earlier = call.earlier;
-      later = call.later;
-      after = map (Noted note.station) call.earlier ++ Noted note.station noted ∷ one.after;
-      called = at ∙ ap (λ xs. xs ++ Noted note.station noted ∷ one.after) before
-          ∙ append_assoc call.base (Called note.station (TurnBegins turn.slot turn.on) ∷ map (Noted note.station) call.earlier) (Noted note.station noted ∷ one.after);
-      notes_are = ap (notes_after (setup_at given note.station) (facts_at given note.station call.base)) (sym turn.is) ∙ call.notes_are;
-      front_is = one.front_is ∙ ap journal_of before;
-      side_is = note.side_is;
-      number_is = note.number_is ∙ ap (number_at note.station note.handle) before;
-    }
-
 -- in that call, which counts one event at most, none is counted before the line
 module _ (given : Given) (station slot : ℕ) (on : Bool) (base : List Event) (earlier later : List Note) (handle event channel : ℕ)
     (notes_are : notes_after (setup_at given station) (facts_at given station base) (TurnBegins slot on) ≡ earlier ++ EnterNote handle (record { 0 = event }) channel ∷ later) where
@@ -263,24 +219,27 @@ unfolding entered_on
 event_in_order whole understood taken nth apart given are_two six distinct front rest side number event channel is =
     let Q = IsBelongingSoFar given in
     let known = known_of understood taken nth apart given are_two six in
-    let call = entered_in_call given front rest side number event channel is in
+    let line = enter_line side number event channel in
+    let call = line_in_call given front rest (Enter side number event channel) line refl is in
     let station = call.station in
     let setup = setup_at given station in
-    let note = EnterNote call.handle (record { 0 = event }) channel in
-    let entered = (enters_at_anchors setup (past_of station call.base) call.slot call.on call.handle event channel).0
-    (subst (λ xs. Contains xs note) (sym call.notes_are) (in_middle call.earlier call.later note)) in
-    let step = TurnBegins call.slot call.on in
+    let is_noted = is_contained given front line call in
+    let turn = turn_of call.step (enters_as_turns_begin setup (past_of station call.base) call.step call.handle event channel is_noted) in
+    let step = TurnBegins turn.slot turn.on in
+    let notes_are = ap (notes_after setup (facts_at given station call.base)) (sym turn.is) ∙ call.notes_are in
+    let entered = (enters_at_anchors setup (past_of station call.base) turn.slot turn.on call.handle event channel).0
+    (subst (λ s. Contains (notes_after setup (facts_at given station call.base) s) (line.note call.handle)) turn.is is_noted) in
     let one = each_at (OfCall given (EntersOne whole given Q known are_two six distinct)) (history_of (run_of given)) call.base call.after (Called station step)
     (run_calls given (EntersOne whole given Q known are_two six distinct) (AreAt whole given Q known are_two six distinct) (event_counts_kept whole given Q known are_two six distinct)
     (have_one whole given Q known are_two six distinct) (record {
       is = record { is = counts_first given; unentered = none_unentered given };
       fit = λ one handle link in_it at. no_station given one handle link _ at;
-    })) call.called in
-    let count = one call.slot call.on refl call.handle entered.link entered.is_open entered.stays in
+    })) (call.called ∙ ap (λ s. call.base ++ Called station s ∷ call.after) turn.is) in
+    let count = one turn.slot turn.on refl call.handle entered.link entered.is_open entered.stays in
     let before = call.base ++ Called station step ∷ map (Noted station) call.earlier in
-    let same = same_number given station call.slot call.on call.base call.earlier call.later call.handle event channel call.notes_are in
     entered.is_next
-    ∙ none_before given station call.slot call.on call.base call.earlier call.later call.handle event channel call.notes_are (entries_in entered.link.past) count.0 count.1
-    ∙ ap (λ n. count_at n station before) (sym (call.number_is ∙ same))
-    ∙ ap (λ one. fold (entered_after number one) 0 (journal_of before)) (sym call.side_is)
-    ∙ ap (entered_on side number) (sym call.front_is)
+    ∙ none_before given station turn.slot turn.on call.base call.earlier call.later call.handle event channel notes_are (entries_in entered.link.past) count.0 count.1
+    ∙ ap (λ n. count_at n station before) (number_then given front line call (ap ends_phase turn.is))
+    ∙ ap (λ one. fold (entered_after number one) 0 (journal_of before)) call.side_is
+    ∙ ap (entered_on side number)
+    (sym (call.front_is ∙ ap journal_of (call.before_is ∙ ap (λ s. call.base ++ Called station s ∷ map (Noted station) call.earlier) turn.is)))

@@ -26,7 +26,7 @@ use Rattle.journal_links.specs.Opened.{central_side}
 use Rattle.journal_links.proofs.Numbered.{other_of}
 use Rattle.journal_packets.specs.Belonging.{first_number}
 use Rattle.journal_packets.proofs.AccessOrder.{AreNth, first_is, sent_ordered}
-use Rattle.journal_packets.proofs.AskedSoFar.{are_distinct, of_two_stations}
+use Rattle.journal_links.proofs.OfTwo.{are_distinct, of_two_stations}
 use Rattle.journal_packets.proofs.SentLinks.{IsOfTwo, begun_are_sent, link_begun, links_sent, sent_at}
 use Rattle.journal_packets.proofs.SoFar.{IsBelongingSoFar, belonging_kept, sends_on_its_link}
 use Rattle.journal_acks.proofs.Counting.{AreKnown, IsBegun}

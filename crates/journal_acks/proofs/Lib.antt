@@ -28,7 +28,6 @@ pub mod KeptChannels
 pub mod FixedPdus
 pub mod KeptLines
 pub mod LinkPackets
-pub mod SentInCalls
 pub mod NewPdus
 pub mod EventsInOrder
 pub mod HeardLines

@@ -1,14 +1,16 @@
 -- Each packet of a link carries what the journal before it says.
 use Rattle.std.proofs.Common.{◌≡◌, ℕ, ◌+◌, false, true, Some, None, Option, replicate, List, [], ◌∷◌, ◌++◌, length, refl, sym, ap, subst, ◌∙◌, arith}
 use Rattle.ble_base.specs.declared.roles.Side.{Side}
-use Rattle.ack_bit.specs.AckBits.{is_odd}
+use Rattle.ack_bit.specs.AckBits.{header_of, is_odd}
 use Rattle.air_frame.specs.Packet.{on_air}
 use Rattle.journal.specs.declared.entries.Entry.{Entry}
 use Rattle.journal.specs.declared.entries.Mark.{Mark}
 use Rattle.ble_base.specs.declared.verdicts.Verdict.{Verdict}
+use Rattle.data_pdu.specs.Header.{octets_of}
 use Rattle.link_model.proofs.InEvents.{past_in}
+use Rattle.link_model.proofs.Payloads.{past_payload}
 use Rattle.link_model.proofs.Received.{IsHeardWhole}
-use Rattle.link_model.specs.Acknowledgement.{Acknowledgement, Pdu}
+use Rattle.link_model.specs.Acknowledgement.{Acknowledgement, Pdu, bits_of as ack_bits}
 use Rattle.link_model.specs.Events.{channel_after as channel_of_event, entries_in}
 use Rattle.link_model.specs.Packets.{more_sent, packet_sent, pdu_sent}
 use Rattle.open_links.specs.OpenLinks.{OpenLink, facts_in}
@@ -61,8 +63,12 @@ packet_is : (link : OpenLink) (end : Exchanged) (pdu : Pdu) (channel access init
     → packet_sent link.setup (facts_in link) ≡ on_air channel access init (pdu_octets (bits_of end) (more_sent (facts_in link)) pdu)
 unfolding packet_sent
 packet_is link end pdu channel access init on has begins acked accepted same =
-    λ i. on_air (sym on i) (sym has i) (sym begins i)
-    (pdu_octets (record { sn = is_odd (sym acked i); nesn = is_odd (sym accepted i) }) (more_sent (facts_in link)) (sym same i))
+    let facts = facts_in link in
+    ap (λ payload. on_air facts.event.channel link.setup.link.fields.access link.setup.link.fields.crc_init
+    (octets_of (header_of (ack_bits facts.acknowledgement) (pdu_sent facts).llid (more_sent facts) (length payload)) ++ payload))
+    (past_payload link.setup link.past)
+    ∙ (λ i. on_air (sym on i) (sym has i) (sym begins i)
+    (pdu_octets (record { sn = is_odd (sym acked i); nesn = is_odd (sym accepted i) }) (more_sent (facts_in link)) (sym same i)))
 
 -- a packet of the link that its sender has open, with the MD of its end
 pub record IsPacketOf (given : Given) (history : List Event) (station channel : ℕ) (octets : List ℕ) (from : IsOfSendersLink given history station channel octets) : Type 0 where

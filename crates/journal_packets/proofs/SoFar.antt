@@ -16,7 +16,8 @@ use Rattle.run_model.proofs.Walk.{Place, NoTurn, AtPackets, IsKept, IsWhole, IsS
 use Rattle.run_laws.proofs.DistinctAccess.{AreApart}
 use Rattle.journal_packets.specs.Senders.{IsOfSendersLink}
 use Rattle.journal_packets.proofs.AccessOrder.{AreNth}
-use Rattle.journal_packets.proofs.AskedSoFar.{AreAsked, are_distinct, asked_first, asked_kept}
+use Rattle.journal_links.proofs.OfTwo.{are_distinct}
+use Rattle.journal_packets.proofs.AskedSoFar.{AreAsked, asked_first, asked_kept}
 use Rattle.journal_packets.proofs.EachEvent.{each_call, each_feed}
 use Rattle.journal_packets.proofs.SendersLink.{sends_on_link}
 

@@ -17,6 +17,7 @@ use Rattle.journal_data.specs.Held.{LinesAreOfOpenLinks}
 use Rattle.journal_turns.specs.Follows.{FollowsSchedule}
 use Rattle.journal_turns.specs.Scheduled.{AreAllTurns}
 use Rattle.journal_pdus.specs.Exchanged.{IsAtRest, PdusAreDue}
+use Rattle.journal_pdus.specs.InTime.{AllEndInTime, NoneIsOverdue}
 use Rattle.journal_pdus.specs.Settled.{AreSettled}
 
 -- each line of a link that a side holds from there on is in the turn of the CONNECT_IND of that link
@@ -45,7 +46,9 @@ pub record IsLawful (a b : List ℕ) (script : Script) (journal : List Entry) : 
   pub events : AllAreInOrder journal
   -- lines name links that are open at their side, and a link is opened under the next free handle
   pub held : LinesAreOfOpenLinks journal
+  -- each link that is shut has its reason, and one that is not shut has none: it ends later
   pub shut : AllHaveReasons journal
+  pub in_time : AllEndInTime journal
   -- no line is of a control procedure
   pub procedures : NoneNamesAProcedure journal
   -- what goes out on links and what is taken is what is due, line by line
@@ -53,9 +56,10 @@ pub record IsLawful (a b : List ℕ) (script : Script) (journal : List Entry) : 
   -- data arrives in order, and is credited only as it is accepted
   pub arrives : AllDataArrives journal
 
--- the journal of a whole run: all turns of the script begin, and at the end nothing is under way, and nothing waits for
--- a host
+-- the journal of a whole run: all turns of the script begin, and at the end nothing is under way, nothing waits for a
+-- host, and no link was to end
 pub record IsWhole (script : Script) (journal : List Entry) : Type 0 where
   pub turns : AreAllTurns script journal
   pub at_rest : IsAtRest journal
   pub settled : AreSettled journal
+  pub in_time : NoneIsOverdue journal

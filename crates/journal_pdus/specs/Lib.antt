@@ -1,7 +1,9 @@
 -- The definitions of this crate.
 pub mod Waiting
 pub mod Settled
+pub mod InTime
 pub mod Announced
 pub mod Pending
 pub mod Exchanged
+pub mod Undelivered
 pub mod Lawful

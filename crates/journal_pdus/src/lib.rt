@@ -7,5 +7,6 @@ mod rows;
 
 pub use crate::lawful::each_journal_is_lawful;
 pub use crate::rows::{
-    worked_acknowledged, worked_new_pdu, worked_next_pdu, worked_taking, worked_waiting,
+    worked_acknowledged, worked_control_pdus, worked_new_pdu, worked_next_pdu, worked_taking,
+    worked_waiting,
 };

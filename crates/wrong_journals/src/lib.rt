@@ -16,8 +16,8 @@ pub use crate::exchanges::{
 };
 pub use crate::held::{lines_of_no_link_are_refused, packets_of_no_link_are_refused};
 pub use crate::hosts::{wrong_credits_are_refused, wrong_data_is_refused};
-pub use crate::shuts::wrong_reasons_are_refused;
+pub use crate::shuts::{links_that_stay_open_are_refused, wrong_reasons_are_refused};
 pub use crate::turns::{
     wrong_fates_are_refused, wrong_feeds_are_refused, wrong_radios_are_refused,
-    wrong_turns_are_refused, wrong_verdicts_are_refused,
+    wrong_stops_are_refused, wrong_turns_are_refused, wrong_verdicts_are_refused,
 };

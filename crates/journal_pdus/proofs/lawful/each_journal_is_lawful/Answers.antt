@@ -1,6 +1,6 @@
 -- Proof of `lawful::each_journal_is_lawful`.
 use Rattle.run_model.specs.Pair.{given_of}
-use Rattle.journal_pdus.proofs.Law.{journal_at_rest, journal_due, journal_settled}
+use Rattle.journal_pdus.proofs.Law.{journal_at_rest, journal_due, journal_ends_in_time, journal_in_time, journal_settled, journal_undelivered}
 use Rattle.journal_pdus.proofs.lawful.each_journal_is_lawful.Goals as goal
 
 pub returns-clause-lawful : goal.returns-clause-lawful
@@ -12,6 +12,8 @@ returns-clause-lawful c = λ a b script six six_too. record {
   events = λ front rest side number event channel at. c.each_side_enters_its_events_in_order.ensures a b script front rest side number event channel six six_too at;
   held = c.lines_are_of_open_links_in_every_journal.ensures a b script six six_too;
   shut = λ front rest side number reason at. c.each_shut_line_has_its_reason.ensures a b script front rest side number reason six six_too at;
+  in_time = journal_in_time c.packet_tells_its_pdu.ensures.heard c.a_pdu_is_understood.ensures.says c.connections_are_taken.ensures.taken
+      c.searches_give_each_valid_address.ensures.valid c.searches_give_each_valid_address.ensures.distinct a b script six six_too;
   procedures = c.no_line_names_a_procedure.ensures a b script;
   due = journal_due c.packet_tells_its_pdu.ensures.heard c.a_pdu_is_understood.ensures.says c.connections_are_taken.ensures.taken
       c.searches_give_each_valid_address.ensures.valid c.searches_give_each_valid_address.ensures.distinct a b script six six_too
@@ -27,4 +29,12 @@ returns-clause-whole c = λ a b script history six six_too whole. record {
       c.searches_give_each_valid_address.ensures.valid c.searches_give_each_valid_address.ensures.distinct a b script six six_too history whole;
   settled = journal_settled c.packet_tells_its_pdu.ensures.heard c.a_pdu_is_understood.ensures.says c.connections_are_taken.ensures.taken
       c.searches_give_each_valid_address.ensures.valid c.searches_give_each_valid_address.ensures.distinct a b script six six_too history whole;
+  in_time = journal_ends_in_time c.packet_tells_its_pdu.ensures.heard c.a_pdu_is_understood.ensures.says c.connections_are_taken.ensures.taken
+      c.searches_give_each_valid_address.ensures.valid c.searches_give_each_valid_address.ensures.distinct a b script six six_too history whole;
 }
+
+pub returns-clause-stopped : goal.returns-clause-stopped
+returns-clause-stopped c = λ a b script history stop six six_too stops.
+    journal_undelivered c.packet_tells_its_pdu.ensures.heard c.a_pdu_is_understood.ensures.says c.connections_are_taken.ensures.taken
+    c.searches_give_each_valid_address.ensures.valid c.searches_give_each_valid_address.ensures.distinct a b script six six_too history stop stops
+    (c.a_run_stops_in_its_turn.ensures a b script history stop stops)
