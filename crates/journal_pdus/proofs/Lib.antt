@@ -19,3 +19,6 @@ mod WhatWaits
 mod WhatWaitsInRuns
 mod StoppedRuns
 mod Law
+mod Awaited
+mod AnswersHeard
+mod CentralsOpen

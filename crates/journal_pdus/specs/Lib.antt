@@ -6,4 +6,6 @@ pub mod Announced
 pub mod Pending
 pub mod Exchanged
 pub mod Undelivered
+pub mod Answered
+pub mod OpenedLinks
 pub mod Lawful

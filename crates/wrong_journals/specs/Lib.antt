@@ -1,4 +1,5 @@
 -- The journals of this crate.
+pub mod Answers
 pub mod Events
 pub mod Exchanges
 pub mod Held

@@ -2,6 +2,7 @@
 //! its law names. No code.
 #![tactic(auto)]
 
+mod answers;
 mod events;
 mod exchanges;
 mod held;
@@ -9,6 +10,7 @@ mod hosts;
 mod shuts;
 mod turns;
 
+pub use crate::answers::{missed_answers_are_refused, unopened_links_are_refused};
 pub use crate::events::{wrong_links_are_refused, wrong_orders_of_events_are_refused};
 pub use crate::exchanges::{
     wrong_packets_are_refused, wrong_sending_is_refused, wrong_taking_is_refused,
