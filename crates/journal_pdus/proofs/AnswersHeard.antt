@@ -10,7 +10,7 @@ use Rattle.link_model.specs.Packets.{verdict_of as end_verdict}
 use Rattle.link_model.specs.Pair.{AreOneLink}
 use Rattle.link_model.specs.Step.{PacketSent}
 use Rattle.link_model.proofs.InEvents.{pasts_agree}
-use Rattle.link_model.proofs.Payloads.{past_pdu_short}
+use Rattle.link_model.proofs.Payloads.{past_fits, past_form}
 use Rattle.link_model.proofs.Received.{IsHeardWhole, judged_good}
 use Rattle.open_links.specs.OpenLinks.{Links, OpenLink, facts_in, link_after, link_at}
 use Rattle.open_links.specs.Slots.{IsOnTime}
@@ -49,11 +49,11 @@ use Rattle.run_laws.proofs.TurnPlaces.{Within, at_stage}
 use Rattle.run_laws.proofs.TurnSteps.{IsListening}
 use Rattle.journal_links.specs.Begun.{links_begun}
 use Rattle.journal_links.specs.Opened.{central_side}
+use Rattle.journal_links.proofs.OfTwo.{are_distinct}
 use Rattle.journal_packets.specs.Belonging.{first_number, is_answer}
 use Rattle.journal_packets.specs.Senders.{IsOfSendersLink}
 use Rattle.journal_packets.proofs.AccessOrder.{AreNth}
 use Rattle.journal_packets.proofs.Asked.{is_asked}
-use Rattle.journal_packets.proofs.AskedSoFar.{are_distinct}
 use Rattle.journal_packets.proofs.SoFar.{IsBelongingSoFar}
 use Rattle.journal_acks.proofs.Counting.{AreKnown, one_begun}
 use Rattle.journal_acks.proofs.Exchanging.{number_at}
@@ -264,8 +264,9 @@ module _ (whole : IsHeardWhole) (understood : IsUnderstood) (taken : AreTaken) (
     good : end_verdict far.setup (facts_in far) octets ≡ Good
     good =
         ap (end_verdict far.setup (facts_in far)) awaited.sent.packet
-        ∙ judged_good whole awaited.sent.link.setup far.setup (facts_in awaited.sent.link) (facts_in far) one_link short
-        (past_pdu_short awaited.sent.link.setup awaited.sent.link.past) sent_channel
+        ∙ judged_good whole awaited.sent.link.setup far.setup (facts_in awaited.sent.link) (facts_in far) one_link
+        (past_fits awaited.sent.link.setup awaited.sent.link.past far.setup (facts_in far) short)
+        (past_form awaited.sent.link.setup awaited.sent.link.past) sent_channel
 
     is_heard : ListensFor (facts_at given far_side before) channel octets
     is_heard =

@@ -30,9 +30,9 @@ use Rattle.run_laws.proofs.LinkPhases.{IsInPhase}
 use Rattle.run_laws.proofs.OwnLinks.{sent_begins}
 use Rattle.run_laws.proofs.SentPackets.{IsUseSent}
 use Rattle.run_laws.proofs.TurnPlaces.{Within, at_stage, event_past}
+use Rattle.journal_links.proofs.OfTwo.{of_two_stations}
 use Rattle.journal_packets.specs.Belonging.{have_one_access}
 use Rattle.journal_packets.proofs.Asked.{asked_called, asked_packet, asks_in, is_asked}
-use Rattle.journal_packets.proofs.AskedSoFar.{of_two_stations}
 use Rattle.journal_packets.proofs.SoFar.{IsBelongingSoFar, belonging_first, belonging_kept}
 use Rattle.journal_acks.proofs.Standing.{PhasedBy, phased_at}
 use Rattle.journal_acks.proofs.TwoStations.{IsOfTwo, other_is, other_of}

@@ -40,7 +40,7 @@ use Rattle.run_laws.proofs.Hearings.{other_facts, use_sent_at}
 use Rattle.run_laws.proofs.SentPackets.{IsUseSent, Says}
 use Rattle.run_laws.proofs.TurnPlaces.{event_past}
 use Rattle.journal_links.specs.Begun.{LinkBegun, begun_by, begun_in, link_numbered, links_begun, with_number}
-use Rattle.journal_links.proofs.LinksBegun.{links_entry}
+use Rattle.journal_links.proofs.LinksBegun.{links_more}
 use Rattle.journal_packets.proofs.Asked.{journal_event}
 use Rattle.journal_packets.proofs.SentLinks.{begun_are_sent, number_sent}
 use Rattle.journal_packets.proofs.SoFar.{IsBelongingSoFar, belonging_first, belonging_kept}
@@ -86,6 +86,10 @@ entry_begins_none turns side link_of last note = refl
 
 no_entry : (front : List Entry) → links_begun (front ++ []) ≡ links_begun front
 no_entry front = ap links_begun (append-nil front)
+
+links_entry : (front : List Entry) (entry : Entry) → links_begun (front ++ entry ∷ []) ≡ links_begun front ++ begun_in (length (turns_of front)) entry
+links_entry front entry =
+    links_more front (entry ∷ []) ∙ ap (λ links. links_begun front ++ links) (append-nil (begun_in (length (turns_of front)) entry))
 
 one_entry : (front : List Entry) (entry : Entry) → begun_in (length (turns_of front)) entry ≡ [] → links_begun (front ++ entry ∷ []) ≡ links_begun front
 one_entry front entry none =

@@ -21,6 +21,7 @@ use Rattle.journal_pdus.proofs.EndingLater.{last_in_time, lines_in_time}
 use Rattle.journal_pdus.proofs.NextPdus.{next_of_lines}
 use Rattle.journal_pdus.proofs.Resting.{resting_last, resting_lines}
 use Rattle.journal_pdus.proofs.SettledRuns.{settled_last, settled_lines}
+use Rattle.journal_pdus.proofs.ShutEarly.{settled_as_shut}
 use Rattle.journal_pdus.proofs.StoppedRuns.{undelivered}
 use Rattle.journal_pdus.proofs.TakenInRuns.{some_air, taken_lines}
 use Rattle.journal_pdus.proofs.ToldInRuns.{told_lines}
@@ -42,6 +43,7 @@ module _ (whole : IsHeardWhole) (understood : IsUnderstood) (taken : AreTaken) (
         go_out_at_once = told_lines whole understood taken nth apart given refl pair addresses distinct eight;
         taken_at_once = taken_lines whole understood taken nth apart given refl pair addresses distinct eight (some_air a b script);
         at_rest = resting_lines whole understood taken nth apart given refl pair addresses distinct eight (some_air a b script);
+        settled_as_shut = settled_as_shut given;
         settled = settled_lines whole understood taken nth apart given refl pair addresses distinct eight;
       }
 

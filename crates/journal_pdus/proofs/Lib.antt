@@ -14,6 +14,7 @@ mod Told
 mod ToldPackets
 mod ToldInRuns
 mod Resting
+mod ShutEarly
 mod NextPdus
 mod WhatWaits
 mod WhatWaitsInRuns

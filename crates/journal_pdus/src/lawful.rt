@@ -35,7 +35,7 @@ use crate::links::{each_answer_on_a_link_is_heard, each_link_is_opened_at_its_ce
 /// - before each turn, and at the end of a whole run, the packet of each line of a new PDU was on
 ///   the air, and what reached a side was taken; and the host of each side has received all data
 ///   that its side took, and each of its packets that the other side acknowledged whole is reported
-///   to it.
+///   to it. So it is of a link that is shut after a packet of its turn, before that line.
 pub fn each_journal_is_lawful()
     ensures lawful { (a b : List ℕ) (script : Script) → length script.a.public ≡ 6
         → length script.b.public ≡ 6
