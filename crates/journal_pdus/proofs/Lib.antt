@@ -23,3 +23,5 @@ mod Law
 mod Awaited
 mod AnswersHeard
 mod CentralsOpen
+mod ResetAnswers
+mod ResetsLeaveNone

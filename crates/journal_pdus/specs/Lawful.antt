@@ -20,6 +20,7 @@ use Rattle.journal_pdus.specs.Answered.{AllAnswersAreHeard}
 use Rattle.journal_pdus.specs.Exchanged.{IsAtRest, PdusAreDue}
 use Rattle.journal_pdus.specs.InTime.{AllEndInTime, NoneIsOverdue}
 use Rattle.journal_pdus.specs.OpenedLinks.{AllAreOpenedByThen, AreOpened}
+use Rattle.journal_pdus.specs.Resetting.{ResetsLeaveNoLink}
 use Rattle.journal_pdus.specs.Settled.{AreSettled}
 
 -- each line of a link that a side holds from there on is in the turn of the CONNECT_IND of that link
@@ -53,6 +54,8 @@ pub record IsLawful (a b : List ℕ) (script : Script) (journal : List Entry) : 
   -- each link that is shut has its reason, and one that is not shut has none: it ends later
   pub shut : AllHaveReasons journal
   pub in_time : AllEndInTime journal
+  -- and a Reset leaves none
+  pub resets : ResetsLeaveNoLink journal
   -- no line is of a control procedure
   pub procedures : NoneNamesAProcedure journal
   -- an answer on a link that passes is heard

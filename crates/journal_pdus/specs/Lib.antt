@@ -8,4 +8,5 @@ pub mod Exchanged
 pub mod Undelivered
 pub mod Answered
 pub mod OpenedLinks
+pub mod Resetting
 pub mod Lawful

@@ -4,5 +4,6 @@ pub mod Events
 pub mod Exchanges
 pub mod Held
 pub mod Hosts
+pub mod Resetting
 pub mod Shuts
 pub mod Turns

@@ -7,6 +7,7 @@ mod events;
 mod exchanges;
 mod held;
 mod hosts;
+mod resets;
 mod shuts;
 mod turns;
 
@@ -18,6 +19,7 @@ pub use crate::exchanges::{
 };
 pub use crate::held::{lines_of_no_link_are_refused, packets_of_no_link_are_refused};
 pub use crate::hosts::{wrong_credits_are_refused, wrong_data_is_refused};
+pub use crate::resets::links_left_by_a_reset_are_refused;
 pub use crate::shuts::{links_that_stay_open_are_refused, wrong_reasons_are_refused};
 pub use crate::turns::{
     wrong_fates_are_refused, wrong_feeds_are_refused, wrong_radios_are_refused,

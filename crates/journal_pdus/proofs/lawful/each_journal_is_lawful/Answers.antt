@@ -2,6 +2,8 @@
 use Rattle.std.proofs.Common.{refl}
 use Rattle.run_model.specs.Pair.{given_of}
 use Rattle.run_model.proofs.LinkEnds.{pair_addresses}
+use Rattle.journal_data.proofs.FewLinks.{pair_links}
+use Rattle.journal_data.proofs.Law.{eight_of}
 use Rattle.journal_pdus.proofs.Law.{journal_at_rest, journal_due, journal_ends_in_time, journal_in_time, journal_settled, journal_undelivered}
 use Rattle.journal_pdus.proofs.lawful.each_journal_is_lawful.Goals as goal
 
@@ -17,6 +19,7 @@ returns-clause-lawful c = λ a b script six six_too. record {
   shut = λ front rest side number reason at. c.each_shut_line_has_its_reason.ensures a b script front rest side number reason six six_too at;
   in_time = journal_in_time c.packet_tells_its_pdu.ensures.heard c.a_pdu_is_understood.ensures.says c.connections_are_taken.ensures.taken
       c.searches_give_each_valid_address.ensures.valid c.searches_give_each_valid_address.ensures.distinct a b script six six_too;
+  resets = c.a_reset_leaves_no_link.ensures (given_of a b script) refl (pair_addresses a b script six six_too) (pair_links a b script).links (eight_of a b script);
   procedures = c.no_line_names_a_procedure.ensures a b script;
   answered = c.each_answer_on_a_link_is_heard.ensures (given_of a b script) refl (pair_addresses a b script six six_too);
   due = journal_due c.packet_tells_its_pdu.ensures.heard c.a_pdu_is_understood.ensures.says c.connections_are_taken.ensures.taken
