@@ -1,6 +1,6 @@
 //! Each call on a table of procedures is at most one step of the table of a joint run. The bodies
 //! do nothing: the contracts are the laws.
-ghost use Rattle.std.specs.Prelude.{◌≡◌, ◌⊎◌, ℕ, Bool, true, List, Option, Result};
+ghost use Rattle.std.specs.Prelude.{◌≡◌, ◌⊎◌, ℕ, Bool, true, List, Result};
 ghost use Rattle.ble_base.specs.declared.error_codes.ErrCode.{ErrCode};
 ghost use Rattle.data_pdu.specs.declared.ctrl.Ctrl.{Ctrl};
 ghost use Rattle.data_pdu.specs.declared.ctrl.CtrlRead.{CtrlRead};
@@ -21,8 +21,6 @@ ghost use Rattle.collision_steps.specs.Parts.{outgoing_part};
 ghost use Rattle.machines.specs.Machine.{run_from};
 ghost use Rattle.collision_steps.specs.SubLists.{Directions, Move, is_move_kept, may_move};
 ghost use Rattle.collision_steps.specs.SubLists.{moves_kept, part_of, reliable};
-ghost use Rattle.collision_steps.specs.SubLists.{after_move};
-ghost use Rattle.collision_steps.specs.Untaken.{FindsNone, FindsSent, ways_after, ways_of};
 ghost use Rattle.collision_steps.specs.CentralPart;
 ghost use Rattle.collision_steps.specs.PeripheralPart;
 
@@ -122,18 +120,4 @@ pub fn other_pdus_may_be_left_out<A>()
     ensures run { (keeps : A → Bool) (s : Directions A) (moves : List (Move A))
         → run_from reliable (part_of keeps s) (moves_kept keeps s moves)
         ≡ part_of keeps (run_from reliable s moves) }
-{}
-
-/// Of some kinds, the PDUs that are fixed or sent and not taken: a move sends or takes at most one
-/// of them, it sends one only where none of its direction is untaken, and takes only what was sent.
-/// So a run of both directions is one of the ways of a joint run of exchanges. `A` is the type of a
-/// PDU, and `B` that of one of these kinds.
-pub fn each_move_sends_or_takes_at_most_one<A, B>()
-    ensures ways { (part : A → Option B) (move : Move A) (s : Directions A)
-        → may_move move s ≡ true
-        → ways_of part (after_move move s) ≡ ways_after part move (ways_of part s) }
-    ensures sends { (part : A → Option B) (move : Move A) (s : Directions A)
-        → may_move move s ≡ true → FindsNone part move s }
-    ensures takes { (move : Move A) (s : Directions A) → may_move move s ≡ true
-        → FindsSent move s }
 {}

@@ -1,6 +1,6 @@
 -- The proof of the law `each_move_sends_or_takes_at_most_one`.
 use Rattle.collision_steps.proofs.Untaken.{each_move, finds_none, finds_sent}
-use Rattle.collision_steps.proofs.laws.each_move_sends_or_takes_at_most_one.Goals as goal
+use Rattle.collision_steps.proofs.ways.each_move_sends_or_takes_at_most_one.Goals as goal
 
 pub returns-clause-ways : goal.returns-clause-ways
 returns-clause-ways g c = λ part move s may. each_move part move s may
