@@ -1,5 +1,6 @@
-//! Answers on links and links that open, from the lines of a journal. The bodies only call the laws
-//! that they rest on: the contracts are the laws.
+//! Links of a journal, from its lines: that they open, that their packets are in their events and
+//! answers are heard, and that a Reset leaves none. The bodies only call the laws that they rest on:
+//! the contracts are the laws.
 ghost use Rattle.std.specs.Prelude.{◌≡◌, ◌≤◌, ◌∷◌, [], ℕ, List};
 ghost use Rattle.journal_pdus.specs.Answered.{AllAnswersAreHeard};
 ghost use Rattle.journal_pdus.specs.InEvent.{AllAreInEvents};
