@@ -20,3 +20,12 @@ mod WhatWaits
 mod WhatWaitsInRuns
 mod StoppedRuns
 mod Law
+mod Awaited
+mod AnswersHeard
+mod CentralsOpen
+mod RadioUses
+mod HeldRadio
+mod EventSlots
+mod PacketTurns
+mod ResetAnswers
+mod ResetsLeaveNone

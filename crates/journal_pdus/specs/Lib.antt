@@ -6,4 +6,8 @@ pub mod Announced
 pub mod Pending
 pub mod Exchanged
 pub mod Undelivered
+pub mod Answered
+pub mod InEvent
+pub mod OpenedLinks
+pub mod Resetting
 pub mod Lawful

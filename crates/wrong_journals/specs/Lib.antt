@@ -1,7 +1,10 @@
 -- The journals of this crate.
+pub mod Answers
 pub mod Events
 pub mod Exchanges
 pub mod Held
 pub mod Hosts
+pub mod InEvent
+pub mod Resetting
 pub mod Shuts
 pub mod Turns
