@@ -97,12 +97,12 @@ pub open_step : (P : Control → Type 0) (step : ControlStep) (c : Control) → 
 open_step P step c lasts h =
     subst (λ (b : Bool). P (if b then moved step c else c)) (sym (ap (λ (ends : Option ErrCode). is_none ends) lasts)) h
 
+pub either_way : (P : Control → Type 0) (b : Bool) (c d : Control) → P c → P d → P (if b then c else d)
+either_way P true c d hc hd = hc
+either_way P false c d hc hd = hd
+
 pub any_step : (P : Control → Type 0) (step : ControlStep) (c : Control) → P (moved step c) → P c → P (after step c)
-any_step P step c next now = by (is_none c.ends)
-  where
-    by : (b : Bool) → P (if b then moved step c else c)
-    by true = next
-    by false = now
+any_step P step c next now = either_way P (is_none c.ends) (moved step c) c next now
 
 -- ---- a PDU ends the link, or does what its outcome says
 

@@ -12,7 +12,7 @@ use Rattle.instants.specs.Parameters.{win_offset_of}
 use Rattle.instants.specs.Track.{event_of}
 use Rattle.procedure_values.specs.declared.drafts.Draft.{Draft}
 use Rattle.procedure_values.specs.declared.drafts.Outgoing.TheVariants.{Other}
-use Rattle.procedure_values.specs.Drafts.{waits_for_instant}
+use Rattle.procedure_values.specs.Drafts.{is_out, waits_for_instant}
 use Rattle.procedures.specs.Queue.{next_of}
 use Rattle.two_tracks.specs.TwoEnds.{MayIndicateIf, TwoEnds}
 use Rattle.procedure_values.specs.declared.asks.Ask.{Ask}
@@ -85,7 +85,8 @@ moves (Disconnects reason) c is i =
     kept_if (is_open c.table.closing) c (terminate_step c.table reason) i
     (λ may. kept c _ i (unmoved c.table.progress) i.wanted (drafts_ending (is_open c.table.closing) c.table.queue reason i.drafts))
 moves (Sends slot quiet) c is i = sends_one c slot quiet i
-moves SeesAcknowledged c is i = kept c _ i (acked_same c.table.out c.table.progress) i.wanted i.drafts
+moves SeesAcknowledged c is i =
+    kept_if (is_out c.table.out) c _ i (λ may. kept c _ i (acked_same c.table.out c.table.progress) i.wanted i.drafts)
 moves (Takes read slot quiet) c is i = takes_one c read slot quiet i
 moves (Owes ctrl) c is i =
     kept c _ i (given_same c.table.progress ctrl) i.wanted (drafts_with (is_open c.table.closing) c.table.queue _ i.drafts tt)

@@ -9,6 +9,9 @@ use Rattle.instants.specs.declared.indications.Params.{Params}
 use Rattle.instants.specs.declared.indications.Indication.{Indication}
 use Rattle.instants.specs.declared.track.Change.{Change}
 use Rattle.instants.specs.Track.{TrackFacts, event_of, next_number, track_after_enter, track_after_take}
+use Rattle.procedure_values.specs.declared.drafts.Outgoing.{Outgoing}
+use Rattle.procedure_values.specs.declared.drafts.Outgoing.TheVariants.{Nothing, Rejection, Disconnect, Other}
+use Rattle.procedure_values.specs.Drafts.{ctrl_of_outgoing, indication_of, is_out}
 use Rattle.procedure_stages.specs.Closing.{is_open}
 use Rattle.procedure_stages.specs.InProgress.{is_host_asked}
 use Rattle.procedure_stages.specs.Kinds.{role_of}
@@ -17,10 +20,10 @@ use Rattle.procedures.specs.Queue.{next_of}
 use Rattle.procedures.specs.Table.{TableFacts}
 use Rattle.procedures.specs.Taking.{facts_with, outcome_of, took_step}
 use Rattle.two_tracks.specs.TwoEnds.{TwoEnds, after_indication, after_sending, has_passed}
-use Rattle.control_model.specs.Control.{Control, Step, Enters, Asks, Answers, Disconnects, Sends, SeesAcknowledged, Takes, Owes, after, after_all, ended, first_control, following, indicated_by, is_to_come, moved, table_if, taken, went}
+use Rattle.control_model.specs.Control.{Control, Step, Enters, Asks, Answers, Disconnects, Sends, SeesAcknowledged, Takes, Owes, after, after_all, ended, first_control, following, goes_out, indicated_by, is_to_come, moved, table_if, taken, went}
 use Rattle.control_model.specs.Waits.{is_of_table_alone}
 use Rattle.control_model.proofs.Outcomes.{Hands, fits}
-use Rattle.control_model.proofs.Calls.{acked_same, answered_same, begun_same, given_same, held_over, open_step, any_step, sent_from, took_by}
+use Rattle.control_model.proofs.Calls.{acked_same, answered_same, begun_same, either_way, given_same, held_over, open_step, any_step, sent_from, took_by}
 
 -- ---- no step changes the role
 
@@ -58,9 +61,11 @@ module _ (role : Role) where
       role_if (is_host_asked c.table.progress && is_answer answer) _ c is ((answered_same c.table answer).role ∙ is)
   role_moved (Disconnects reason) c is = role_if (is_open c.table.closing) (terminate_step c.table reason) c is is
   role_moved (Sends slot quiet) c is =
-      role_following (role_of c.table.progress) _ _
-      ((sent_from (next_of c.table (event_of c.track) quiet) (event_of c.track) c.track.params.latency c.table.progress).role ∙ is)
-  role_moved SeesAcknowledged c is = (acked_same c.table.out c.table.progress).role ∙ is
+      either_way (HasRole role) (goes_out quiet c) _ c
+      (role_following (role_of c.table.progress) (went slot quiet c).1 (record c { table = (went slot quiet c).0 })
+      ((sent_from (next_of c.table (event_of c.track) quiet) (event_of c.track) c.track.params.latency c.table.progress).role ∙ is))
+      is
+  role_moved SeesAcknowledged c is = role_if (is_out c.table.out) _ c is ((acked_same c.table.out c.table.progress).role ∙ is)
   role_moved (Takes read slot quiet) c is =
       took_by (HasRole role) c (λ code. is) read slot quiet
       (role_taken c (facts_with c.table slot (outcome_of c.table quiet read)) (indicated_by (outcome_of c.table quiet read).step.effect) is (fits c.table quiet read).hands)
@@ -94,7 +99,7 @@ alone (Takes read slot quiet) c is = absurd (cc)
 alone (Asks ask) c is = refl
 alone (Answers answer) c is = same_if (is_host_asked c.table.progress && is_answer answer) _ c
 alone (Disconnects reason) c is = same_if (is_open c.table.closing) (terminate_step c.table reason) c
-alone SeesAcknowledged c is = refl
+alone SeesAcknowledged c is = same_if (is_out c.table.out) _ c
 alone (Owes ctrl) c is = refl
 
 pub table_alone : (c : Control) (step : Step) → is_of_table_alone step ≡ true → (after step c).track ≡ c.track
@@ -113,11 +118,27 @@ follows_own central_role (Some indication) d s is is_central is_sent =
     record { track = rw is_central refl; all = rw (is_central, is_sent) refl }
 follows_own peripheral_role indication d s is is_central is_sent = absurd (cc)
 
+-- where no control PDU may go out no indication does
+none_goes : (outgoing : Outgoing) (event skips : ℕ) → is_some (ctrl_of_outgoing outgoing event skips) ≡ false → indication_of outgoing event skips ≡ None
+none_goes Nothing event skips is = refl
+none_goes (Rejection rejection) event skips is = absurd (cc)
+none_goes (Disconnect code) event skips is = absurd (cc)
+none_goes (Other draft) event skips is = absurd (cc)
+
+stays_as : (c : Control) (s : TwoEnds) (indication : Option Indication) → indication ≡ None → s.central ≡ c.track → s.sent ≡ c.sent → SendsAs s indication c
+stays_as c s None is is_central is_sent = record { track = sym is_central; all = sym is_sent }
+stays_as c s (Some indication) is is_central is_sent = absurd (cc)
+
 sends_as : (c : Control) (slot : ℕ) (quiet : Bool) (s : TwoEnds) → role_of c.table.progress ≡ central_role → c.ends ≡ None
     → s.central ≡ c.track → s.sent ≡ c.sent → SendsAs s (went slot quiet c).1 (after (Sends slot quiet) c)
 sends_as c slot quiet s role lasts is_central is_sent =
-    open_step (SendsAs s (went slot quiet c).1) (Sends slot quiet) c lasts
-    (follows_own (role_of c.table.progress) (went slot quiet c).1 (record c { table = (went slot quiet c).0 }) s role is_central is_sent)
+    open_step (SendsAs s (went slot quiet c).1) (Sends slot quiet) c lasts (by (goes_out quiet c) refl)
+  where
+    by : (b : Bool) → goes_out quiet c ≡ b
+        → SendsAs s (went slot quiet c).1 (if b then following (role_of c.table.progress) (went slot quiet c).1 (record c { table = (went slot quiet c).0 }) else c)
+    by true is = follows_own (role_of c.table.progress) (went slot quiet c).1 (record c { table = (went slot quiet c).0 }) s role is_central is_sent
+    by false is =
+        stays_as c s (went slot quiet c).1 (none_goes (next_of c.table (event_of c.track) quiet) (event_of c.track) c.track.params.latency is) is_central is_sent
 
 pub sends_track : (c : Control) (slot : ℕ) (quiet : Bool) (s : TwoEnds) → role_of c.table.progress ≡ central_role → c.ends ≡ None
     → s.central ≡ c.track → s.sent ≡ c.sent → (after (Sends slot quiet) c).track ≡ (after_sending (went slot quiet c).1 s).central
@@ -150,7 +171,9 @@ pub peripheral_sends : (c : Control) (slot : ℕ) (quiet : Bool) → role_of c.t
     → (after (Sends slot quiet) c).track ≡ c.track
 peripheral_sends c slot quiet role =
     any_step (λ (d : Control). d.track ≡ c.track) (Sends slot quiet) c
-    (follows_nothing (role_of c.table.progress) (went slot quiet c).1 (record c { table = (went slot quiet c).0 }) role) refl
+    (either_way (λ (d : Control). d.track ≡ c.track) (goes_out quiet c) _ c
+    (follows_nothing (role_of c.table.progress) (went slot quiet c).1 (record c { table = (went slot quiet c).0 }) role) refl)
+    refl
 
 -- the link ends where the Instant has passed
 abbrev ends_if : Bool → Option ErrCode

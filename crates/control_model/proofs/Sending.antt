@@ -30,8 +30,9 @@ use Rattle.procedures.specs.Sending.{facts_sent}
 use Rattle.procedures.specs.Table.{TableFacts}
 use Rattle.two_tracks.specs.TwoEnds.{HasSlots, MayIndicate, MayIndicateIf, TwoEnds, change_of}
 use Rattle.two_tracks.proofs.Read.{gap_of_instant}
-use Rattle.control_model.specs.Control.{Control, following, sent, went}
+use Rattle.control_model.specs.Control.{Control, following, goes_out, sent, went}
 use Rattle.control_model.specs.Waits.{last_event_of, last_instant_of}
+use Rattle.control_model.proofs.Calls.{either_way}
 use Rattle.control_model.proofs.Indicating.{HasLatency, Indicates, IsDraft, SoFar, UpTo, Waits}
 
 -- ---- what is sent next, of a queue
@@ -204,8 +205,8 @@ module _ (c : Control) (ct : Central) (slot : ℕ) (i : Indicates (with_progress
   abbrev skips : ℕ
   skips = c.track.params.latency
 
-  abbrev goes_out : Outgoing → Control
-  goes_out outgoing =
+  abbrev after_outgoing : Outgoing → Control
+  after_outgoing outgoing =
       following central_role (indication_of outgoing event skips)
       (record c { table = facts_sent (record c.table { progress = central ct }) outgoing event skips slot })
 
@@ -221,7 +222,7 @@ module _ (c : Control) (ct : Central) (slot : ℕ) (i : Indicates (with_progress
         so_far = subst (λ (last : Option EventNo). SoFar last c.sent c.track) (sym last) i.so_far;
       }
 
-  pub draft_sent : (draft : Draft) → Goes (central ct) event c.table.queue (Other draft) → Indicates (goes_out (Other draft))
+  pub draft_sent : (draft : Draft) → Goes (central ct) event c.table.queue (Other draft) → Indicates (after_outgoing (Other draft))
   draft_sent (Update params) goes =
       indicates_one (with_progress (central ct) c) _ _ i.so_far refl i.wanted goes.drafts refl
       (update_own event skips params.interval params.latency params.timeout goes.may.0) (goes.may.1 refl)
@@ -232,7 +233,7 @@ module _ (c : Control) (ct : Central) (slot : ℕ) (i : Indicates (with_progress
       indicates_one (with_progress (central ct) c) _ _ i.so_far refl i.wanted goes.drafts refl (map_own event skips map) (goes.may.1 refl)
   draft_sent other goes = other_goes (Other other) goes refl refl
 
-  pub outgoing_sent : (outgoing : Outgoing) → Goes (central ct) event c.table.queue outgoing → Indicates (goes_out outgoing)
+  pub outgoing_sent : (outgoing : Outgoing) → Goes (central ct) event c.table.queue outgoing → Indicates (after_outgoing outgoing)
   outgoing_sent (Other draft) goes = draft_sent draft goes
   outgoing_sent Nothing goes = other_goes Nothing goes refl refl
   outgoing_sent (Rejection rejection) goes = other_goes (Rejection rejection) goes refl refl
@@ -267,13 +268,16 @@ module _ (c : Control) (ct : Central) (slot : ℕ) (i : Indicates (with_progress
       → All (λ change. change.at.0 < event_of c.track) c.sent
   waiting_sent draft goes waits = before ct.last_instant event c.sent (goes.may.1 waits) i.so_far.all
 
-sends_by : (c : Control) (p : Progress) (slot : ℕ) (quiet : Bool) → Indicates (with_progress p c) → Indicates (sent slot quiet (with_progress p c))
+abbrev after_going : ℕ → Bool → Control → Control
+after_going slot quiet c = following (role_of c.table.progress) (went slot quiet c).1 (record c { table = (went slot quiet c).0 })
+
+sends_by : (c : Control) (p : Progress) (slot : ℕ) (quiet : Bool) → Indicates (with_progress p c) → Indicates (after_going slot quiet (with_progress p c))
 sends_by c (central ct) slot quiet i =
     outgoing_sent c ct slot i _ (next_goes (with_progress (central ct) c).table (event_of c.track) quiet i.drafts)
 sends_by c (peripheral p) slot quiet i = absurd (let role = i.role in cc)
 
 pub sends_one : (c : Control) (slot : ℕ) (quiet : Bool) → Indicates c → Indicates (sent slot quiet c)
-sends_one c slot quiet i = sends_by c c.table.progress slot quiet i
+sends_one c slot quiet i = either_way Indicates (goes_out quiet c) (after_going slot quiet c) c (sends_by c c.table.progress slot quiet i) i
 
 owned_by : (c : Control) (p : Progress) (slot : ℕ) (quiet : Bool) → Indicates (with_progress p c) → OwnsIf (with_progress p c) (went slot quiet (with_progress p c)).1
 owned_by c (central ct) slot quiet i =

@@ -14,6 +14,7 @@ use Rattle.instants.specs.declared.indications.Params.{Params}
 use Rattle.instants.specs.declared.indications.Indication.{Indication}
 use Rattle.instants.specs.declared.track.Change.{Change}
 use Rattle.instants.specs.Track.{TrackFacts, event_of, is_due, next_number, number_if_due, track_in_next, track_after_take, track_changed, track_unchanged}
+use Rattle.procedure_values.specs.Drafts.{is_out}
 use Rattle.procedure_stages.specs.declared.stages.Ahead.{Ahead}
 use Rattle.procedure_stages.specs.declared.stages.Ahead.TheVariants.{Nothing, Update as update_ahead, Map as map_ahead}
 use Rattle.procedure_stages.specs.declared.stages.Peripheral.{Peripheral}
@@ -34,10 +35,10 @@ use Rattle.procedures.specs.Queue.{next_of}
 use Rattle.procedures.specs.Request.{outlived}
 use Rattle.procedures.specs.Table.{TableFacts}
 use Rattle.procedures.specs.Taking.{facts_with, lacks_room, outcome_of, settled, took_step}
-use Rattle.control_model.specs.Control.{Control, Step, Enters, Asks, Answers, Disconnects, Sends, SeesAcknowledged, Takes, Owes, after, after_all, ended, entered, first_control, following, indicated_by, is_to_come, moved, sent, taken, took, table_if}
+use Rattle.control_model.specs.Control.{Control, Step, Enters, Asks, Answers, Disconnects, Sends, SeesAcknowledged, Takes, Owes, after, after_all, ended, entered, first_control, following, goes_out, indicated_by, is_to_come, moved, sent, taken, took, table_if, went}
 use Rattle.control_model.specs.Waits.{EndsByCollision, kind_ahead, kind_awaited, kind_of_indication, kind_waiting}
 use Rattle.control_model.proofs.Outcomes.{Hands, HandsOn, Same, fits}
-use Rattle.control_model.proofs.Calls.{acked_same, answered_same, begun_same, given_same, held_over, open_step, sent_from, settled_as, taken_by_step, took_by, unmoved}
+use Rattle.control_model.proofs.Calls.{acked_same, answered_same, begun_same, either_way, given_same, held_over, open_step, sent_from, settled_as, taken_by_step, took_by, unmoved}
 
 pub record Awaits (c : Control) : Type 0 where
   pub role : role_of c.table.progress ≡ peripheral_role
@@ -98,7 +99,10 @@ follows_none peripheral_role indication c is a = a
 sends_one : (c : Control) (slot : ℕ) (quiet : Bool) → Awaits c → Awaits (sent slot quiet c)
 sends_one c slot quiet a =
     let s = sent_from (next_of c.table (event_of c.track) quiet) (event_of c.track) c.track.params.latency c.table.progress in
-    follows_none (role_of c.table.progress) _ _ a.role (record { role = s.role ∙ a.role; same = s.awaited ∙ a.same })
+    either_way Awaits (goes_out quiet c) _ c
+    (follows_none (role_of c.table.progress) (went slot quiet c).1 (record c { table = (went slot quiet c).0 }) a.role
+    (record { role = s.role ∙ a.role; same = s.awaited ∙ a.same }))
+    a
 
 -- ---- every step
 
@@ -108,7 +112,7 @@ moves (Asks ask) c a = kept c _ a (unmoved c.table.progress)
 moves (Answers answer) c a = kept_if (is_host_asked c.table.progress && is_answer answer) c _ a (answered_same c.table answer)
 moves (Disconnects reason) c a = kept_if (is_open c.table.closing) c (terminate_step c.table reason) a (unmoved c.table.progress)
 moves (Sends slot quiet) c a = sends_one c slot quiet a
-moves SeesAcknowledged c a = kept c _ a (acked_same c.table.out c.table.progress)
+moves SeesAcknowledged c a = kept_if (is_out c.table.out) c _ a (acked_same c.table.out c.table.progress)
 moves (Takes read slot quiet) c a = takes_one c read slot quiet a
 moves (Owes ctrl) c a = kept c _ a (given_same c.table.progress ctrl)
 

@@ -13,6 +13,7 @@ use Rattle.instants.specs.declared.track.Change.{Change}
 use Rattle.instants.specs.Track
 use Rattle.instants.specs.Track.{TrackFacts, event_of, gap_ahead, next_number, track_after_enter, track_after_take}
 use Rattle.procedure_values.specs.declared.asks.Ask.{Ask}
+use Rattle.procedure_values.specs.Drafts.{is_out}
 use Rattle.procedure_stages.specs.declared.steps.Effect.{Effect}
 use Rattle.procedure_stages.specs.declared.steps.Effect.TheVariants.{Indicated}
 use Rattle.procedure_stages.specs.Closing.{is_open}
@@ -22,7 +23,7 @@ use Rattle.procedures.specs.Table
 use Rattle.procedures.specs.Table.{TableFacts}
 use Rattle.procedures.specs.Beginning.{ask_step, begin_step}
 use Rattle.procedures.specs.Going.{entered_step, host_answer_step, is_answer, owe_step, terminate_step}
-use Rattle.procedures.specs.Sending.{acked_step, went_step}
+use Rattle.procedures.specs.Sending.{acked_step, next_ctrl_of, went_step}
 use Rattle.procedures.specs.Taking.{took_step}
 use Rattle.two_tracks.specs.TwoEnds.{change_of}
 
@@ -85,9 +86,15 @@ following Central (Some indication) c =
     }
 following role indication c = c
 
+-- whether a control PDU may go out now
+abbrev pub goes_out : Bool → Control → Bool
+goes_out quiet c = is_some (next_ctrl_of c.table (event_of c.track) c.track.params.latency quiet)
+
 abbrev pub sent : ℕ → Bool → Control → Control
 sent slot quiet c =
-    following (role_of c.table.progress) (went slot quiet c).1 (record c { table = (went slot quiet c).0 })
+    (if goes_out quiet c
+    then following (role_of c.table.progress) (went slot quiet c).1 (record c { table = (went slot quiet c).0 })
+    else c)
 
 -- ---- a control PDU of the peer is taken
 
@@ -120,7 +127,7 @@ took read slot quiet c =
 
 -- ---- every step
 
--- a call that may not be made is none
+-- a call that may not be made is no step
 abbrev pub table_if : Bool → TableFacts → Control → Control
 table_if may table c = (if may then record c { table = table } else c)
 
@@ -131,7 +138,7 @@ moved (Answers answer) c =
     table_if (is_host_asked c.table.progress && is_answer answer) (host_answer_step c.table answer) c
 moved (Disconnects reason) c = table_if (is_open c.table.closing) (terminate_step c.table reason) c
 moved (Sends slot quiet) c = sent slot quiet c
-moved SeesAcknowledged c = record c { table = (acked_step c.table).0 }
+moved SeesAcknowledged c = table_if (is_out c.table.out) (acked_step c.table).0 c
 moved (Takes read slot quiet) c = took read slot quiet c
 moved (Owes ctrl) c = record c { table = owe_step c.table ctrl }
 
