@@ -1,7 +1,7 @@
 -- Every step of a central keeps what is known of its indications.
-use Rattle.std.proofs.Common.{◌≡◌, ℕ, ◌≤◌, ◌<◌, Bool, true, false, ◌&&◌, if◌then◌else◌, List, [], ◌∷◌, Option, Some, None, is_none, Result, Ok, Err, refl}
+use Rattle.std.proofs.Common.{◌≡◌, ℕ, ◌≤◌, ◌<◌, Bool, true, false, ◌&&◌, if◌then◌else◌, List, [], ◌∷◌, Option, Some, None, is_none, Result, Ok, Err, refl, arith, subst}
 use Rattle.std.specs.List.{All}
-use Rattle.std.proofs.lemmas.List.Elements.{All-nil}
+use Rattle.std.proofs.lemmas.List.Elements.{All-head, All-nil}
 use Rattle.ble_base.specs.declared.error_codes.ErrCode.{ErrCode}
 use Rattle.ble_base.specs.declared.roles.Role.TheVariants.{Central as central_role}
 use Rattle.data_pdu.specs.declared.ctrl.CtrlRead.{CtrlRead}
@@ -32,7 +32,7 @@ use Rattle.control_model.specs.Waits.{AreInRange, IsInRange, last_event_of, last
 use Rattle.control_model.proofs.Outcomes.{Fits, Hands, fits}
 use Rattle.control_model.proofs.Calls.{acked_same, answered_same, given_same, took_by, unmoved}
 use Rattle.control_model.proofs.Indicating.{Indicates, IsDraft, UpTo, drafts_ending, drafts_rejecting, drafts_replying, drafts_with, enters_by, kept, kept_if, over, wanted_more, wanted_without}
-use Rattle.control_model.proofs.Sending.{free_of, may_of, offset_of, sends_one, waiting_of}
+use Rattle.control_model.proofs.Sending.{Precedes, free_of, may_of, offset_of, own_of, owned, sends_one, waiting_of}
 
 answered_drafts : (f : TableFacts) (answer : Result Ask ErrCode) → All IsDraft f.queue.drafts → IsInRange (Answers answer)
     → All IsDraft (host_answer_step f answer).queue.drafts
@@ -135,3 +135,12 @@ module _ (max_rx : ℕ) (first : Params) (slot : ℕ) (steps : List Step) where
 
   pub last : first.latency ≤ 499 → AreInRange steps → last_instant_of now_central.table.progress ≡ last_event_of now_central.sent
   last latency are = (indicates max_rx first slot steps latency are).so_far.last_is
+
+  -- with one indication sent, another one goes out after its Instant
+  pub early : (now : ℕ) (quiet : Bool) (indication : Indication) (change : Change) → first.latency ≤ 499 → AreInRange steps
+      → (went now quiet now_central).1 ≡ Some indication → now_central.sent ≡ change ∷ [] → event_of now_central.track ≤ change.at.0 → ⊥
+  early now quiet indication change latency are is one ahead =
+      let over = (own_of now_central (went now quiet now_central).1 indication is (owned now_central now quiet (indicates max_rx first slot steps latency are))).over in
+      let all : All (Precedes (event_of now_central.track)) (change ∷ []) = subst (All (Precedes (event_of now_central.track))) one over in
+      let less : change.at.0 < event_of now_central.track = All-head (Precedes (event_of now_central.track)) change [] all in
+      omega (arith, less, ahead)

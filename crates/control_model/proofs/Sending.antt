@@ -95,7 +95,7 @@ last_of_more (one ∷ two ∷ more) change = last_of_more (two ∷ more) change
 abbrev Reaches : Option EventNo → Change → Type 0
 Reaches last change = UpTo change.at.0 last
 
-abbrev Precedes : ℕ → Change → Type 0
+abbrev pub Precedes : ℕ → Change → Type 0
 Precedes event change = change.at.0 < event
 
 -- all Instants so far are over
@@ -311,7 +311,7 @@ may_if c (Some indication) so_far owns s is_central is_sent = may_indicate c ind
 pub may_of : (c : Control) (slot : ℕ) (quiet : Bool) → Indicates c → (s : TwoEnds) → s.central ≡ c.track → s.sent ≡ c.sent → MayIndicateIf s (went slot quiet c).1
 may_of c slot quiet i = may_if c (went slot quiet c).1 i.so_far (owned c slot quiet i)
 
-own_of : (c : Control) (some : Option Indication) (indication : Indication) → some ≡ Some indication → OwnsIf c some → Owns c indication
+pub own_of : (c : Control) (some : Option Indication) (indication : Indication) → some ≡ Some indication → OwnsIf c some → Owns c indication
 own_of c some indication is owns = subst (OwnsIf c) is owns
 
 pub offset_of : (c : Control) (slot : ℕ) (quiet : Bool) (indication : Indication) → Indicates c → (went slot quiet c).1 ≡ Some indication → win_offset_of indication ≡ 0

@@ -295,3 +295,11 @@ module _ (max_rx : ℕ) (first : Params) (slot : ℕ) (steps : List Step) where
       → (after (Takes (Known (ChannelMapInd map instant)) now quiet) now_peripheral).track ≡ now_peripheral.track
   another_map_leaves change map instant now quiet lasts is =
       second_map_track now_peripheral (awaits max_rx first slot steps) change lasts is map instant now quiet
+
+  pub not_two_kinds : kind_awaited now_peripheral.table.progress ≡ Some Map → kind_waiting now_peripheral.track.waits ≡ Some Update → ⊥
+  not_two_kinds awaits_map waits_update =
+      let same : ◌≡◌ {A = Option Kind} (Some Map) (Some Update) = sym awaits_map ∙ same_kind ∙ waits_update in absurd (cc)
+
+  pub not_alone : now_peripheral.track.waits ≡ None → kind_awaited now_peripheral.table.progress ≡ Some Update → ⊥
+  not_alone free awaits_update =
+      let same : ◌≡◌ {A = Option Kind} (Some Update) None = sym awaits_update ∙ same_kind ∙ ap kind_waiting free in absurd (cc)

@@ -10,4 +10,4 @@ pub use crate::laws::{
     a_central_indicates_as_it_may, an_indication_waits_in_both_parts, ends_keep_their_role,
     what_is_sent_is_followed,
 };
-pub use crate::rows::worked_ends;
+pub use crate::rows::{no_steps_come_to_these, worked_ends};

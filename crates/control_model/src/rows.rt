@@ -1,11 +1,15 @@
 //! Worked steps of one end.
-ghost use Rattle.std.specs.Prelude.{◌≡◌, ◌∷◌, ◌++◌, [], Some, None, true};
+ghost use Rattle.std.specs.Prelude.{◌≡◌, ◌≤◌, ◌∷◌, ◌++◌, ℕ, Bool, List, [], Some, None, true};
 ghost use Rattle.ble_base.specs.declared.channel_map.ChannelMap.{ChannelMap};
 ghost use Rattle.ble_base.specs.declared.procedure_kinds.Kind.{Kind};
+ghost use Rattle.ble_base.specs.declared.roles.Role.{Role};
 ghost use Rattle.instants.specs.declared.indications.Indication.{Indication};
+ghost use Rattle.instants.specs.declared.indications.Params.{Params};
+ghost use Rattle.instants.specs.declared.track.Change.{Change};
+ghost use Rattle.instants.specs.Track.{event_of};
 ghost use Rattle.procedure_stages.specs.Kinds.{own_kind};
-ghost use Rattle.control_model.specs.Control.{went};
-ghost use Rattle.control_model.specs.Waits.{kind_awaited, kind_waiting};
+ghost use Rattle.control_model.specs.Control.{Step, after_all, first_control, went};
+ghost use Rattle.control_model.specs.Waits.{AreInRange, kind_awaited, kind_waiting};
 ghost use Rattle.control_model.specs.Worked.{central_after, entries, peripheral_after};
 ghost use Rattle.control_model.specs.Worked.{takes_map, takes_update, update_sent};
 
@@ -42,4 +46,23 @@ pub fn worked_ends()
     ensures late_ends { (map : ChannelMap)
         → (peripheral_after map (entries 4 ++ takes_update 2 ∷ [])).ends
         ≡ Some (record { 0 = 0x28 }) }
+{}
+
+/// No steps come to a peripheral that awaits a map by its table while an update waits at its track,
+/// or that awaits an update while none waits there; and none to a central that sent one indication
+/// and sends another one by the event of its Instant.
+pub fn no_steps_come_to_these()
+    ensures two_kinds { (max_rx : ℕ) (first : Params) (slot : ℕ) (steps : List Step)
+        → let c = after_all steps (first_control Role.Peripheral max_rx first slot) in
+        kind_awaited c.table.progress ≡ Some Kind.Map
+        → kind_waiting c.track.waits ≡ Some Kind.Update → ⊥ }
+    ensures table_alone { (max_rx : ℕ) (first : Params) (slot : ℕ) (steps : List Step)
+        → let c = after_all steps (first_control Role.Peripheral max_rx first slot) in
+        c.track.waits ≡ None → kind_awaited c.table.progress ≡ Some Kind.Update → ⊥ }
+    ensures early { (max_rx : ℕ) (first : Params) (slot : ℕ) (steps : List Step) (now : ℕ)
+        (quiet : Bool) (indication : Indication) (change : Change) → first.latency ≤ 499
+        → AreInRange steps
+        → let c = after_all steps (first_control Role.Central max_rx first slot) in
+        (went now quiet c).1 ≡ Some indication → c.sent ≡ change ∷ []
+        → event_of c.track ≤ change.at.0 → ⊥ }
 {}
