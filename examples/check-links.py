@@ -11,7 +11,8 @@ JOURNAL is a file with a journal; without one, those of all examples are looked 
   handle, of an open link;
 - each side enters the events 0, 1, 2, .. of a link, each once;
 - a link is shut with 3E six intervals after its CONNECT_IND, where its side heard nothing good on it; with 08 as the
-  supervision timeout has passed since the last good packet; and with 00 where its host completes a Reset;
+  supervision timeout has passed since the last good packet; and with 00 where its host completes a Reset. None that is to
+  end is open after that turn;
 - no line is of a control procedure.
 
 These are clauses of a lawful journal (docs/lawful-journals.md), for links whose access addresses differ. It shares no code
@@ -95,7 +96,19 @@ class Reader:
         self.sides = {"a": Side(), "b": Side()}
 
     def turn(self, slot, _radios):
+        self.no_link_is_overdue()
         self.slot = int(slot)
+
+    def no_link_is_overdue(self):
+        for side in self.sides.values():
+            for link in side.open:
+                if self.slot >= self.end_of(side, link):
+                    raise Fault("a link is open after the turn in which it ends")
+
+    def end_of(self, side, link):
+        _, interval, timeout, slot = self.links[link - 1]
+        heard = side.heard.get(link)
+        return slot + 6 * interval if heard is None else heard + timeout
 
     def fed(self, side, octets):
         side = self.sides[side]
@@ -143,11 +156,11 @@ class Reader:
     def shut(self, side, link, reason):
         side, link = self.sides[side], int(link)
         side.name(link)
-        _, interval, timeout, slot = self.links[link - 1]
-        heard = side.heard.get(link)
+        heard = link in side.heard
+        ends = self.slot == self.end_of(side, link)
         due = {
-            "3e": heard is None and self.slot == slot + 6 * interval,
-            "08": heard is not None and self.slot == heard + timeout,
+            "3e": ends and not heard,
+            "08": ends and heard,
             "00": completes_reset(side.fed, side.since),
         }
         if not due.get(reason, False):

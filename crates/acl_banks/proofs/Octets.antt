@@ -1,10 +1,10 @@
 -- The marked octets of packets and pieces, and what a link has of them.
 use Rattle.std.proofs.Common.{◌≡◌, ℕ, zero, suc, ◌+◌, ◌-◌, ◌<◌, ◌≤◌, ◌==◌, min, Bool, true, false, cond, ◌&&◌, List, [], ◌∷◌, ◌++◌, length, map, get_or, take, drop, Some, None, refl, sym, ap, subst, ◌∙◌, arith, nat_lt, length-append, true≢false}
 use Rattle.std.proofs.lemmas.Bool.Decides.{nat_tests}
-use Rattle.std.proofs.lemmas.List.{drop_all, take-map, take_more, append-nil, append_assoc, length-take, length-drop, length-map}
+use Rattle.std.proofs.lemmas.List.{drop_all, take-map, take_min, take_more, append-nil, append_assoc, length-take, length-drop, length-map}
 use Rattle.std.proofs.lemmas.Option.{none-some, same_Some}
 use Rattle.std.specs.List.{filter, find, flat_map}
-use Rattle.acl_banks.specs.Packets.{Marked, marked_octets, DataPacket, is_of, sent_length, has_unsent, piece_of, unsent_octets}
+use Rattle.acl_banks.specs.Packets.{Marked, marked_octets, DataPacket, is_of, packet_after_went, sent_length, has_unsent, piece_of, unsent_octets}
 
 abbrev plain : ℕ → Marked
 plain octet = (false, octet)
@@ -59,6 +59,18 @@ pub length-piece_of : (limit : ℕ) (packet : DataPacket) → length (piece_of l
 length-piece_of limit packet =
     length-take limit (drop (sent_length packet) packet.body)
     ∙ ap (min limit) (length-drop (sent_length packet) packet.body ∙ sym (length-unsent_octets packet))
+
+-- a piece that is cut at its own length is that piece, and so many octets go out with it
+pub piece-again : (limit : ℕ) (packet : DataPacket) → piece_of (length (piece_of limit packet).body.items) packet ≡ piece_of limit packet
+piece-again limit packet =
+    let left = drop (sent_length packet) packet.body in
+    ap (λ octets. record { start = packet.start && (sent_length packet == 0); body = record { items = octets } })
+    (ap (λ n. take n left) (length-take limit left) ∙ take_min limit left)
+
+pub went-piece : (limit : ℕ) (packet : DataPacket) → packet_after_went (length (piece_of limit packet).body.items) packet ≡ packet_after_went limit packet
+went-piece limit packet =
+    let left : length (unsent_octets packet) ≡ length packet.body - sent_length packet = length-unsent_octets packet in
+    ap (λ n. record packet { out = n }) (omega (arith, left, length-piece_of limit packet))
 
 module _ (handle : ℕ) where
   -- what a link has not sent, of some packets

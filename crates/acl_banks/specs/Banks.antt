@@ -52,10 +52,10 @@ is_completed (Some packet) = is_all_sent packet
 abbrev pub bank_after_offer : Bank → DataPacket → Bank
 bank_after_offer bank packet = record bank { packets = bank.packets ++ packet ∷ [] }
 
--- after the next piece of a link went out
+-- after the next piece of a link went out, of this number of octets
 abbrev pub bank_after_went : Bank → ℕ → ℕ → Bank
-bank_after_went bank handle limit =
-    record bank { packets = with_first (has_unsent handle) (packet_after_went limit) bank.packets }
+bank_after_went bank handle count =
+    record bank { packets = with_first (has_unsent handle) (packet_after_went count) bank.packets }
 
 -- after the piece out was acknowledged: a packet that is complete frees its buffer and is counted
 abbrev pub bank_after_acked : Bank → ℕ → Bank

@@ -17,8 +17,8 @@ pub data Call : Type 0 where
 -- its conditions
 abbrev pub IsAllowed : Bank → Call → Type 0
 IsAllowed bank (offer handle start body) = 1 ≤ length body
-IsAllowed bank (went handle limit) =
-    (1 ≤ limit) × IsSome (next_piece bank handle limit) × (packet_out bank handle ≡ None)
+IsAllowed bank (went handle count) =
+    (1 ≤ count) × IsSome (next_piece bank handle count) × (packet_out bank handle ≡ None)
 IsAllowed bank (acked handle) = IsSome (packet_out bank handle)
 IsAllowed bank (credited handle) = Unit {0}
 IsAllowed bank (drop_link handle) = Unit {0}
@@ -30,7 +30,7 @@ is_refused buffers bank body = nat_lt 251 (length body) || taken_buffers bank ==
 abbrev pub bank_after : ℕ → Bank → Call → Bank
 bank_after buffers bank (offer handle start body) =
     if is_refused buffers bank body then bank else bank_after_offer bank (new_packet handle start body)
-bank_after buffers bank (went handle limit) = bank_after_went bank handle limit
+bank_after buffers bank (went handle count) = bank_after_went bank handle count
 bank_after buffers bank (acked handle) = bank_after_acked bank handle
 bank_after buffers bank (credited handle) = bank_after_credited bank handle
 bank_after buffers bank (drop_link handle) = bank_after_drop bank handle
@@ -63,8 +63,8 @@ past_after buffers link bank past (offer handle start body) =
     if handle == link && not (is_refused buffers bank body)
     then record past { packets = past.packets ++ record { start = start; body = body } ∷ [] }
     else past
-past_after buffers link bank past (went handle limit) =
-    if handle == link then record past { sent = past.sent ++ octets_of_piece (next_piece bank handle limit) } else past
+past_after buffers link bank past (went handle count) =
+    if handle == link then record past { sent = past.sent ++ octets_of_piece (next_piece bank handle count) } else past
 past_after buffers link bank past (acked handle) =
     if handle == link then record past { acknowledged = past.acknowledged ++ piece_out bank handle } else past
 past_after buffers link bank past (credited handle) =

@@ -48,9 +48,9 @@ piece_of limit packet =
       body = record { items = take limit (drop (sent_length packet) packet.body) };
     }
 
--- the packet as that piece goes out
+-- the packet as a piece of this number of octets goes out, or of all that are left where these are fewer
 abbrev pub packet_after_went : ℕ → DataPacket → DataPacket
-packet_after_went limit packet = record packet { out = min limit (length packet.body - sent_length packet) }
+packet_after_went count packet = record packet { out = min count (length packet.body - sent_length packet) }
 
 -- the packet as the piece that is out is acknowledged
 abbrev pub packet_after_acked : DataPacket → DataPacket

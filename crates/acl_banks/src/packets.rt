@@ -116,11 +116,11 @@ impl Buffer {
         Piece::new(self.start && sent == 0, octets)
     }
 
-    pub(crate) fn send(&mut self, limit: u16)
-        ensures { self.new ≡ packet_after_went limit self.old }
+    pub(crate) fn send(&mut self, count: u16)
+        ensures { self.new ≡ packet_after_went count self.old }
     {
         let rest = self.body.len() - usize::from(self.sent());
-        self.out = rest.min(usize::from(limit)) as u8;
+        self.out = rest.min(usize::from(count)) as u8;
     }
 
     pub(crate) fn acknowledge(&mut self)

@@ -125,16 +125,17 @@ impl<const T: usize> TxBank<T> {
         Some(self.piece_at(place, limit))
     }
 
-    /// The piece that `peek` gives with this limit is out.
-    pub fn went(&mut self, handle: u16, limit: u16)
-        requires some { 1 ≤ limit }
-        requires next { IsSome (next_piece self.old handle limit) }
+    /// The next piece of a link is out, with this number of octets: the piece that `peek` gave, under
+    /// whatever limit.
+    pub fn went(&mut self, handle: u16, count: u16)
+        requires some { 1 ≤ count }
+        requires next { IsSome (next_piece self.old handle count) }
         requires none_out { packet_out self.old handle ≡ None }
-        ensures bank { self.new ≡ bank_after_went self.old handle limit }
+        ensures bank { self.new ≡ bank_after_went self.old handle count }
         ensures out { IsSome (packet_out self.new handle) }
     {
         match self.first_unsent(handle) {
-            Some(place) => self.packets.get_mut(place).send(limit),
+            Some(place) => self.packets.get_mut(place).send(count),
             None => unreachable!(),
         }
     }

@@ -70,8 +70,8 @@ given_more handle start [] outgoing = omega arith
 given_more handle start (octet ∷ octets) outgoing = let more = length-append outgoing.packets (new_packet handle start (octet ∷ octets) ∷ []) in omega (arith, more)
 
 sent_as : (is_piece : Bool) (outgoing : Data)
-    → length (cond is_piece (with_first is_unsent (packet_after_went outgoing.limit) outgoing.packets) outgoing.packets) ≤ length outgoing.packets
-sent_as true outgoing = let same = length-with is_unsent (packet_after_went outgoing.limit) outgoing.packets in omega (arith, same)
+    → length (cond is_piece (with_first is_unsent (packet_after_went (length outgoing.fixed.body)) outgoing.packets) outgoing.packets) ≤ length outgoing.packets
+sent_as true outgoing = let same = length-with is_unsent (packet_after_went (length outgoing.fixed.body)) outgoing.packets in omega (arith, same)
 sent_as false outgoing = omega arith
 
 sent_less : (is_new : Bool) (outgoing : Data) → length (data_sent_if is_new outgoing).packets ≤ length outgoing.packets

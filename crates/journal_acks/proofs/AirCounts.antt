@@ -11,7 +11,7 @@ use Rattle.air_frame.specs.Packet.{access_octets}
 use Rattle.link_model.specs.Packets.{pdu_sent}
 use Rattle.link_model.specs.Data.{is_empty}
 use Rattle.link_model.specs.Pair.{AreInAgreement}
-use Rattle.link_model.proofs.Payloads.{past_pdu_short}
+use Rattle.link_model.proofs.Payloads.{past_form}
 use Rattle.link_model.proofs.Received.{IsHeardWhole}
 use Rattle.link_model.specs.Step.{PacketSent, PacketReceived}
 use Rattle.open_links.specs.OpenLinks.{OpenLink, facts_in, link_after, link_at}
@@ -351,7 +351,7 @@ module _ (whole : IsHeardWhole) (given : Given) (Q : Place → List Event → Ty
           empty_is : carries_empty (link_numbered (number_at other handle history) (journal_of history)) channel octets ≡ is_empty (pdu_sent (facts_in sent.link))
           empty_is =
               ap (λ may. carries_empty may channel octets) begun.is_link
-              ∙ sent_empty whole sent.link.setup (facts_in sent.link) begun.link channel octets (past_pdu_short sent.link.setup sent.link.past)
+              ∙ sent_empty whole sent.link.setup (facts_in sent.link) begun.link channel octets (past_form sent.link.setup sent.link.past)
               (begun.fields ∙ sym connect_ind.fields) sent.channel_is sent.packet
 
           abbrev taken : Bool → OpenLink

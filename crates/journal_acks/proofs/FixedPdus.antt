@@ -28,7 +28,7 @@ found_passes (first ∷ packets) packet is = at (is_unsent first) refl is (found
 less : (one other : ℕ) → nat_lt one other ≡ true → one < other
 less one other is = grind (arith, nat_tests)
 
-some_octets : (limit : ℕ) (packet : DataPacket) → limit ≡ 27 → is_unsent packet ≡ true → 0 < length (piece_of limit packet).body.items
+some_octets : (limit : ℕ) (packet : DataPacket) → 1 ≤ limit → is_unsent packet ≡ true → 0 < length (piece_of limit packet).body.items
 some_octets limit packet is unsent =
     omega (arith, is, less (sent_length packet) (length packet.body) unsent, length-piece_of limit packet, length-unsent_octets packet)
 
@@ -40,22 +40,22 @@ neither : (one other : Bool) → one ≡ false → other ≡ false → (one || o
 neither true other is is_too = absurd cc
 neither false other is is_too = is_too
 
-piece_full : (limit : ℕ) (packet : DataPacket) → limit ≡ 27 → is_unsent packet ≡ true → is_empty (pdu_with (Some (piece_of limit packet))) ≡ false
+piece_full : (limit : ℕ) (packet : DataPacket) → 1 ≤ limit → is_unsent packet ≡ true → is_empty (pdu_with (Some (piece_of limit packet))) ≡ false
 piece_full limit packet is unsent =
     let some = some_octets limit packet is unsent in
     neither (llid_of (piece_of limit packet).start == 0) (length (piece_of limit packet).body.items == 0) (no_llid (piece_of limit packet).start)
     (ne_eqb (length (piece_of limit packet).body.items) 0 (λ same. omega (arith, same, some)))
 
-next_full : (packets : List DataPacket) (limit : ℕ) (fixed : Pdu) → limit ≡ 27 → IsNext packets limit fixed → is_empty fixed ≡ true → fixed ≡ empty_pdu
-next_full packets limit fixed is (none_next same) empty = same
-next_full packets limit fixed is (piece_next packet found same) empty =
-    absurd (let h : true ≡ false = sym empty ∙ ap is_empty same ∙ piece_full limit packet is (found_passes packets packet found) in absurd cc)
+next_full : (packets : List DataPacket) (fixed : Pdu) → IsNext packets fixed → is_empty fixed ≡ true → fixed ≡ empty_pdu
+next_full packets fixed (none_next same) empty = same
+next_full packets fixed (piece_next packet limit some found same) empty =
+    absurd (let h : true ≡ false = sym empty ∙ ap is_empty same ∙ piece_full limit packet some (found_passes packets packet found) in absurd cc)
 
 pub fixed_empty : (link : OpenLink) → is_empty (facts_in link).outgoing.fixed ≡ true → (facts_in link).outgoing.fixed ≡ empty_pdu
 fixed_empty link empty =
     let holds = past_holds link.setup link.past in
     let outgoing = (facts_in link).outgoing in
-    next_full outgoing.packets outgoing.limit outgoing.fixed holds.limit holds.next empty
+    next_full outgoing.packets outgoing.fixed holds.next empty
 
 -- ---- what was sent
 

@@ -28,8 +28,10 @@ use Rattle.run_model.specs.Feeding.{AreDistinct}
 use Rattle.run_model.specs.History.{Event, Called, Noted, packet_received, turns_begun}
 use Rattle.run_model.specs.Journal.{journal_of, side_of}
 use Rattle.run_model.specs.LinkEnds.{HaveAddresses}
+use Rattle.run_model.specs.NoteLines.{sent_line}
 use Rattle.run_model.specs.Run.{Given, after_call, facts_at, history_of, run_of, setup_at, step_of}
 use Rattle.run_model.proofs.LinkEnds.{AreTaken, IsUnderstood}
+use Rattle.run_model.proofs.NoteLines.{line_in_call, to_line}
 use Rattle.run_model.proofs.Places.{each_at}
 use Rattle.run_model.proofs.Stations.{among, is_in, not_before}
 use Rattle.run_model.proofs.Walk.{Place, AtBegins, AtListening}
@@ -54,7 +56,6 @@ use Rattle.journal_acks.proofs.LinkCalls.{base_ack, begins_under, taken_noted}
 use Rattle.journal_acks.proofs.LinkUses.{listens_under}
 use Rattle.journal_acks.proofs.PhaseNotes.{IsOnLink, IsPhaseOf, IsPlainPhase, SendsFrom, SendsNothing, SendsOne, phase_of, same_but, sends_from}
 use Rattle.journal_acks.proofs.RunCounts.{counts_first}
-use Rattle.journal_acks.proofs.SentInCalls.{sent_in_call, to_line}
 use Rattle.journal_acks.proofs.Standing.{PhasedBy, phased_at}
 use Rattle.journal_acks.proofs.TwoStations.{IsOfTwo, same_number}
 
@@ -281,8 +282,9 @@ pub sent_line_is_new : IsHeardWhole → IsUnderstood → AreTaken → AreNth →
 sent_line_is_new whole understood taken nth apart given are_two six distinct front rest side number count llid body is =
     let Q = IsBelongingSoFar given in
     let known = known_of understood taken nth apart given are_two six in
-    let call = sent_in_call given front rest side number count llid body is in
-    to_line (λ link entries one. IsNewPdu link entries one (record { llid = llid; body = body })) given front side number count llid body call
+    let line = sent_line side number count llid body in
+    let call = line_in_call given front rest (Sent side number count llid body) line refl is in
+    to_line given front line call (λ link entries one. IsNewPdu link entries one (record { llid = llid; body = body }))
     (new_after given call.station call.step call.base call.before call.earlier call.later call.handle count llid body call.notes_are call.before_is
     (each_at (OfCall given (IsNewCall given)) (history_of (run_of given)) call.base call.after (Called call.station call.step)
     (run_calls given (IsNewCall given) (AreCountedAt given Q) (counts_kept whole given Q known are_two six distinct) (have_new whole given Q known are_two six distinct) (counts_first given))

@@ -19,10 +19,12 @@ use Rattle.run_model.specs.Due.{Each}
 use Rattle.run_model.specs.History.{Event, TurnBegan, HostFed, Called, Noted, Transmitted, fed_to, octets_in, past_of}
 use Rattle.run_model.specs.Journal.{entries_of, entry_of, journal_from, journal_of, side_of}
 use Rattle.run_model.specs.Links.{Links, first_links, links_after, links_of}
+use Rattle.run_model.specs.NoteLines.{IsLineInCall, shut_line}
 use Rattle.run_model.specs.Order.{AreNotes, side_of_note}
 use Rattle.run_model.specs.Readers.{IsOfStations, fed_in, fed_to_side, of_side}
 use Rattle.run_model.specs.Run.{Given, facts_at, history_of, run_of, setup_at}
 use Rattle.run_model.proofs.Journals.{each_front, two}
+use Rattle.run_model.proofs.NoteLines.{line_in_call}
 use Rattle.run_model.proofs.OfStations.{OfStations, run_of_stations}
 use Rattle.run_model.proofs.Parts.{journal_more}
 use Rattle.run_model.proofs.Places.{each_at}
@@ -30,7 +32,7 @@ use Rattle.run_model.proofs.Stations.{is_in}
 use Rattle.journal_acks.specs.Shut.{CompletesReset}
 use Rattle.journal_acks.proofs.FeedCalls.{IsFedNow, OfFeed, both_notes, run_feeds}
 use Rattle.journal_acks.proofs.TwoStations.{IsOfTwo}
-use Rattle.journal_acks.proofs.ShutLines.{IsShutInCall, shut_in, shut_in_call}
+use Rattle.journal_acks.proofs.ShutLines.{shut_in}
 
 note_side : (side : Side) (link_of : ℕ → ℕ) (last : ℕ) (note : Note) → side_of_note (entry_of side link_of last note) ≡ Some side
 note_side side link_of last (UpNote packet) = refl
@@ -127,16 +129,16 @@ module _ (given : Given) (are_two : IsOfTwo given) where
   not_zero slot link reason X (not_established none passed code) is = absurd (let h : 0x3E ≡ 0x00 = sym code ∙ is in omega (arith, h))
   not_zero slot link reason X (timed_out good some passed code) is = absurd (let h : 0x08 ≡ 0x00 = sym code ∙ is in omega (arith, h))
 
-  by_reason : (front : List Entry) (side : Side) (number : ℕ) (reason : ErrCode) (call : IsShutInCall given front side number reason)
+  by_reason : (front : List Entry) (side : Side) (number : ℕ) (reason : ErrCode) (call : IsLineInCall given front (shut_line side number reason))
       → IsShut (facts_at given call.station call.base) call.step call.handle reason.0 → reason.0 ≡ 0x00 → CompletesReset front side
   by_reason front side number reason call (overdue slot on link begins is_open due) is = not_zero slot link reason.0 _ due is
   by_reason front side number reason call (reset link accepted is_open code) is =
-      subst (λ xs. CompletesReset xs side) (sym call.front_is)
+      subst (λ xs. CompletesReset xs side) (sym (call.front_is ∙ ap journal_of call.before_is))
       (subst (CompletesReset (journal_of (call.base ++ Called call.station call.step ∷ map (Noted call.station) call.earlier))) call.side_is
       (by_step call.base call.after call.station call.step call.earlier call.called accepted))
 
   pub reset_completed : (front rest : List Entry) (side : Side) (number : ℕ) (reason : ErrCode) → journal_of (history_of (run_of given)) ≡ front ++ Shut side number reason ∷ rest
       → reason.0 ≡ 0x00 → CompletesReset front side
   reset_completed front rest side number reason is =
-      let call = shut_in_call given front rest side number reason is in
+      let call = line_in_call given front rest (Shut side number reason) (shut_line side number reason) refl is in
       by_reason front side number reason call (shut_in given front side number reason call)

@@ -1,13 +1,14 @@
--- What is kept at each place of a run is seen before each turn, before each packet, and at the end.
+-- What is kept at each place of a run is seen before each turn, before each packet, also the one at which a run stops, and
+-- at the end.
 use Rattle.std.proofs.Common.{◌≡◌, ℕ, Bool, List, [], ◌∷◌, ◌++◌}
 use Rattle.std.specs.Prelude.{map, take}
 use Rattle.controller_model.specs.Step.{TurnBegins, TurnEnds}
 use Rattle.controller_model.specs.Facts.{Sends}
 use Rattle.run_model.specs.Due.{Each}
 use Rattle.run_model.specs.History.{Event, TurnBegan, HostFed, Called, Noted, Transmitted, Hearing, packet_received}
-use Rattle.run_model.specs.Run.{Given, GoesOn, hearings_of, history_of, octets_left, run_of, step_of, use_at}
+use Rattle.run_model.specs.Run.{Given, GoesOn, Stop, Stops, hearings_of, history_of, octets_left, run_of, step_of, use_at}
 use Rattle.run_model.proofs.Places.{each_at, each_event}
-use Rattle.run_model.proofs.Walk.{Place, NoTurn, AtPackets, IsKept, IsWhole, IsStopped, ends_whole, ends_with, run_kept}
+use Rattle.run_model.proofs.Walk.{Place, NoTurn, AtPackets, IsKept, IsWhole, IsStopped, ends_stopped, ends_whole, ends_with, run_kept}
 use Rattle.journal_packets.proofs.EachEvent.{each_call, each_feed}
 
 -- what holds before a turn, and before a packet
@@ -86,3 +87,8 @@ module _ (given : Given) (P : Place → List Event → Type 0) (kept : IsKept gi
     pub seen_last : (history : List Event) → run_of given ≡ GoesOn history → T history
     seen_last history goes =
         sees.turn history (ends_whole (run_of given) (IsWhole given SeesAll) (IsStopped given SeesAll) history (run_kept given SeesAll sees_kept (record { is = first; each = tt })) goes).is.is
+
+    pub seen_stop : (history : List Event) (stop : Stop) → run_of given ≡ Stops history stop → S history stop.sender stop.channel stop.sent
+    seen_stop history stop stops =
+        let stopped = ends_stopped (run_of given) (IsWhole given SeesAll) (IsStopped given SeesAll) history stop (run_kept given SeesAll sees_kept (record { is = first; each = tt })) stops in
+        sees.packet stopped.phases stopped.done stopped.left stop.sender stop.channel stop.sent history stopped.stations_are stopped.is_wanted stopped.kept.is

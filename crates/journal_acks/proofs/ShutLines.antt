@@ -1,11 +1,7 @@
 -- Each line of a link that is shut has its reason by the lines before it.
-use Rattle.std.proofs.Common.{◌≡◌, ℕ, ◌+◌, ◌-◌, ◌*◌, ◌≤◌, ◌||◌, inl, inr, Bool, true, false, Option, Some, None, List, [], ◌∷◌, ◌++◌, length, refl, sym, ap, subst, ◌∙◌, append_assoc, arith}
+use Rattle.std.proofs.Common.{◌≡◌, ℕ, ◌+◌, ◌-◌, ◌*◌, ◌≤◌, inl, inr, Bool, false, Option, Some, None, List, ◌∷◌, ◌++◌, length, refl, sym, ap, subst, ◌∙◌, arith}
 use Rattle.std.specs.Prelude.{⊤, map, if◌then◌else◌}
-use Rattle.std.specs.List.{Contains}
-use Rattle.std.proofs.lemmas.List.Elements.{Contains-append_left, Contains-append_right, Contains-push}
-use Rattle.std.proofs.lemmas.List.Folds.{list_any-append}
 use Rattle.ble_base.specs.declared.notes.Note.{Note}
-use Rattle.ble_base.specs.declared.notes.Note.TheVariants.{Up as UpNote, Shut as ShutNote}
 use Rattle.ble_base.specs.declared.error_codes.ErrCode.{ErrCode}
 use Rattle.ble_base.specs.declared.roles.Side.{Side}
 use Rattle.journal.specs.declared.entries.Entry.{Entry}
@@ -13,26 +9,22 @@ use Rattle.journal.specs.declared.entries.Entry.TheVariants.{Shut}
 use Rattle.link_model.proofs.Received.{IsHeardWhole}
 use Rattle.open_links.specs.OpenLinks.{OpenLink, link_at}
 use Rattle.controller_model.specs.Shutting.{IsOverdue, IsShut, not_established, overdue, reset, timed_out}
-use Rattle.controller_model.specs.Side.{notes_after}
 use Rattle.controller_model.specs.Step.{Step, HostOctet, TurnBegins, PacketHeard, NothingHeard, TurnEnds}
 use Rattle.controller_model.proofs.Shuts.{shuts_with_reason}
 use Rattle.run_model.specs.Due.{IsCallDue, IsDue}
 use Rattle.run_model.specs.Feeding.{AreDistinct}
-use Rattle.run_model.specs.History.{Event, TurnBegan, HostFed, Called, Noted, Transmitted, packet_received, past_of, turns_begun}
-use Rattle.run_model.specs.Journal.{entries_of, entry_of, journal_of, side_of}
+use Rattle.run_model.specs.History.{Event, Called, Noted, packet_received, past_of, turns_begun}
+use Rattle.run_model.specs.Journal.{journal_of, side_of}
 use Rattle.run_model.specs.LinkEnds.{HaveAddresses}
-use Rattle.run_model.specs.Links.{Links, links_of}
+use Rattle.run_model.specs.NoteLines.{IsLineInCall, LinkLine, shut_line}
 use Rattle.run_model.specs.OnAir.{ends_phase}
 use Rattle.run_model.specs.Readers.{turns_of}
 use Rattle.run_model.specs.Run.{Given, facts_at, history_of, run_of, setup_at, step_of}
 use Rattle.run_model.proofs.Calls.{turns_called}
-use Rattle.run_model.proofs.CallNotes.{noted_in_call}
 use Rattle.run_model.proofs.Dues.{run_due}
-use Rattle.run_model.proofs.EntryEvents.{is_of_event}
 use Rattle.run_model.proofs.Fates.{turns_are}
 use Rattle.run_model.proofs.LinkEnds.{AreTaken, IsUnderstood}
-use Rattle.run_model.proofs.LinksKnown.{link_by_own}
-use Rattle.run_model.proofs.OpenedNotes.{is_opened, opens_under, outside_open}
+use Rattle.run_model.proofs.NoteLines.{is_contained, line_in_call, number_then, to_line}
 use Rattle.run_model.proofs.Parts.{journal_more}
 use Rattle.run_model.proofs.Places.{each_at}
 use Rattle.run_model.proofs.Stations.{among, not_before}
@@ -55,107 +47,14 @@ use Rattle.journal_acks.proofs.KeptGood.{good_first, good_kept}
 use Rattle.journal_acks.proofs.Known.{known_of}
 use Rattle.journal_acks.proofs.TwoStations.{IsOfTwo}
 
--- ---- its note
-
-record IsShutNote (links : Links) (event : Event) (side : Side) (number : ℕ) (reason : ErrCode) : Type 0 where
-  station : ℕ
-  handle : ℕ
-  is : event ≡ Noted station (ShutNote handle reason)
-  side_is : side_of station ≡ side
-  number_is : links.link_of station handle ≡ number
-
-note_is : (links : Links) (station : ℕ) (note : Note) (side : Side) (number : ℕ) (reason : ErrCode)
-    → entry_of (side_of station) (links.link_of station) (links.last_of station) note ∷ [] ≡ Shut side number reason ∷ []
-    → IsShutNote links (Noted station note) side number reason
-note_is links station (ShutNote handle code) side number reason is =
-    let same : Shut (side_of station) (links.link_of station handle) code ≡ Shut side number reason = cc in
-    let sides : side_of station ≡ side = cc in
-    let numbers : links.link_of station handle ≡ number = cc in
-    let reasons : code ≡ reason = cc in record {
-      station = station;
-      handle = handle;
-      is = λ i. Noted station (ShutNote handle (reasons i));
-      side_is = sides;
-      number_is = numbers;
-    }
-note_is links station (UpNote packet) side number reason is = absurd cc
-note_is links station note side number reason is = absurd cc
-
-shut_note : (links : Links) (event : Event) (side : Side) (number : ℕ) (reason : ErrCode) → entries_of links event ≡ Shut side number reason ∷ []
-    → IsShutNote links event side number reason
-shut_note links (TurnBegan slot radios) side number reason is = absurd cc
-shut_note links (HostFed station octets) side number reason is = absurd cc
-shut_note links (Called station step) side number reason is = absurd cc
-shut_note links (Noted station note) side number reason is = note_is links station note side number reason is
-shut_note links (Transmitted station on octets []) side number reason is = absurd cc
-shut_note links (Transmitted station on octets (hearing ∷ hearings)) side number reason is = absurd cc
-
 -- ---- its call
 
--- the line comes after the entries of these events, and its note after these notes of the call
-pub record IsShutInCall (given : Given) (front : List Entry) (side : Side) (number : ℕ) (reason : ErrCode) : Type 0 where
-  pub station : ℕ
-  pub handle : ℕ
-  pub step : Step
-  pub base : List Event
-  pub earlier : List Note
-  pub later : List Note
-  pub after : List Event
-  pub called : history_of (run_of given) ≡ base ++ Called station step ∷ after
-  pub notes_are : notes_after (setup_at given station) (facts_at given station base) step ≡ earlier ++ ShutNote handle reason ∷ later
-  pub front_is : front ≡ journal_of (base ++ Called station step ∷ map (Noted station) earlier)
-  pub side_is : side_of station ≡ side
-  pub number_is : number_at station handle (base ++ Called station step ∷ map (Noted station) earlier) ≡ number
-
-pub shut_in_call : (given : Given) (front rest : List Entry) (side : Side) (number : ℕ) (reason : ErrCode)
-    → journal_of (history_of (run_of given)) ≡ front ++ Shut side number reason ∷ rest → IsShutInCall given front side number reason
-shut_in_call given front rest side number reason is =
-    let history = history_of (run_of given) in
-    let one = is_of_event history front rest (Shut side number reason) is in
-    let note = shut_note (links_of one.before) one.event side number reason one.entry_is in
-    let noted = ShutNote note.handle reason in
-    let at : history ≡ one.before ++ Noted note.station noted ∷ one.after = one.is_at ∙ ap (λ e. one.before ++ e ∷ one.after) note.is in
-    let call = noted_in_call given one.before one.after note.station noted at in record {
-      station = note.station;
-      handle = note.handle;
-      step = call.step;
-      base = call.base;
-      earlier = call.earlier;
-      later = call.later;
-      after = map (Noted note.station) call.earlier ++ Noted note.station noted ∷ one.after;
-      called = at ∙ ap (λ xs. xs ++ Noted note.station noted ∷ one.after) call.before_is
-          ∙ append_assoc call.base (Called note.station call.step ∷ map (Noted note.station) call.earlier) (Noted note.station noted ∷ one.after);
-      notes_are = call.notes_are;
-      front_is = one.front_is ∙ ap journal_of call.before_is;
-      side_is = note.side_is;
-      number_is = ap (number_at note.station note.handle) (sym call.before_is) ∙ note.number_is;
-    }
-
-in_middle : (earlier later : List Note) (note : Note) → Contains (earlier ++ note ∷ later) note
-in_middle earlier later note = Contains-append_right earlier (note ∷ later) note (Contains-append_left (note ∷ []) later note (Contains-push [] note))
-
 -- why it is shut
-pub shut_in : (given : Given) (front : List Entry) (side : Side) (number : ℕ) (reason : ErrCode) (call : IsShutInCall given front side number reason)
+pub shut_in : (given : Given) (front : List Entry) (side : Side) (number : ℕ) (reason : ErrCode) (call : IsLineInCall given front (shut_line side number reason))
     → IsShut (facts_at given call.station call.base) call.step call.handle reason.0
 shut_in given front side number reason call =
-    let note = ShutNote call.handle reason in
     (shuts_with_reason (setup_at given call.station) (past_of call.station call.base) call.step call.handle reason.0).0
-    (subst (λ xs. Contains xs note) (sym call.notes_are) (in_middle call.earlier call.later note))
-
-neither : (one other : Bool) → (one || other) ≡ false → one ≡ false
-neither true other is = absurd cc
-neither false other is = refl
-
--- no link gets another number between the call and the note
-number_before : (given : Given) (station handle : ℕ) (step : Step) (base : List Event) (earlier later : List Note) → ends_phase step ≡ false
-    → notes_after (setup_at given station) (facts_at given station base) step ≡ earlier ++ later
-    → number_at station handle (base ++ Called station step ∷ map (Noted station) earlier) ≡ number_at station handle base
-number_before given station handle step base earlier later outside are =
-    link_by_own station step earlier base handle
-    ∙ ap (λ b. if b then (links_of base).last_of station else (links_of base).link_of station handle)
-    (neither (is_opened handle earlier) (is_opened handle later)
-    (sym (list_any-append (opens_under handle) earlier later) ∙ ap (is_opened handle) (sym are)
-    ∙ outside_open handle (setup_at given station) (facts_at given station base) step outside))
+    (is_contained given front (shut_line side number reason) call)
 
 -- ---- as a turn begins
 
@@ -279,8 +178,11 @@ module _ (given : Given) (station handle slot reason : ℕ) (on : Bool) (base : 
 module _ (whole : IsHeardWhole) (understood : IsUnderstood) (taken : AreTaken) (nth : AreNth) (apart : AreApart) (given : Given) (are_two : IsOfTwo given) (six : HaveAddresses given)
     (distinct : AreDistinct given.stations) (front rest : List Entry) (side : Side) (number : ℕ) (reason : ErrCode)
     (is : journal_of (history_of (run_of given)) ≡ front ++ Shut side number reason ∷ rest) (resets : reason.0 ≡ 0x00 → CompletesReset front side) where
-  call : IsShutInCall given front side number reason
-  call = shut_in_call given front rest side number reason is
+  abbrev line : LinkLine
+  line = shut_line side number reason
+
+  call : IsLineInCall given front line
+  call = line_in_call given front rest (Shut side number reason) line refl is
 
   abbrev IsSo : ℕ → List Entry → Side → Type 0
   IsSo link entries one = IsShutWithReason entries one link reason.0
@@ -293,21 +195,19 @@ module _ (whole : IsHeardWhole) (understood : IsUnderstood) (taken : AreTaken) (
       (run_calls given (AreTold given) (AreGoodAt given Q) (good_kept whole given Q known are_two six distinct) (have_told taken given Q known distinct) (good_first given)) call.called
 
   -- what holds after the call holds before the line
-  to_line : ends_phase call.step ≡ false → IsSo (number_at call.station call.handle call.base) (journal_of (call.base ++ Called call.station call.step ∷ map (Noted call.station) call.earlier)) (side_of call.station)
+  at_line : ends_phase call.step ≡ false → IsSo (number_at call.station call.handle call.base) (journal_of (call.base ++ Called call.station call.step ∷ map (Noted call.station) call.earlier)) (side_of call.station)
       → IsSo number front side
-  to_line outside so =
-      let note = ShutNote call.handle reason in
-      subst (λ xs. IsSo number xs side) (sym call.front_is)
-      (subst (IsSo number (journal_of (call.base ++ Called call.station call.step ∷ map (Noted call.station) call.earlier))) call.side_is
-      (subst (λ n. IsSo n (journal_of (call.base ++ Called call.station call.step ∷ map (Noted call.station) call.earlier)) (side_of call.station))
-      (sym (number_before given call.station call.handle call.step call.base call.earlier (note ∷ call.later) outside call.notes_are) ∙ call.number_is) so))
+  at_line outside so =
+      to_line given front line call IsSo
+      (subst (λ n. IsSo n (journal_of call.before) (side_of call.station)) (number_then given front line call outside ∙ sym call.number_is)
+      (subst (λ xs. IsSo (number_at call.station call.handle call.base) (journal_of xs) (side_of call.station)) (sym call.before_is) so))
 
   reason_of : IsShut (facts_at given call.station call.base) call.step call.handle reason.0 → IsSo number front side
   reason_of (overdue slot on link begins is_open due) =
       let due_then = subst (IsCallDue given call.base call.station) begins
       (each_at (IsDue given) (history_of (run_of given)) call.base call.after (Called call.station call.step) (run_due given).each call.called) in
       let told = told_as_begun given call.base call.station slot on call.handle link (subst (AreTold given call.base call.station) begins told_then) is_open in
-      to_line (ap ends_phase begins)
+      at_line (ap ends_phase begins)
       (subst (λ step. IsSo (number_at call.station call.handle call.base) (journal_of (call.base ++ Called call.station step ∷ map (Noted call.station) call.earlier)) (side_of call.station)) (sym begins)
       (overdue_reason given call.station call.handle slot reason.0 on call.base call.earlier link told due_then.slot_is due))
   reason_of (reset link completed is_open code) = record {

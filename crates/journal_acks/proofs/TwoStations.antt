@@ -14,9 +14,9 @@ use Rattle.data_pdu.specs.Header.{counts_as_empty, octets_of}
 use Rattle.link_model.specs.Data.{is_empty}
 use Rattle.journal.specs.declared.entries.Entry.TheVariants.{Air}
 use Rattle.link_model.specs.Facts.{Facts as EndFacts}
-use Rattle.link_model.specs.Packets.{header_sent, packet_sent, pdu_sent, verdict_by as verdict_by_end, verdict_of as verdict_of_end}
+use Rattle.link_model.specs.Packets.{header_sent, packet_sent, payload_sent, pdu_sent, verdict_by as verdict_by_end, verdict_of as verdict_of_end}
 use Rattle.link_model.specs.Setup.{Setup as EndSetup}
-use Rattle.link_model.proofs.Payloads.{IsShort}
+use Rattle.link_model.proofs.Payloads.{IsInForm}
 use Rattle.link_model.proofs.Received.{IsHeardWhole, header_read}
 use Rattle.open_links.specs.OpenLinks.{OpenLink, facts_in, link_at}
 use Rattle.controller_model.specs.declared.doing.Doing.{Doing}
@@ -241,18 +241,19 @@ air_of_link number other station channel octets history hearings hearing are off
     ∙ ap (λ may. after_air (is_number may number) (side_of station) (is_good hearing.verdict) empty (exchange_at number history)) belongs
 
 -- whether the packet of a link carries an empty PDU
-in_form : (count : ℕ) → count ≤ 27 → (nat_le 2 (suc (suc count)) && nat_le (suc (suc count)) 257 && (suc (suc count) == 2 + count)) ≡ true
+in_form : (count : ℕ) → count ≤ 255 → (nat_le 2 (suc (suc count)) && nat_le (suc (suc count)) 257 && (suc (suc count) == 2 + count)) ≡ true
 in_form count short = grind (arith, nat_tests)
 
-sent_in_form : (facts : EndFacts) → IsShort (pdu_sent facts) → IsPdu (octets_of (header_sent facts) ++ (pdu_sent facts).body)
-sent_in_form facts short = in_form (length (pdu_sent facts).body) short.short
+sent_in_form : (facts : EndFacts) → IsInForm facts → IsPdu (octets_of (header_sent facts) ++ payload_sent facts)
+sent_in_form facts form = in_form (length (payload_sent facts)) form.short
 
-pub sent_empty : IsHeardWhole → (setup : EndSetup) (facts : EndFacts) (link : LinkBegun) (channel : ℕ) (octets : List ℕ) → IsShort (pdu_sent facts)
+pub sent_empty : IsHeardWhole → (setup : EndSetup) (facts : EndFacts) (link : LinkBegun) (channel : ℕ) (octets : List ℕ) → IsInForm facts
     → link.fields ≡ setup.link.fields → channel ≡ facts.event.channel → octets ≡ packet_sent setup facts
     → carries_empty (Some link) channel octets ≡ is_empty (pdu_sent facts)
 unfolding packet_sent
-sent_empty whole setup facts link channel octets short fields on packet =
-    let pdu = octets_of (header_sent facts) ++ (pdu_sent facts).body in
+sent_empty whole setup facts link channel octets form fields on packet =
+    let pdu = octets_of (header_sent facts) ++ payload_sent facts in
     (λ i. is_empty_in (heard_in (on i) ((fields i).access) ((fields i).crc_init) (packet i)))
-    ∙ ap is_empty_in (whole facts.event.channel setup.link.fields.access setup.link.fields.crc_init pdu (sent_in_form facts short))
-    ∙ ap counts_as_empty (header_read facts short)
+    ∙ ap is_empty_in (whole facts.event.channel setup.link.fields.access setup.link.fields.crc_init pdu (sent_in_form facts form))
+    ∙ ap counts_as_empty (header_read facts form)
+    ∙ ap (λ (payload : List ℕ). (pdu_sent facts).llid == 0 || length payload == 0) form.opened

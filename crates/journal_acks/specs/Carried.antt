@@ -6,6 +6,7 @@ use Rattle.air_frame.specs.Packet.{on_air}
 use Rattle.data_pdu.specs.Header.{octets_of}
 use Rattle.link_model.specs.Acknowledgement.{Pdu, empty_pdu}
 use Rattle.link_model.specs.Data.{is_empty}
+use Rattle.link_model.specs.Payload.{payload_of}
 use Rattle.journal.specs.declared.entries.Entry.{Entry}
 use Rattle.journal.specs.declared.entries.Entry.TheVariants.{Enter, Sent}
 use Rattle.journal_links.specs.Begun.{LinkBegun, link_numbered}
@@ -64,7 +65,7 @@ bits_of end = record { sn = is_odd end.acked; nesn = is_odd end.accepted }
 
 -- the octets of a PDU with these bits and this MD
 abbrev pub pdu_octets : AckBits → Bool → Pdu → List ℕ
-pdu_octets bits md pdu = octets_of (header_of bits pdu.llid md (length pdu.body)) ++ pdu.body
+pdu_octets bits md pdu = octets_of (header_of bits pdu.llid md (length (payload_of pdu))) ++ payload_of pdu
 
 -- a packet that a side sends after these entries is of this link, on the channel of the event that it is in. It has the
 -- access address and CRCInit of the CONNECT_IND, and carries the PDU and the bits that the lines before it give

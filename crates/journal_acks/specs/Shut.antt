@@ -41,6 +41,13 @@ last_heard number side journal = heard_from number side [] None journal
 
 -- ---- the reasons
 
+-- the slot in which a link ends at a side: six intervals after that of its CONNECT_IND, where the side judged no packet
+-- of the other side good; else the supervision timeout, in units of 10 ms, which are eight slots, after that of the last
+-- such packet
+abbrev pub end_slot : LinkBegun → Option ℕ → ℕ
+end_slot link None = link.slot + 6 * link.fields.interval
+end_slot link (Some slot) = slot + 8 * link.fields.timeout
+
 -- an octet of the last line of the host of a side, which is in this turn, completes an HCI_Reset, after all octets that
 -- the host sent before: the command 0C03, with no parameters
 pub record CompletesReset (front : List Entry) (side : Side) : Type 0 where
@@ -62,16 +69,15 @@ pub record IsNotEstablished (front : List Entry) (side : Side) (number : ℕ) : 
   pub link : LinkBegun
   pub is_link : link_numbered number front ≡ Some link
   pub none_heard : last_heard number side front ≡ None
-  pub in_turn : length (turns_of front) ≡ link.slot + 6 * link.fields.interval + 1
+  pub in_turn : length (turns_of front) ≡ end_slot link None + 1
 
--- this turn is that of the supervision timeout, in units of 10 ms, which are eight slots, after that of the last such
--- packet
+-- this turn is that of the supervision timeout after the last such packet
 pub record HasTimedOut (front : List Entry) (side : Side) (number : ℕ) : Type 0 where
   pub link : LinkBegun
   pub is_link : link_numbered number front ≡ Some link
   pub slot : ℕ
   pub heard : last_heard number side front ≡ Some slot
-  pub in_turn : length (turns_of front) ≡ slot + 8 * link.fields.timeout + 1
+  pub in_turn : length (turns_of front) ≡ end_slot link (Some slot) + 1
 
 -- a line that comes after these entries says that a side shuts this link with this code, for one of three reasons
 pub record IsShutWithReason (front : List Entry) (side : Side) (number reason : ℕ) : Type 0 where

@@ -87,8 +87,8 @@ received_load slot room (Some pdu) facts =
     acked_load (has_acknowledged facts (header_in pdu) && is_data facts.acknowledgement.last) facts.outgoing
 
 sent_as : (is_piece : Bool) (outgoing : Data)
-    → length (cond is_piece (with_first is_unsent (packet_after_went outgoing.limit) outgoing.packets) outgoing.packets) ≡ length outgoing.packets
-sent_as true outgoing = length-with is_unsent (packet_after_went outgoing.limit) outgoing.packets
+    → length (cond is_piece (with_first is_unsent (packet_after_went (length outgoing.fixed.body)) outgoing.packets) outgoing.packets) ≡ length outgoing.packets
+sent_as true outgoing = length-with is_unsent (packet_after_went (length outgoing.fixed.body)) outgoing.packets
 sent_as false outgoing = refl
 
 sent_load : (is_new : Bool) (outgoing : Data) → load_in (data_sent_if is_new outgoing) ≤ load_in outgoing

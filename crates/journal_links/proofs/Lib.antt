@@ -4,3 +4,6 @@ pub mod Numbered
 pub mod EnterLines
 pub mod OpenedLines
 pub mod NoProcedures
+pub mod LinkLines
+pub mod LineNotes
+pub mod OfTwo

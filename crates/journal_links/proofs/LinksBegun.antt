@@ -44,11 +44,6 @@ pub links_more : (front rest : List Entry) → links_begun (front ++ rest) ≡ l
 unfolding links_begun
 links_more front rest = links_append 0 front rest ∙ ap (λ n. links_from 0 front ++ links_from n rest) (zero_add (length (turns_of front)))
 
--- one entry more
-pub links_entry : (front : List Entry) (entry : Entry) → links_begun (front ++ entry ∷ []) ≡ links_begun front ++ begun_in (length (turns_of front)) entry
-links_entry front entry =
-    links_more front (entry ∷ []) ∙ ap (λ links. links_begun front ++ links) (append-nil (begun_in (length (turns_of front)) entry))
-
 -- ---- the link with a number
 
 get_more : (links more : List LinkBegun) (place : ℕ) (link : LinkBegun) → slice_get links place ≡ Some link → slice_get (links ++ more) place ≡ Some link

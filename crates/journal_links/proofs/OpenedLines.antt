@@ -1,5 +1,5 @@
 -- Each line of a link that is opened names a link of the journal, and is in the turn of its CONNECT_IND.
-use Rattle.std.proofs.Common.{◌≡◌, ℕ, ◌+◌, List, [], ◌∷◌, ◌++◌, length, sym, ap, ◌∙◌}
+use Rattle.std.proofs.Common.{◌≡◌, ℕ, ◌+◌, List, [], ◌∷◌, ◌++◌, length, sym, ap, ◌∙◌, refl}
 use Rattle.ble_base.specs.declared.addresses.Address.{Address}
 use Rattle.ble_base.specs.declared.notes.Note.{Note}
 use Rattle.ble_base.specs.declared.notes.Note.TheVariants.{Up as UpNote, Opened as OpenedNote}
@@ -14,9 +14,9 @@ use Rattle.run_model.specs.Links.{Links, links_of}
 use Rattle.run_model.specs.Pair.{given_of}
 use Rattle.run_model.specs.Readers.{turns_of}
 use Rattle.run_model.specs.Run.{Given, history_of, run_of}
-use Rattle.run_model.proofs.EntryEvents.{is_of_event}
 use Rattle.run_model.proofs.Fates.{turns_are}
 use Rattle.run_model.proofs.LinkEnds.{AreTaken, IsUnderstood, pair_addresses}
+use Rattle.run_model.proofs.NoteLines.{note_line}
 use Rattle.run_model.proofs.Numbers.{opening_at}
 use Rattle.run_model.proofs.OfStations.{OfStations, run_of_stations}
 use Rattle.run_model.proofs.Ordered.{pair_distinct}
@@ -27,41 +27,29 @@ use Rattle.journal_links.proofs.Numbered.{link_of_number}
 
 -- ---- the note of a line
 
-record IsOpenedNote (links : Links) (event : Event) (side : Side) (number handle : ℕ) (role : Role) : Type 0 where
-  pub station : ℕ
-  pub own : Address
-  pub peer : Address
-  pub is : event ≡ Noted station (OpenedNote handle role own peer)
-  pub side_is : side ≡ side_of station
-  pub number_is : number ≡ links.last_of station
+record IsOpenedNote (links : Links) (station : ℕ) (note : Note) (side : Side) (number handle : ℕ) (role : Role) : Type 0 where
+  own : Address
+  peer : Address
+  is : note ≡ OpenedNote handle role own peer
+  side_is : side ≡ side_of station
+  number_is : number ≡ links.last_of station
 
-note_is : (links : Links) (station : ℕ) (note : Note) (side : Side) (number handle : ℕ) (role : Role)
-    → entry_of (side_of station) (links.link_of station) (links.last_of station) note ∷ [] ≡ Opened side number handle role ∷ []
-    → IsOpenedNote links (Noted station note) side number handle role
-note_is links station (OpenedNote under part own peer) side number handle role is =
-    let same : Opened (side_of station) (links.last_of station) under part ≡ Opened side number handle role = cc in
+opened_note : (links : Links) (station : ℕ) (note : Note) (side : Side) (number handle : ℕ) (role : Role)
+    → entry_of (side_of station) (links.link_of station) (links.last_of station) note ≡ Opened side number handle role
+    → IsOpenedNote links station note side number handle role
+opened_note links station (OpenedNote under part own peer) side number handle role is =
     let sides : side_of station ≡ side = cc in
     let numbers : links.last_of station ≡ number = cc in
     let handles : under ≡ handle = cc in
     let roles : part ≡ role = cc in record {
-      station = station;
       own = own;
       peer = peer;
-      is = ap (λ n. Noted station (OpenedNote n part own peer)) handles ∙ ap (λ (one : Role). Noted station (OpenedNote handle one own peer)) roles;
+      is = λ i. OpenedNote (handles i) (roles i) own peer;
       side_is = sym sides;
       number_is = sym numbers;
     }
-note_is links station (UpNote packet) side number handle role is = absurd cc
-note_is links station note side number handle role is = absurd cc
-
-opened_note : (links : Links) (event : Event) (side : Side) (number handle : ℕ) (role : Role) → entries_of links event ≡ Opened side number handle role ∷ []
-    → IsOpenedNote links event side number handle role
-opened_note links (TurnBegan slot radios) side number handle role is = absurd cc
-opened_note links (HostFed station octets) side number handle role is = absurd cc
-opened_note links (Called station step) side number handle role is = absurd cc
-opened_note links (Noted station note) side number handle role is = note_is links station note side number handle role is
-opened_note links (Transmitted station on octets []) side number handle role is = absurd cc
-opened_note links (Transmitted station on octets (hearing ∷ hearings)) side number handle role is = absurd cc
+opened_note links station (UpNote packet) side number handle role is = absurd cc
+opened_note links station note side number handle role is = absurd cc
 
 -- ---- a line
 
@@ -88,8 +76,8 @@ module _ (understood : IsUnderstood) (taken : AreTaken) (a b : List ℕ) (script
   pub opened_in_time : (front rest : List Entry) (side : Side) (number handle : ℕ) (role : Role)
       → journal_of (history_of (run_of given)) ≡ front ++ Opened side number handle role ∷ rest → IsOpenedInTime front side number role
   opened_in_time front rest side number handle role is =
-      let one = is_of_event (history_of (run_of given)) front rest (Opened side number handle role) is in
-      let note = opened_note (links_of one.before) one.event side number handle role one.entry_is in
-      let at : history_of (run_of given) ≡ one.before ++ Noted note.station (OpenedNote handle role note.own note.peer) ∷ one.after =
-      one.is_at ∙ ap (λ e. one.before ++ e ∷ one.after) note.is in
-      noted_in_time front one.before one.after note.station side number handle role note.own note.peer at one.front_is note.side_is note.number_is
+      let line = note_line given front rest (Opened side number handle role) is refl in
+      let opened = opened_note (links_of line.before) line.station line.note side number handle role line.entry_is in
+      let at : history_of (run_of given) ≡ line.before ++ Noted line.station (OpenedNote handle role opened.own opened.peer) ∷ line.after =
+      line.is_at ∙ ap (λ n. line.before ++ Noted line.station n ∷ line.after) opened.is in
+      noted_in_time front line.before line.after line.station side number handle role opened.own opened.peer at line.front_is opened.side_is opened.number_is

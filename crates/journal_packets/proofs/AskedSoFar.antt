@@ -31,6 +31,7 @@ use Rattle.run_laws.proofs.ConnectInds.{AreCounted, counted_kept, first_counts, 
 use Rattle.run_laws.proofs.Hearings.{AreHearing, hearing_kept, own_facts, use_same, wanted_is}
 use Rattle.run_laws.proofs.TurnPlaces.{event_past, stands_first}
 use Rattle.run_laws.proofs.TurnSteps.{IsListening}
+use Rattle.journal_links.proofs.OfTwo.{are_distinct, of_two_stations}
 use Rattle.journal_packets.specs.Belonging.{have_one_access}
 use Rattle.journal_packets.proofs.SentLinks.{IsOfTwo}
 use Rattle.journal_packets.proofs.Asked.{asked_called, asked_feed, asked_packet, asked_turn, asks_in, is_asked, one_hearing}
@@ -81,13 +82,6 @@ pub record AreAsked (given : Given) (place : Place) (history : List Event) : Typ
   pub asked : (station : ℕ) → is_in station given.stations ≡ true → AskedAt given place history station
 
 -- ---- two stations
-
-pub are_distinct : (given : Given) → given.stations ≡ 0 ∷ 1 ∷ [] → AreDistinct given.stations
-unfolding IsDistinct
-are_distinct given are = subst AreDistinct (sym are) ((refl, tt), (tt, tt))
-
-pub of_two_stations : (given : Given) → given.stations ≡ 0 ∷ 1 ∷ [] → (station : ℕ) → is_in station given.stations ≡ true → (station ≡ 0) ⊎ (station ≡ 1)
-of_two_stations given are station is = two station (subst (λ xs. is_in station xs ≡ true) are is)
 
 -- ---- each packet is one of two stations, and is heard once
 

@@ -32,7 +32,8 @@ use Rattle.journal_links.proofs.Numbered.{other_of}
 use Rattle.journal_packets.specs.Belonging.{first_number, is_side, link_of_packet}
 use Rattle.journal_packets.specs.Senders.{IsOfSendersLink}
 use Rattle.journal_packets.proofs.AccessOrder.{AreNth, first_is, sent_ordered}
-use Rattle.journal_packets.proofs.AskedSoFar.{AreAsked, IsUnasked, OnlyAsked, of_two_stations}
+use Rattle.journal_links.proofs.OfTwo.{of_two_stations}
+use Rattle.journal_packets.proofs.AskedSoFar.{AreAsked, IsUnasked, OnlyAsked}
 use Rattle.journal_packets.proofs.Replies.{AsCentral, AsPeripheral, IsFirst, IsSender, IsSending, sender_is, sending_at}
 use Rattle.journal_packets.proofs.SentLinks.{IsOfTwo, begun_are_sent, link_begun, links_sent, sent_at}
 

@@ -4,6 +4,7 @@ mod NextPieces
 mod FixedNow
 mod SettledEnds
 mod SettledRuns
+mod EndingLater
 mod PendingLines
 mod TakenPdus
 mod TakenInRuns
@@ -13,7 +14,14 @@ mod Told
 mod ToldPackets
 mod ToldInRuns
 mod Resting
+mod ShutEarly
 mod NextPdus
 mod WhatWaits
 mod WhatWaitsInRuns
+mod StoppedRuns
 mod Law
+mod Awaited
+mod AnswersHeard
+mod CentralsOpen
+mod ResetAnswers
+mod ResetsLeaveNone

@@ -6,6 +6,7 @@ use Rattle.ble_base.specs.declared.notes.Note.{Note}
 use Rattle.ble_base.specs.declared.notes.Note.TheVariants.{Up as UpNote, Sent as SentNote}
 use Rattle.ble_base.specs.declared.roles.Side.{Side}
 use Rattle.ack_bit.specs.Nonempty.{nonempty}
+use Rattle.journal.specs.declared.entries.Entry.TheVariants.{Sent}
 use Rattle.link_model.specs.Acknowledgement.{Pdu, is_acked}
 use Rattle.link_model.specs.Data.{is_empty, numbered}
 use Rattle.link_model.specs.Delivery.{sent_data, sent_note}
@@ -30,8 +31,10 @@ use Rattle.run_model.specs.Feeding.{AreDistinct}
 use Rattle.run_model.specs.History.{Event, Called, Noted, packet_received, past_of, turns_begun}
 use Rattle.run_model.specs.Journal.{entry_of, journal_of, side_of}
 use Rattle.run_model.specs.LinkEnds.{HaveAddresses}
+use Rattle.run_model.specs.NoteLines.{sent_line}
 use Rattle.run_model.specs.Run.{Given, after_call, facts_at, history_of, run_of, setup_at, step_of}
 use Rattle.run_model.proofs.LinkEnds.{AreTaken, IsUnderstood}
+use Rattle.run_model.proofs.NoteLines.{line_in_call, to_line}
 use Rattle.run_model.proofs.Places.{each_at}
 use Rattle.run_model.proofs.Stations.{among, is_in}
 use Rattle.run_model.proofs.Walk.{Place, AtBegins, AtListening}
@@ -53,7 +56,6 @@ use Rattle.journal_acks.proofs.LinkCalls.{base_ack, begins_under, taken_noted}
 use Rattle.journal_acks.proofs.LinkUses.{sends_under}
 use Rattle.journal_acks.proofs.NewPdus.{between_turns, none_opened as none_opened_before}
 use Rattle.journal_acks.proofs.PhaseNotes.{IsOnLink, IsPhaseOf, IsPlainPhase, SendsFrom, SendsNothing, SendsOne, phase_of, sends_from, sent_same}
-use Rattle.journal_acks.proofs.SentInCalls.{sent_in_call, to_line}
 use Rattle.journal_acks.proofs.TwoStations.{IsOfTwo, same_number}
 use Rattle.journal_data.specs.Lines.{Lines, PduLine, data_on, line_after, pdus_on}
 use Rattle.journal_data.proofs.Arriving.{data_nonempty, lines_data, lines_length, pdu_lines}
@@ -194,7 +196,7 @@ next_at given station handle history step base few eight well sending =
     ap length (sym (data_nonempty (ack_of base).sent) ∙ sym (lines_data number 1 (nonempty is_empty (ack_of base).sent)))
     ∙ ap (λ (all : List PduLine). length (data_of_lines all)) lines_are in
     record {
-      next = sending.fixed.next ∙ piece_is_next base.setup base.past ∙ (λ i. next_pdu (given_is i) (sent_is i));
+      next = sending.fixed.next ∙ piece_is_next base.setup base.past ∙ (λ i. next_pdu [] 27 (given_is i) (sent_is i));
       numbered = ap (λ n. n + 1) (sym (lines_length number 1 (nonempty is_empty (ack_of base).sent)) ∙ ap length lines_are);
     }
 
@@ -387,7 +389,7 @@ same_next : (number station count : ℕ) (pdu : Pdu) (history after : List Event
 same_next number station count pdu history after submitted sent is =
     let lines = lines_at station history in record {
       next = is.next
-          ∙ (λ i. next_pdu (data_on number (record lines { submitted = sym submitted i })) (octets_sent number (record lines { sent = sym sent i })));
+          ∙ (λ i. next_pdu [] 27 (data_on number (record lines { submitted = sym submitted i })) (octets_sent number (record lines { sent = sym sent i })));
       numbered = is.numbered ∙ ap (λ (all : List PduLine). length (pdus_on number all) + 1) (sym sent);
     }
 
@@ -412,8 +414,9 @@ pub next_of_lines : IsHeardWhole → IsUnderstood → AreTaken → AreNth → Ar
 next_of_lines whole understood taken nth apart given are_two few_links six distinct eight front rest side link count llid body is =
     let Q = IsBelongingSoFar given in
     let known = known_of understood taken nth apart given are_two six in
-    let call = sent_in_call given front rest side link count llid body is in
-    to_line (λ number entries one. IsNextPdu number entries one count (record { llid = llid; body = body })) given front side link count llid body call
+    let line = sent_line side link count llid body in
+    let call = line_in_call given front rest (Sent side link count llid body) line refl is in
+    to_line given front line call (λ number entries one. IsNextPdu number entries one count (record { llid = llid; body = body }))
     (next_before given call.station call.step call.base call.before call.earlier call.later call.handle count llid body call.notes_are call.before_is
     (each_at (OfCall given (IsNextCall given)) (history_of (run_of given)) call.base call.after (Called call.station call.step)
     (run_calls given (IsNextCall given) (IsDataAt given Q) (data_kept whole given Q known are_two few_links six distinct eight)

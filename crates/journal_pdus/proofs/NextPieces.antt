@@ -20,65 +20,65 @@ use Rattle.link_model.specs.Setup.{Setup}
 use Rattle.link_model.specs.Step.{Step}
 use Rattle.link_model.proofs.Sending.{Holds, data-push, in_order, past_holds, past_of}
 use Rattle.run_laws.proofs.Agreed.{sent_ack}
-use Rattle.journal_pdus.specs.Waiting.{next_pdu, piece_octets}
+use Rattle.journal_pdus.specs.Waiting.{next_pdu, piece_after}
 
 abbrev given : DataPacket → HostData
 given packet = record { start = packet.start; body = packet.body }
 
--- the next piece of these packets, as a PDU
-abbrev piece_in : List DataPacket → Pdu
-piece_in packets = pdu_with (option_map (piece_of 27) (find is_unsent packets))
+-- the next piece of these packets
+abbrev piece_in : ℕ → List DataPacket → Option Piece
+piece_in limit packets = option_map (piece_of limit) (find is_unsent packets)
 
 -- ---- the next piece of the packets that are not complete
 
-abbrev pdu_at : HostData → ℕ → Pdu
-pdu_at packet sent = record { llid = llid_of (packet.start && (sent == 0)); body = take piece_octets (drop sent packet.body) }
+abbrev cut_at : ℕ → HostData → ℕ → Option Piece
+cut_at limit packet sent = Some (record { start = packet.start && (sent == 0); body = record { items = take limit (drop sent packet.body) } })
 
-first_left : (packet : DataPacket) (packets : List DataPacket) (count : ℕ) → sent_length packet ≡ count → nat_lt count (length packet.body) ≡ true
-    → next_pdu (map given (packet ∷ packets)) count ≡ piece_in (packet ∷ packets)
-first_left packet packets count is left =
-    ap (λ b. if b then pdu_at (given packet) count else next_pdu (map given packets) (count - length packet.body)) left
-    ∙ ap (pdu_at (given packet)) (sym is)
-    ∙ sym (ap (λ b. pdu_with (option_map (piece_of 27) (cond b (Some packet) (find is_unsent packets)))) (ap (λ n. nat_lt n (length packet.body)) is ∙ left))
+first_left : (limit : ℕ) (packet : DataPacket) (packets : List DataPacket) (count : ℕ) → sent_length packet ≡ count → nat_lt count (length packet.body) ≡ true
+    → piece_after limit (map given (packet ∷ packets)) count ≡ piece_in limit (packet ∷ packets)
+first_left limit packet packets count is left =
+    ap (λ b. if b then cut_at limit (given packet) count else piece_after limit (map given packets) (count - length packet.body)) left
+    ∙ ap (cut_at limit (given packet)) (sym is)
+    ∙ sym (ap (λ b. option_map (piece_of limit) (cond b (Some packet) (find is_unsent packets))) (ap (λ n. nat_lt n (length packet.body)) is ∙ left))
 
-next_fresh : (packets : List DataPacket) → AreFresh packets → next_pdu (map given packets) 0 ≡ piece_in packets
-next_fresh [] are = refl
-next_fresh (packet ∷ packets) are =
+next_fresh : (limit : ℕ) (packets : List DataPacket) → AreFresh packets → piece_after limit (map given packets) 0 ≡ piece_in limit packets
+next_fresh limit [] are = refl
+next_fresh limit (packet ∷ packets) are =
     let some = are.0.some in
     let left : nat_lt 0 (length packet.body) ≡ true = grind (arith, nat_tests) in
-    first_left packet packets 0 (omega (arith, are.0.none_out, are.0.none_acknowledged)) left
+    first_left limit packet packets 0 (omega (arith, are.0.none_out, are.0.none_acknowledged)) left
 
 abbrev sent_first : List DataPacket → ℕ
 sent_first [] = 0
 sent_first (packet ∷ packets) = sent_length packet
 
-next_in_order : (packets : List DataPacket) → AreInOrder packets → next_pdu (map given packets) (sent_first packets) ≡ piece_in packets
-next_in_order [] order = refl
-next_in_order (packet ∷ packets) order = by (is_unsent packet) refl
+next_in_order : (limit : ℕ) (packets : List DataPacket) → AreInOrder packets → piece_after limit (map given packets) (sent_first packets) ≡ piece_in limit packets
+next_in_order limit [] order = refl
+next_in_order limit (packet ∷ packets) order = by (is_unsent packet) refl
   where
-    by : (left : Bool) → is_unsent packet ≡ left → next_pdu (map given (packet ∷ packets)) (sent_length packet) ≡ piece_in (packet ∷ packets)
-    by true left = first_left packet packets (sent_length packet) refl left
+    by : (left : Bool) → is_unsent packet ≡ left → piece_after limit (map given (packet ∷ packets)) (sent_length packet) ≡ piece_in limit (packet ∷ packets)
+    by true left = first_left limit packet packets (sent_length packet) refl left
     by false all =
         let within = order.0.within in
         let none : sent_length packet - length packet.body ≡ 0 = omega (arith, within) in
-        ap (λ b. if b then pdu_at (given packet) (sent_length packet) else next_pdu (map given packets) (sent_length packet - length packet.body)) all
-        ∙ ap (next_pdu (map given packets)) none ∙ next_fresh packets order.1
-        ∙ sym (ap (λ b. pdu_with (option_map (piece_of 27) (cond b (Some packet) (find is_unsent packets)))) all)
+        ap (λ b. if b then cut_at limit (given packet) (sent_length packet) else piece_after limit (map given packets) (sent_length packet - length packet.body)) all
+        ∙ ap (piece_after limit (map given packets)) none ∙ next_fresh limit packets order.1
+        ∙ sym (ap (λ b. option_map (piece_of limit) (cond b (Some packet) (find is_unsent packets))) all)
 
 -- packets that were sent whole
-next_past : (complete more : List HostData) (count : ℕ) → next_pdu (complete ++ more) (length (octets_of complete) + count) ≡ next_pdu more count
-next_past [] more count =
+next_past : (limit : ℕ) (complete more : List HostData) (count : ℕ) → piece_after limit (complete ++ more) (length (octets_of complete) + count) ≡ piece_after limit more count
+next_past limit [] more count =
     let none : 0 + count ≡ count = omega arith in
-    ap (next_pdu more) none
-next_past (packet ∷ packets) more count =
+    ap (piece_after limit more) none
+next_past limit (packet ∷ packets) more count =
     let size = length packet.body in
     let sent = length (octets_of (packet ∷ packets)) + count in
     let long : length (octets_of (packet ∷ packets)) ≡ size + length (octets_of packets) =
     length-append (marked_octets packet.start packet.body) (octets_of packets) ∙ ap (λ n. n + length (octets_of packets)) (length-marked_octets packet.start packet.body) in
     let all : nat_lt sent size ≡ false = grind (arith, nat_tests) in
     let later : sent - size ≡ length (octets_of packets) + count = omega (arith, long) in
-    ap (λ b. if b then pdu_at packet sent else next_pdu (packets ++ more) (sent - size)) all
-    ∙ ap (next_pdu (packets ++ more)) later ∙ next_past packets more count
+    ap (λ b. if b then cut_at limit packet sent else piece_after limit (packets ++ more) (sent - size)) all
+    ∙ ap (piece_after limit (packets ++ more)) later ∙ next_past limit packets more count
 
 -- ---- how many octets were sent
 
@@ -106,7 +106,7 @@ sent_count (packet ∷ packets) count past kept =
     omega (arith, sent, acked, outs_are, none, out, begun)
 
 pub piece_is_next : (setup : Setup) (past : List Step) → let facts = facts_of setup past in
-    pdu_with (next_piece facts.outgoing) ≡ next_pdu facts.outgoing.given (length (sent_data facts.acknowledgement))
+    pdu_with (next_piece facts.outgoing) ≡ next_pdu [] 27 facts.outgoing.given (length (sent_data facts.acknowledgement))
 piece_is_next setup past =
     let facts = facts_of setup past in
     let outgoing = facts.outgoing in
@@ -114,9 +114,10 @@ piece_is_next setup past =
     let kept = are.kept in
     let count = sent_count outgoing.packets outgoing.complete (past_of facts.acknowledgement outgoing) kept in
     ap (λ n. pdu_with (option_map (piece_of n) (find is_unsent outgoing.packets))) are.limit
-    ∙ sym (next_in_order outgoing.packets kept.in_order)
-    ∙ sym (next_past kept.complete (map given outgoing.packets) (sent_first outgoing.packets))
-    ∙ (λ i. next_pdu (sym kept.taken i) (sym count i))
+    ∙ ap pdu_with
+    (sym (next_in_order 27 outgoing.packets kept.in_order)
+    ∙ sym (next_past 27 kept.complete (map given outgoing.packets) (sent_first outgoing.packets))
+    ∙ (λ i. piece_after 27 (sym kept.taken i) (sym count i)))
 
 -- ---- the PDU that is fixed is the next piece still
 
@@ -124,7 +125,7 @@ pub record IsFixedNow (outgoing : Data) : Type 0 where
   pub next : outgoing.fixed ≡ pdu_with (next_piece outgoing)
   pub more : outgoing.more ≡ nat_lt (length outgoing.fixed.body) (length (unsent_of outgoing))
 
-pub fixed_now : (outgoing : Data) → IsFixedNow (data_fixed outgoing)
+pub fixed_now : (outgoing : Data) → IsFixedNow (data_fixed [] [] outgoing)
 fixed_now outgoing = record { next = refl; more = refl }
 
 -- a piece that is acknowledged was sent
@@ -306,7 +307,7 @@ piece_waits packets (Some packet) found =
     let more : nat_lt 0 (length (flat_map unsent_octets packets)) ≡ true = grind (arith, nat_tests) in
     ap not (empty_at piece.start piece.body.items) ∙ has ∙ sym more
 
-nothing_left : (packets : List DataPacket) → is_empty (piece_in packets) ≡ true → nat_lt 0 (length (flat_map unsent_octets packets)) ≡ false
+nothing_left : (packets : List DataPacket) → is_empty (pdu_with (piece_in 27 packets)) ≡ true → nat_lt 0 (length (flat_map unsent_octets packets)) ≡ false
 nothing_left packets empty = sym (piece_waits packets (find is_unsent packets) refl) ∙ ap not empty
 
 shift_less : (count few many : ℕ) → nat_lt few many ≡ nat_lt (count + few) (count + many)
@@ -324,7 +325,7 @@ module _ (facts : Facts) (are : Holds facts) (is : IsFixedNow facts.outgoing) wh
   abbrev left : ℕ
   left = length (unsent_of facts.outgoing)
 
-  fixed_is : facts.outgoing.fixed ≡ piece_in facts.outgoing.packets
+  fixed_is : facts.outgoing.fixed ≡ pdu_with (piece_in 27 facts.outgoing.packets)
   fixed_is = is.next ∙ ap (λ n. pdu_with (option_map (piece_of n) (find is_unsent facts.outgoing.packets))) are.limit
 
   all_given : length (octets_of facts.outgoing.given) ≡ sent + left

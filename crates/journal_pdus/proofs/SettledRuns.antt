@@ -49,13 +49,13 @@ use Rattle.journal_pdus.proofs.Together.{IsKnownAt, known_first, known_kept}
 -- ---- the links that are open by the lines
 
 -- one of them is open under its handle, with its number
-record IsOfPlace (given : Given) (station : ℕ) (history : List Event) (one : OpenUnder) : Type 0 where
-  handle : ℕ
-  link : OpenLink
-  at : link_at handle (facts_at given station history).links ≡ Some link
-  number_is : one.link ≡ number_at station handle history
+pub record IsOfPlace (given : Given) (station : ℕ) (history : List Event) (one : OpenUnder) : Type 0 where
+  pub handle : ℕ
+  pub link : OpenLink
+  pub at : link_at handle (facts_at given station history).links ≡ Some link
+  pub number_is : one.link ≡ number_at station handle history
 
-open_in : (given : Given) (station : ℕ) (history : List Event) (before after : List OpenUnder) (one : OpenUnder) → IsStationBooked given station history
+pub open_in : (given : Given) (station : ℕ) (history : List Event) (before after : List OpenUnder) (one : OpenUnder) → IsStationBooked given station history
     → (lines_at station history).links ≡ before ++ one ∷ after → IsOfPlace given station history one
 open_in given station history before after one booked are =
     let of = one_of (setup_at given station).links (lines_at station history).links (numbers_at station history) (is_open (facts_at given station history).links) booked.links

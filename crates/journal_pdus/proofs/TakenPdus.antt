@@ -26,7 +26,7 @@ use Rattle.link_model.specs.Facts.{Facts as EndFacts}
 use Rattle.link_model.specs.Packets.{good_pdu, header_sent, packet_sent, pdu_sent}
 use Rattle.link_model.specs.Pair.{AreInAgreement, AreOneLink}
 use Rattle.link_model.specs.Setup.{Setup as EndSetup}
-use Rattle.link_model.proofs.Payloads.{past_pdu_short}
+use Rattle.link_model.proofs.Payloads.{past_fits, past_form}
 use Rattle.link_model.proofs.Received.{IsHeardWhole, header_read, heard_good, pdu_read}
 use Rattle.open_links.specs.declared.ended.LinkEnded.{LinkEnded}
 use Rattle.open_links.specs.declared.offers.Offer.{Offer}
@@ -275,13 +275,13 @@ took_as : IsHeardWhole → (slot : ℕ) (link from : OpenLink) (octets : List �
     → notes_taken slot true (Some link) octets ≡ took_notes_if (noted_of link from) link.setup.link.handle (pdu_sent (facts_in from)) (facts_in link)
 took_as whole slot link from octets fits fields packet channel =
     let sender = facts_in from in
-    let short = past_pdu_short from.setup from.past in
+    let form = past_form from.setup from.past in
     let alike = as_other from.setup link.setup in
     let is_one : AreOneLink alike link.setup = record { fields = sym fields; two = refl; opened = refl } in
     ap (λ found. took_notes link.setup.link.handle true found (facts_in link))
     (ap (good_pdu link.setup (facts_in link)) (packet ∙ same_packet from.setup link.setup sender)
-    ∙ heard_good whole alike link.setup sender (facts_in link) is_one fits short channel)
-    ∙ (λ i. took_notes_of link.setup.link.handle true (header_read sender short i) (pdu_read sender short i) (facts_in link))
+    ∙ heard_good whole alike link.setup sender (facts_in link) is_one (past_fits from.setup from.past link.setup (facts_in link) fits) form channel)
+    ∙ (λ i. took_notes_of link.setup.link.handle true (header_read sender form i) (pdu_read sender form i) (facts_in link))
 
 -- while a PDU is not acknowledged, the same one is sent again
 again : (ack : Acknowledgement) (next : Pdu) (acked : Bool) → is_acked ack ≡ acked → ack.acked < length ack.sent → (next_sent acked next ack).sent ≡ ack.sent

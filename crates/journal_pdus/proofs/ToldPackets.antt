@@ -32,7 +32,7 @@ use Rattle.journal_acks.proofs.TwoStations.{IsOfTwo}
 use Rattle.journal_data.specs.Lines.{PduLine}
 use Rattle.journal_data.proofs.Arriving.{lines_length}
 use Rattle.journal_data.proofs.FewLinks.{HaveFewLinks}
-use Rattle.journal_pdus.specs.Announced.{last_number_sent, new_pdu_of}
+use Rattle.journal_pdus.specs.Announced.{new_pdu_on, last_number_sent, new_pdu_of}
 use Rattle.journal_pdus.proofs.Together.{IsKnownAt}
 use Rattle.journal_pdus.proofs.ToldLines.{told_at}
 use Rattle.journal_pdus.proofs.FixedNow.{same_base}
@@ -42,7 +42,7 @@ use Rattle.journal_pdus.proofs.Told.{IsTold, Tells, TellsAt, TellsOn, brings_lin
 -- what a packet on this channel brings
 abbrev pub brought_in : List Event → ℕ → ℕ → List ℕ → Option PduLine
 brought_in history station channel octets =
-    if is_advertising channel then None else new_pdu_of (link_of_packet (journal_of history) (side_of station) octets) (journal_of history) (side_of station)
+    new_pdu_on (journal_of history) (side_of station) channel octets
 
 -- a station that transmits nothing on a link
 pub silent_told : (given : Given) (station : ℕ) (history : List Event) → IsTold given true station history

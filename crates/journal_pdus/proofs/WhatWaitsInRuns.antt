@@ -86,7 +86,7 @@ module _ (whole : IsHeardWhole) (given : Given) (Q : Place → List Event → Ty
   fixed =
       let setup = setup_at given station in
       let stands = turned setup (IsFixed setup) (fixed_kept setup) (past_of station history) (record { stage = Within phases; begun = turns_begun history }) (fixed_first setup)
-      (has.lined.channelled.is.holds.hearing.stand station (among given.stations done left station are)) in
+      (has.lined.counts.holds.hearing.stand station (among given.stations done left station are)) in
       sender_fixed given history station channel octets sending stands.sends
       (sends_on whole given Q known are_two few_links six distinct eight phases done left station channel octets history are wanted has off)
 
@@ -106,6 +106,7 @@ module _ (whole : IsHeardWhole) (given : Given) (Q : Place → List Event → Ty
             (ap is_empty (sym (last_fixed (is_acked base.acknowledgement) base.outgoing.fixed base.acknowledgement.last acked)
             ∙ sym (carried_is whole given Q known are_two few_links six distinct eight phases done left station channel octets history are wanted has off))
             ∙ subst (λ n. is_empty (carried_of n (journal_of history) (side_of station)) ≡ true) is empty);
+        no_control_last = λ all empty. refl;
       }
 
   pub tells_what_waits : TellsWhatWaits (journal_of history) (side_of station) channel octets

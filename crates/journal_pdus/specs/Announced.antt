@@ -62,8 +62,12 @@ new_pdu_of (Some link) front side =
     pdu_line_if (is_first_sent (exchange_of link front side) (carried_of link front side)) link
     (last_number_sent link front side) (carried_of link front side)
 
--- the new PDU with a payload that a line brings: only a packet on a data channel brings one
-abbrev pub new_pdu_in : List Entry → Side → Entry → Option PduLine
-new_pdu_in front side (Air sender channel octets fate verdict) =
+-- the new PDU with a payload that a packet brings: only one on a data channel brings one
+abbrev pub new_pdu_on : List Entry → Side → ℕ → List ℕ → Option PduLine
+new_pdu_on front side channel octets =
     if is_advertising channel then None else new_pdu_of (link_of_packet front side octets) front side
+
+-- and that a line brings
+abbrev pub new_pdu_in : List Entry → Side → Entry → Option PduLine
+new_pdu_in front side (Air sender channel octets fate verdict) = new_pdu_on front side channel octets
 new_pdu_in front side entry = None

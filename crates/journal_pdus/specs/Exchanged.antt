@@ -1,16 +1,17 @@
 -- What goes out on the links of a journal and what is taken, line by line (Core 5.2, volume 6 part B, sections 4.5.6
 -- and 4.5.9, and volume 4 part E, section 7.7.19).
-use Rattle.std.specs.Prelude.{◌≡◌, ℕ, Bool, false, List, ◌∷◌, ◌++◌, Option, Some, None}
+use Rattle.std.specs.Prelude.{◌≡◌, ℕ, Bool, true, false, List, ◌∷◌, ◌++◌, Option, Some, None}
+use Rattle.ble_base.specs.declared.ErrCode.{ErrCode}
 use Rattle.ble_base.specs.declared.roles.Side.{Side}
 use Rattle.ble_base.specs.declared.verdicts.Verdict.{Verdict}
 use Rattle.journal.specs.declared.entries.Entry.{Entry}
-use Rattle.journal.specs.declared.entries.Entry.TheVariants.{Turn, Air, Sent}
+use Rattle.journal.specs.declared.entries.Entry.TheVariants.{Turn, Air, Sent, Shut}
 use Rattle.journal.specs.declared.entries.Mark.{Mark}
 use Rattle.run_model.specs.Links.{is_advertising}
 use Rattle.journal_acks.specs.Carried.{IsNewPdu}
 use Rattle.journal_pdus.specs.Announced.{announced_pdu, new_pdu_in, side_of_line}
 use Rattle.journal_pdus.specs.Pending.{pending_pdu, taken_pdu}
-use Rattle.journal_pdus.specs.Settled.{AreSettled}
+use Rattle.journal_pdus.specs.Settled.{AreSettled, IsSettled, packets_passed}
 use Rattle.journal_pdus.specs.Waiting.{IsNextPdu, TellsWhatWaits}
 
 -- each new PDU that is not empty comes after all PDUs before it are acknowledged
@@ -47,6 +48,12 @@ abbrev pub AllAreSettled : List Entry → Type 0
 AllAreSettled journal = (front rest : List Entry) (slot : ℕ) (a_on : Bool) (b_on : Option Bool)
     → journal ≡ front ++ Turn slot a_on b_on ∷ rest → AreSettled front
 
+-- where a link is shut after the packets of a turn, all that is taken on it is handed up before, and all that is complete
+-- is reported
+abbrev pub AllAreSettledAsShut : List Entry → Type 0
+AllAreSettledAsShut journal = (front rest : List Entry) (side : Side) (link : ℕ) (reason : ErrCode)
+    → journal ≡ front ++ Shut side link reason ∷ rest → packets_passed front ≡ true → IsSettled link side front
+
 -- between two turns nothing is under way: the packet of each line of a new PDU was on the air, and each side took what
 -- reached it
 abbrev pub IsAtRest : List Entry → Type 0
@@ -64,3 +71,4 @@ pub record PdusAreDue (journal : List Entry) : Type 0 where
   pub taken_at_once : AllAreTakenAtOnce journal
   pub at_rest : AllAreAtRest journal
   pub settled : AllAreSettled journal
+  pub settled_as_shut : AllAreSettledAsShut journal

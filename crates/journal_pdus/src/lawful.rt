@@ -5,15 +5,23 @@ ghost use Rattle.radio_replay.specs.Script.{Script};
 ghost use Rattle.run_model.specs.History.{Event};
 ghost use Rattle.run_model.specs.Journal.{journal_of};
 ghost use Rattle.run_model.specs.Pair.{given_of};
-ghost use Rattle.run_model.specs.Run.{GoesOn, history_of, run_of};
+ghost use Rattle.run_model.specs.Run.{GoesOn, Stop, Stops, history_of, run_of};
 ghost use Rattle.journal_pdus.specs.Lawful.{IsLawful, IsWhole};
+ghost use Rattle.journal_pdus.specs.Undelivered.{IsUndelivered};
+
+use crate::links::{
+    a_reset_leaves_no_link, each_answer_on_a_link_is_heard, each_link_is_opened_at_its_central,
+};
 
 /// The journal of a run of a pair, whole or ended by damage, follows its schedule
 /// (`journal_turns::each_journal_follows_its_schedule`). Links and their events are those of their
-/// CONNECT_INDs, each of which has the next access address of its side; each side enters the events
-/// of a link one after another; lines name links that are open at their side; each link that is shut
-/// has its reason; no line is of a control procedure, since none is built; and data arrives in order
-/// (`journal_data::data_arrives_in_order_in_every_journal`). Line by line (Core 5.2, volume 6 part B,
+/// CONNECT_INDs, each of which has the next access address of its side and opens its link there
+/// before the next turn; each side enters the events of a link one after another; lines name links
+/// that are open at their side; each link that is shut has its reason, none that is to end stays open
+/// after that turn, and a Reset leaves none; no line is of a control procedure, since none is built;
+/// an answer on a link that passes is heard; and data arrives in order
+/// (`journal_data::data_arrives_in_order_in_every_journal`). The packet at which damage ends a run
+/// is due as those before it are. Line by line (Core 5.2, volume 6 part B,
 /// sections 4.5.6 and 4.5.9, and volume 4 part E, section 7.7.19):
 ///
 /// - each packet of a link has the channel, the access address, the CRCInit, SN and NESN that the
@@ -29,7 +37,7 @@ ghost use Rattle.journal_pdus.specs.Lawful.{IsLawful, IsWhole};
 /// - before each turn, and at the end of a whole run, the packet of each line of a new PDU was on
 ///   the air, and what reached a side was taken; and the host of each side has received all data
 ///   that its side took, and each of its packets that the other side acknowledged whole is reported
-///   to it.
+///   to it. So it is of a link that is shut after a packet of its turn, before that line.
 pub fn each_journal_is_lawful()
     ensures lawful { (a b : List ℕ) (script : Script) → length script.a.public ≡ 6
         → length script.b.public ≡ 6
@@ -38,6 +46,10 @@ pub fn each_journal_is_lawful()
         → length script.a.public ≡ 6 → length script.b.public ≡ 6
         → run_of (given_of a b script) ≡ GoesOn history
         → IsWhole script (journal_of history) }
+    ensures stopped { (a b : List ℕ) (script : Script) (history : List Event) (stop : Stop)
+        → length script.a.public ≡ 6 → length script.b.public ≡ 6
+        → run_of (given_of a b script) ≡ Stops history stop
+        → IsUndelivered script stop.slot stop.place stop.sent stop.heard (journal_of history) }
 {
     controller_model::a_pdu_is_understood();
     advertise::laws::connections_are_taken();
@@ -45,6 +57,7 @@ pub fn each_journal_is_lawful()
     air_frame::laws::packet_tells_its_pdu();
     run_model::each_packet_on_the_air_is_due();
     journal_turns::each_journal_follows_its_schedule();
+    journal_turns::a_run_stops_in_its_turn();
     journal_links::each_opened_line_names_its_link();
     journal_links::each_enter_line_is_at_its_anchor();
     journal_links::no_line_names_a_procedure();
@@ -54,4 +67,7 @@ pub fn each_journal_is_lawful()
     journal_acks::each_shut_line_has_its_reason();
     journal_data::lines_are_of_open_links_in_every_journal();
     journal_data::data_arrives_in_order_in_every_journal();
+    each_answer_on_a_link_is_heard();
+    each_link_is_opened_at_its_central();
+    a_reset_leaves_no_link();
 }

@@ -1,5 +1,6 @@
 //! Worked examples, which the definitions compute.
-ghost use Rattle.std.specs.Prelude.{◌≡◌, ◌++◌, [], ◌∷◌, None, Some, false, true, replicate};
+ghost use Rattle.std.specs.Prelude.{◌≡◌, ◌++◌, Bool, List, [], ◌∷◌, None, Some, false, true};
+ghost use Rattle.std.specs.Prelude.{replicate};
 ghost use Rattle.ble_base.specs.declared.roles.Role.TheVariants.{Central};
 ghost use Rattle.ble_base.specs.declared.roles.Side.TheVariants.{A, B};
 ghost use Rattle.ble_base.specs.declared.verdicts.Verdict.TheVariants.{Good, Missed};
@@ -8,31 +9,49 @@ ghost use Rattle.journal.specs.declared.entries.Mark.TheVariants.{Lost as WasLos
 ghost use Rattle.journal_acks.specs.Rows.{data_heard, data_packet, data_pdu, data_sent};
 ghost use Rattle.journal_acks.specs.Rows.{data_taken};
 ghost use Rattle.journal_data.specs.Lines.{lines_of};
-ghost use Rattle.link_model.specs.Acknowledgement.{empty_pdu};
+ghost use Rattle.link_model.specs.Acknowledgement.{Pdu, empty_pdu};
 ghost use Rattle.run_model.specs.Rows.{first_packet, first_reply, one_event_journal};
 ghost use Rattle.journal_pdus.specs.Announced.{announced_pdu, new_pdu_in};
 ghost use Rattle.journal_pdus.specs.Pending.{pending_pdu, taken_pdu};
 ghost use Rattle.journal_pdus.specs.Settled.{acked_on};
-ghost use Rattle.journal_pdus.specs.Waiting.{data_waits, next_pdu};
+ghost use Rattle.journal_pdus.specs.Waiting.{data_waits, next_pdu, tells_more};
 
 /// Pieces are cut at 27 octets, and at the end of each packet: of two packets of one octet each the
 /// second is a PDU of its own. Only the first piece of a packet can start a message.
 #[tactic(auto)]
 pub fn worked_next_pdu()
-    ensures first { next_pdu (record { start = true; body = replicate 28 0xA1 } ∷ []) 0
+    ensures first { next_pdu [] 27 (record { start = true; body = replicate 28 0xA1 } ∷ []) 0
         ≡ record { llid = 2; body = replicate 27 0xA1 } }
-    ensures second { next_pdu (record { start = true; body = replicate 28 0xA1 } ∷ []) 27
+    ensures second { next_pdu [] 27 (record { start = true; body = replicate 28 0xA1 } ∷ []) 27
         ≡ record { llid = 1; body = 0xA1 ∷ [] } }
-    ensures last { next_pdu (record { start = true; body = replicate 28 0xA1 } ∷ []) 28
+    ensures last { next_pdu [] 27 (record { start = true; body = replicate 28 0xA1 } ∷ []) 28
         ≡ empty_pdu }
-    ensures one_packet { next_pdu (record { start = true; body = 0xA1 ∷ [] }
+    ensures one_packet { next_pdu [] 27 (record { start = true; body = 0xA1 ∷ [] }
         ∷ record { start = true; body = 0xA2 ∷ [] } ∷ []) 0
         ≡ record { llid = 2; body = 0xA1 ∷ [] } }
-    ensures next_packet { next_pdu (record { start = true; body = 0xA1 ∷ [] }
+    ensures next_packet { next_pdu [] 27 (record { start = true; body = 0xA1 ∷ [] }
         ∷ record { start = true; body = 0xA2 ∷ [] } ∷ []) 1
         ≡ record { llid = 2; body = 0xA2 ∷ [] } }
-    ensures continuation { next_pdu (record { start = false; body = 0xA1 ∷ [] } ∷ []) 0
+    ensures continuation { next_pdu [] 27 (record { start = false; body = 0xA1 ∷ [] } ∷ []) 0
         ≡ record { llid = 1; body = 0xA1 ∷ [] } }
+{}
+
+/// A control PDU that may be sent goes out before data. MD tells of it, and behind a new control PDU
+/// also of one that is held back. With no control PDU it tells of data alone.
+#[tactic(auto)]
+pub fn worked_control_pdus()
+    ensures control_first { next_pdu (record { llid = 3; body = 0x02 ∷ 0x13 ∷ [] } ∷ []) 27
+        (record { start = true; body = 0xA1 ∷ [] } ∷ []) 0
+        ≡ record { llid = 3; body = 0x02 ∷ 0x13 ∷ [] } }
+    ensures ready { (is_new octets : Bool) (pdu control : Pdu) (held : List Pdu)
+        → tells_more is_new pdu (control ∷ []) held octets ≡ true }
+    ensures held { (octets : Bool) (control : Pdu)
+        → tells_more true (record { llid = 3; body = 0x02 ∷ 0x13 ∷ [] }) [] (control ∷ []) octets
+        ≡ true }
+    ensures held_behind_data { (octets : Bool) (control : Pdu)
+        → tells_more true (record { llid = 2; body = 0xA1 ∷ [] }) [] (control ∷ []) octets ≡ octets }
+    ensures no_control { (is_new octets : Bool) (pdu : Pdu) → tells_more is_new pdu [] [] octets
+        ≡ octets }
 {}
 
 /// Data waits until the last piece is sent.

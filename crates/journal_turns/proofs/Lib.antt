@@ -3,3 +3,4 @@ pub mod Verdicts
 pub mod Scheduling
 pub mod Quiet
 pub mod RadiosOff
+pub mod Stopping

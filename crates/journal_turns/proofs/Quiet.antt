@@ -13,11 +13,11 @@ use Rattle.controller_model.specs.Side.{facts_after, facts_of, notes_after}
 use Rattle.controller_model.specs.Step.{Step, HostOctet, TurnBegins, PacketHeard, NothingHeard, TurnEnds}
 use Rattle.run_model.specs.Due.{Each, plan_at}
 use Rattle.run_model.specs.History.{Event, TurnBegan, HostFed, Called, Noted, Transmitted, packet_received, past_of, steps_in, turns_begun}
-use Rattle.run_model.specs.Run.{Given, Plan, after_call, after_feed, after_octets, facts_at, hearings_of, history_of, octets_left, run_of, setup_at, step_of}
+use Rattle.run_model.specs.Run.{Given, Plan, Stop, Stops, after_call, after_feed, after_octets, facts_at, hearings_of, history_of, octets_left, run_of, setup_at, step_of}
 use Rattle.run_model.proofs.Calls.{flat_nothing, past_other, past_own, turns_same}
 use Rattle.run_model.proofs.Places.{each_called, each_event}
-use Rattle.run_model.proofs.Stations.{in_more_other, is_in}
-use Rattle.run_model.proofs.Walk.{AfterPhases, AtBegins, AtEnds, AtFeeds, AtListening, AtPackets, IsKept, IsStopped, IsWhole, NoTurn, Place, called_turns, ends_with, run_kept}
+use Rattle.run_model.proofs.Stations.{among, in_more_other, is_in}
+use Rattle.run_model.proofs.Walk.{AfterPhases, AtBegins, AtEnds, AtFeeds, AtListening, AtPackets, IsKept, IsStopped, IsWhole, NoTurn, Place, called_turns, ends_stopped, ends_with, run_kept}
 
 -- ---- by the calls on one controller
 
@@ -212,3 +212,14 @@ run_silent given =
     ends_with (run_of given) (IsWhole given (IsSilentSoFar given)) (IsStopped given (IsSilentSoFar given)) (Each (SilentBefore given) [])
     (run_kept given (IsSilentSoFar given) (silent_kept given) (record { each = tt; now = tt }))
     (λ history whole. whole.is.each) (λ history stop stopped. stopped.kept.each)
+
+-- and where a run stops
+pub record IsSilentAtStop (given : Given) (history : List Event) (sender : ℕ) : Type 0 where
+  pub sender_in : is_in sender given.stations ≡ true
+  pub silent : (other : ℕ) → is_in other given.stations ≡ true → IsSilent given history other
+
+pub stop_silent : (given : Given) (history : List Event) (stop : Stop) → run_of given ≡ Stops history stop → IsSilentAtStop given history stop.sender
+stop_silent given history stop is =
+    let stopped = ends_stopped (run_of given) (IsWhole given (IsSilentSoFar given)) (IsStopped given (IsSilentSoFar given)) history stop
+    (run_kept given (IsSilentSoFar given) (silent_kept given) (record { each = tt; now = tt })) is in
+    record { sender_in = among given.stations stopped.done stopped.left stop.sender stopped.stations_are; silent = stopped.kept.now }

@@ -34,7 +34,7 @@ is_idle : (given : Given) (station : ℕ) (history : List Event) (plan : Plan) �
 unfolding use_of
 is_idle given station history plan is_now silent off = (does_nothing (setup_at given station) _ (silent plan is_now off)).idle
 
-sends_on : (given : Given) (station channel : ℕ) (octets : List ℕ) (history : List Event) (plan : Plan) → plan_at given history ≡ Some plan
+pub sends_on : (given : Given) (station channel : ℕ) (octets : List ℕ) (history : List Event) (plan : Plan) → plan_at given history ≡ Some plan
     → IsSilent given history station → use_at given station history ≡ Sends channel octets → (on : Bool) → plan.radio_of station ≡ on → on ≡ true
 sends_on given station channel octets history plan is_now silent wanted true is = refl
 sends_on given station channel octets history plan is_now silent wanted false is =
@@ -44,7 +44,7 @@ sends_on given station channel octets history plan is_now silent wanted false is
 no_channel : (fate : Fate) (channel : ℕ) → reaches fate channel None ≡ false
 no_channel fate channel = refl
 
-misses_at : (given : Given) (fate : Fate) (channel : ℕ) (octets : List ℕ) (history : List Event) (listener : ℕ) (plan : Plan) → plan_at given history ≡ Some plan
+pub misses_at : (given : Given) (fate : Fate) (channel : ℕ) (octets : List ℕ) (history : List Event) (listener : ℕ) (plan : Plan) → plan_at given history ≡ Some plan
     → IsSilent given history listener → plan.radio_of listener ≡ false → (hearing_at given fate channel octets history listener).verdict ≡ Missed
 misses_at given fate channel octets history listener plan is_now silent off =
     ap (λ (wanted : Use). verdict_where (reaches fate channel (channel_listened wanted)) (facts_at given listener history) (damaged_packet fate octets))
@@ -53,17 +53,17 @@ misses_at given fate channel octets history listener plan is_now silent off =
 -- ---- a pair
 
 -- the turn of a plan
-record IsTurnOf (turns : List ScriptTurn) (place : ℕ) (plan : Plan) : Type 0 where
-  turn : ScriptTurn
-  is : slice_get turns place ≡ Some turn
-  plan_is : plan ≡ plan_of turn
+pub record IsTurnOf (turns : List ScriptTurn) (place : ℕ) (plan : Plan) : Type 0 where
+  pub turn : ScriptTurn
+  pub is : slice_get turns place ≡ Some turn
+  pub plan_is : plan ≡ plan_of turn
 
-turn_at : (turns : List ScriptTurn) (place : ℕ) (plan : Plan) → slice_get (map plan_of turns) place ≡ Some plan → IsTurnOf turns place plan
+pub turn_at : (turns : List ScriptTurn) (place : ℕ) (plan : Plan) → slice_get (map plan_of turns) place ≡ Some plan → IsTurnOf turns place plan
 turn_at [] place plan is = absurd cc
 turn_at (turn ∷ turns) zero plan is = let same : plan_of turn ≡ plan = cc in record { turn = turn; is = refl; plan_is = sym same }
 turn_at (turn ∷ turns) (suc place) plan is = let rest = turn_at turns place plan is in record { turn = rest.turn; is = rest.is; plan_is = rest.plan_is }
 
-plan_radio : (side : Side) (turn : ScriptTurn) → (plan_of turn).radio_of (station_of side) ≡ radio_of side turn
+pub plan_radio : (side : Side) (turn : ScriptTurn) → (plan_of turn).radio_of (station_of side) ≡ radio_of side turn
 plan_radio A turn = refl
 plan_radio B turn = refl
 
@@ -73,15 +73,15 @@ one_listener : (given : Given) (fates : List Fate) (number channel : ℕ) (octet
     → hearing ≡ hearing_at given (fate_at fates number) channel octets history listener
 one_listener given fates number channel octets history listener hearing others is = cc
 
-of_side : (side : Side) → side_of (station_of side) ≡ side
+pub of_side : (side : Side) → side_of (station_of side) ≡ side
 of_side A = refl
 of_side B = refl
 
-other_station : (side : Side) → others_than (station_of side) (0 ∷ 1 ∷ []) ≡ station_of (other_side side) ∷ []
+pub other_station : (side : Side) → others_than (station_of side) (0 ∷ 1 ∷ []) ≡ station_of (other_side side) ∷ []
 other_station A = refl
 other_station B = refl
 
-is_one : (side : Side) → is_in (station_of side) (0 ∷ 1 ∷ []) ≡ true
+pub is_one : (side : Side) → is_in (station_of side) (0 ∷ 1 ∷ []) ≡ true
 is_one A = refl
 is_one B = refl
 

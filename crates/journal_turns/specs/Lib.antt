@@ -3,3 +3,4 @@ pub mod Scheduled
 pub mod Judged
 pub mod Radios
 pub mod Follows
+pub mod Stopped

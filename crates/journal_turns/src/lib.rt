@@ -5,4 +5,4 @@
 
 mod lines;
 
-pub use crate::lines::each_journal_follows_its_schedule;
+pub use crate::lines::{a_run_stops_in_its_turn, each_journal_follows_its_schedule};

@@ -3,11 +3,12 @@
 ghost use Rattle.std.specs.Prelude.{◌≡◌, ℕ, List};
 ghost use Rattle.radio_replay.specs.Script.{Script};
 ghost use Rattle.run_model.specs.History.{Event};
-ghost use Rattle.run_model.specs.Journal.{journal_of};
+ghost use Rattle.run_model.specs.Journal.{journal_of, side_of};
 ghost use Rattle.run_model.specs.Pair.{given_of};
-ghost use Rattle.run_model.specs.Run.{GoesOn, history_of, run_of};
+ghost use Rattle.run_model.specs.Run.{GoesOn, Stop, Stops, history_of, run_of};
 ghost use Rattle.journal_turns.specs.Follows.{FollowsSchedule};
 ghost use Rattle.journal_turns.specs.Scheduled.{AreAllTurns};
+ghost use Rattle.journal_turns.specs.Stopped.{IsStoppedAt};
 
 /// The journal of each run of a pair, whole or ended by damage, follows its schedule (our choice):
 ///
@@ -32,4 +33,15 @@ pub fn each_journal_follows_its_schedule()
     run_model::a_turn_leaves_nothing_over();
     run_model::entries_are_in_order();
     run_model::each_packet_on_the_air_is_due();
+}
+
+/// A run of a pair that damage stops does so in the turn that began last, at the next packet of that
+/// turn, whose fate changes it, while both sides have their radio on (our choice).
+pub fn a_run_stops_in_its_turn()
+    ensures { (a b : List ℕ) (script : Script) (history : List Event) (stop : Stop)
+        → run_of (given_of a b script) ≡ Stops history stop
+        → IsStoppedAt script (side_of stop.sender) stop.slot stop.place stop.sent stop.heard
+        (journal_of history) }
+{
+    run_model::unseen_damage_stops_a_run();
 }

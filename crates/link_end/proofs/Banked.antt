@@ -1,5 +1,5 @@
 -- A bank that has the data of an end, step by step.
-use Rattle.std.proofs.Common.{◌≡◌, ℕ, zero, suc, ◌+◌, ◌-◌, ◌<◌, ◌≤◌, ◌==◌, min, nat_lt, Bool, true, false, cond, ◌&&◌, is_some, List, [], ◌∷◌, ◌++◌, length, take, drop, get_or, set, Option, Some, None, refl, ap, sym, ◌∙◌, subst, arith, if◌then◌else◌}
+use Rattle.std.proofs.Common.{◌≡◌, ℕ, zero, suc, ◌+◌, ◌-◌, ◌<◌, ◌≤◌, ◌==◌, min, nat_lt, Bool, true, false, cond, not, ◌&&◌, ◌||◌, is_some, List, [], ◌∷◌, ◌++◌, length, take, drop, get_or, set, Option, Some, None, refl, ap, sym, ◌∙◌, subst, arith, if◌then◌else◌}
 use Rattle.std.specs.List.{filter, find, flat_map}
 use Rattle.std.specs.Option.{option_map}
 use Rattle.std.proofs.lemmas.Bool.Decides.{nat_tests}
@@ -17,9 +17,12 @@ use Rattle.link_end.specs.Tied.{HoldsData, IsAfterAck, LeavesOthers, bank_went_i
 -- ---- what a bank has under the handle is what waits
 
 module _ (handle : ℕ) (bank : Bank) (outgoing : Data) (holds : HoldsData handle bank outgoing) where
+  pub cut_same : (count : ℕ) → bank_next bank handle count ≡ option_map (piece_of count) (find is_left outgoing.packets)
+  cut_same count = ap (option_map (piece_of count)) (own-left bank.packets handle ∙ ap (find is_left) holds.packets)
+
   pub next_same : outgoing.limit ≡ 27 → bank_next bank handle 27 ≡ next_piece outgoing
   next_same limit =
-      ap (option_map (piece_of 27)) (own-left bank.packets handle ∙ ap (find is_left) holds.packets)
+      cut_same 27
       ∙ ap (λ n. option_map (piece_of n) (find is_left outgoing.packets)) (sym limit)
 
   pub unsent_same : bank_unsent bank handle ≡ unsent_of outgoing
@@ -35,20 +38,20 @@ piece_body (Some piece) = refl
 -- ---- the next piece goes out
 
 pub holds_sent : (handle : ℕ) (bank : Bank) (outgoing : Data) (is_new carries : Bool) → is_data outgoing.fixed ≡ carries
-    → outgoing.limit ≡ 27 → HoldsData handle bank outgoing
-    → HoldsData handle (bank_went_if (is_new && carries) bank handle) (data_sent_if is_new outgoing)
-holds_sent handle bank outgoing false carries is limit holds = holds
-holds_sent handle bank outgoing true false is limit holds =
+    → HoldsData handle bank outgoing
+    → HoldsData handle (bank_went_if (is_new && carries) bank handle (length outgoing.fixed.body)) (data_sent_if is_new outgoing)
+holds_sent handle bank outgoing false carries is holds = holds
+holds_sent handle bank outgoing true false is holds =
     record {
       packets = holds.packets
-          ∙ ap (λ b. if b then with_first is_left (packet_after_went outgoing.limit) outgoing.packets else outgoing.packets) (sym is);
+          ∙ ap (λ b. if b then with_first is_left (packet_after_went (length outgoing.fixed.body)) outgoing.packets else outgoing.packets) (sym is);
       complete = holds.complete;
     }
-holds_sent handle bank outgoing true true is limit holds =
+holds_sent handle bank outgoing true true is holds =
     record {
-      packets = own-went bank.packets handle 27 ∙ ap (with_first is_left (packet_after_went 27)) holds.packets
-          ∙ ap (λ n. with_first is_left (packet_after_went n) outgoing.packets) (sym limit)
-          ∙ ap (λ b. if b then with_first is_left (packet_after_went outgoing.limit) outgoing.packets else outgoing.packets) (sym is);
+      packets = own-went bank.packets handle (length outgoing.fixed.body)
+          ∙ ap (with_first is_left (packet_after_went (length outgoing.fixed.body))) holds.packets
+          ∙ ap (λ b. if b then with_first is_left (packet_after_went (length outgoing.fixed.body)) outgoing.packets else outgoing.packets) (sym is);
       complete = holds.complete;
     }
 
@@ -90,14 +93,23 @@ found_some : (limit : ℕ) (first : Option DataPacket) → is_some (option_map (
 found_some limit None some = some
 found_some limit (Some packet) some = refl
 
-pub next_is_some : (bank : Bank) (handle : ℕ) (fixed : Pdu) → is_data fixed ≡ true → pdu_with (bank_next bank handle 27) ≡ fixed
-    → is_some (bank_next bank handle 27) ≡ true
-next_is_some bank handle fixed carries is = data_is_some (bank_next bank handle 27) fixed carries is
+pub next_is_some : (bank : Bank) (handle count : ℕ) (fixed : Pdu) → is_data fixed ≡ true
+    → pdu_with (bank_next bank handle count) ≡ fixed → is_some (bank_next bank handle count) ≡ true
+next_is_some bank handle count fixed carries is = data_is_some (bank_next bank handle count) fixed carries is
 
-pub went_is_out : (bank : Bank) (handle : ℕ) → is_some (bank_next bank handle 27) ≡ true
-    → is_some (packet_out (bank_after_went bank handle 27) handle) ≡ true
-went_is_out bank handle next =
-    went_out handle 27 (omega arith) bank.packets (found_some 27 (find (has_unsent handle) bank.packets) next)
+pub went_is_out : (bank : Bank) (handle count : ℕ) → 1 ≤ count → is_some (bank_next bank handle count) ≡ true
+    → is_some (packet_out (bank_after_went bank handle count) handle) ≡ true
+went_is_out bank handle count some next =
+    went_out handle count some bank.packets (found_some count (find (has_unsent handle) bank.packets) next)
+
+-- a PDU of data has an octet
+some_body : (kind : Bool) (count : ℕ) → (kind && not (count == 0)) ≡ true → 1 ≤ count
+some_body true zero is = absurd cc
+some_body false zero is = absurd cc
+some_body kind (suc count) is = omega arith
+
+pub data_has_octets : (pdu : Pdu) → is_data pdu ≡ true → 1 ≤ length pdu.body
+data_has_octets pdu is = some_body (pdu.llid == 1 || pdu.llid == 2) (length pdu.body) is
 
 -- ---- what a piece that is acknowledged leaves
 
@@ -218,12 +230,14 @@ holds_acked true handle before after outgoing ack holds =
 
 -- ---- the other links
 
-went_leaves : (went : Bool) (bank : Bank) (handle : ℕ) → LeavesOthers handle bank (bank_went_if went bank handle)
-went_leaves false bank handle other differs = (refl, refl)
-went_leaves true bank handle other differs = (other-went bank.packets handle other differs 27, refl)
+went_leaves : (went : Bool) (bank : Bank) (handle count : ℕ) → LeavesOthers handle bank (bank_went_if went bank handle count)
+went_leaves false bank handle count other differs = (refl, refl)
+went_leaves true bank handle count other differs = (other-went bank.packets handle other differs count, refl)
 
-pub sent_leaves : (went : Bool) (handle : ℕ) (before after : Bank) → after ≡ bank_went_if went before handle → LeavesOthers handle before after
-sent_leaves went handle before after is = subst (LeavesOthers handle before) (sym is) (went_leaves went before handle)
+pub sent_leaves : (went : Bool) (handle count : ℕ) (before after : Bank) → after ≡ bank_went_if went before handle count
+    → LeavesOthers handle before after
+sent_leaves went handle count before after is =
+    subst (LeavesOthers handle before) (sym is) (went_leaves went before handle count)
 
 acked_leaves : (bank : Bank) (handle : ℕ) → LeavesOthers handle bank (bank_after_acked bank handle)
 acked_leaves bank handle other differs = by_done (is_completed (packet_out bank handle))

@@ -24,10 +24,11 @@ use Rattle.link_model.specs.Step.{Step, DataGiven, DataReported, EventEntered, P
 use Rattle.link_model.specs.Acknowledgement.{Acknowledgement, Pdu, bits_of, empty_pdu, is_acked, next_sent}
 use Rattle.link_model.specs.Data.{Data, data_acked_if, data_fixed, data_given, data_sent_if, is_data, is_empty, numbered, pdu_with}
 use Rattle.link_model.specs.Facts.{Facts}
-use Rattle.link_model.specs.Packets.{good_in, good_pdu, packet_sent, pdu_of, verdict_by, verdict_of}
+use Rattle.link_model.specs.Packets.{good_in, good_pdu, more_sent, packet_sent, pdu_of, pdu_sent, verdict_by, verdict_of}
 use Rattle.link_model.specs.Times.{skips_by, wants_of}
 use Rattle.link_model.specs.End.{applied_notes, facts_after, facts_entered, facts_of, facts_received, facts_sent, has_acknowledged, has_new_pdu, is_accepted, notes_after, replies_by, replies_of, took_notes}
 use Rattle.link_model.proofs.Pasts.{grows}
+use Rattle.link_model.proofs.Payloads.{past_payload}
 use Rattle.link_model.proofs.Pieces.{fixed_is_next, limit_is, piece_out_where_waits}
 use Rattle.link_model.proofs.Received.{received_ends}
 use Rattle.link_model.proofs.Sending.{past_counted}
@@ -36,7 +37,7 @@ use Rattle.link_end.specs.Held.{Held, acks_piece, carries_next, count_if, got_of
 use Rattle.link_model.specs.Kept.{kept_from, kept_of}
 use Rattle.link_end.specs.Knowing.{Goes, Knows}
 use Rattle.link_end.specs.Tied.{HoldsData, IsAfterAck, IsTied, bank_went_if}
-use Rattle.link_end.proofs.Banked.{holds_acked, holds_given, holds_reported, holds_sent, next_same, out_same, piece_body, unsent_same}
+use Rattle.link_end.proofs.Banked.{holds_acked, holds_given, holds_reported, holds_sent, cut_same, next_same, out_same, piece_body, unsent_same}
 
 -- what an end that knows its past holds
 pub held_is : (setup : Setup) (held : Held) (past : List Step) → Knows setup held past → held ≡ held_of setup (facts_of setup past)
@@ -78,7 +79,7 @@ fixed_of : (setup : Setup) (facts : Facts) (bank : Bank) → facts.outgoing.limi
     → HoldsData setup.link.handle bank facts.outgoing
     → held_fixed (bank_next bank setup.link.handle 27) (nat_lt (next_length bank setup.link.handle 27) (length (bank_unsent bank setup.link.handle)))
     (held_of setup facts)
-    ≡ held_of setup (record facts { outgoing = data_fixed facts.outgoing })
+    ≡ held_of setup (record facts { outgoing = data_fixed [] [] facts.outgoing })
 fixed_of setup facts bank limit holds =
     let handle = setup.link.handle in
     let same = next_same handle bank facts.outgoing holds limit in
@@ -160,16 +161,15 @@ sent setup held new past slot before noted is notes knows =
     }
 
 pub sent_holds : (setup : Setup) (held : Held) (past : List Step) (slot : ℕ) (before after : Bank)
-    → after ≡ bank_went_if (carries_next held) before held.setup.link.handle → Knows setup held past
+    → after ≡ bank_went_if (carries_next held) before held.setup.link.handle (length held.fixed.body) → Knows setup held past
     → HoldsData setup.link.handle before (facts_of setup past).outgoing
     → HoldsData setup.link.handle after (facts_of setup (past ++ PacketSent slot ∷ [])).outgoing
 sent_holds setup held past slot before after is knows holds =
     let facts = facts_of setup past in
     holds_after setup past (PacketSent slot) after
     (subst (λ (bank : Bank). HoldsData setup.link.handle bank (facts_sent slot facts).outgoing)
-    (sym (is ∙ ap (λ (h : Held). bank_went_if (carries_next h) before h.setup.link.handle) (held_is setup held past knows)))
-    (holds_sent setup.link.handle before facts.outgoing (is_acked facts.acknowledgement) (is_data facts.outgoing.fixed) refl
-    (limit_is setup past) holds))
+    (sym (is ∙ ap (λ (h : Held). bank_went_if (carries_next h) before h.setup.link.handle (length h.fixed.body)) (held_is setup held past knows)))
+    (holds_sent setup.link.handle before facts.outgoing (is_acked facts.acknowledgement) (is_data facts.outgoing.fixed) refl holds))
 
 pub packed : (setup : Setup) (held : Held) (past : List Step) (octets : List ℕ)
     → octets ≡ on_air held.event.channel held.setup.link.fields.access held.setup.link.fields.crc_init
@@ -177,9 +177,13 @@ pub packed : (setup : Setup) (held : Held) (past : List Step) (octets : List ℕ
     → Knows setup held past → octets ≡ packet_sent setup (facts_of setup past)
 unfolding packet_sent
 packed setup held past octets is knows =
+    let facts = facts_of setup past in
     is ∙ ap (λ (h : Held). on_air h.event.channel h.setup.link.fields.access h.setup.link.fields.crc_init
     (octets_of (header_of h.bits (pdu_out h).llid (more_out h) (length (pdu_out h).body)) ++ (pdu_out h).body))
     (held_is setup held past knows)
+    ∙ ap (λ payload. on_air facts.event.channel setup.link.fields.access setup.link.fields.crc_init
+    (octets_of (header_of (bits_of facts.acknowledgement) (pdu_sent facts).llid (more_sent facts) (length payload)) ++ payload))
+    (sym (past_payload setup past))
 
 -- ---- it receives
 
@@ -324,7 +328,7 @@ knows_tied setup held past bank knows holds =
     subst (λ (h : Held). IsTied h bank) (sym (held_is setup held past knows))
     (record {
       out = ap is_some (out_same handle bank outgoing holds) ∙ piece_out_where_waits setup past;
-      next = λ carries. ap pdu_with (next_same handle bank outgoing holds (limit_is setup past)) ∙ fixed_is_next setup past carries;
+      next = λ carries. ap pdu_with (cut_same handle bank outgoing holds (length outgoing.fixed.body)) ∙ fixed_is_next setup past carries;
     })
 
 given_of : (setup : Setup) (facts : Facts) (start : Bool) (body : List ℕ)

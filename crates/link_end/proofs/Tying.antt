@@ -1,5 +1,5 @@
 -- The calls on an end keep it tied to the bank.
-use Rattle.std.proofs.Common.{◌≡◌, ◌≢◌, ℕ, ◌<◌, ◌≤◌, IfSome, arith, Bool, true, false, not, ◌&&◌, ◌||◌, is_some, List, [], ◌∷◌, Option, Some, None, refl, ap, sym, ◌∙◌, subst, if◌then◌else◌}
+use Rattle.std.proofs.Common.{◌≡◌, ◌≢◌, ℕ, ◌<◌, ◌≤◌, IfSome, arith, Bool, true, false, not, ◌&&◌, ◌||◌, is_some, length, List, [], ◌∷◌, Option, Some, None, refl, ap, sym, ◌∙◌, subst, if◌then◌else◌}
 use Rattle.std.specs.List.{find}
 use Rattle.std.specs.Option.{option_map, option_or}
 use Rattle.std.proofs.lemmas.List.Folds.{find-append}
@@ -7,45 +7,65 @@ use Rattle.ack_bit.specs.AckBits.{acknowledges}
 use Rattle.acl_banks.specs.Banks.{Bank, bank_after_credited, bank_after_offer, next_piece, packet_out}
 use Rattle.acl_banks.specs.Packets.{DataPacket, has_unsent, new_packet, piece_of}
 use Rattle.acl_banks.proofs.AllLinks.{out-offer, own-left, own-out}
+use Rattle.acl_banks.proofs.Octets.{piece-again}
 use Rattle.acl_banks.proofs.Order.{is_left, is_out}
 use Rattle.link_model.specs.declared.events.Reception.{Reception}
 use Rattle.link_model.specs.declared.setup.LinkSetup.{LinkSetup}
 use Rattle.link_model.specs.Acknowledgement.{Pdu, empty_pdu}
 use Rattle.link_model.specs.Data.{is_data, pdu_with}
 use Rattle.link_end.specs.declared.pdus.Got.{Got}
-use Rattle.link_end.specs.Held.{Held, acks_piece, carries_next, held_hearing, held_sent}
+use Rattle.link_end.specs.Held.{Held, acks_piece, carries_next, held_fixed, held_hearing, held_sent}
 use Rattle.link_end.specs.Tied.{IsAfterAck, IsBefore, IsTied, LeavesOthers, bank_went_if}
-use Rattle.link_end.proofs.Banked.{next_after_acked, next_is_some, went_is_out}
+use Rattle.link_end.proofs.Banked.{data_has_octets, next_after_acked, next_is_some, went_is_out}
+
+-- ---- it fixes a PDU
+
+-- a piece that is cut at its own length is that piece
+cut_again : (limit : ℕ) (found : Option DataPacket)
+    → let next = pdu_with (option_map (piece_of limit) found) in
+    pdu_with (option_map (piece_of (length next.body)) found) ≡ next
+cut_again limit None = refl
+cut_again limit (Some packet) = ap (λ piece. pdu_with (Some piece)) (piece-again limit packet)
+
+pub fixed_tied : (limit : ℕ) (more : Bool) (held new : Held) (bank : Bank)
+    → new ≡ held_fixed (next_piece bank held.setup.link.handle limit) more held → IsTied held bank → IsTied new bank
+fixed_tied limit more held new bank is tied =
+    let handle = held.setup.link.handle in
+    subst (λ (h : Held). IsTied h bank) (sym is)
+    (record { out = tied.out; next = λ holds. cut_again limit (find (has_unsent handle) bank.packets) })
 
 -- ---- it sends
 
 out_sent : (handle : ℕ) (bank : Bank) (is_acked carries waits : Bool) (fixed last : Pdu) → is_data fixed ≡ carries → is_data last ≡ waits
-    → (carries ≡ true → is_some (next_piece bank handle 27) ≡ true)
+    → (carries ≡ true → is_some (next_piece bank handle (length fixed.body)) ≡ true)
     → is_some (packet_out bank handle) ≡ (not is_acked && waits)
-    → is_some (packet_out (bank_went_if (is_acked && carries) bank handle) handle) ≡ is_data (if is_acked then fixed else last)
-out_sent handle bank true true waits fixed last is_fixed is_last next out = went_is_out bank handle (next refl) ∙ sym is_fixed
+    → is_some (packet_out (bank_went_if (is_acked && carries) bank handle (length fixed.body)) handle)
+    ≡ is_data (if is_acked then fixed else last)
+out_sent handle bank true true waits fixed last is_fixed is_last next out =
+    went_is_out bank handle (length fixed.body) (data_has_octets fixed is_fixed) (next refl) ∙ sym is_fixed
 out_sent handle bank true false waits fixed last is_fixed is_last next out = out ∙ sym is_fixed
 out_sent handle bank false carries waits fixed last is_fixed is_last next out = out ∙ sym is_last
 
 next_sent : (handle : ℕ) (bank : Bank) (is_acked carries : Bool) (fixed : Pdu)
-    → (is_data fixed ≡ true → pdu_with (next_piece bank handle 27) ≡ fixed)
-    → is_data (if is_acked then empty_pdu else fixed) ≡ true
-    → pdu_with (next_piece (bank_went_if (is_acked && carries) bank handle) handle 27) ≡ (if is_acked then empty_pdu else fixed)
+    → (is_data fixed ≡ true → pdu_with (next_piece bank handle (length fixed.body)) ≡ fixed)
+    → let left = (if is_acked then empty_pdu else fixed) in
+    is_data left ≡ true
+    → pdu_with (next_piece (bank_went_if (is_acked && carries) bank handle (length fixed.body)) handle (length left.body)) ≡ left
 next_sent handle bank true carries fixed next holds = absurd cc
 next_sent handle bank false carries fixed next holds = next holds
 
 tied_sent : (slot : ℕ) (held : Held) (bank : Bank) → IsTied held bank
-    → IsTied (held_sent slot held) (bank_went_if (carries_next held) bank held.setup.link.handle)
+    → IsTied (held_sent slot held) (bank_went_if (carries_next held) bank held.setup.link.handle (length held.fixed.body))
 tied_sent slot held bank tied =
     let handle = held.setup.link.handle in
     record {
       out = out_sent handle bank held.is_acked (is_data held.fixed) (is_data held.last) held.fixed held.last refl refl
-          (λ carries. next_is_some bank handle held.fixed carries (tied.next carries)) tied.out;
+          (λ carries. next_is_some bank handle (length held.fixed.body) held.fixed carries (tied.next carries)) tied.out;
       next = next_sent handle bank held.is_acked (is_data held.fixed) held.fixed tied.next;
     }
 
 pub sent_tied : (slot : ℕ) (held new : Held) (before after : Bank) → new ≡ held_sent slot held
-    → after ≡ bank_went_if (carries_next held) before held.setup.link.handle → IsTied held before → IsTied new after
+    → after ≡ bank_went_if (carries_next held) before held.setup.link.handle (length held.fixed.body) → IsTied held before → IsTied new after
 sent_tied slot held new before after is bank tied =
     subst (λ (h : Held). IsTied h after) (sym is)
     (subst (IsTied (held_sent slot held)) (sym bank) (tied_sent slot held before tied))
@@ -61,10 +81,11 @@ out_heard handle before after false false waits ack out = ap (λ (b : Bank). is_
 out_heard handle before after true false true ack out = ap is_some (ack.none_out refl)
 out_heard handle before after true false false ack out = ap (λ (b : Bank). is_some (packet_out b handle)) ack.bank ∙ out
 
-next_kept : (handle : ℕ) (before after : Bank) (acked : Bool) → IsAfterAck acked handle before after
-    → next_piece after handle 27 ≡ next_piece before handle 27
-next_kept handle before after true ack = ap (λ (b : Bank). next_piece b handle 27) ack.bank ∙ next_after_acked before handle 27
-next_kept handle before after false ack = ap (λ (b : Bank). next_piece b handle 27) ack.bank
+next_kept : (handle count : ℕ) (before after : Bank) (acked : Bool) → IsAfterAck acked handle before after
+    → next_piece after handle count ≡ next_piece before handle count
+next_kept handle count before after true ack =
+    ap (λ (b : Bank). next_piece b handle count) ack.bank ∙ next_after_acked before handle count
+next_kept handle count before after false ack = ap (λ (b : Bank). next_piece b handle count) ack.bank
 
 tied_heard : (slot : ℕ) (room : Bool) (got : Option Got) (held : Held) (before after : Bank) → IsTied held before
     → IsAfterAck (acks_piece got held) held.setup.link.handle before after → IsTied (held_hearing slot room got held) after
@@ -73,7 +94,8 @@ tied_heard slot room (Some got) held before after tied ack =
     let handle = held.setup.link.handle in
     record {
       out = out_heard handle before after (acknowledges held.bits got.header) held.is_acked (is_data held.last) ack tied.out;
-      next = λ holds. ap pdu_with (next_kept handle before after (acks_piece (Some got) held) ack) ∙ tied.next holds;
+      next = λ holds.
+          ap pdu_with (next_kept handle (length held.fixed.body) before after (acks_piece (Some got) held) ack) ∙ tied.next holds;
     }
 
 pub heard_tied : (slot : ℕ) (room : Bool) (got : Option Got) (held new : Held) (before after : Bank) → new ≡ held_hearing slot room got held
@@ -107,14 +129,15 @@ others_tied held handle before after leaves differs tied =
     let same = (leaves own differs).0 in
     let out_is : packet_out after own ≡ packet_out before own =
     own-out after.packets own ∙ ap (find is_out) same ∙ sym (own-out before.packets own) in
-    let next_is : next_piece after own 27 ≡ next_piece before own 27 =
-    ap (option_map (piece_of 27)) (own-left after.packets own ∙ ap (find is_left) same ∙ sym (own-left before.packets own)) in
+    let count = length held.fixed.body in
+    let next_is : next_piece after own count ≡ next_piece before own count =
+    ap (option_map (piece_of count)) (own-left after.packets own ∙ ap (find is_left) same ∙ sym (own-left before.packets own)) in
     record { out = ap is_some out_is ∙ tied.out; next = λ holds. ap pdu_with next_is ∙ tied.next holds }
 
-stays_next : (found last : Option DataPacket) (fixed : Pdu) → is_data fixed ≡ true → pdu_with (option_map (piece_of 27) found) ≡ fixed
-    → pdu_with (option_map (piece_of 27) (option_or found last)) ≡ fixed
-stays_next None last fixed holds is = let no : is_data fixed ≡ false = ap is_data (sym is) in absurd cc
-stays_next (Some packet) last fixed holds is = is
+stays_next : (count : ℕ) (found last : Option DataPacket) (fixed : Pdu) → is_data fixed ≡ true
+    → pdu_with (option_map (piece_of count) found) ≡ fixed → pdu_with (option_map (piece_of count) (option_or found last)) ≡ fixed
+stays_next count None last fixed holds is = let no : is_data fixed ≡ false = ap is_data (sym is) in absurd cc
+stays_next count (Some packet) last fixed holds is = is
 
 pub offer_tied : (held : Held) (bank : Bank) (handle : ℕ) (start : Bool) (body : List ℕ) → IsTied held bank
     → IsTied held (bank_after_offer bank (new_packet handle start body))
@@ -124,8 +147,8 @@ offer_tied held bank handle start body tied =
     record {
       out = ap is_some (out-offer bank.packets handle start body own) ∙ tied.out;
       next = λ holds.
-          ap (λ found. pdu_with (option_map (piece_of 27) found)) (find-append (has_unsent own) bank.packets (packet ∷ []))
-          ∙ stays_next (find (has_unsent own) bank.packets) (find (has_unsent own) (packet ∷ [])) held.fixed holds (tied.next holds);
+          ap (λ found. pdu_with (option_map (piece_of (length held.fixed.body)) found)) (find-append (has_unsent own) bank.packets (packet ∷ []))
+          ∙ stays_next (length held.fixed.body) (find (has_unsent own) bank.packets) (find (has_unsent own) (packet ∷ [])) held.fixed holds (tied.next holds);
     }
 
 pub credited_tied : (held : Held) (bank : Bank) (handle : ℕ) → IsTied held bank → IsTied held (bank_after_credited bank handle)

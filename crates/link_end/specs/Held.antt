@@ -30,7 +30,7 @@ pub record Held : Type 0 where
   pub bits : AckBits
   -- the PDU that it sent last is acknowledged
   pub is_acked : Bool
-  -- the PDU that it sent last, and the one that it sends next
+  -- the PDU that it sent last, whose payload is its body, and the one that it sends next
   pub last : Pdu
   pub fixed : Pdu
   -- a further piece waited as that was fixed

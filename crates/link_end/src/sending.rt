@@ -83,14 +83,20 @@ impl LinkEnd {
         requires room { array_vec_len out.old ≤ 59 }
         ensures held { self.new ≡ held_gone self.old }
         ensures bank { tx.new
-            ≡ bank_went_if (is_data self.old.fixed) tx.old self.old.setup.link.handle }
+            ≡ bank_went_if (is_data self.old.fixed) tx.old self.old.setup.link.handle
+            (length self.old.fixed.body) }
         ensures notes { out.new.items ≡ out.old.items ++ sent_note_if
             (not (is_empty self.old.fixed)) self.old.setup.link.handle self.old.sent
             self.old.fixed }
         ensures few { array_vec_len out.new ≤ array_vec_len out.old + 1 }
     {
         let handle = self.setup.handle;
-        went_if(self.fixed.is_data(), handle, tx);
+        went_if(
+            self.fixed.is_data(),
+            handle,
+            self.fixed.body.len() as u16,
+            tx,
+        );
         self.sent = note_sent(handle, self.sent, &self.fixed, out);
         self.last = mem::replace(&mut self.fixed, Pdu::empty());
         self.more = false;
@@ -103,7 +109,8 @@ impl LinkEnd {
         requires room { array_vec_len out.old ≤ 59 }
         ensures held { self.new ≡ held_gone self.old }
         ensures bank { tx.new
-            ≡ bank_went_if (carries_next self.old) tx.old self.old.setup.link.handle }
+            ≡ bank_went_if (carries_next self.old) tx.old self.old.setup.link.handle
+            (length self.old.fixed.body) }
         ensures notes { out.new.items ≡ out.old.items ++ sent_note_if (numbers_next self.old)
             self.old.setup.link.handle self.old.sent self.old.fixed }
         ensures few { array_vec_len out.new ≤ array_vec_len out.old + 1 }
@@ -119,7 +126,8 @@ impl LinkEnd {
         requires room { array_vec_len out.old ≤ 59 }
         ensures held { self.new ≡ held_sent slot self.old }
         ensures bank { tx.new
-            ≡ bank_went_if (carries_next self.old) tx.old self.old.setup.link.handle }
+            ≡ bank_went_if (carries_next self.old) tx.old self.old.setup.link.handle
+            (length self.old.fixed.body) }
         ensures notes { out.new.items ≡ out.old.items ++ sent_note_if (numbers_next self.old)
             self.old.setup.link.handle self.old.sent self.old.fixed }
         ensures few { array_vec_len out.new ≤ array_vec_len out.old + 1 }
@@ -140,14 +148,15 @@ fn event_sent(event: ConnectionEvent, slot: u64, more: bool) -> ConnectionEvent
     }
 }
 
-/// The next piece of a link is out, or none is.
-fn went_if<const T: usize>(went: bool, handle: u16, tx: &mut TxBank<T>)
-    requires next { went ≡ true → IsSome (next_piece tx.old handle 27) }
+/// The next piece of a link is out, of this number of octets, or none is.
+fn went_if<const T: usize>(went: bool, handle: u16, count: u16, tx: &mut TxBank<T>)
+    requires some { went ≡ true → 1 ≤ count }
+    requires next { went ≡ true → IsSome (next_piece tx.old handle count) }
     requires none_out { went ≡ true → packet_out tx.old handle ≡ None }
-    ensures { tx.new ≡ bank_went_if went tx.old handle }
+    ensures { tx.new ≡ bank_went_if went tx.old handle count }
 {
     if went {
-        tx.went(handle, MOST_OCTETS);
+        tx.went(handle, count);
     }
 }
 

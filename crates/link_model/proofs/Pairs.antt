@@ -10,10 +10,10 @@ use Rattle.link_model.specs.Step.{PacketReceived, PacketSent}
 use Rattle.link_model.specs.Acknowledgement.{Acknowledgement, Pdu, after_sending, bits_of, empty_pdu, end_of, is_acked, received_by}
 use Rattle.link_model.specs.Data.{is_data}
 use Rattle.link_model.specs.Facts.{Facts}
-use Rattle.link_model.specs.Packets.{header_sent, more_sent, packet_sent, pdu_sent}
+use Rattle.link_model.specs.Packets.{FitsReceiver, header_sent, more_sent, packet_sent, payload_sent, pdu_sent}
 use Rattle.link_model.specs.End.{facts_after, facts_received, has_acknowledged, is_accepted}
 use Rattle.link_model.specs.Pair.{AreInAgreement, AreOneLink, Move, CentralDoes, PeripheralDoes, CentralSends, PeripheralSends, Own, Given, Enters, Fixes, Reports, Pair, first_pair, listener_after, own_step, pair_after, pair_of, receiver_after, sender_after}
-use Rattle.link_model.proofs.Payloads.{AreShort, IsShort, first_short, sent_pdu_short, step_short}
+use Rattle.link_model.proofs.Payloads.{AreShort, IsInForm, first_short, form, short_fits, step_short}
 use Rattle.link_model.proofs.Received.{IsHeardWhole, header_read, heard_good, pdu_read, received_end}
 
 abbrev IsReady : Facts → Type 0
@@ -40,7 +40,7 @@ packet_of sender room =
       next = sender.outgoing.fixed;
       llid = (pdu_sent sender).llid;
       md = more_sent sender;
-      length = length (pdu_sent sender).body;
+      length = length (payload_sent sender);
       arrives = true;
       room = room || not (is_data (pdu_sent sender));
     }
@@ -66,14 +66,14 @@ acknowledges_out sender facts agreed =
     (λ more. omega (arith, more, eqb-true other.acked (length other.sent) all, agreed.from_b.reliable.sent_only)))
 
 pub heard : (whole : IsHeardWhole) (from to : Setup) (slot : ℕ) (room : Bool) (sender facts : Facts) → AreOneLink from to
-    → 27 ≤ to.link.max_rx → IsShort (pdu_sent sender) → sender.event.channel ≡ facts.event.channel
+    → FitsReceiver sender to facts → IsInForm sender → sender.event.channel ≡ facts.event.channel
     → AreInAgreement sender.acknowledgement facts.acknowledgement
     → (receiver_after from sender to slot room facts).acknowledgement ≡ heard_by sender room facts.acknowledgement
-heard whole from to slot room sender facts one fits short channel agreed =
-    ap (λ pdu. (facts_received slot room pdu facts).acknowledgement) (heard_good whole from to sender facts one fits short channel)
-    ∙ (λ i. received_by (has_acknowledged facts (header_read sender short i))
-    (is_accepted room (is_new (bits_of facts.acknowledgement) (header_read sender short i)) (pdu_read sender short i))
-    (pdu_read sender short i) facts.acknowledgement)
+heard whole from to slot room sender facts one fits is_form channel agreed =
+    ap (λ pdu. (facts_received slot room pdu facts).acknowledgement) (heard_good whole from to sender facts one fits is_form channel)
+    ∙ (λ i. received_by (has_acknowledged facts (header_read sender is_form i))
+    (is_accepted room (is_new (bits_of facts.acknowledgement) (header_read sender is_form i)) (pdu_read sender is_form i))
+    (pdu_read sender is_form i) facts.acknowledgement)
     ∙ ap (λ acked. received_by acked (is_accepted room (is_new (bits_of facts.acknowledgement) (header_sent sender)) (pdu_sent sender))
     (pdu_sent sender) facts.acknowledgement) (acknowledges_out sender facts agreed)
 
@@ -89,11 +89,11 @@ receives sender room other agreed =
 -- ---- what a packet tells that is received
 
 pub tells_acked : (whole : IsHeardWhole) (from to : Setup) (slot : ℕ) (room : Bool) (sender facts : Facts) → AreOneLink from to
-    → 27 ≤ to.link.max_rx → IsShort (pdu_sent sender) → sender.event.channel ≡ facts.event.channel
+    → FitsReceiver sender to facts → IsInForm sender → sender.event.channel ≡ facts.event.channel
     → AreInAgreement sender.acknowledgement facts.acknowledgement
     → (receiver_after from sender to slot room facts).acknowledgement.acked ≡ length sender.acknowledgement.accepted
-tells_acked whole from to slot room sender facts one fits short channel agreed =
-    ap (λ (a : Acknowledgement). a.acked) (heard whole from to slot room sender facts one fits short channel agreed)
+tells_acked whole from to slot room sender facts one fits is_form channel agreed =
+    ap (λ (a : Acknowledgement). a.acked) (heard whole from to slot room sender facts one fits is_form channel agreed)
     ∙ acked_count (end_of sender.acknowledgement) (end_of facts.acknowledgement) (packet_of sender room) empty_pdu agreed.from_b
 
 counted : (fresh : Bool) (accepted : List Pdu) (pdu : Pdu) (count : ℕ) → fresh ≡ (count == length accepted + 1)
@@ -103,14 +103,14 @@ counted true accepted pdu count is low high = length-append accepted (pdu ∷ []
 counted false accepted pdu count is low high = let other = eqb-false count (length accepted + 1) (sym is) in omega (arith, other)
 
 pub tells_accepted : (whole : IsHeardWhole) (from to : Setup) (slot : ℕ) (sender facts : Facts) → AreOneLink from to
-    → 27 ≤ to.link.max_rx → IsShort (pdu_sent sender) → sender.event.channel ≡ facts.event.channel
+    → FitsReceiver sender to facts → IsInForm sender → sender.event.channel ≡ facts.event.channel
     → AreInAgreement sender.acknowledgement facts.acknowledgement
     → length (receiver_after from sender to slot true facts).acknowledgement.accepted
     ≡ length (sender_after from slot sender).acknowledgement.sent
-tells_accepted whole from to slot sender facts one fits short channel agreed =
+tells_accepted whole from to slot sender facts one fits is_form channel agreed =
     let next = sender.outgoing.fixed in
     let ahead = (sent (end_of sender.acknowledgement) (end_of facts.acknowledgement) next agreed).from_a.reliable in
-    ap (λ (a : Acknowledgement). length a.accepted) (heard whole from to slot true sender facts one fits short channel agreed)
+    ap (λ (a : Acknowledgement). length a.accepted) (heard whole from to slot true sender facts one fits is_form channel agreed)
     ∙ counted _ facts.acknowledgement.accepted (pdu_sent sender) (length (sender_after from slot sender).acknowledgement.sent)
     (says (end_of sender.acknowledgement) (end_of facts.acknowledgement) (packet_of sender true) agreed).fresh
     ahead.sent_only ahead.at_most_one_ahead
@@ -130,7 +130,7 @@ listens whole from to slot room sender facts false one fits channel agreed =
 listens whole from to slot room sender facts true one fits channel agreed =
     record {
       step = subst (AreInAgreement (sender_after from slot sender).acknowledgement)
-          (sym (heard whole from to slot room sender facts one fits (sent_pdu_short sender agreed.one_ready) (channel refl) agreed.step))
+          (sym (heard whole from to slot room sender facts one (short_fits sender to facts agreed.one_ready fits) (form sender agreed.one_ready) (channel refl) agreed.step))
           (receives sender room facts.acknowledgement agreed.step);
       one_ready = step_short from sender (PacketSent slot) agreed.one_ready;
       other_ready = step_short to facts (PacketReceived slot (packet_sent from sender) room) agreed.other_ready;

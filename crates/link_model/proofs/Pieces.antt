@@ -1,17 +1,17 @@
 -- A piece of the host is out where the PDU that was sent last is data that is not acknowledged, and a fixed PDU of data
 -- carries the next piece.
-use Rattle.std.proofs.Common.{◌≡◌, ℕ, ◌+◌, ◌<◌, ◌≤◌, ◌==◌, Bool, true, false, not, ◌&&◌, ◌||◌, is_some, List, [], ◌∷◌, ◌++◌, length, take, Option, Some, None, refl, ap, sym, ◌∙◌, arith, if◌then◌else◌}
+use Rattle.std.proofs.Common.{◌≡◌, ◌+◌, ◌<◌, ◌≤◌, ◌==◌, Bool, true, false, not, ◌&&◌, ◌||◌, is_some, List, [], ◌∷◌, ◌++◌, length, take, Option, Some, None, refl, ap, sym, ◌∙◌, arith, if◌then◌else◌}
 use Rattle.std.specs.List.{find}
 use Rattle.std.specs.Option.{option_map}
 use Rattle.std.proofs.lemmas.Bool.{eqb-true, eqb-false}
 use Rattle.std.proofs.lemmas.Bool.Decides.{nat_tests}
 use Rattle.std.proofs.lemmas.List.{append-nil, length-append, take-append-le, take_all}
 use Rattle.acl_banks.specs.Packets.{DataPacket, marked_octets, piece_of}
-use Rattle.acl_banks.proofs.Octets.{length-marked_octets}
+use Rattle.acl_banks.proofs.Octets.{length-marked_octets, piece-again}
 use Rattle.link_model.specs.Setup.{Setup}
 use Rattle.link_model.specs.Step.{Step}
 use Rattle.link_model.specs.Acknowledgement.{Acknowledgement, Pdu, is_acked}
-use Rattle.link_model.specs.Data.{Data, data_in, data_of, is_data, is_out, is_unsent, next_piece, pdu_with}
+use Rattle.link_model.specs.Data.{Data, data_in, data_of, is_data, is_out, is_unsent, pdu_with}
 use Rattle.link_model.specs.Delivery.{acked_data, sent_data}
 use Rattle.link_model.specs.End.{facts_of}
 use Rattle.link_model.proofs.Sending.{IsNext, IsTogether, all_acked, data-push, none_next, none_out, not_out, nothing_acked, nothing_out, past_holds, piece_next}
@@ -70,17 +70,21 @@ piece_out_where_waits setup past =
     piece_out_by (is_acked facts.acknowledgement) (is_data facts.acknowledgement.last) facts.acknowledgement facts.outgoing refl refl
     (past_holds setup past)
 
-next_by : (packets : List DataPacket) (limit : ℕ) (fixed : Pdu) → IsNext packets limit fixed → is_data fixed ≡ true
-    → pdu_with (option_map (piece_of limit) (find is_unsent packets)) ≡ fixed
-next_by packets limit fixed (none_next is) holds = let no : is_data fixed ≡ false = ap is_data is in absurd cc
-next_by packets limit fixed (piece_next packet found is) holds =
-    ap (λ o. pdu_with (option_map (piece_of limit) o)) found ∙ sym is
+next_by : (packets : List DataPacket) (fixed : Pdu) → IsNext packets fixed → is_data fixed ≡ true
+    → pdu_with (option_map (piece_of (length fixed.body)) (find is_unsent packets)) ≡ fixed
+next_by packets fixed (none_next is) holds = let no : is_data fixed ≡ false = ap is_data is in absurd cc
+next_by packets fixed (piece_next packet limit some found is) holds =
+    ap (λ o. pdu_with (option_map (piece_of (length fixed.body)) o)) found
+    ∙ ap (λ (pdu : Pdu). pdu_with (Some (piece_of (length pdu.body) packet))) is
+    ∙ ap (λ piece. pdu_with (Some piece)) (piece-again limit packet) ∙ sym is
 
+-- a fixed PDU of data carries the next piece, cut at its own length
 pub fixed_is_next : (setup : Setup) (past : List Step) → let outgoing = (facts_of setup past).outgoing in
-    is_data outgoing.fixed ≡ true → pdu_with (next_piece outgoing) ≡ outgoing.fixed
+    is_data outgoing.fixed ≡ true
+    → pdu_with (option_map (piece_of (length outgoing.fixed.body)) (find is_unsent outgoing.packets)) ≡ outgoing.fixed
 fixed_is_next setup past holds =
     let outgoing = (facts_of setup past).outgoing in
-    next_by outgoing.packets outgoing.limit outgoing.fixed (past_holds setup past).next holds
+    next_by outgoing.packets outgoing.fixed (past_holds setup past).next holds
 
 pub limit_is : (setup : Setup) (past : List Step) → (facts_of setup past).outgoing.limit ≡ 27
 limit_is setup past = (past_holds setup past).limit

@@ -15,16 +15,16 @@ use Rattle.link_model.specs.Setup.{Setup}
 use Rattle.link_model.specs.Acknowledgement.{Acknowledgement, Pdu, bits_of, end_of, received_by}
 use Rattle.link_model.specs.Data.{is_data}
 use Rattle.link_model.specs.Facts.{Facts}
-use Rattle.link_model.specs.Packets.{header_sent, more_sent, packet_sent, pdu_sent, heard_of, has_room_for, good_in, good_pdu, verdict_by, verdict_of, pdu_of}
+use Rattle.link_model.specs.Packets.{FitsReceiver, header_sent, more_sent, most_received, packet_sent, payload_sent, pdu_sent, heard_of, has_room_for, good_in, good_pdu, verdict_by, verdict_of, pdu_of}
 use Rattle.link_model.specs.End.{is_accepted}
 use Rattle.link_model.specs.Pair.{AreOneLink}
-use Rattle.link_model.proofs.Payloads.{IsShort}
+use Rattle.link_model.proofs.Payloads.{IsInForm}
 
 -- a packet of a PDU in form is heard whole
 abbrev pub IsHeardWhole : Type 0
 IsHeardWhole = (channel access init : ℕ) (pdu : List ℕ) → IsPdu pdu → heard_in channel access init (on_air channel access init pdu) ≡ Whole (record { items = pdu })
 
--- a short PDU has the form of one, and a header that is read as it was written
+-- a PDU in form is heard as one, and has a header that is read as it was written
 header_back : (llid : ℕ) (nesn sn md : Bool) (count : ℕ) (body : List ℕ) → (llid ≡ 1) ⊎ (llid ≡ 2)
     → header_in (octets_of (record { llid = llid; nesn = nesn; sn = sn; md = md; length = count }) ++ body)
     ≡ record { llid = llid; nesn = nesn; sn = sn; md = md; length = count }
@@ -56,49 +56,49 @@ header_back llid nesn sn md count body is =
     started false false true = refl
     started false false false = refl
 
-pub header_read : (facts : Facts) → IsShort (pdu_sent facts)
-    → header_in (octets_of (header_sent facts) ++ (pdu_sent facts).body) ≡ header_sent facts
-header_read facts short =
+pub header_read : (facts : Facts) → IsInForm facts
+    → header_in (octets_of (header_sent facts) ++ payload_sent facts) ≡ header_sent facts
+header_read facts form =
     header_back (pdu_sent facts).llid (bits_of facts.acknowledgement).nesn (bits_of facts.acknowledgement).sn (more_sent facts)
-    (length (pdu_sent facts).body) (pdu_sent facts).body short.llid
+    (length (payload_sent facts)) (payload_sent facts) form.llid
 
-pub pdu_read : (facts : Facts) → IsShort (pdu_sent facts)
-    → pdu_of (octets_of (header_sent facts) ++ (pdu_sent facts).body) ≡ pdu_sent facts
-pdu_read facts short = ap (λ (h : DataHeader). record { llid = h.llid; body = (pdu_sent facts).body }) (header_read facts short)
+pub pdu_read : (facts : Facts) → IsInForm facts
+    → pdu_of (octets_of (header_sent facts) ++ payload_sent facts) ≡ pdu_sent facts
+pdu_read facts form = λ i. record { llid = (header_read facts form i).llid; body = form.opened i }
 
-in_form : (count : ℕ) → count ≤ 27 → (nat_le 2 (suc (suc count)) && nat_le (suc (suc count)) 257 && (suc (suc count) == 2 + count)) ≡ true
+in_form : (count : ℕ) → count ≤ 255 → (nat_le 2 (suc (suc count)) && nat_le (suc (suc count)) 257 && (suc (suc count) == 2 + count)) ≡ true
 in_form count short = grind (arith, nat_tests)
 
-heard_whole : (whole : IsHeardWhole) (from to : Setup) (sender facts : Facts) → AreOneLink from to → IsShort (pdu_sent sender)
+heard_whole : (whole : IsHeardWhole) (from to : Setup) (sender facts : Facts) → AreOneLink from to → IsInForm sender
     → sender.event.channel ≡ facts.event.channel
-    → heard_of to facts (packet_sent from sender) ≡ Whole (record { items = octets_of (header_sent sender) ++ (pdu_sent sender).body })
+    → heard_of to facts (packet_sent from sender) ≡ Whole (record { items = octets_of (header_sent sender) ++ payload_sent sender })
 unfolding packet_sent
-heard_whole whole from to sender facts one short channel =
+heard_whole whole from to sender facts one form channel =
     (λ i. heard_in (sym channel i) ((sym one.fields i).access) ((sym one.fields i).crc_init) (packet_sent from sender))
     ∙ whole sender.event.channel from.link.fields.access from.link.fields.crc_init
-    (octets_of (header_sent sender) ++ (pdu_sent sender).body) (in_form (length (pdu_sent sender).body) short.short)
+    (octets_of (header_sent sender) ++ payload_sent sender) (in_form (length (payload_sent sender)) form.short)
 
-room_for : (max_rx : ℕ) (facts : Facts) → IsShort (pdu_sent facts) → 27 ≤ max_rx
-    → has_room_for max_rx (octets_of (header_sent facts) ++ (pdu_sent facts).body) ≡ true
-room_for max_rx facts short room =
-    le-leb (suc (suc (length (pdu_sent facts).body))) (2 + max_rx) (omega (arith, short.short))
+room_for : (max_rx : ℕ) (facts : Facts) → length (payload_sent facts) ≤ max_rx
+    → has_room_for max_rx (octets_of (header_sent facts) ++ payload_sent facts) ≡ true
+room_for max_rx facts fits =
+    le-leb (suc (suc (length (payload_sent facts)))) (2 + max_rx) (omega (arith, fits))
 
-pub heard_good : (whole : IsHeardWhole) (from to : Setup) (sender facts : Facts) → AreOneLink from to → 27 ≤ to.link.max_rx
-    → IsShort (pdu_sent sender) → sender.event.channel ≡ facts.event.channel
-    → good_pdu to facts (packet_sent from sender) ≡ Some (octets_of (header_sent sender) ++ (pdu_sent sender).body)
+pub heard_good : (whole : IsHeardWhole) (from to : Setup) (sender facts : Facts) → AreOneLink from to → FitsReceiver sender to facts
+    → IsInForm sender → sender.event.channel ≡ facts.event.channel
+    → good_pdu to facts (packet_sent from sender) ≡ Some (octets_of (header_sent sender) ++ payload_sent sender)
 unfolding good_pdu
-heard_good whole from to sender facts one room short channel =
-    ap (good_in to.link.max_rx) (heard_whole whole from to sender facts one short channel)
-    ∙ ap (λ fits. if fits then Some (octets_of (header_sent sender) ++ (pdu_sent sender).body) else None)
-    (room_for to.link.max_rx sender short room)
+heard_good whole from to sender facts one fits form channel =
+    ap (good_in (most_received to facts)) (heard_whole whole from to sender facts one form channel)
+    ∙ ap (λ b. if b then Some (octets_of (header_sent sender) ++ payload_sent sender) else None)
+    (room_for (most_received to facts) sender fits)
 
-pub judged_good : (whole : IsHeardWhole) (from to : Setup) (sender facts : Facts) → AreOneLink from to → 27 ≤ to.link.max_rx
-    → IsShort (pdu_sent sender) → sender.event.channel ≡ facts.event.channel
+pub judged_good : (whole : IsHeardWhole) (from to : Setup) (sender facts : Facts) → AreOneLink from to → FitsReceiver sender to facts
+    → IsInForm sender → sender.event.channel ≡ facts.event.channel
     → verdict_of to facts (packet_sent from sender) ≡ Good
 unfolding verdict_of
-judged_good whole from to sender facts one room short channel =
-    ap (verdict_by to.link.max_rx) (heard_whole whole from to sender facts one short channel)
-    ∙ ap (λ fits. if fits then Good else Broken) (room_for to.link.max_rx sender short room)
+judged_good whole from to sender facts one fits form channel =
+    ap (verdict_by (most_received to facts)) (heard_whole whole from to sender facts one form channel)
+    ∙ ap (λ b. if b then Good else Broken) (room_for (most_received to facts) sender fits)
 
 -- ---- the bits of an end that receives are its counts
 

@@ -10,7 +10,7 @@ use Rattle.std.proofs.lemmas.List.Folds.{find-append}
 use Rattle.std.proofs.lemmas.Option.{none-some, same_Some}
 use Rattle.acl_banks.specs.Packets.{DataPacket, Marked, AreInOrder, IsFresh, is_all_sent, marked_octets, new_packet, octets_out, packet_after_acked, packet_after_went, piece_of, sent_length, with_first}
 use Rattle.acl_banks.specs.History.{Past}
-use Rattle.acl_banks.proofs.Octets.{length-marked_octets, length-piece_of, length-unsent_octets}
+use Rattle.acl_banks.proofs.Octets.{length-marked_octets, length-piece_of, length-unsent_octets, went-piece}
 use Rattle.acl_banks.proofs.Order.{head_left, head_out, is_left-head, is_out-head, link-acked, link-completed, link-went, none_out-rest}
 use Rattle.acl_banks.proofs.OneLink.{IsKept, all_counted, all_octets, kept-acked, kept-completed, kept-credited, kept-empty, kept-offer, kept-went, outs}
 use Rattle.ack_bit.specs.AckBits.{acknowledges}
@@ -29,11 +29,11 @@ abbrev pub past_of : Acknowledgement → Data → Past
 past_of ack outgoing =
     record { packets = outgoing.given; sent = sent_data ack; acknowledged = acked_data ack; reported = outgoing.reported }
 
--- the fixed PDU is empty, or the next piece
-pub data IsNext (packets : List DataPacket) (limit : ℕ) (fixed : Pdu) : Type 0 where
-  none_next : fixed ≡ empty_pdu → IsNext packets limit fixed
-  piece_next : (packet : DataPacket) → find is_unsent packets ≡ Some packet → fixed ≡ pdu_with (Some (piece_of limit packet))
-      → IsNext packets limit fixed
+-- the fixed PDU is empty, or the next piece, cut at the limit of its time
+pub data IsNext (packets : List DataPacket) (fixed : Pdu) : Type 0 where
+  none_next : fixed ≡ empty_pdu → IsNext packets fixed
+  piece_next : (packet : DataPacket) (limit : ℕ) → 1 ≤ limit → find is_unsent packets ≡ Some packet
+      → fixed ≡ pdu_with (Some (piece_of limit packet)) → IsNext packets fixed
 
 -- the last of the PDUs sent, and those before it
 pub record EndsIn (sent : List Pdu) (last : Pdu) : Type 0 where
@@ -46,7 +46,7 @@ pub record IsTogether (ack : Acknowledgement) (outgoing : Data) : Type 0 where
   pub sent_only : ack.acked ≤ length ack.sent
   pub one_at_a_time : length ack.sent ≤ ack.acked + 1
   pub limit : outgoing.limit ≡ 27
-  pub next : IsNext outgoing.packets outgoing.limit outgoing.fixed
+  pub next : IsNext outgoing.packets outgoing.fixed
 
 first_together : IsTogether first_acknowledgement first_data
 first_together =
@@ -66,10 +66,11 @@ stays_first : (packets : List DataPacket) (given packet : DataPacket) → find i
 stays_first packets given packet found =
     find-append is_unsent packets (given ∷ []) ∙ ap (λ o. option_or o (find is_unsent (given ∷ []))) found
 
-next-given : (packets : List DataPacket) (limit : ℕ) (fixed : Pdu) (given : DataPacket) → IsNext packets limit fixed
-    → IsNext (packets ++ given ∷ []) limit fixed
-next-given packets limit fixed given (none_next is) = none_next is
-next-given packets limit fixed given (piece_next packet found is) = piece_next packet (stays_first packets given packet found) is
+next-given : (packets : List DataPacket) (fixed : Pdu) (given : DataPacket) → IsNext packets fixed
+    → IsNext (packets ++ given ∷ []) fixed
+next-given packets fixed given (none_next is) = none_next is
+next-given packets fixed given (piece_next packet limit some found is) =
+    piece_next packet limit some (stays_first packets given packet found) is
 
 given_together : (handle : ℕ) (start : Bool) (body : List ℕ) (ack : Acknowledgement) (outgoing : Data) → IsTogether ack outgoing
     → IsTogether ack (data_given handle start body outgoing)
@@ -83,17 +84,17 @@ given_together handle start (octet ∷ octets) ack outgoing are =
       sent_only = are.sent_only;
       one_at_a_time = are.one_at_a_time;
       limit = are.limit;
-      next = next-given outgoing.packets outgoing.limit outgoing.fixed packet are.next;
+      next = next-given outgoing.packets outgoing.fixed packet are.next;
     }
 
 -- ---- a PDU is fixed
 
-next-found : (packets : List DataPacket) (limit : ℕ) (first : Option DataPacket) → find is_unsent packets ≡ first
-    → IsNext packets limit (pdu_with (option_map (piece_of limit) first))
-next-found packets limit None found = none_next refl
-next-found packets limit (Some packet) found = piece_next packet found refl
+next-found : (packets : List DataPacket) (limit : ℕ) (first : Option DataPacket) → 1 ≤ limit → find is_unsent packets ≡ first
+    → IsNext packets (pdu_with (option_map (piece_of limit) first))
+next-found packets limit None some found = none_next refl
+next-found packets limit (Some packet) some found = piece_next packet limit some found refl
 
-fixed_together : (ack : Acknowledgement) (outgoing : Data) → IsTogether ack outgoing → IsTogether ack (data_fixed outgoing)
+fixed_together : (ack : Acknowledgement) (outgoing : Data) → IsTogether ack outgoing → IsTogether ack (data_fixed [] [] outgoing)
 fixed_together ack outgoing are =
     record {
       kept = are.kept;
@@ -101,7 +102,7 @@ fixed_together ack outgoing are =
       sent_only = are.sent_only;
       one_at_a_time = are.one_at_a_time;
       limit = are.limit;
-      next = next-found outgoing.packets outgoing.limit (find is_unsent outgoing.packets) refl;
+      next = next-found outgoing.packets outgoing.limit (find is_unsent outgoing.packets) (omega (arith, are.limit)) refl;
     }
 
 -- ---- nothing is out
@@ -160,42 +161,44 @@ piece_data : (start : Bool) (octets : List ℕ) → 0 < length octets
 piece_data true octets some = ap (λ b. if b then marked_octets true octets else []) (not_empty octets some)
 piece_data false octets some = ap (λ b. if b then marked_octets false octets else []) (not_empty octets some)
 
-piece_some : (limit : ℕ) (packet : DataPacket) → limit ≡ 27 → is_unsent packet ≡ true
+piece_some : (limit : ℕ) (packet : DataPacket) → 1 ≤ limit → is_unsent packet ≡ true
     → 0 < length (piece_of limit packet).body.items
-piece_some limit packet is unsent =
+piece_some limit packet some unsent =
     let left : sent_length packet < length packet.body = grind (arith, nat_tests) in
-    omega (arith, length-piece_of limit packet, length-unsent_octets packet)
+    omega (arith, some, length-piece_of limit packet, length-unsent_octets packet)
 
 -- what is kept as the fixed PDU is sent
 kept_sent : (ack : Acknowledgement) (outgoing : Data) → IsTogether ack outgoing → ack.acked ≡ length ack.sent
-    → IsNext outgoing.packets outgoing.limit outgoing.fixed
+    → IsNext outgoing.packets outgoing.fixed
     → IsKept (data_sent outgoing).packets outgoing.complete
     (record (past_of ack outgoing) { sent = sent_data ack ++ data_in outgoing.fixed })
 kept_sent ack outgoing are all (none_next is) =
     let nothing : data_in outgoing.fixed ≡ [] = ap data_in is in
     let plain : is_data outgoing.fixed ≡ false = ap is_data is in
-    subst (λ (b : Bool). IsKept (if b then with_first is_unsent (packet_after_went outgoing.limit) outgoing.packets else outgoing.packets)
+    subst (λ (b : Bool). IsKept (if b then with_first is_unsent (packet_after_went (length outgoing.fixed.body)) outgoing.packets else outgoing.packets)
     outgoing.complete (record (past_of ack outgoing) { sent = sent_data ack ++ data_in outgoing.fixed })) (sym plain)
     (kept_at outgoing.packets outgoing.complete (past_of ack outgoing) (sent_data ack ++ data_in outgoing.fixed) (acked_data ack)
     (sym (append-nil (sent_data ack)) ∙ ap (λ octets. sent_data ack ++ octets) (sym nothing)) refl are.kept)
-kept_sent ack outgoing are all (piece_next packet found is) =
-    let limit = outgoing.limit in
+kept_sent ack outgoing are all (piece_next packet limit some found is) =
     let order = are.kept.in_order in
     let nothing = nothing_out ack outgoing are (all_acked ack (omega (arith, all))) in
     let head = head_left outgoing.packets packet order (none_out outgoing.packets order nothing) found in
     let idle = head_idle packet head.rest head.in_work.within (ap outs (sym head.packets_are) ∙ nothing) in
     let left = is_left-head outgoing.packets packet found in
-    let some = piece_some limit packet are.limit left in
+    let full = piece_some limit packet some left in
     let piece = piece_of limit packet in
     let carried : data_in outgoing.fixed ≡ marked_octets piece.start piece.body.items =
-    ap data_in is ∙ piece_data piece.start piece.body.items some in
-    let full : is_data outgoing.fixed ≡ true = ap is_data is ∙ piece_is_data piece.start piece.body.items some in
+    ap data_in is ∙ piece_data piece.start piece.body.items full in
+    let holds : is_data outgoing.fixed ≡ true = ap is_data is ∙ piece_is_data piece.start piece.body.items full in
+    let count : packet_after_went (length outgoing.fixed.body) packet ≡ packet_after_went limit packet =
+    ap (λ (pdu : Pdu). packet_after_went (length pdu.body) packet) is ∙ went-piece limit packet in
     let before : IsKept (packet ∷ head.rest) outgoing.complete (past_of ack outgoing) =
     subst (λ (ps : List DataPacket). IsKept ps outgoing.complete (past_of ack outgoing)) head.packets_are are.kept in
     let after = kept-went packet head.rest outgoing.complete limit (past_of ack outgoing) before idle in
     let packets_are : (data_sent outgoing).packets ≡ packet_after_went limit packet ∷ head.rest =
-    ap (λ b. if b then with_first is_unsent (packet_after_went limit) outgoing.packets else outgoing.packets) full
-    ∙ link-went outgoing.packets packet limit head left in
+    ap (λ b. if b then with_first is_unsent (packet_after_went (length outgoing.fixed.body)) outgoing.packets else outgoing.packets) holds
+    ∙ link-went outgoing.packets packet (length outgoing.fixed.body) head left
+    ∙ ap (λ p. p ∷ head.rest) count in
     subst (λ (ps : List DataPacket). IsKept ps outgoing.complete
     (record (past_of ack outgoing) { sent = sent_data ack ++ data_in outgoing.fixed })) (sym packets_are)
     (subst (λ (o : List Marked). IsKept (packet_after_went limit packet ∷ head.rest) outgoing.complete
@@ -273,21 +276,21 @@ none_changed (packet ∷ rest) none = by_test (is_out packet) refl none (none_ch
     by_test false e none later = ap (λ ps. packet ∷ ps) (later none)
 
 -- the next piece stays the next one
-next_completed : (packet : DataPacket) (rest : List DataPacket) (limit : ℕ) (fixed : Pdu) → is_all_sent packet ≡ true
-    → IsNext (packet ∷ rest) limit fixed → IsNext rest limit fixed
-next_completed packet rest limit fixed all (none_next is) = none_next is
-next_completed packet rest limit fixed all (piece_next next found is) =
+next_completed : (packet : DataPacket) (rest : List DataPacket) (fixed : Pdu) → is_all_sent packet ≡ true
+    → IsNext (packet ∷ rest) fixed → IsNext rest fixed
+next_completed packet rest fixed all (none_next is) = none_next is
+next_completed packet rest fixed all (piece_next next limit some found is) =
     let sent : is_unsent packet ≡ false = grind (arith, nat_tests) in
-    piece_next next (sym (ap (λ b. cond b (Some packet) (find is_unsent rest)) sent) ∙ found) is
+    piece_next next limit some (sym (ap (λ b. cond b (Some packet) (find is_unsent rest)) sent) ∙ found) is
 
-next_acked : (packet : DataPacket) (rest : List DataPacket) (limit : ℕ) (fixed : Pdu) → is_unsent packet ≡ true
-    → IsNext (packet ∷ rest) limit fixed → IsNext (packet_after_acked packet ∷ rest) limit fixed
-next_acked packet rest limit fixed left (none_next is) = none_next is
-next_acked packet rest limit fixed left (piece_next next found is) =
+next_acked : (packet : DataPacket) (rest : List DataPacket) (fixed : Pdu) → is_unsent packet ≡ true
+    → IsNext (packet ∷ rest) fixed → IsNext (packet_after_acked packet ∷ rest) fixed
+next_acked packet rest fixed left (none_next is) = none_next is
+next_acked packet rest fixed left (piece_next next limit some found is) =
     let same : packet ≡ next = same_Some packet next (sym (ap (λ b. cond b (Some packet) (find is_unsent rest)) left) ∙ found) in
     let count : sent_length (packet_after_acked packet) ≡ sent_length packet = omega arith in
     let later : is_unsent (packet_after_acked packet) ≡ true = ap (λ n. nat_lt n (length packet.body)) count ∙ left in
-    piece_next (packet_after_acked packet)
+    piece_next (packet_after_acked packet) limit some
     (ap (λ b. cond b (Some (packet_after_acked packet)) (find is_unsent rest)) later)
     (is ∙ ap (λ (p : DataPacket). pdu_with (Some (piece_of limit p))) (sym same)
     ∙ ap (λ n. pdu_with (Some (record { start = packet.start && (n == 0); body = record { items = take limit (drop n packet.body) } })))
@@ -298,7 +301,7 @@ kept_acked : (ack : Acknowledgement) (outgoing : Data) → IsTogether ack outgoi
     → find is_out outgoing.packets ≡ out
     → let after = data_completed (is_completed out) outgoing in
     IsKept after.packets after.complete (record (past_of ack outgoing) { acknowledged = acked_data ack ++ outs outgoing.packets })
-    × IsNext after.packets outgoing.limit outgoing.fixed
+    × IsNext after.packets outgoing.fixed
 kept_acked ack outgoing are None found =
     let packets_are = none_changed outgoing.packets found in
     let same : acked_data ack ≡ acked_data ack ++ outs outgoing.packets =
@@ -306,28 +309,28 @@ kept_acked ack outgoing are None found =
       subst (λ (ps : List DataPacket). IsKept ps outgoing.complete (record (past_of ack outgoing) { acknowledged = acked_data ack ++ outs outgoing.packets }))
           (sym packets_are)
           (kept_at outgoing.packets outgoing.complete (past_of ack outgoing) (sent_data ack) (acked_data ack ++ outs outgoing.packets) refl same are.kept),
-      subst (λ (ps : List DataPacket). IsNext ps outgoing.limit outgoing.fixed) (sym packets_are) are.next,
+      subst (λ (ps : List DataPacket). IsNext ps outgoing.fixed) (sym packets_are) are.next,
     )
 kept_acked ack outgoing are (Some packet) found = by_length (is_all_sent packet) refl
   where
     by_length : (all : Bool) → is_all_sent packet ≡ all
         → let after = data_completed all outgoing in
         IsKept after.packets after.complete (record (past_of ack outgoing) { acknowledged = acked_data ack ++ outs outgoing.packets })
-        × IsNext after.packets outgoing.limit outgoing.fixed
+        × IsNext after.packets outgoing.fixed
     by_length true all =
         let head = head_out outgoing.packets packet are.kept.in_order found in
         let packets_are = link-completed outgoing.packets packet head (is_out-head outgoing.packets packet found) in
         let before : IsKept (packet ∷ head.rest) outgoing.complete (past_of ack outgoing) =
         subst (λ (ps : List DataPacket). IsKept ps outgoing.complete (past_of ack outgoing)) head.packets_are are.kept in
         let after = kept-completed packet head.rest outgoing.complete (past_of ack outgoing) before all in
-        let next : IsNext (packet ∷ head.rest) outgoing.limit outgoing.fixed =
-        subst (λ (ps : List DataPacket). IsNext ps outgoing.limit outgoing.fixed) head.packets_are are.next in (
+        let next : IsNext (packet ∷ head.rest) outgoing.fixed =
+        subst (λ (ps : List DataPacket). IsNext ps outgoing.fixed) head.packets_are are.next in (
           subst (λ (ps : List DataPacket). IsKept ps (outgoing.complete + 1) (record (past_of ack outgoing) { acknowledged = acked_data ack ++ outs outgoing.packets }))
               (sym packets_are)
               (subst (λ (ps : List DataPacket). IsKept head.rest (outgoing.complete + 1) (record (past_of ack outgoing) { acknowledged = acked_data ack ++ outs ps }))
               (sym head.packets_are) after),
-          subst (λ (ps : List DataPacket). IsNext ps outgoing.limit outgoing.fixed) (sym packets_are)
-              (next_completed packet head.rest outgoing.limit outgoing.fixed all next),
+          subst (λ (ps : List DataPacket). IsNext ps outgoing.fixed) (sym packets_are)
+              (next_completed packet head.rest outgoing.fixed all next),
         )
     by_length false part =
         let head = head_out outgoing.packets packet are.kept.in_order found in
@@ -337,14 +340,14 @@ kept_acked ack outgoing are (Some packet) found = by_length (is_all_sent packet)
         let after = kept-acked packet head.rest outgoing.complete (past_of ack outgoing) before part in
         let within = head.in_work.within in
         let left : is_unsent packet ≡ true = grind (arith, nat_tests) in
-        let next : IsNext (packet ∷ head.rest) outgoing.limit outgoing.fixed =
-        subst (λ (ps : List DataPacket). IsNext ps outgoing.limit outgoing.fixed) head.packets_are are.next in (
+        let next : IsNext (packet ∷ head.rest) outgoing.fixed =
+        subst (λ (ps : List DataPacket). IsNext ps outgoing.fixed) head.packets_are are.next in (
           subst (λ (ps : List DataPacket). IsKept ps outgoing.complete (record (past_of ack outgoing) { acknowledged = acked_data ack ++ outs outgoing.packets }))
               (sym packets_are)
               (subst (λ (ps : List DataPacket). IsKept (packet_after_acked packet ∷ head.rest) outgoing.complete (record (past_of ack outgoing) { acknowledged = acked_data ack ++ outs ps }))
               (sym head.packets_are) after),
-          subst (λ (ps : List DataPacket). IsNext ps outgoing.limit outgoing.fixed) (sym packets_are)
-              (next_acked packet head.rest outgoing.limit outgoing.fixed left next),
+          subst (λ (ps : List DataPacket). IsNext ps outgoing.fixed) (sym packets_are)
+              (next_acked packet head.rest outgoing.fixed left next),
         )
 
 -- the PDU that was sent last is acknowledged: it was data, or it was not

@@ -52,6 +52,15 @@ next_sent is_acked next ack =
 abbrev pub after_sending : Pdu → Acknowledgement → Acknowledgement
 after_sending next ack = next_sent (is_acked ack) next ack
 
+-- the PDU that was sent last is acknowledged, or is not
+abbrev pub with_acked : Bool → Acknowledgement → Acknowledgement
+with_acked acked ack = record ack { acked = (if acked then ack.acked + 1 else ack.acked) }
+
+-- a PDU is accepted, or is not
+abbrev pub with_accepted : Bool → Pdu → Acknowledgement → Acknowledgement
+with_accepted accepted pdu ack =
+    record ack { accepted = (if accepted then ack.accepted ++ pdu ∷ [] else ack.accepted) }
+
 -- a packet that is received acknowledges the PDU that was sent last, or does not; its PDU is accepted, or is not
 abbrev pub received_by : Bool → Bool → Pdu → Acknowledgement → Acknowledgement
 received_by acked accepted pdu ack =

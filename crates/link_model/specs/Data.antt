@@ -1,6 +1,6 @@
 -- The data of one end of a link: what its host gave it and what became of that (Core 5.2, volume 4 part E, section 4.1;
 -- volume 6 part B, sections 2.4.1 and 4.5.10).
-use Rattle.std.specs.Prelude.{ℕ, ◌+◌, ◌==◌, ◌&&◌, ◌||◌, nat_lt, Bool, false, not, List, [], ◌∷◌, ◌++◌, length, Option, Some, None, if◌then◌else◌}
+use Rattle.std.specs.Prelude.{ℕ, ◌+◌, ◌==◌, ◌&&◌, ◌||◌, nat_lt, Bool, true, false, not, List, [], ◌∷◌, ◌++◌, length, Option, Some, None, is_some, if◌then◌else◌}
 use Rattle.std.specs.List.{filter, find, flat_map}
 use Rattle.std.specs.Option.{option_map}
 use Rattle.ble_base.specs.Limits.{first_payload_octets}
@@ -8,6 +8,7 @@ use Rattle.acl_banks.specs.declared.pieces.Piece.{Piece}
 use Rattle.acl_banks.specs.History.{HostData}
 use Rattle.acl_banks.specs.Packets.{DataPacket, Marked, is_all_sent, marked_octets, new_packet, packet_after_acked, packet_after_went, piece_of, sent_length, unsent_octets, with_first, without_first}
 use Rattle.link_model.specs.Acknowledgement.{Pdu, empty_pdu}
+use Rattle.link_model.specs.Payload.{payload_of}
 
 pub record Data : Type 0 where
   -- the packets of the host that were kept to be sent, in order
@@ -24,6 +25,8 @@ pub record Data : Type 0 where
   -- then
   pub fixed : Pdu
   pub more : Bool
+  -- the payload of the PDU that was sent last, as it was on the air
+  pub payload : List ℕ
 
 -- payloads have at most 27 octets until the ends agree on more (section 4.5.10)
 abbrev pub first_data : Data
@@ -35,6 +38,7 @@ first_data = record {
   limit = first_payload_octets;
   fixed = empty_pdu;
   more = false;
+  payload = payload_of empty_pdu;
 }
 
 -- ---- PDUs
@@ -51,6 +55,9 @@ pdu_with (Some piece) = record { llid = llid_of piece.start; body = piece.body.i
 -- a PDU with no payload counts as empty, and so does one with LLID 0, which is reserved (that it does is our choice)
 abbrev pub is_empty : Pdu → Bool
 is_empty pdu = pdu.llid == 0 || length pdu.body == 0
+
+abbrev pub is_control : Pdu → Bool
+is_control pdu = pdu.llid == 3
 
 abbrev pub is_data : Pdu → Bool
 is_data pdu = (pdu.llid == 1 || pdu.llid == 2) && not (length pdu.body == 0)
@@ -82,6 +89,24 @@ unsent_of outgoing = flat_map unsent_octets outgoing.packets
 abbrev pub next_piece : Data → Option Piece
 next_piece outgoing = option_map (piece_of outgoing.limit) (find is_unsent outgoing.packets)
 
+-- ---- what goes out next
+
+-- the PDU that goes out next: the first control PDU that may be sent, then the next piece of data, then the empty PDU
+-- (section 2.4; the order is our choice)
+abbrev pub next_of : List Pdu → Option Piece → Pdu
+next_of [] piece = pdu_with piece
+next_of (control ∷ controls) piece = control
+
+abbrev pub has_some : List Pdu → Bool
+has_some [] = false
+has_some (pdu ∷ pdus) = true
+
+-- a further PDU waits behind that: behind a control PDU another one, also one that may not be sent yet, or a piece of
+-- data; behind a piece the octets that it does not have (section 4.5.6; what counts is our choice)
+abbrev pub waits_behind : List Pdu → List Pdu → Option Piece → ℕ → Bool
+waits_behind [] held piece unsent = nat_lt (length (pdu_with piece).body) unsent
+waits_behind (control ∷ controls) held piece unsent = has_some controls || has_some held || is_some piece
+
 -- ---- steps
 
 -- the host gives a packet, which is kept; one of no octet has nothing to be sent
@@ -93,24 +118,27 @@ data_given handle start (octet ∷ octets) outgoing =
       packets = outgoing.packets ++ new_packet handle start (octet ∷ octets) ∷ [];
     }
 
--- as a turn begins, the PDU that may be sent next is fixed (our choice)
-abbrev pub data_fixed : Data → Data
-data_fixed outgoing =
+-- as a turn begins, the PDU that may be sent next is fixed, by the control PDUs that may be sent and those that are held
+-- back (our choice)
+abbrev pub data_fixed : List Pdu → List Pdu → Data → Data
+data_fixed controls held outgoing =
     record outgoing {
-      fixed = pdu_with (next_piece outgoing);
-      more = nat_lt (length (pdu_with (next_piece outgoing)).body) (length (unsent_of outgoing));
+      fixed = next_of controls (next_piece outgoing);
+      more = waits_behind controls held (next_piece outgoing) (length (unsent_of outgoing));
     }
 
--- the fixed PDU is sent
+-- the fixed PDU is sent: as many octets go out as it has, whatever the limit is by now. Its payload is made here, and is
+-- kept for sending it again
 abbrev pub data_sent : Data → Data
 data_sent outgoing =
     record outgoing {
       packets =
           (if is_data outgoing.fixed
-          then with_first is_unsent (packet_after_went outgoing.limit) outgoing.packets
+          then with_first is_unsent (packet_after_went (length outgoing.fixed.body)) outgoing.packets
           else outgoing.packets);
       fixed = empty_pdu;
       more = false;
+      payload = payload_of outgoing.fixed;
     }
 
 abbrev pub data_sent_if : Bool → Data → Data

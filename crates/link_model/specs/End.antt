@@ -11,10 +11,10 @@ use Rattle.data_pdu.specs.Header.{header_in}
 use Rattle.instants.specs.Track.{TrackFacts, event_of, next_number, track_after_enter}
 use Rattle.link_model.specs.Setup.{Setup, algorithm_of}
 use Rattle.link_model.specs.Step.{Step, DataGiven, EventEntered, PduFixed, PacketSent, PacketReceived, DataReported}
-use Rattle.link_model.specs.Acknowledgement.{Pdu, after_sending, bits_of, is_acked, received_by}
+use Rattle.link_model.specs.Acknowledgement.{Pdu, after_sending, bits_of, is_acked, with_accepted, with_acked}
 use Rattle.link_model.specs.Data.{data_acked_if, data_fixed, data_given, data_reported, data_sent_if, is_data, is_empty, numbered}
 use Rattle.link_model.specs.declared.events.ConnectionEvent.{ConnectionEvent}
-use Rattle.link_model.specs.Facts.{Facts, first_facts}
+use Rattle.link_model.specs.Facts.{Facts, controls_held, controls_ready, first_facts}
 use Rattle.link_model.specs.Packets.{good_pdu, more_sent, pdu_of}
 
 -- ---- it enters an event (section 4.5.1)
@@ -95,16 +95,37 @@ has_new_pdu facts header = is_new (bits_of facts.acknowledgement) header
 abbrev pub has_acknowledged : Facts → DataHeader → Bool
 has_acknowledged facts header = not (is_acked facts.acknowledgement) && acknowledges (bits_of facts.acknowledgement) header
 
-abbrev pub facts_hearing : ℕ → Bool → DataHeader → Pdu → Facts → Facts
-facts_hearing slot room header pdu facts =
+-- a good packet reached it in this slot
+abbrev pub heard_in_slot : ℕ → Bool → Facts → Facts
+heard_in_slot slot more facts =
     record facts {
-      event = event_heard slot header.md facts.event;
-      acknowledgement =
-          received_by (has_acknowledged facts header) (is_accepted room (has_new_pdu facts header) pdu) pdu
-          facts.acknowledgement;
-      outgoing = data_acked_if (has_acknowledged facts header && is_data facts.acknowledgement.last) facts.outgoing;
+      event = event_heard slot more facts.event;
       last_good = Some (record { slot = slot; event = facts.event.number });
     }
+
+-- its own last PDU is acknowledged, or is not
+abbrev pub acknowledged_if : Bool → Facts → Facts
+acknowledged_if acked facts =
+    record facts {
+      acknowledgement = with_acked acked facts.acknowledgement;
+      outgoing = data_acked_if (acked && is_data facts.acknowledgement.last) facts.outgoing;
+    }
+
+-- a peripheral answers with its fixed PDU: a control PDU counts as first sent from here on, before the new PDU is taken
+-- (our choice). Links have no control PDUs yet, and data is sent with its packet, so this changes nothing
+abbrev pub fixed_goes : Facts → Facts
+fixed_goes facts = facts
+
+-- the new PDU is taken, or is not
+abbrev pub taken_if : Bool → Pdu → Facts → Facts
+taken_if accepted pdu facts =
+    record facts { acknowledgement = with_accepted accepted pdu facts.acknowledgement }
+
+-- the order in a reception: the own PDU is acknowledged, the fixed one goes, the new one is taken
+abbrev pub facts_hearing : ℕ → Bool → DataHeader → Pdu → Facts → Facts
+facts_hearing slot room header pdu facts =
+    taken_if (is_accepted room (has_new_pdu facts header) pdu) pdu
+    (fixed_goes (acknowledged_if (has_acknowledged facts header) (heard_in_slot slot header.md facts)))
 
 abbrev pub facts_received : ℕ → Bool → Option (List ℕ) → Facts → Facts
 facts_received slot room None facts = facts
@@ -140,7 +161,8 @@ abbrev pub facts_after : Setup → Facts → Step → Facts
 facts_after setup facts (DataGiven start body) =
     record facts { outgoing = data_given setup.link.handle start body facts.outgoing }
 facts_after setup facts (EventEntered slot) = facts_entered setup slot facts
-facts_after setup facts PduFixed = record facts { outgoing = data_fixed facts.outgoing }
+facts_after setup facts PduFixed =
+    record facts { outgoing = data_fixed (controls_ready facts) (controls_held facts) facts.outgoing }
 facts_after setup facts (PacketSent slot) = facts_sent slot facts
 facts_after setup facts (PacketReceived slot octets room) =
     facts_received slot room (good_pdu setup facts octets) facts

@@ -1,11 +1,11 @@
 -- What one end of a link holds: plain facts of its events, of acknowledgement, of data and of what it heard (our
 -- choice).
-use Rattle.std.specs.Prelude.{false, Option, None}
+use Rattle.std.specs.Prelude.{false, List, [], Option, None}
 use Rattle.link_model.specs.declared.events.ConnectionEvent.{ConnectionEvent}
 use Rattle.link_model.specs.declared.events.Reception.{Reception}
 use Rattle.instants.specs.Track.{TrackFacts, first_facts as first_track}
 use Rattle.link_model.specs.Setup.{Setup, first_params, first_anchor}
-use Rattle.link_model.specs.Acknowledgement.{Acknowledgement, first_acknowledgement}
+use Rattle.link_model.specs.Acknowledgement.{Acknowledgement, Pdu, first_acknowledgement}
 use Rattle.link_model.specs.Data.{Data, first_data}
 
 pub record Facts : Type 0 where
@@ -30,3 +30,11 @@ first_facts setup =
       outgoing = first_data;
       last_good = None;
     }
+
+-- the control PDUs that wait, in the order of sending: those that may be sent, and those that are held back. Links have
+-- no control PDUs yet
+abbrev pub controls_ready : Facts → List Pdu
+controls_ready facts = []
+
+abbrev pub controls_held : Facts → List Pdu
+controls_held facts = []

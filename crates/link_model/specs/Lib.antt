@@ -2,6 +2,7 @@
 pub mod Setup
 pub mod Step
 pub mod Acknowledgement
+pub mod Payload
 pub mod Data
 pub mod Facts
 pub mod Packets

@@ -1,6 +1,6 @@
 -- The packets of one end of a link: what it sends, and its verdict on what reaches it (Core 5.2, volume 6 part B,
 -- sections 2.1, 2.4 and 4.5).
-use Rattle.std.specs.Prelude.{ℕ, ◌+◌, nat_le, not, Bool, List, ◌++◌, length, drop, Option, Some, None, if◌then◌else◌}
+use Rattle.std.specs.Prelude.{ℕ, ◌+◌, ◌≤◌, nat_le, not, Bool, List, ◌++◌, length, drop, Option, Some, None, if◌then◌else◌}
 use Rattle.ble_base.specs.declared.verdicts.Verdict.{Verdict}
 use Rattle.ble_base.specs.declared.verdicts.Verdict.TheVariants.{Missed, Broken, Good}
 use Rattle.air_frame.specs.declared.Heard.{Heard}
@@ -13,6 +13,7 @@ use Rattle.ack_bit.specs.AckBits.{header_of}
 use Rattle.link_model.specs.Setup.{Setup}
 use Rattle.link_model.specs.Acknowledgement.{Pdu, bits_of, is_acked}
 use Rattle.link_model.specs.Data.{is_empty}
+use Rattle.link_model.specs.Payload.{opened_of, payload_of}
 use Rattle.link_model.specs.Facts.{Facts}
 
 -- the PDU in the packet that it sends: the last one again until that is acknowledged, and then the fixed one (section
@@ -25,23 +26,36 @@ pdu_sent facts = if is_acked facts.acknowledgement then facts.outgoing.fixed els
 abbrev pub more_sent : Facts → Bool
 more_sent facts = if is_acked facts.acknowledgement then facts.outgoing.more else not (is_empty facts.outgoing.fixed)
 
+-- the payload of that packet: it is made as the PDU is first sent, and the same octets are sent again (section 4.5.9)
+abbrev pub payload_sent : Facts → List ℕ
+payload_sent facts =
+    if is_acked facts.acknowledgement then payload_of facts.outgoing.fixed else facts.outgoing.payload
+
 -- the header of that packet (section 2.4)
 abbrev pub header_sent : Facts → DataHeader
 header_sent facts =
-    header_of (bits_of facts.acknowledgement) (pdu_sent facts).llid (more_sent facts) (length (pdu_sent facts).body)
+    header_of (bits_of facts.acknowledgement) (pdu_sent facts).llid (more_sent facts) (length (payload_sent facts))
 
 -- the packet that it sends, on the channel of the event (section 2.1)
 unfoldable pub packet_sent : Setup → Facts → List ℕ
 packet_sent setup facts =
     on_air facts.event.channel setup.link.fields.access setup.link.fields.crc_init
-    (octets_of (header_sent facts) ++ (pdu_sent facts).body)
+    (octets_of (header_sent facts) ++ payload_sent facts)
 
 -- what it hears on the channel of the event: its access address, and a CRC from its CRCInit (sections 2.1.2 and 3.1.1)
 abbrev pub heard_of : Setup → Facts → List ℕ → Heard
 heard_of setup facts octets =
     heard_in facts.event.channel setup.link.fields.access setup.link.fields.crc_init octets
 
--- the payload of a PDU is not longer than what this end receives (section 4.5.10)
+-- the most octets of a payload that an end receives (section 4.5.10)
+abbrev pub most_received : Setup → Facts → ℕ
+most_received setup facts = setup.link.max_rx
+
+-- the packet that an end sends fits the other end: its payload is not longer than what that receives
+abbrev pub FitsReceiver : Facts → Setup → Facts → Type 0
+FitsReceiver sender to listener = length (payload_sent sender) ≤ most_received to listener
+
+-- the payload of a PDU is not longer than that
 abbrev pub has_room_for : ℕ → List ℕ → Bool
 has_room_for max_rx pdu = nat_le (length pdu) (2 + max_rx)
 
@@ -55,7 +69,7 @@ good_in max_rx Faulty = None
 good_in max_rx (Whole pdu) = pdu_by (has_room_for max_rx pdu.items) pdu.items
 
 unfoldable pub good_pdu : Setup → Facts → List ℕ → Option (List ℕ)
-good_pdu setup facts octets = good_in setup.link.max_rx (heard_of setup facts octets)
+good_pdu setup facts octets = good_in (most_received setup facts) (heard_of setup facts octets)
 
 -- the verdict on octets (our choice): missed where they do not begin with the access address; broken where they are the
 -- packet of no PDU, or where the payload is longer than what this end receives; else good
@@ -65,8 +79,8 @@ verdict_by max_rx Faulty = Broken
 verdict_by max_rx (Whole pdu) = if has_room_for max_rx pdu.items then Good else Broken
 
 unfoldable pub verdict_of : Setup → Facts → List ℕ → Verdict
-verdict_of setup facts octets = verdict_by setup.link.max_rx (heard_of setup facts octets)
+verdict_of setup facts octets = verdict_by (most_received setup facts) (heard_of setup facts octets)
 
 -- the PDU in these octets
 abbrev pub pdu_of : List ℕ → Pdu
-pdu_of octets = record { llid = (header_in octets).llid; body = drop 2 octets }
+pdu_of octets = record { llid = (header_in octets).llid; body = opened_of (drop 2 octets) }

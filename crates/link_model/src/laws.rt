@@ -1,19 +1,26 @@
 //! Laws of one end of a link, and of both. The bodies only call the laws that they rest on: the
 //! contracts are the laws.
-ghost use Rattle.std.specs.Prelude.{◌≡◌, ◌≤◌, ◌+◌, ℕ, Bool, true, List, [], ◌∷◌, ◌++◌};
-ghost use Rattle.std.specs.Prelude.{Some, false, length, take};
+ghost use Rattle.std.specs.Prelude.{◌≡◌, ◌≤◌, ◌+◌, ◌&&◌, ℕ, Bool, true, List, [], ◌∷◌, ◌++◌};
+ghost use Rattle.std.specs.Prelude.{Option, Some, None, false, length, nat_lt, take};
 ghost use Rattle.ble_base.specs.declared.roles.Role.TheVariants.{Central};
 ghost use Rattle.ble_base.specs.declared.verdicts.Verdict.TheVariants.{Good};
+ghost use Rattle.data_pdu.specs.declared.header.DataHeader.{DataHeader};
 ghost use Rattle.data_pdu.specs.Header.{header_in, octets_of};
 ghost use Rattle.link_model.specs.Setup.{Setup};
-ghost use Rattle.link_model.specs.Step.{Step};
+ghost use Rattle.link_model.specs.Step.{Step, PduFixed};
 ghost use Rattle.link_model.specs.Facts.{Facts};
-ghost use Rattle.link_model.specs.Acknowledgement.{Acknowledgement};
-ghost use Rattle.link_model.specs.Packets.{good_pdu, header_sent, packet_sent, pdu_of, pdu_sent};
+ghost use Rattle.acl_banks.specs.declared.pieces.Piece.{Piece};
+ghost use Rattle.link_model.specs.Acknowledgement.{Acknowledgement, Pdu, is_acked, received_by};
+ghost use Rattle.link_model.specs.Payload.{payload_of};
+ghost use Rattle.link_model.specs.Data.{data_acked_if, is_data, next_of, next_piece, pdu_with};
+ghost use Rattle.link_model.specs.Data.{unsent_of, waits_behind};
+ghost use Rattle.link_model.specs.Packets.{FitsReceiver, good_pdu, header_sent, packet_sent};
+ghost use Rattle.link_model.specs.Packets.{payload_sent, pdu_of, pdu_sent};
 ghost use Rattle.link_model.specs.Packets.{verdict_of};
 ghost use Rattle.link_model.specs.Delivery.{AreNumbered, IsDelivered, IsInOrder};
 ghost use Rattle.link_model.specs.Times.{has_nothing_to_send, wants_of};
-ghost use Rattle.link_model.specs.End.{facts_of, facts_after};
+ghost use Rattle.link_model.specs.End.{event_heard, facts_after, facts_hearing, facts_of, facts_sent};
+ghost use Rattle.link_model.specs.End.{has_acknowledged, has_new_pdu, is_accepted};
 ghost use Rattle.link_model.specs.Events.{IsInEvent, entries_in};
 ghost use Rattle.link_model.specs.Pair.{AreInAgreement, AreInOneEvent, AreOneLink, Move, pair_of};
 ghost use Rattle.link_model.specs.Pair.{receiver_after, sender_after};
@@ -44,22 +51,27 @@ pub fn ends_agree_in_each_event()
 {}
 
 /// The packet that an end sends is good at the other end of the link where that listens on its
-/// channel, and what is read in it is its header and its PDU. Each end receives payloads of at
-/// least 27 octets (Core 5.2, volume 6 part B, section 4.5.10), and none sends a longer one.
+/// channel and its payload is not longer than what that receives, and what is read in it is its
+/// header and its PDU. Each end receives payloads of at least 27 octets (Core 5.2, volume 6 part B,
+/// section 4.5.10), and none sends a longer one yet, so each packet fits.
 pub fn a_packet_is_understood()
+    ensures fits { (from to : Setup) (past : List Step) (listener : Facts) → 27 ≤ to.link.max_rx
+        → FitsReceiver (facts_of from past) to listener }
     ensures good { (from to : Setup) (past : List Step) (listener : Facts) → AreOneLink from to
-        → 27 ≤ to.link.max_rx → (facts_of from past).event.channel ≡ listener.event.channel
+        → FitsReceiver (facts_of from past) to listener
+        → (facts_of from past).event.channel ≡ listener.event.channel
         → verdict_of to listener (packet_sent from (facts_of from past)) ≡ Good }
     ensures pdu { (from to : Setup) (past : List Step) (listener : Facts) → AreOneLink from to
-        → 27 ≤ to.link.max_rx → (facts_of from past).event.channel ≡ listener.event.channel
+        → FitsReceiver (facts_of from past) to listener
+        → (facts_of from past).event.channel ≡ listener.event.channel
         → let sender = facts_of from past in
         good_pdu to listener (packet_sent from sender)
-        ≡ Some (octets_of (header_sent sender) ++ (pdu_sent sender).body) }
+        ≡ Some (octets_of (header_sent sender) ++ payload_sent sender) }
     ensures header { (from : Setup) (past : List Step) → let sender = facts_of from past in
-        header_in (octets_of (header_sent sender) ++ (pdu_sent sender).body)
+        header_in (octets_of (header_sent sender) ++ payload_sent sender)
         ≡ header_sent sender }
     ensures body { (from : Setup) (past : List Step) → let sender = facts_of from past in
-        pdu_of (octets_of (header_sent sender) ++ (pdu_sent sender).body) ≡ pdu_sent sender }
+        pdu_of (octets_of (header_sent sender) ++ payload_sent sender) ≡ pdu_sent sender }
 {
     air_frame::laws::packet_tells_its_pdu();
 }
@@ -92,13 +104,13 @@ pub fn ends_stay_in_agreement()
 /// section 4.5.9).
 pub fn a_packet_tells_what_was_accepted()
     ensures acknowledged { (from to : Setup) (past : List Step) (slot : ℕ) (room : Bool)
-        (listener : Facts) → AreOneLink from to → 27 ≤ to.link.max_rx
+        (listener : Facts) → AreOneLink from to → FitsReceiver (facts_of from past) to listener
         → (facts_of from past).event.channel ≡ listener.event.channel
         → AreInAgreement (facts_of from past).acknowledgement listener.acknowledgement
         → (receiver_after from (facts_of from past) to slot room listener).acknowledgement.acked
         ≡ length (facts_of from past).acknowledgement.accepted }
     ensures accepted { (from to : Setup) (past : List Step) (slot : ℕ) (listener : Facts)
-        → AreOneLink from to → 27 ≤ to.link.max_rx
+        → AreOneLink from to → FitsReceiver (facts_of from past) to listener
         → (facts_of from past).event.channel ≡ listener.event.channel
         → AreInAgreement (facts_of from past).acknowledgement listener.acknowledgement
         → let sender = facts_of from past in
@@ -113,6 +125,70 @@ pub fn a_packet_tells_what_was_accepted()
 /// was acknowledged (Core 5.2, volume 4 part E, section 4.1).
 pub fn data_is_sent_in_order()
     ensures { (setup : Setup) (past : List Step) → IsInOrder (facts_of setup past) }
+{}
+
+/// A control PDU that may be sent goes out before data, and MD in its packet is 0 only where nothing
+/// waits behind it: no other control PDU, also none that is held back, and no piece of data. Where
+/// none may be sent, the next piece goes out, or an empty PDU where there is none, and MD tells
+/// whether octets of data wait behind it (Core 5.2, volume 6 part B, section 4.5.6).
+#[tactic(auto, using(crate::proofs::Waiting::none_behind))]
+pub fn control_pdus_go_before_data()
+    ensures control { (control : Pdu) (controls : List Pdu) (piece : Option Piece)
+        → next_of (control ∷ controls) piece ≡ control }
+    ensures behind_control { (control : Pdu) (controls held : List Pdu) (piece : Option Piece)
+        (unsent : ℕ) → waits_behind (control ∷ controls) held piece unsent ≡ false
+        → (controls ≡ []) × (held ≡ []) × (piece ≡ None) }
+    ensures data { (piece : Option Piece) → next_of [] piece ≡ pdu_with piece }
+    ensures behind_data { (held : List Pdu) (piece : Option Piece) (unsent : ℕ)
+        → waits_behind [] held piece unsent ≡ nat_lt (length (pdu_with piece).body) unsent }
+{}
+
+/// As long as links have no control PDUs, the PDU that an end fixes is the next piece of its data,
+/// or an empty one, and MD tells whether octets wait behind it.
+#[tactic(auto)]
+pub fn the_next_piece_is_fixed()
+    ensures fixed { (setup : Setup) (facts : Facts)
+        → (facts_after setup facts PduFixed).outgoing.fixed ≡ pdu_with (next_piece facts.outgoing) }
+    ensures more { (setup : Setup) (facts : Facts) → (facts_after setup facts PduFixed).outgoing.more
+        ≡ nat_lt (length (pdu_with (next_piece facts.outgoing)).body)
+        (length (unsent_of facts.outgoing)) }
+{}
+
+/// Of what exists now, the steps of a reception make this together: the event and the last good
+/// packet, what is acknowledged and what is accepted, and the data that is acknowledged.
+#[tactic(auto)]
+pub fn a_reception_is_its_steps()
+    ensures { (slot : ℕ) (room : Bool) (header : DataHeader) (pdu : Pdu) (facts : Facts)
+        → facts_hearing slot room header pdu facts ≡ record facts {
+          event = event_heard slot header.md facts.event;
+          acknowledgement =
+              received_by (has_acknowledged facts header)
+              (is_accepted room (has_new_pdu facts header) pdu) pdu facts.acknowledgement;
+          outgoing =
+              data_acked_if (has_acknowledged facts header && is_data facts.acknowledgement.last)
+              facts.outgoing;
+          last_good = Some (record { slot = slot; event = facts.event.number });
+        } }
+{}
+
+/// What an end sends again has the payload octets of its first packet: until the last PDU is
+/// acknowledged, whatever happens keeps them, and its packets have them (Core 5.2, volume 6 part B,
+/// section 4.5.9).
+pub fn a_payload_is_sent_again()
+    ensures sent { (facts : Facts) → is_acked facts.acknowledgement ≡ false
+        → payload_sent facts ≡ facts.outgoing.payload }
+    ensures kept { (setup : Setup) (facts : Facts) (step : Step)
+        → is_acked facts.acknowledgement ≡ false
+        → (facts_after setup facts step).outgoing.payload ≡ facts.outgoing.payload }
+    ensures first { (facts : Facts) (slot : ℕ) → is_acked facts.acknowledgement ≡ true
+        → (facts_sent slot facts).outgoing.payload ≡ payload_of facts.outgoing.fixed }
+{}
+
+/// As long as no payload is sealed, the payload of a packet is the body of its PDU.
+#[tactic(auto, using(crate::proofs::Payloads::past_payload))]
+pub fn a_payload_is_the_body()
+    ensures { (setup : Setup) (past : List Step) → payload_sent (facts_of setup past)
+        ≡ (pdu_sent (facts_of setup past)).body }
 {}
 
 /// Whatever an end receives, it takes no PDU for acknowledged that it did not send, and sends none

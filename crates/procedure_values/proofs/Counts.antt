@@ -1,5 +1,5 @@
 -- A host wants each kind at most once, so that it never wants more than eight.
-use Rattle.std.proofs.Common.{◌≡◌, ℕ, zero, suc, ◌+◌, ◌<◌, ◌≤◌, if◌then◌else◌, Bool, true, false, not, cond, List, [], ◌∷◌, ◌++◌, length, take, drop, Option, Some, None, nat_lt, refl, arith, subst}
+use Rattle.std.proofs.Common.{◌≡◌, ℕ, zero, suc, ◌+◌, ◌-◌, ◌==◌, is_some, eqb-true, ap, sym, ◌∙◌, ◌<◌, ◌≤◌, if◌then◌else◌, Bool, true, false, not, cond, List, [], ◌∷◌, ◌++◌, length, take, drop, Option, Some, None, nat_lt, refl, arith, subst}
 use Rattle.std.specs.List.{position_or_len, remove, slice_set, slice_index_or}
 use Rattle.std.proofs.lemmas.List.Elements.{All-take, All-drop, All-append, All-push, All-set}
 use Rattle.std.proofs.lemmas.List.Quantifiers.{position-Some}
@@ -8,7 +8,7 @@ use Rattle.ble_base.specs.declared.procedure_kinds.Kind.TheVariants.{Update, Req
 use Rattle.procedure_values.specs.declared.asks.Ask.{Ask}
 use Rattle.procedure_values.specs.declared.asks.Ask.TheVariants.{Update as ask_update, Request as ask_request, Map as ask_map, Phy as ask_phy, Features as ask_features, Version as ask_version, Length as ask_length, Encrypt as ask_encrypt}
 use Rattle.procedure_values.specs.Asks.{kind_of_ask, is_same_kind}
-use Rattle.procedure_values.specs.Wants.{place_of, count_of, IsAsk, IsWants}
+use Rattle.procedure_values.specs.Wants.{place_of, count_of, is_wanted, wanted_at, wanted_with, without_place, IsAsk, IsWants}
 
 total : List Ask → ℕ
 total asks = count_of Update asks + count_of Request asks + count_of Map asks + count_of Phy asks + count_of Features asks + count_of Version asks + count_of Length asks + count_of Encrypt asks
@@ -75,6 +75,13 @@ count-remove kind [] (suc place) = omega arith
 count-remove kind (first ∷ asks) zero = omega arith
 count-remove kind (first ∷ asks) (suc place) = let h = count-remove kind asks place in omega (arith, h)
 
+-- one ask less, exactly
+pub count-removed : (kind : Kind) (asks : List Ask) (place : ℕ) (d : Ask) → place < length asks
+    → count_of kind asks ≡ (if is_same_kind (kind_of_ask (slice_index_or asks place d)) kind then 1 else 0) + count_of kind (remove asks place)
+count-removed kind [] place d less = absurd (omega arith)
+count-removed kind (first ∷ asks) zero d less = refl
+count-removed kind (first ∷ asks) (suc place) d less = let h = count-removed kind asks place d (omega arith) in omega (arith, h)
+
 -- one in the place of another of its kind
 count-set : (kind : Kind) (asks : List Ask) (place : ℕ) (ask d : Ask) → place < length asks → kind_of_ask (slice_index_or asks place d) ≡ kind_of_ask ask
     → count_of kind (slice_set asks place ask) ≡ count_of kind asks
@@ -104,6 +111,65 @@ none-test false n len is none = grind arith
 
 pub none_wanted : (kind : Kind) (asks : List Ask) → place_of kind asks ≡ None → count_of kind asks ≡ 0
 none_wanted kind asks none = none-by kind asks (none-test _ _ _ refl none)
+
+-- a kind is wanted where it is counted
+counted-by : (kind : Kind) (asks : List Ask) (place : Option ℕ) → place_of kind asks ≡ place → is_some place ≡ not (count_of kind asks == 0)
+counted-by kind asks None is = rw (none_wanted kind asks is) refl
+counted-by kind asks (Some place) is =
+    let found = position-Some (λ ask. is_same_kind (kind_of_ask ask) kind) asks place ask_phy is in
+    let more = count-removed kind asks place ask_phy found.0 in
+    let e : count_of kind asks ≡ 1 + count_of kind (remove asks place) =
+    subst (λ b. count_of kind asks ≡ (if b then 1 else 0) + count_of kind (remove asks place)) found.1 more in
+    rw e (some_more (count_of kind (remove asks place)))
+  where
+    some_more : (n : ℕ) → true ≡ not (1 + n == 0)
+    some_more n = by (1 + n == 0) refl
+      where
+        by : (b : Bool) → (1 + n == 0) ≡ b → true ≡ not b
+        by false e = refl
+        by true e = let h : 1 + n ≡ 0 = eqb-true (1 + n) 0 e in absurd (omega (arith, h))
+
+pub wanted-counted : (kind : Kind) (asks : List Ask) → is_wanted kind asks ≡ not (count_of kind asks == 0)
+wanted-counted kind asks = counted-by kind asks (place_of kind asks) refl
+
+-- without the first of its kind
+without-by : (kind : Kind) (asks : List Ask) (place : Option ℕ) → place_of kind asks ≡ place → count_of kind (without_place place asks) ≡ count_of kind asks - 1
+without-by kind asks None is = let h = none_wanted kind asks is in omega (arith, h)
+without-by kind asks (Some place) is =
+    let found = position-Some (λ ask. is_same_kind (kind_of_ask ask) kind) asks place ask_phy is in
+    let more = count-removed kind asks place ask_phy found.0 in
+    let e : count_of kind asks ≡ 1 + count_of kind (remove asks place) =
+    subst (λ b. count_of kind asks ≡ (if b then 1 else 0) + count_of kind (remove asks place)) found.1 more in
+    omega (arith, e)
+
+pub count-without : (kind : Kind) (asks : List Ask) → count_of kind (without_place (place_of kind asks) asks) ≡ count_of kind asks - 1
+count-without kind asks = without-by kind asks (place_of kind asks) refl
+
+-- with one more ask, or one in the place of another
+with-by : (kind : Kind) (ask : Ask) (asks : List Ask) (place : Option ℕ) (same : Bool) → place_of (kind_of_ask ask) asks ≡ place
+    → is_same_kind (kind_of_ask ask) kind ≡ same
+    → count_of kind (wanted_at place ask asks) ≡ (if same then (if count_of kind asks == 0 then 1 else count_of kind asks) else count_of kind asks)
+unfolding one
+with-by kind ask asks None true is e =
+    let none : count_of kind asks ≡ 0 = subst (λ (k : Kind). count_of k asks ≡ 0) (same_kinds (kind_of_ask ask) kind e) (none_wanted (kind_of_ask ask) asks is) in
+    count-push kind asks ask ∙ rw (e, none) refl
+with-by kind ask asks None false is e = count-push kind asks ask ∙ rw e (omega arith)
+with-by kind ask asks (Some place) true is e =
+    let found = position-Some (λ ask'. is_same_kind (kind_of_ask ask') (kind_of_ask ask)) asks place ask is in
+    let some : is_some (place_of kind asks) ≡ true = subst (λ (k : Kind). is_some (place_of k asks) ≡ true) (same_kinds (kind_of_ask ask) kind e) (ap is_some is) in
+    count-set kind asks place ask ask found.0 (same_kinds _ _ found.1)
+    ∙ kept_by (count_of kind asks == 0) (sym (wanted-counted kind asks) ∙ some)
+  where
+    kept_by : (b : Bool) → not b ≡ true → count_of kind asks ≡ (if b then 1 else count_of kind asks)
+    kept_by false h = refl
+    kept_by true h = absurd (cc)
+with-by kind ask asks (Some place) false is e =
+    let found = position-Some (λ ask'. is_same_kind (kind_of_ask ask') (kind_of_ask ask)) asks place ask is in
+    count-set kind asks place ask ask found.0 (same_kinds _ _ found.1)
+
+pub count-with : (kind : Kind) (ask : Ask) (asks : List Ask) (same : Bool) → is_same_kind (kind_of_ask ask) kind ≡ same
+    → count_of kind (wanted_with ask asks) ≡ (if same then (if count_of kind asks == 0 then 1 else count_of kind asks) else count_of kind asks)
+count-with kind ask asks same e = with-by kind ask asks (place_of (kind_of_ask ask) asks) same refl e
 
 once-push : (kind k : Kind) (n : ℕ) (b : Bool) → is_same_kind kind k ≡ b → n ≤ 1 → (kind ≡ k → n ≡ 0) → n + (if b then 1 else 0) ≤ 1
 once-push kind k n true is fits none = let h = none (same_kinds kind k is) in omega (arith, h)

@@ -11,11 +11,11 @@ use Rattle.link_model.specs.Acknowledgement.{Acknowledgement, Pdu, after_sending
 use Rattle.link_model.specs.Data.{is_data}
 use Rattle.link_model.specs.End.{facts_after, facts_of, facts_received, has_acknowledged, is_accepted}
 use Rattle.link_model.specs.Facts.{Facts, first_facts}
-use Rattle.link_model.specs.Packets.{header_sent, more_sent, packet_sent, pdu_sent}
+use Rattle.link_model.specs.Packets.{FitsReceiver, header_sent, more_sent, packet_sent, payload_sent, pdu_sent}
 use Rattle.link_model.specs.Pair.{AreInAgreement, AreOneLink, receiver_after}
 use Rattle.link_model.specs.Setup.{Setup}
 use Rattle.link_model.specs.Step.{Step, DataGiven, EventEntered, PduFixed, PacketSent, PacketReceived, DataReported}
-use Rattle.link_model.proofs.Payloads.{IsShort, past_pdu_short}
+use Rattle.link_model.proofs.Payloads.{IsInForm, past_fits, past_form}
 use Rattle.link_model.proofs.Received.{IsHeardWhole, header_read, heard_good, pdu_read, received_end}
 use Rattle.open_links.specs.OpenLinks.{OpenLink, facts_in, link_after, link_served, new_link}
 use Rattle.open_links.specs.Turns.{entered_if, is_anchor, link_entered}
@@ -127,7 +127,7 @@ packet_of sender room = record {
   next = sender.outgoing.fixed;
   llid = (pdu_sent sender).llid;
   md = more_sent sender;
-  length = length (pdu_sent sender).body;
+  length = length (payload_sent sender);
   arrives = true;
   room = room || not (is_data (pdu_sent sender));
 }
@@ -152,14 +152,14 @@ acknowledges_out sender facts agreed =
     ∙ ne_eqb (length sender.acknowledgement.accepted) (other.acked + 1)
     (λ more. omega (arith, more, eqb-true other.acked (length other.sent) all, agreed.from_b.reliable.sent_only)))
 
-heard : IsHeardWhole → (from to : Setup) (slot : ℕ) (room : Bool) (sender facts : Facts) → AreOneLink from to → 27 ≤ to.link.max_rx
-    → IsShort (pdu_sent sender) → sender.event.channel ≡ facts.event.channel → AreInAgreement (sent_ack sender) facts.acknowledgement
+heard : IsHeardWhole → (from to : Setup) (slot : ℕ) (room : Bool) (sender facts : Facts) → AreOneLink from to → FitsReceiver sender to facts
+    → IsInForm sender → sender.event.channel ≡ facts.event.channel → AreInAgreement (sent_ack sender) facts.acknowledgement
     → (receiver_after from sender to slot room facts).acknowledgement ≡ heard_by sender room facts.acknowledgement
-heard whole from to slot room sender facts one fits short channel agreed =
-    ap (λ pdu. (facts_received slot room pdu facts).acknowledgement) (heard_good whole from to sender facts one fits short channel)
-    ∙ (λ i. received_by (has_acknowledged facts (header_read sender short i))
-    (is_accepted room (is_new (bits_of facts.acknowledgement) (header_read sender short i)) (pdu_read sender short i))
-    (pdu_read sender short i) facts.acknowledgement)
+heard whole from to slot room sender facts one fits form channel agreed =
+    ap (λ pdu. (facts_received slot room pdu facts).acknowledgement) (heard_good whole from to sender facts one fits form channel)
+    ∙ (λ i. received_by (has_acknowledged facts (header_read sender form i))
+    (is_accepted room (is_new (bits_of facts.acknowledgement) (header_read sender form i)) (pdu_read sender form i))
+    (pdu_read sender form i) facts.acknowledgement)
     ∙ ap (λ acked. received_by acked (is_accepted room (is_new (bits_of facts.acknowledgement) (header_sent sender)) (pdu_sent sender))
     (pdu_sent sender) facts.acknowledgement) (acknowledges_out sender facts agreed)
 
@@ -188,7 +188,7 @@ heard_ack whole slot room one from octets fits fields packet channel agreed =
     let is_one : AreOneLink alike one.setup = record { fields = sym fields; two = refl; opened = refl } in
     ap (λ (f : Facts). f.acknowledgement) (step_facts one (PacketReceived slot octets room))
     ∙ ap (λ xs. (facts_after one.setup (facts_in one) (PacketReceived slot xs room)).acknowledgement) (packet ∙ same_packet from.setup one.setup sender)
-    ∙ heard whole alike one.setup slot room sender (facts_in one) is_one fits (past_pdu_short from.setup from.past) channel agreed
+    ∙ heard whole alike one.setup slot room sender (facts_in one) is_one (past_fits from.setup from.past one.setup (facts_in one) fits) (past_form from.setup from.past) channel agreed
 
 received_ack : IsHeardWhole → (slot : ℕ) (room : Bool) (one from : OpenLink) (octets : List ℕ) → 27 ≤ one.setup.link.max_rx
     → one.setup.link.fields ≡ from.setup.link.fields

@@ -16,14 +16,14 @@ use Rattle.controller_model.specs.Side.{notes_after}
 use Rattle.run_model.specs.History.{Event, TurnBegan, HostFed, Called, Noted, Transmitted, Hearing as Heard, turns_begun, turns_in, packets_on_air, packets_after, fates_used, fates_after, packet_received}
 use Rattle.run_model.specs.Links.{Links, first_links, links_after, links_of}
 use Rattle.run_model.specs.Journal.{side_of, entry_of, entries_of, journal_from, journal_of, mark_of}
-use Rattle.run_model.specs.Run.{Given, Plan, setup_at, facts_at, octets_left, after_call, after_octets, after_feed, hearings_from, hearings_of, others_than, fate_at, step_of, run_of, history_of}
+use Rattle.run_model.specs.Run.{Given, Plan, Stop, Stops, setup_at, facts_at, octets_left, after_call, after_octets, after_feed, hearings_from, hearings_of, others_than, fate_at, step_of, run_of, history_of}
 use Rattle.run_model.specs.Pair.{given_of, plan_of}
 use Rattle.run_model.specs.Due.{Each}
 use Rattle.run_model.specs.Readers.{HasNextFate, turn_packets, turn_packets_after, pair_openings_in, turns_of}
 use Rattle.run_model.proofs.Calls.{with_notes, fold_called, fold_event}
 use Rattle.run_model.proofs.Places.{each_at, each_event, each_called}
 use Rattle.run_model.proofs.Stations.{is_in, among}
-use Rattle.run_model.proofs.Walk.{Place, NoTurn, AtFeeds, AtBegins, AfterPhases, AtPackets, AtListening, AtEnds, IsKept, IsWhole, IsStopped, ends_with, run_kept}
+use Rattle.run_model.proofs.Walk.{Place, NoTurn, AtFeeds, AtBegins, AfterPhases, AtPackets, AtListening, AtEnds, IsKept, IsWhole, IsStopped, ends_stopped, ends_with, run_kept}
 use Rattle.run_model.proofs.Journals.{each_front, two}
 use Rattle.run_model.proofs.EntryEvents.{is_aired, is_of_event}
 
@@ -193,6 +193,20 @@ aired_from given one links (Transmitted station channel octets (hearing ∷ hear
 aired_is : (given : Given) → HasOneOther given → (history : List Event) → Each (FatesBefore given) [] history → turn_packets (journal_of history) ≡ packets_on_air history
 unfolding journal_of packets_on_air
 aired_is given one history each = aired_from given one first_links history [] 0 each
+
+-- where a run stops, each packet of its turn that was on the air has used one fate
+pub record IsPlaced (history : List Event) (stop : Stop) : Type 0 where
+  pub fates : fates_used history ≡ turn_packets (journal_of history)
+  pub place : stop.place ≡ turn_packets (journal_of history) + 1
+
+pub stop_placed : (given : Given) → HasOneOther given → (history : List Event) (stop : Stop) → run_of given ≡ Stops history stop → IsPlaced history stop
+stop_placed given one history stop is =
+    let stopped = ends_stopped (run_of given) (IsWhole given (IsFatedSoFar given)) (IsStopped given (IsFatedSoFar given)) history stop
+    (run_kept given (IsFatedSoFar given) (fated_kept given) (record { each = tt; within = tt; fates = λ other. first_fates })) is in
+    let packets = aired_is given one history stopped.kept.each in record {
+      fates = stopped.kept.fates one ∙ sym packets;
+      place = stopped.place_is ∙ ap (λ n. n + 1) (sym packets);
+    }
 
 pub note_begun : (side : Side) (link : ℕ → ℕ) (last : ℕ) (note : Note) → pair_openings_in (entry_of side link last note) ≡ []
 note_begun side link last (UpNote packet) = refl

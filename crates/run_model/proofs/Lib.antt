@@ -29,3 +29,4 @@ pub mod LinkEnds
 pub mod OpenedLinks
 pub mod Numbers
 pub mod CallNotes
+pub mod NoteLines

@@ -28,14 +28,14 @@ use Rattle.controller_model.specs.Side.{facts_of, notes_after}
 use Rattle.controller_model.proofs.Always.{IsAdvertisingChannel}
 use Rattle.controller_model.proofs.Pasts.{facts_more}
 use Rattle.controller_model.proofs.Sent.{DoingFits, can_be_done}
-use Rattle.run_model.specs.History.{Event, TurnBegan, Called, Noted, Transmitted, Hearing as Heard, fates_used, has_received, is_good, packet_received, past_of, received_after, steps_in, turns_begun}
+use Rattle.run_model.specs.History.{Event, TurnBegan, Called, Noted, Transmitted, Hearing as Heard, fates_used, has_received, is_good, noted_by, notes_in, packet_received, past_of, received_after, steps_in, turns_begun}
 use Rattle.run_model.specs.Links.{Links, begins_link, is_advertising, is_connect_ind, links_of, with_link}
 use Rattle.run_model.specs.Run.{Given, setup_at, facts_at, use_at, octets_left, after_call, fate_at, hearing_at, hearings_from, hearings_of, others_than, reaches, is_lost, step_of, verdict_where, run_of, history_of}
 use Rattle.run_model.specs.Pair.{given_of}
 use Rattle.run_model.specs.Due.{packet_in}
 use Rattle.run_model.specs.Feeding.{AreDistinct}
 use Rattle.run_model.specs.LinkEnds.{ConnectInd, HasConnectInd, HaveAddresses, IsAtEnd}
-use Rattle.run_model.proofs.Calls.{with_notes, flat_nothing, fold_called, fold_event, past_other, past_own, same_station, turns_called, turns_same}
+use Rattle.run_model.proofs.Calls.{with_notes, flat_nothing, fold_called, fold_event, noted_called, past_other, past_own, same_station, turns_called, turns_same}
 use Rattle.run_model.proofs.Linked.{AreLinked, AreLinkedSoFar, LinkedBefore, call_linked, event_linked, feed_linked, opens_none}
 use Rattle.run_model.proofs.LinksKnown.{last_by_call, links_event}
 use Rattle.run_model.proofs.Places.{each_at}
@@ -65,6 +65,8 @@ record WasAired (history : List Event) (station channel : ℕ) (octets : List �
   is_at : history ≡ before ++ Transmitted station channel octets hearings ∷ after
   in_turn : turns_begun before ≡ turns_begun history
   number : IsLastLink history before station channel octets
+  -- the station noted nothing since
+  unnoted : noted_by station history ≡ noted_by station before
 
 -- what a station wants to send was on the air
 abbrev HasAired : Given → List Event → ℕ → Type 0
@@ -83,6 +85,7 @@ record WasHeard (given : Given) (history : List Event) (station : ℕ) (octets :
   received : has_received station hearings ≡ true
   listens : use_at given station history ≡ Listens channel
   number : IsLastLink history before station channel octets
+  unnoted : noted_by station history ≡ noted_by station before
 
 abbrev HasHeard : Given → List Event → ℕ → Type 0
 HasHeard given history station = (octets : List ℕ) → packet_received station history ≡ Some octets → WasHeard given history station octets
@@ -91,6 +94,7 @@ HasHeard given history station = (octets : List ℕ) → packet_received station
 record IsSame (station : ℕ) (history more : List Event) : Type 0 where
   past : past_of station (history ++ more) ≡ past_of station history
   turns : turns_begun (history ++ more) ≡ turns_begun history
+  noted : noted_by station (history ++ more) ≡ noted_by station history
 
 use_same : (given : Given) (station : ℕ) (history after : List Event) → past_of station after ≡ past_of station history
     → use_at given station after ≡ use_at given station history
@@ -112,6 +116,7 @@ aired_same given station history more same last has = λ channel octets wants.
           ∙ append_assoc aired.before (Transmitted station channel octets aired.hearings ∷ aired.after) more;
       in_turn = aired.in_turn ∙ sym same.turns;
       number = λ begins. last ∙ aired.number begins;
+      unnoted = same.noted ∙ aired.unnoted;
     }
 
 heard_same : (given : Given) (station : ℕ) (history more : List Event) → IsSame station history more
@@ -131,6 +136,7 @@ heard_same given station history more same received last has = λ octets is.
       received = heard.received;
       listens = use_same given station history (history ++ more) same.past ∙ heard.listens;
       number = λ begins. last ∙ heard.number begins;
+      unnoted = same.noted ∙ heard.unnoted;
     }
 
 heard_none : (given : Given) (station : ℕ) (history : List Event) → packet_received station history ≡ None → HasHeard given history station
@@ -145,6 +151,7 @@ called_same given other station step history differs =
     let notes = notes_after (setup_at given station) (facts_at given station history) step in record {
       past = past_other other station step notes history differs;
       turns = turns_called station step notes history;
+      noted = noted_called other station step notes history false differs ∙ append-nil (noted_by other history);
     }
 
 pub received_event : (other : ℕ) (history : List Event) (event : Event) → packet_received other (history ++ event ∷ []) ≡ received_after other (packet_received other history) event
@@ -262,6 +269,8 @@ pub record IsLast (history : List Event) (station : ℕ) (end : EndSetup) : Type
   pub has : HasConnectInd history station end
   pub number : (links_of history).last_of station ≡ (links_of has.before).begun + 1
   pub now : turns_begun history ≡ end.opened + 1
+  -- the station noted nothing since
+  pub unnoted : noted_by station history ≡ noted_by station has.before
 
 -- a central, whose CONNECT_IND was on the air
 made_by : IsUnderstood → (given : Given) → HaveAddresses given → (station channel : ℕ) (link : LinkSetup) (history : List Event) → HasAired given history station
@@ -300,6 +309,7 @@ made_by understood given six station channel link history aired in_slot doing =
       };
       number = sent.number (begins channel (advertising_packet channel pdu) link.own link.peer true link.fields on says);
       now = in_slot;
+      unnoted = sent.unnoted;
     }
 
 -- a peripheral, which received a CONNECT_IND
@@ -343,6 +353,7 @@ taken_by taken given six station channel octets on pdu fields handle history hea
       };
       number = sent.number (begins sent.channel octets request.from request.to request.ch_sel fields on_air says);
       now = in_slot;
+      unnoted = sent.unnoted;
     })
 
 -- ---- what each step keeps
@@ -417,6 +428,7 @@ packet_same : (other station channel : ℕ) (octets : List ℕ) (hearings : List
 packet_same other station channel octets hearings history = record {
   past = flat_nothing (steps_in other) history (Transmitted station channel octets hearings) refl;
   turns = turns_same history (Transmitted station channel octets hearings) refl;
+  noted = flat_nothing (notes_in other) history (Transmitted station channel octets hearings) refl;
 }
 
 -- the links that stations know after a packet
@@ -504,6 +516,7 @@ hears_by given fates station channel octets history wanted other heard true is =
       received = is;
       listens = use_same given other history (history ++ event ∷ []) (packet_same other station channel octets hearings history).past ∙ listener.listens;
       number = λ begins. last_begun station channel octets hearings history other (ap (begins_link channel) equal ∙ begins) false true listener.differs is refl;
+      unnoted = (packet_same other station channel octets hearings history).noted;
     }
 hears_by given fates station channel octets history wanted other heard false is =
     heard_more given station channel octets (hearings_of given fates station channel octets history) history wanted other heard is (other == station) refl
@@ -526,6 +539,7 @@ airs given station channel octets hearings history wanted = λ on sent wants.
       number = λ begins. last_begun station channel octets hearings history station
           (ap (λ n. begins_link n octets) same_channel ∙ ap (begins_link on) same_octets ∙ begins)
           true (has_received station hearings) (same_station station) refl refl;
+      unnoted = (packet_same station station channel octets hearings history).noted;
     }
 
 sent_more : (given : Given) (fates : List Fate) (station channel : ℕ) (octets : List ℕ) (history : List Event) (other : ℕ) → (other == station) ≡ false → (sent : Bool)

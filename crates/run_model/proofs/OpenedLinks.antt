@@ -1,13 +1,10 @@
 -- A link that is noted as opened is the one that its station knows last.
-use Rattle.std.proofs.Common.{◌≡◌, ℕ, ◌+◌, ◌<◌, ◌==◌, ◌||◌, Bool, true, false, Some, None, List, [], ◌∷◌, ◌++◌, length, map, refl, sym, ap, subst, ◌∙◌, append_assoc}
-use Rattle.std.specs.Prelude.{⊤, filter}
-use Rattle.std.specs.List.{AllByRecursion}
+use Rattle.std.proofs.Common.{◌≡◌, ℕ, ◌+◌, ◌<◌, ◌==◌, ◌||◌, Bool, true, false, Some, None, List, [], ◌∷◌, ◌++◌, length, map, refl, sym, ap, subst, ◌∙◌, append-nil, append_assoc}
+use Rattle.std.specs.Prelude.{⊤}
+use Rattle.ble_base.specs.declared.addresses.Address.{Address}
 use Rattle.ble_base.specs.declared.notes.Note.{Note}
-use Rattle.ble_base.specs.declared.notes.Note.TheVariants.{Up, Opened}
+use Rattle.ble_base.specs.declared.notes.Note.TheVariants.{Opened}
 use Rattle.ble_base.specs.declared.roles.Role.{Role}
-use Rattle.hci_evt.specs.declared.event.Event.{Event as HciEvent}
-use Rattle.hci_evt.specs.Event.{mask_bit_of, written}
-use Rattle.host_view.specs.View.{View}
 use Rattle.link_model.specs.declared.setup.LinkSetup.{LinkSetup}
 use Rattle.link_model.specs.Setup.{Setup as EndSetup}
 use Rattle.open_links.specs.OpenLinks.{Links as Places, link_at, new_link}
@@ -15,8 +12,8 @@ use Rattle.open_links.proofs.Handles.{handle_is, opened_at}
 use Rattle.scan_init.specs.Reports.{scan_answer}
 use Rattle.controller_model.specs.Step.{Step, HostOctet, TurnBegins, PacketHeard, NothingHeard, TurnEnds}
 use Rattle.controller_model.specs.Facts.{Facts, Setup}
-use Rattle.controller_model.specs.Events.{notes_of_events, passes}
-use Rattle.controller_model.specs.Heard.{events_reported, has_room, link_heard, link_taken, notes_taken, opens, scanner_heard}
+use Rattle.controller_model.specs.Events.{notes_of_events}
+use Rattle.controller_model.specs.Heard.{events_reported, has_room, link_heard, link_taken, opens, scanner_heard}
 use Rattle.controller_model.specs.Links.{events_opened}
 use Rattle.controller_model.specs.Outcome.{Outcome, facts_passed, notes_passed}
 use Rattle.controller_model.specs.Packets.{notes_doing}
@@ -25,18 +22,18 @@ use Rattle.controller_model.proofs.Always.{opening_is}
 use Rattle.controller_model.proofs.Handles.{HaveOwnHandles, IsNew, free_is_new, own_handles}
 use Rattle.controller_model.proofs.LinkNotes.{all_in}
 use Rattle.controller_model.proofs.Phases.{EachOutcome, heard_is, unheard_is}
-use Rattle.run_model.specs.History.{Event, TurnBegan, HostFed, Called, Noted, Transmitted, past_of, turns_begun}
+use Rattle.run_model.specs.History.{Event, TurnBegan, HostFed, Called, Noted, Transmitted, noted_by, past_of, turns_begun}
 use Rattle.run_model.specs.Due.{Each}
 use Rattle.run_model.specs.Feeding.{is_note}
 use Rattle.run_model.specs.Links.{links_of}
 use Rattle.run_model.specs.Numbers.{HasNumber}
 use Rattle.run_model.specs.Run.{Given, setup_at, facts_at}
-use Rattle.run_model.proofs.Calls.{same_station, turns_called, with_notes}
+use Rattle.run_model.proofs.Calls.{noted_called, same_station, turns_called, with_notes}
 use Rattle.run_model.proofs.LinkEnds.{IsLast}
 use Rattle.run_model.proofs.LinkSteps.{MayOpen, each_in, link_has, step_opens}
 use Rattle.run_model.proofs.Linked.{numbered_more}
 use Rattle.run_model.proofs.LinksKnown.{last_by_call}
-use Rattle.run_model.proofs.OpenedNotes.{doing_open, is_opened, opens_under, outside_open, taken_open}
+use Rattle.run_model.proofs.OpenedNotes.{doing_open, events_open, is_opened, neither, opens_under, outside_open, taken_open}
 
 -- a link that is noted as opened is open after the step, under a handle that was free
 record IsOpenNow (facts : Facts) (links : Places) (handle : ℕ) (role : Role) : Type 0 where
@@ -50,48 +47,44 @@ abbrev OpensNow : Facts → Places → Note → Type 0
 OpensNow facts links (Opened handle role own peer) = IsOpenNow facts links handle role
 OpensNow facts links other = ⊤
 
--- ---- a step that opens no link
+-- none of these notes says that a link is opened; or only the first of them may
+abbrev OpenNone : List Note → Type 0
+OpenNone notes = (handle : ℕ) → is_opened handle notes ≡ false
+
+abbrev FirstOpens : Facts → Places → List Note → Type 0
+FirstOpens facts links [] = ⊤
+FirstOpens facts links (note ∷ notes) = OpensNow facts links note × OpenNone notes
 
 either_false : (one other : Bool) → (one || other) ≡ false → (one ≡ false) × (other ≡ false)
 either_false true other is = absurd cc
 either_false false other is = (refl, is)
 
-none_now : (facts : Facts) (links : Places) (notes : List Note) → ((handle : ℕ) → is_opened handle notes ≡ false) → AllByRecursion (OpensNow facts links) notes
-none_now facts links [] none = tt
-none_now facts links (Opened handle role own peer ∷ notes) none =
+rest_open : (note : Note) (notes : List Note) → OpenNone (note ∷ notes) → OpenNone notes
+rest_open note notes none = λ handle. (either_false (opens_under handle note) (is_opened handle notes) (none handle)).1
+
+not_opened : (handle : ℕ) (role : Role) (own peer : Address) (notes : List Note) (X : Type 0) → OpenNone (Opened handle role own peer ∷ notes) → X
+not_opened handle role own peer notes X none =
     absurd (let h : true ≡ false = sym (same_station handle) ∙ (either_false (handle == handle) (is_opened handle notes) (none handle)).0 in absurd cc)
-none_now facts links (note ∷ notes) none =
-    (tt, none_now facts links notes (λ handle. (either_false (opens_under handle note) (is_opened handle notes) (none handle)).1))
+
+none_now : (facts : Facts) (links : Places) (notes : List Note) → OpenNone notes → FirstOpens facts links notes
+none_now facts links [] none = tt
+none_now facts links (Opened handle role own peer ∷ notes) none = not_opened handle role own peer notes _ none
+none_now facts links (note ∷ notes) none = (tt, rest_open note notes none)
 
 -- ---- a phase
 
-packets_now : (facts : Facts) (links : Places) (events : List HciEvent)
-    → AllByRecursion (OpensNow facts links) (map (λ event. Up (record { items = written event })) events)
-packets_now facts links [] = tt
-packets_now facts links (event ∷ events) = (tt, packets_now facts links events)
-
-events_now : (facts : Facts) (links : Places) (view : View) (events : List HciEvent) → AllByRecursion (OpensNow facts links) (notes_of_events view events)
-events_now facts links view events = packets_now facts links (filter (λ event. passes view (mask_bit_of event)) events)
-
 abbrev NotesNow : Facts → Outcome → Type 0
-NotesNow facts outcome = AllByRecursion (OpensNow facts (facts_passed outcome).links) (notes_passed outcome)
+NotesNow facts outcome = FirstOpens facts (facts_passed outcome).links (notes_passed outcome)
 
-both_now : (facts : Facts) (links : Places) (notes more : List Note) → AllByRecursion (OpensNow facts links) notes
-    → AllByRecursion (OpensNow facts links) more → AllByRecursion (OpensNow facts links) (notes ++ more)
-both_now facts links [] more all rest = rest
-both_now facts links (note ∷ notes) more all rest = (all.0, both_now facts links notes more all.1 rest)
-
-passed_now : (facts : Facts) (outcome : Outcome) → AllByRecursion (OpensNow facts (facts_passed outcome).links) outcome.notes → NotesNow facts outcome
-passed_now facts outcome all =
-    let links = (facts_passed outcome).links in
-    let sent = notes_doing outcome.next outcome.facts in
-    both_now facts links outcome.notes sent all (none_now facts links sent (λ handle. doing_open handle outcome.next outcome.facts))
+passed_now : (facts : Facts) (outcome : Outcome) → OpenNone outcome.notes → NotesNow facts outcome
+passed_now facts outcome none =
+    none_now facts (facts_passed outcome).links (notes_passed outcome)
+    (λ handle. neither handle outcome.notes (notes_doing outcome.next outcome.facts) (none handle) (doing_open handle outcome.next outcome.facts))
 
 opened_now : (facts : Facts) (link : LinkSetup) → link.handle < length facts.links → link_at link.handle facts.links ≡ None → NotesNow facts (opens link facts)
 opened_now facts link within free =
     let end : EndSetup = record { link = link; opened = facts.turn.slot } in
-    let links = (facts_passed (opens link facts)).links in
-    passed_now facts (opens link facts) (
+    let events = notes_of_events facts.view (events_opened facts.view link) in (
       record {
         link = link;
         handle_is = refl;
@@ -99,7 +92,7 @@ opened_now facts link within free =
         was_free = free;
         is_open = ap (λ (f : Facts). link_at link.handle f.links) (opening_is link facts) ∙ opened_at end facts.links within;
       },
-      events_now facts links facts.view (events_opened facts.view link),
+      λ handle. neither handle events [] (events_open handle facts.view (events_opened facts.view link)) refl,
     )
 
 phase_now : (setup : Setup) (facts : Facts) → HaveOwnHandles setup facts → EachOutcome setup facts (NotesNow facts)
@@ -114,19 +107,18 @@ phase_now setup facts own = record {
       let new = free_is_new facts.links handle free in opened_now facts (link_taken on.params.own pdu fields handle) new.0 new.1;
   scanned = λ channel octets pdu on doing is_on hears.
       passed_now facts (scanner_heard (Some on) true channel pdu facts)
-      (events_now facts _ facts.view (events_reported (scan_answer on.params facts.view.accepted on.recent pdu) pdu));
+      (λ handle. events_open handle facts.view (events_reported (scan_answer on.params facts.view.accepted on.recent pdu) pdu));
   answered = λ channel octets pdu on doing is_on hears.
       passed_now facts (scanner_heard (Some on) false channel pdu facts)
-      (events_now facts _ facts.view (events_reported (scan_answer on.params facts.view.accepted on.recent pdu) pdu));
+      (λ handle. events_open handle facts.view (events_reported (scan_answer on.params facts.view.accepted on.recent pdu) pdu));
   connects = λ channel octets pdu on access handle doing is_on hears answers next free in_range. tt;
   received = λ handle octets.
-      let taken = notes_taken facts.turn.slot (has_room setup facts) (link_at handle facts.links) octets in
       passed_now facts (link_heard setup handle octets facts)
-      (none_now facts _ taken (λ other. taken_open other facts.turn.slot (has_room setup facts) (link_at handle facts.links) octets));
+      (λ other. taken_open other facts.turn.slot (has_room setup facts) (link_at handle facts.links) octets);
 }
 
 step_now : (setup : Setup) (facts : Facts) (step : Step) → HaveOwnHandles setup facts
-    → AllByRecursion (OpensNow facts (facts_after setup facts step).links) (notes_after setup facts step)
+    → FirstOpens facts (facts_after setup facts step).links (notes_after setup facts step)
 step_now setup facts (HostOctet octet) own =
     none_now facts _ (notes_after setup facts (HostOctet octet)) (λ handle. outside_open handle setup facts (HostOctet octet) refl)
 step_now setup facts (TurnBegins slot on) own =
@@ -139,13 +131,18 @@ step_now setup facts TurnEnds own =
 -- ---- a call
 
 -- a link is noted as opened: it has the number that its station knows last, and its CONNECT_IND was on the air in the
--- turn that is under way
+-- turn that is under way, after these events; the station noted nothing since
 pub record IsOpening (before : List Event) (station handle : ℕ) (role : Role) : Type 0 where
   pub end : EndSetup
   pub has : HasNumber before ((links_of before).last_of station) station end
   pub handle_is : end.link.handle ≡ handle
   pub role_is : end.link.role ≡ role
   pub now : turns_begun before ≡ end.opened + 1
+  pub known : List Event
+  pub since : List Event
+  pub is_at : before ≡ known ++ since
+  pub number_is : (links_of before).last_of station ≡ (links_of known).begun + 1
+  pub unnoted : noted_by station before ≡ noted_by station known
 
 abbrev OpensNote : List Event → ℕ → Note → Type 0
 OpensNote before station (Opened handle role own peer) = IsOpening before station handle role
@@ -185,38 +182,39 @@ module _ (given : Given) (station : ℕ) (step : Step) (history : List Event) (m
       absurd (let h : None ≡ Some link = sym now.was_free ∙ ap (λ n. link_at n facts.links) (sym under) ∙ at in absurd cc))) in
       link_has P 0 handle links_after_it (new_link (record { link = now.link; opened = facts.turn.slot })) each now.is_open now.handle_is
 
-  note_opens : (earlier : List Note) (note : Note) → OpensNow (facts_at given station history) links_after_it note
-      → OpensNote (with_notes station step earlier history) station note
-  note_opens earlier (Opened handle role own peer) now =
-      let last = open_last handle role now in record {
+  -- the first note of the call
+  note_opens : (note : Note) → OpensNow (facts_at given station history) links_after_it note → OpensNote (with_notes station step [] history) station note
+  note_opens (Opened handle role own peer) now =
+      let last = open_last handle role now in
+      let has = last.has in
+      let sent = has.sent in
+      let begins = Transmitted sent.sender sent.channel sent.octets sent.hearings in
+      let number = last_by_call station step [] history station ∙ last.number in record {
         end = record { link = now.link; opened = (facts_at given station history).turn.slot };
-        has = numbered_more history (Called station step ∷ map (Noted station) earlier) _ station _ last.has
-            (last_by_call station step earlier history station ∙ last.number);
+        has = numbered_more history (Called station step ∷ []) _ station _ has number;
         handle_is = now.handle_is;
         role_is = now.role_is;
-        now = turns_called station step earlier history ∙ last.now;
+        now = turns_called station step [] history ∙ last.now;
+        known = has.before;
+        since = begins ∷ has.after ++ Called station step ∷ [];
+        is_at = ap (λ events. events ++ Called station step ∷ []) has.is_at ∙ append_assoc has.before (begins ∷ has.after) (Called station step ∷ []);
+        number_is = number;
+        unnoted = noted_called station station step [] history true (same_station station) ∙ append-nil (noted_by station history) ∙ last.unnoted;
       }
-  note_opens earlier note now = tt
+  note_opens note now = tt
 
-  map_push : (notes : List Note) (note : Note) → map (Noted station) (notes ++ note ∷ []) ≡ map (Noted station) notes ++ Noted station note ∷ []
-  map_push [] note = refl
-  map_push (first ∷ notes) note = ap (λ xs. Noted station first ∷ xs) (map_push notes note)
+  none_open : (before : List Event) (notes : List Note) → OpenNone notes → Each OpensLast before (map (Noted station) notes)
+  none_open before [] none = tt
+  none_open before (Opened handle role own peer ∷ notes) none = not_opened handle role own peer notes _ none
+  none_open before (note ∷ notes) none = (tt, none_open (before ++ Noted station note ∷ []) notes (rest_open note notes none))
 
-  one_note_more : (earlier : List Note) (note : Note) → with_notes station step earlier history ++ Noted station note ∷ [] ≡ with_notes station step (earlier ++ note ∷ []) history
-  one_note_more earlier note =
-      append_assoc history (Called station step ∷ map (Noted station) earlier) (Noted station note ∷ [])
-      ∙ ap (λ xs. history ++ Called station step ∷ xs) (sym (map_push earlier note))
-
-  notes_open : (earlier left : List Note) → AllByRecursion (OpensNow (facts_at given station history) links_after_it) left
-      → Each OpensLast (with_notes station step earlier history) (map (Noted station) left)
-  notes_open earlier [] all = tt
-  notes_open earlier (note ∷ left) all = (
-    note_opens earlier note all.0,
-    subst (λ before. Each OpensLast before (map (Noted station) left)) (sym (one_note_more earlier note)) (notes_open (earlier ++ note ∷ []) left all.1),
-  )
+  notes_open : (notes : List Note) → FirstOpens (facts_at given station history) links_after_it notes
+      → Each OpensLast (with_notes station step [] history) (map (Noted station) notes)
+  notes_open [] first = tt
+  notes_open (note ∷ notes) first = (note_opens note first.0, none_open (with_notes station step [] history ++ Noted station note ∷ []) notes first.1)
 
   pub call_opens_last : Each OpensLast history (Called station step ∷ map (Noted station) (notes_after (setup_at given station) (facts_at given station history) step))
   call_opens_last =
       let setup = setup_at given station in
       let facts = facts_at given station history in
-      (tt, notes_open [] (notes_after setup facts step) (step_now setup facts step (own_handles setup (past_of station history))))
+      (tt, notes_open (notes_after setup facts step) (step_now setup facts step (own_handles setup (past_of station history))))

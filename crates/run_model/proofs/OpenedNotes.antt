@@ -75,14 +75,14 @@ or_false true other none is = refl
 or_false false other none is = absurd (let h : true ≡ false = sym is ∙ none in absurd cc)
 
 module _ (handle : ℕ) where
-  neither : (xs ys : List Note) → is_opened handle xs ≡ false → is_opened handle ys ≡ false → is_opened handle (xs ++ ys) ≡ false
+  pub neither : (xs ys : List Note) → is_opened handle xs ≡ false → is_opened handle ys ≡ false → is_opened handle (xs ++ ys) ≡ false
   neither xs ys one other = list_any-append (opens_under handle) xs ys ∙ ap (λ b. b || is_opened handle ys) one ∙ other
 
   packets_open : (events : List Event) → is_opened handle (map (λ event. Up (record { items = written event })) events) ≡ false
   packets_open [] = refl
   packets_open (event ∷ events) = packets_open events
 
-  events_open : (view : View) (events : List Event) → is_opened handle (notes_of_events view events) ≡ false
+  pub events_open : (view : View) (events : List Event) → is_opened handle (notes_of_events view events) ≡ false
   events_open view events = packets_open (filter (λ event. passes view (mask_bit_of event)) events)
 
   -- ---- an octet of the host

@@ -16,3 +16,4 @@ pub mod Answered
 pub mod LinkEnds
 pub mod Numbers
 pub mod NotedCalls
+pub mod NoteLines

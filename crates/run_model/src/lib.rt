@@ -16,6 +16,7 @@ pub use crate::laws::{
     notes_are_those_of_the_calls, turns_follow_the_schedule, unseen_damage_stops_a_run,
 };
 pub use crate::links::{
-    each_link_has_its_connect_ind, each_note_is_of_a_call, each_open_link_has_its_number,
+    each_line_of_a_note_is_of_a_call, each_link_has_its_connect_ind, each_note_is_of_a_call,
+    each_open_link_has_its_number,
 };
 pub use crate::rows::{worked_damage, worked_runs};

@@ -1,14 +1,18 @@
 //! What the ends of links come from, and the calls that notes come from. The bodies only call the
 //! laws that they rest on: the contracts are the laws.
-ghost use Rattle.std.specs.Prelude.{◌≡◌, ℕ, false, List, ◌∷◌, ◌++◌, Some, length};
+ghost use Rattle.std.specs.Prelude.{◌≡◌, ℕ, true, false, List, ◌∷◌, ◌++◌, Some, length};
 ghost use Rattle.ble_base.specs.declared.notes.Note.{Note};
 ghost use Rattle.ble_base.specs.declared.roles.Side.{Side};
+ghost use Rattle.journal.specs.declared.entries.Entry.{Entry};
 ghost use Rattle.open_links.specs.OpenLinks.{OpenLink, link_at};
 ghost use Rattle.radio_replay.specs.Script.{Script};
 ghost use Rattle.run_model.specs.Feeding.{AreDistinct, is_note};
 ghost use Rattle.run_model.specs.History.{Event, Noted};
+ghost use Rattle.run_model.specs.Journal.{journal_of};
 ghost use Rattle.run_model.specs.LinkEnds.{HasConnectInd, HaveAddresses};
 ghost use Rattle.run_model.specs.NotedCalls.{IsNotedInCall};
+ghost use Rattle.run_model.specs.NoteLines.{IsLineInCall, IsNoteLine, LinkLine};
+ghost use Rattle.run_model.specs.NoteLines.{is_note_line, link_line};
 ghost use Rattle.run_model.specs.Numbers.{AreNumbered};
 ghost use Rattle.run_model.specs.Pair.{given_of};
 ghost use Rattle.run_model.specs.Readers.{station_of};
@@ -57,4 +61,16 @@ pub fn each_note_is_of_a_call()
     ensures { (given : Given) (before rest : List Event) (station : ℕ) (note : Note)
         → history_of (run_of given) ≡ before ++ Noted station note ∷ rest
         → IsNotedInCall given before station note }
+{}
+
+/// Each line of a note is that of a note which a call on its controller gives. A line of a link,
+/// but for that of a link that is opened, names the link that the station has under the handle of
+/// the note, and says what the note says.
+pub fn each_line_of_a_note_is_of_a_call()
+    ensures note { (given : Given) (front rest : List Entry) (entry : Entry)
+        → journal_of (history_of (run_of given)) ≡ front ++ entry ∷ rest
+        → is_note_line entry ≡ true → IsNoteLine given front entry }
+    ensures link { (given : Given) (front rest : List Entry) (entry : Entry) (line : LinkLine)
+        → journal_of (history_of (run_of given)) ≡ front ++ entry ∷ rest
+        → link_line entry ≡ Some line → IsLineInCall given front line }
 {}

@@ -3,7 +3,7 @@ use Rattle.std.specs.Prelude.{List, [], ◌∷◌, ◌++◌}
 use Rattle.ble_base.specs.declared.roles.Side.TheVariants.{A, B}
 use Rattle.ble_base.specs.declared.verdicts.Verdict.TheVariants.{Good}
 use Rattle.journal.specs.declared.entries.Entry.{Entry}
-use Rattle.journal.specs.declared.entries.Entry.TheVariants.{Air, Up}
+use Rattle.journal.specs.declared.entries.Entry.TheVariants.{Air, Shut, Up}
 use Rattle.journal.specs.declared.entries.Mark.TheVariants.{Pass}
 use Rattle.run_model.specs.Rows.{one_event_journal, turn_entry}
 use Rattle.wrong_journals.specs.Exchanges.{reply_packet, taken}
@@ -34,6 +34,10 @@ up_as_continuation = taken ++ Up A (0x02 ∷ 0x00 ∷ 0x10 ∷ 0x01 ∷ 0x00 ∷
 -- octets that were taken are not handed up before the next turn
 abbrev pub never_up : List Entry
 never_up = acknowledged ++ credit ∷ turn_entry 4 ∷ []
+
+-- nor before the link is shut after the packets of a turn
+abbrev pub shut_before_up : List Entry
+shut_before_up = acknowledged ++ credit ∷ Shut A 1 (record { 0 = 0x16 }) ∷ []
 
 -- a credit for a packet that the other side did not take
 abbrev pub credit_from_nothing : List Entry

@@ -7,7 +7,7 @@ use Rattle.journal.specs.declared.entries.Entry.{Entry}
 use Rattle.journal.specs.declared.entries.Entry.TheVariants.{Air, Fed, Turn}
 use Rattle.journal.specs.declared.entries.Mark.TheVariants.{Lost as WasLost, Pass as Passed}
 use Rattle.radio_replay.specs.Script.{Script, Turn as ScriptTurn}
-use Rattle.radio_replay.specs.declared.fates.Fate.TheVariants.{Lost, Pass}
+use Rattle.radio_replay.specs.declared.fates.Fate.TheVariants.{Damage, Lost, Pass}
 use Rattle.run_model.specs.Rows.{connectable_packet, turn_entry}
 
 -- a turn with both radios on, which feeds one octet to A, passes its first packet, and loses the second
@@ -96,3 +96,22 @@ sent_without_radio = Turn 0 false (Some true) ∷ Air A 37 connectable_packet Pa
 -- B hears with its radio off
 abbrev pub heard_without_radio : List Entry
 heard_without_radio = Turn 0 true (Some false) ∷ Air A 37 connectable_packet Passed Good ∷ []
+
+-- ---- stops
+
+-- a turn that changes the first octet of its first packet, and one more turn
+abbrev pub damaged_turn : ScriptTurn
+damaged_turn = record scripted_turn { fates = Damage 0 (record { items = 0x01 ∷ [] }) ∷ [] }
+
+abbrev pub with_damage : Config → Config → Script
+with_damage a b = record { a = a; b = b; turns = damaged_turn ∷ scripted_turn ∷ [] }
+
+-- the first turn began
+abbrev pub before_damage : List Entry
+before_damage = turn_entry 0 ∷ []
+
+abbrev pub two_octets : List ℕ
+two_octets = 0xA0 ∷ 0xB0 ∷ []
+
+abbrev pub two_octets_heard : List ℕ
+two_octets_heard = 0xA1 ∷ 0xB0 ∷ []

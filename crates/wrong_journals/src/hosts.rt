@@ -1,16 +1,18 @@
 //! Data and credits that a host must not receive, or does not receive.
 ghost use Rattle.journal_data.specs.Delivered.{AllDataArrives};
-ghost use Rattle.journal_pdus.specs.Exchanged.{AllAreSettled};
+ghost use Rattle.journal_pdus.specs.Exchanged.{AllAreSettled, AllAreSettledAsShut};
 ghost use Rattle.wrong_journals.specs.Hosts.{credit_from_nothing, credit_too_early, credit_twice};
-ghost use Rattle.wrong_journals.specs.Hosts.{never_credited, never_up, up_as_continuation};
-ghost use Rattle.wrong_journals.specs.Hosts.{up_from_nothing, up_twice};
+ghost use Rattle.wrong_journals.specs.Hosts.{never_credited, never_up, shut_before_up};
+ghost use Rattle.wrong_journals.specs.Hosts.{up_as_continuation, up_from_nothing, up_twice};
 
-/// A host receives what its side took, once and with the starts of messages, before the next turn.
+/// A host receives what its side took, once and with the starts of messages, before the next turn,
+/// and before the link is shut after the packets of a turn.
 pub fn wrong_data_is_refused()
     ensures from_nothing { AllDataArrives up_from_nothing → ⊥ }
     ensures twice { AllDataArrives up_twice → ⊥ }
     ensures continuation { AllDataArrives up_as_continuation → ⊥ }
     ensures never { AllAreSettled never_up → ⊥ }
+    ensures shut { AllAreSettledAsShut shut_before_up → ⊥ }
 {}
 
 /// A packet is credited once, after its acknowledgement and before the next turn.

@@ -2,6 +2,7 @@
 ghost use Rattle.ble_base.specs.declared.roles.Side.TheVariants.{A};
 ghost use Rattle.journal_acks.specs.Shut.{CompletesReset, HasTimedOut};
 ghost use Rattle.journal_acks.specs.Shut.{IsNotEstablished, IsShutWithReason};
+ghost use Rattle.journal_pdus.specs.InTime.{EndsLater, NoneIsOverdue};
 ghost use Rattle.wrong_journals.specs.Shuts.{before_failing, before_silent, failing, heard_once};
 ghost use Rattle.wrong_journals.specs.Shuts.{reset_now, silent};
 
@@ -18,4 +19,13 @@ pub fn wrong_reasons_are_refused()
     ensures heard { IsShutWithReason heard_once A 1 0x3E → ⊥ }
     ensures another_code { IsShutWithReason failing A 1 0x13 → ⊥ }
     ensures no_reset { IsShutWithReason failing A 1 0x00 → ⊥ }
+{}
+
+/// A link on which nothing was heard may still be open before turn 144, and one on which a packet
+/// was heard in turn 2 before turn 578. After these turns neither is.
+pub fn links_that_stay_open_are_refused()
+    ensures may_fail { EndsLater 1 A before_failing }
+    ensures may_time_out { EndsLater 1 A before_silent }
+    ensures failed { NoneIsOverdue failing → ⊥ }
+    ensures timed_out { NoneIsOverdue silent → ⊥ }
 {}

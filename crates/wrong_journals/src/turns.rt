@@ -1,18 +1,22 @@
 //! Turns that do not follow their schedule, and verdicts that no listener can give.
 ghost use Rattle.std.specs.Prelude.{ℕ, List, [], ◌∷◌};
 ghost use Rattle.ble_base.specs.declared.Config.{Config};
+ghost use Rattle.ble_base.specs.declared.roles.Side.TheVariants.{A};
 ghost use Rattle.ble_base.specs.declared.verdicts.Verdict.TheVariants.{Broken, Forged, Good};
 ghost use Rattle.journal.specs.declared.entries.Mark.TheVariants.{Damage, Lost, Pass};
 ghost use Rattle.journal_turns.specs.Judged.{IsJudged};
 ghost use Rattle.journal_turns.specs.Radios.{AllAreOnRadio};
 ghost use Rattle.journal_turns.specs.Scheduled.{AllHaveNextFate, AreAllTurns, AreFirstTurns};
 ghost use Rattle.journal_turns.specs.Scheduled.{IsFedInTurn};
-ghost use Rattle.wrong_journals.specs.Turns.{begins_at_seven, cut_short, empty_journal};
+ghost use Rattle.journal_turns.specs.Stopped.{IsStoppedAt};
+ghost use Rattle.wrong_journals.specs.Turns.{before_damage, begins_at_seven, cut_short};
+ghost use Rattle.wrong_journals.specs.Turns.{empty_journal};
 ghost use Rattle.wrong_journals.specs.Turns.{fate_of_its_own, fate_of_the_last};
 ghost use Rattle.wrong_journals.specs.Turns.{fate_of_the_next, fed_another, fed_late};
 ghost use Rattle.wrong_journals.specs.Turns.{fed_to_other, fed_too_much, one_too_many, one_turn};
 ghost use Rattle.wrong_journals.specs.Turns.{heard_without_radio, radio_off, sent_without_radio};
-ghost use Rattle.wrong_journals.specs.Turns.{stream, two_turns, without_a, without_b};
+ghost use Rattle.wrong_journals.specs.Turns.{stream, two_octets, two_octets_heard, two_turns};
+ghost use Rattle.wrong_journals.specs.Turns.{with_damage, without_a, without_b};
 
 /// The turns of a journal are the first of its schedule, from slot 0, with its radios; those of a
 /// whole run are all.
@@ -51,4 +55,15 @@ pub fn wrong_verdicts_are_refused()
     ensures lost_broken { (octets : List ℕ) → IsJudged octets Lost Broken → ⊥ }
     ensures changed { (octets : List ℕ) → IsJudged (0x00 ∷ octets) (Damage 0 (0x01 ∷ [])) Good → ⊥ }
     ensures forged { (octets : List ℕ) → IsJudged octets Pass Forged → ⊥ }
+{}
+
+/// A run may stop in turn 0 at the first packet, whose first octet is changed. It does not stop in
+/// turn 1, which did not begin, nor at the second packet, nor where the packet arrives as it was
+/// sent or changed otherwise.
+pub fn wrong_stops_are_refused()
+    ensures right { (a b : Config) → IsStoppedAt (with_damage a b) A 0 1 two_octets two_octets_heard before_damage }
+    ensures early { (a b : Config) → IsStoppedAt (with_damage a b) A 1 1 two_octets two_octets_heard before_damage → ⊥ }
+    ensures place { (a b : Config) → IsStoppedAt (with_damage a b) A 0 2 two_octets two_octets_heard before_damage → ⊥ }
+    ensures unchanged { (a b : Config) → IsStoppedAt (with_damage a b) A 0 1 two_octets two_octets before_damage → ⊥ }
+    ensures otherwise { (a b : Config) → IsStoppedAt (with_damage a b) A 0 1 two_octets (0xA3 ∷ 0xB0 ∷ []) before_damage → ⊥ }
 {}

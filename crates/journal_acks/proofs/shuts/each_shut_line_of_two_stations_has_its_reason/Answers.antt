@@ -1,5 +1,5 @@
 -- Proof of `shuts::each_shut_line_of_two_stations_has_its_reason`.
-use Rattle.journal_packets.proofs.AskedSoFar.{are_distinct}
+use Rattle.journal_links.proofs.OfTwo.{are_distinct}
 use Rattle.journal_acks.proofs.ResetLines.{reset_completed}
 use Rattle.journal_acks.proofs.ShutLines.{shut_line_has_reason}
 use Rattle.journal_acks.proofs.shuts.each_shut_line_of_two_stations_has_its_reason.Goals as goal

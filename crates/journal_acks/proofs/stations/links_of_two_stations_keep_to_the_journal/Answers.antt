@@ -1,6 +1,6 @@
 -- Proof of `stations::links_of_two_stations_keep_to_the_journal`.
 use Rattle.run_model.proofs.Stations.{contains_in}
-use Rattle.journal_packets.proofs.AskedSoFar.{are_distinct}
+use Rattle.journal_links.proofs.OfTwo.{are_distinct}
 use Rattle.journal_acks.proofs.EventsInOrder.{event_in_order}
 use Rattle.journal_acks.proofs.LinkPackets.{packet_of_line}
 use Rattle.journal_acks.proofs.NewPdus.{sent_line_is_new}
@@ -32,5 +32,4 @@ returns-clause-new_pdus c = λ given front rest side number count llid body stat
 
 pub returns-clause-events : goal.returns-clause-events
 returns-clause-events c = λ given front rest side number event channel stations six at.
-    event_in_order c.packet_tells_its_pdu.ensures.heard c.a_pdu_is_understood.ensures.says c.connections_are_taken.ensures.taken c.searches_give_each_valid_address.ensures.valid
-    c.searches_give_each_valid_address.ensures.distinct given stations six (are_distinct given stations) front rest side number event channel at
+    event_in_order c.a_pdu_is_understood.ensures.says c.connections_are_taken.ensures.taken given stations six (are_distinct given stations) front rest side number event channel at

@@ -21,6 +21,7 @@ use Rattle.journal_acks.specs.Exchange.{exchange_of}
 use Rattle.journal_data.specs.Lines.{lines_of}
 use Rattle.journal_pdus.specs.Announced.{announced_pdu}
 use Rattle.journal_pdus.specs.Pending.{pending_pdu}
+use Rattle.journal_pdus.specs.Settled.{packets_passed}
 use Rattle.run_model.specs.Rows.{one_event_journal}
 use Rattle.wrong_journals.specs.Exchanges.{taken}
 use Rattle.wrong_journals.specs.Hosts.{acknowledged, credit, data_up}
@@ -54,3 +55,9 @@ unfolding announced_pdu pending_pdu channel_entered lines_of frames exchange_of 
 returns-clause-never c lawful =
     numbers_differ 0 1 refl
     (ap (λ (xs : List Marked). length xs) (lawful (acknowledged ++ credit ∷ []) [] 4 true (Some true) refl A [] [] (record { link = 1; handle = 0 }) refl).received)
+
+pub returns-clause-shut : goal.returns-clause-shut
+unfolding packets_passed announced_pdu pending_pdu channel_entered lines_of frames exchange_of sent_line_of link_of_packet is_answer links_begun pdu_heard heard_in read_of kept_bits crc crc_octets crc_of_bits remainder mask_of next_mask whitening_bit whitening_of little_endian data_channels used_channels reversed_octet perm mam stage prn channel_of
+returns-clause-shut c lawful =
+    numbers_differ 0 1 refl
+    (ap (λ (xs : List Marked). length xs) (lawful (acknowledged ++ credit ∷ []) [] A 1 (record { 0 = 0x16 }) refl refl).received)

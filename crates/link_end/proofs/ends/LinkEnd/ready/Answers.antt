@@ -1,5 +1,6 @@
 -- Proof of `ends::LinkEnd::ready`.
 use Rattle.link_end.proofs.Keeping.{fixed, fixed_holds}
+use Rattle.link_end.proofs.Tying.{fixed_tied}
 use Rattle.link_end.proofs.ends.LinkEnd.ready.Goals as goal
 
 pub returns-clause-knows : goal.returns-clause-knows
@@ -7,3 +8,6 @@ returns-clause-knows g c = λ setup past knows holds. fixed setup _ _ past c.arg
 
 pub returns-clause-holds : goal.returns-clause-holds
 returns-clause-holds g c = λ setup past holds. fixed_holds setup past c.args.tx.now holds
+
+pub returns-clause-tied : goal.returns-clause-tied
+returns-clause-tied g c = fixed_tied 27 _ _ _ c.args.tx.now c.fix.ensures c.requires.tied

@@ -17,4 +17,4 @@ pub returns-clause-tied : goal.returns-clause-tied
 returns-clause-tied g c = sent_tied c.args.slot.0 _ _ c.args.tx.now _ c.send.ensures.held c.send.ensures.bank c.requires.tied
 
 pub returns-clause-others : goal.returns-clause-others
-returns-clause-others g c = sent_leaves _ _ c.args.tx.now _ c.send.ensures.bank
+returns-clause-others g c = sent_leaves _ _ _ c.args.tx.now _ c.send.ensures.bank

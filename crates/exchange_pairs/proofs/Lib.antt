@@ -1,0 +1,8 @@
+-- The lemmas of this crate.
+pub mod Exchanges
+pub mod ExchangesTried
+pub mod LengthParts
+pub mod LengthsKept
+pub mod Values
+pub mod Versions
+pub mod VersionsTried
