@@ -7,7 +7,7 @@ use Rattle.procedure_values.specs.declared.asks.Ask.{Ask}
 use Rattle.procedure_values.specs.declared.asks.Ask.TheVariants.{Update as ask_update}
 use Rattle.procedure_values.specs.declared.drafts.Outgoing.{Outgoing}
 use Rattle.procedure_values.specs.declared.drafts.Outgoing.TheVariants.{Other}
-use Rattle.procedure_stages.specs.declared.stages.PeerAtCentral.{PeerAtCentral}
+use Rattle.exclusive_stages.specs.declared.stages.PeerAtCentral.{PeerAtCentral}
 use Rattle.procedure_stages.specs.declared.stages.Progress.{Progress}
 use Rattle.procedure_stages.specs.declared.stages.Progress.TheVariants.{Central as central, Peripheral as peripheral}
 use Rattle.procedure_stages.specs.declared.steps.Step.{Step}
