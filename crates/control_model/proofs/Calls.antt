@@ -17,7 +17,8 @@ use Rattle.procedure_stages.specs.Held.{progress_held}
 use Rattle.procedure_stages.specs.InProgress.{peer_becomes}
 use Rattle.procedure_stages.specs.Kinds.{role_of}
 use Rattle.procedure_stages.specs.Sent.{progress_after_sending}
-use Rattle.procedure_values.specs.Drafts.{is_phy_ind, is_request}
+use Rattle.procedure_stages.specs.Exclusive.{pdu_of_outgoing}
+use Rattle.exclusive_stages.specs.declared.pdus.Pdu.{Pdu}
 use Rattle.procedures.specs.Beginning.{begin_at, begin_step, place_to_begin, ask_at}
 use Rattle.procedures.specs.Encryption.{is_rejection, progress_given}
 use Rattle.procedures.specs.Going.{host_answer_step}
@@ -52,16 +53,16 @@ answered_same f (Ok other) = unmoved f.progress
 answered_same f (Err code) = peer_same _ f.progress
 
 pub acked_same : (out : Outgoing) (p : Progress) → Same p (progress_acked out p)
-acked_same out (central c) = by (is_phy_ind out)
+acked_same out (central c) = by (pdu_of_outgoing out)
   where
-    by : (b : Bool) → Same (central c) (central (central_acked b c))
-    by true = record { role = refl; last = refl; awaited = refl }
-    by false = record { role = refl; last = refl; awaited = refl }
-acked_same out (peripheral p) = by (is_request out)
+    by : (pdu : Option Pdu) → Same (central c) (central (central_acked pdu c))
+    by None = record { role = refl; last = refl; awaited = refl }
+    by (Some pdu) = record { role = refl; last = refl; awaited = refl }
+acked_same out (peripheral p) = by (pdu_of_outgoing out)
   where
-    by : (b : Bool) → Same (peripheral p) (peripheral (peripheral_acked b p))
-    by true = record { role = refl; last = refl; awaited = refl }
-    by false = record { role = refl; last = refl; awaited = refl }
+    by : (pdu : Option Pdu) → Same (peripheral p) (peripheral (peripheral_acked pdu p))
+    by None = record { role = refl; last = refl; awaited = refl }
+    by (Some pdu) = record { role = refl; last = refl; awaited = refl }
 
 pub given_same : (p : Progress) (ctrl : Ctrl) → Same p (progress_given p ctrl)
 given_same (central c) ctrl = unmoved (central c)

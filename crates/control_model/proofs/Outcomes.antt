@@ -20,7 +20,9 @@ use Rattle.procedure_stages.specs.declared.stages.Central.{Central}
 use Rattle.procedure_stages.specs.declared.stages.Peripheral.{Peripheral}
 use Rattle.procedure_stages.specs.declared.stages.Progress.{Progress}
 use Rattle.procedure_stages.specs.declared.stages.Progress.TheVariants.{Central as central, Peripheral as peripheral}
-use Rattle.procedure_stages.specs.Awaited.{awaits_features, awaits_lengths, awaits_phy_ind, awaits_phy_rsp, has_phy_of_central, is_own_encryption, is_version, peer_answered, central_answered, reads_as_answer}
+use Rattle.exclusive_stages.specs.Awaited.{awaits_phy_ind, awaits_phy_rsp, central_answered, has_phy_of_central, peer_answered, reads_as_answer}
+use Rattle.procedure_stages.specs.Exclusive.{central_stage, peripheral_stage}
+use Rattle.procedure_stages.specs.Awaited.{awaits_features, awaits_lengths, is_own_encryption, is_version}
 use Rattle.procedure_stages.specs.Collisions.{collision}
 use Rattle.procedure_stages.specs.Kinds.{kind_at_central, kind_at_peripheral, own_exchange, role_of, without_own}
 use Rattle.procedure_stages.specs.Opcodes.{connection_param_req_opcode, first_opcode, later_opcode, is_opcode, phy_req_opcode}
@@ -144,11 +146,11 @@ module _ (f : TableFacts) where
 
   against : (c : Central) (kind : Kind) (opcode : ℕ) (other : Outcome) → Fits (central c) other
       → Fits (central c) (against_central (at f (central c)) c kind opcode other)
-  against c kind opcode other h = by (collision (kind_at_central c.own) kind)
+  against c kind opcode other h = by (peer_answered (central_stage c.own)) (collision (kind_at_central c.own) kind)
     where
-      by : (code : Option ErrCode) → Fits (central c) (collided (at f (central c)) (peer_answered c.own) opcode code other)
-      by None = h
-      by (Some code) = choice (central c) (peer_answered c.own) _ _ (end_fits (central c) code) (plain (central c) _ (same (central c)) refl tt)
+      by : (answered : Bool) (code : Option ErrCode) → Fits (central c) (collided (at f (central c)) answered opcode code other)
+      by answered None = h
+      by answered (Some code) = choice (central c) answered _ _ (end_fits (central c) code) (plain (central c) _ (same (central c)) refl tt)
 
   judged : (c : Central) (min max latency timeout : ℕ) → Fits (central c) (request_judged (at f (central c)) c min max latency timeout)
   judged c min max latency timeout =
@@ -173,7 +175,7 @@ module _ (f : TableFacts) where
   at_central c quiet (PhyReq tx rx) =
       against c Phy phy_req_opcode _ (plain (central c) _ (record { role = refl; last = refl; awaited = refl }) refl refl)
   at_central c quiet (PhyRsp tx rx) =
-      choice (central c) (awaits_phy_rsp c.own) _ _
+      choice (central c) (awaits_phy_rsp (central_stage c.own)) _ _
       (plain (central c) _ (record { role = refl; last = refl; awaited = refl }) refl refl) (nothing (central c))
   at_central c quiet other = either (central c) other
 
@@ -187,7 +189,8 @@ module _ (f : TableFacts) where
   follow_fits p new o h map_ahead is = end_fits (peripheral p) _
 
   granting : (p : Peripheral) (kind : Kind) (o : Outcome) → Fits (peripheral p) o → Fits (peripheral p) (after_grant (at f (peripheral p)) p kind o)
-  granting p kind o h = choice (peripheral p) (central_answered p.own) _ _ (by (collision (kind_at_peripheral p.own) kind)) h
+  granting p kind o h =
+      choice (peripheral p) (central_answered (peripheral_stage p.own)) _ _ (by (collision (kind_at_peripheral p.own) kind)) h
     where
       by : (code : Option ErrCode) → Fits (peripheral p) (outlived (at f (peripheral p)) code o)
       by None = h
@@ -197,7 +200,7 @@ module _ (f : TableFacts) where
       → Fits (peripheral p) (update_taken (at f (peripheral p)) p (update_indication win_offset interval latency timeout instant))
   update p win_offset interval latency timeout instant =
       follow_fits p update_ahead _
-      (λ free. choice (peripheral p) (reads_as_answer p.own) _ _
+      (λ free. choice (peripheral p) (reads_as_answer (peripheral_stage p.own)) _ _
       (record { hands = record { here = refl; role = refl; free = free; awaited = refl }; reply = tt })
       (record { hands = record { here = refl; role = refl; free = free; awaited = refl }; reply = tt }))
       p.ahead refl
@@ -210,7 +213,7 @@ module _ (f : TableFacts) where
   phy_ind p =
       choice (peripheral p) (has_phy_of_central p.peer) _ _
       (plain (peripheral p) _ (record { role = refl; last = refl; awaited = refl }) refl tt)
-      (choice (peripheral p) (awaits_phy_ind p.own) _ _ (plain (peripheral p) _ (own_over (peripheral p)) refl tt) (nothing (peripheral p)))
+      (choice (peripheral p) (awaits_phy_ind (peripheral_stage p.own)) _ _ (plain (peripheral p) _ (own_over (peripheral p)) refl tt) (nothing (peripheral p)))
 
   at_peripheral : (p : Peripheral) (quiet : Bool) (ctrl : Ctrl) → Fits (peripheral p) (taken_by_peripheral (at f (peripheral p)) p quiet ctrl)
   at_peripheral p quiet (ConnectionUpdateInd win_size win_offset interval latency timeout instant) =

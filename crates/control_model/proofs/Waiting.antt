@@ -21,7 +21,8 @@ use Rattle.procedure_stages.specs.declared.stages.Peripheral.{Peripheral}
 use Rattle.procedure_stages.specs.declared.stages.Progress.{Progress}
 use Rattle.procedure_stages.specs.declared.stages.Progress.TheVariants.{Central as central, Peripheral as peripheral}
 use Rattle.procedure_stages.specs.declared.steps.Step.{Step as TableStep}
-use Rattle.procedure_stages.specs.Awaited.{central_answered}
+use Rattle.exclusive_stages.specs.Awaited.{central_answered}
+use Rattle.procedure_stages.specs.Exclusive.{peripheral_stage}
 use Rattle.procedure_stages.specs.Collisions.{collision, collision_code}
 use Rattle.procedure_stages.specs.Queue.{waiting_in}
 use Rattle.procedure_stages.specs.Held.{progress_held}
@@ -213,9 +214,9 @@ module _ (c : Control) (slot : ℕ) (quiet : Bool) where
       → Collides (took (Known (ChannelMapInd map instant)) slot quiet (with_progress (peripheral (record p { ahead = ahead })) c))
   second_map_at p map instant Nothing waiting is = absurd (cc)
   second_map_at p map instant update_ahead waiting is =
-      map_by_code (record c.table { progress = peripheral (record p { ahead = update_ahead }) }) p (kind_at_peripheral p.own) (central_answered p.own) _ (inr refl)
+      map_by_code (record c.table { progress = peripheral (record p { ahead = update_ahead }) }) p (kind_at_peripheral p.own) (central_answered (peripheral_stage p.own)) _ (inr refl)
   second_map_at p map instant map_ahead waiting is =
-      map_by_code (record c.table { progress = peripheral (record p { ahead = map_ahead }) }) p (kind_at_peripheral p.own) (central_answered p.own) _ (inl refl)
+      map_by_code (record c.table { progress = peripheral (record p { ahead = map_ahead }) }) p (kind_at_peripheral p.own) (central_answered (peripheral_stage p.own)) _ (inl refl)
 
   second_map_by : (p : Progress) (map : ChannelMap) (instant : ℕ) (waiting : Kind) → kind_awaited p ≡ Some waiting
       → Collides (took (Known (ChannelMapInd map instant)) slot quiet (with_progress p c))
