@@ -61,7 +61,7 @@ not_unseen world turn packet sent heard can wrote =
     let ended = of_content (world.reads.content Schedule) can.schedule _ can.schedule_is
     (of_content (world.reads.content B) can.b _ can.b_is (of_content (world.reads.content A) can.a _ can.a_is wrote)) in
     can.none_unseen turn packet sent heard ended.journal
-    (subst (IsUnseenIn can.a can.b turn packet sent heard ended.journal) (sym ended.no_fault ∙ can.is_right) ended.is_of_kind)
+    (subst (IsUnseenIn can.a can.b turn packet sent heard ended.journal) (sym ended.no_fault ∙ can.is_right) ended.is_of_kind.ends)
 
 -- a fact of the three files of `pair` is one of each
 of_source : (fact : Source → Type 0) → fact A × fact B × fact Schedule → (source : Source) → fact source

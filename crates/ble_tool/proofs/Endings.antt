@@ -6,7 +6,7 @@ use Rattle.outside.specs.Known.{WhereKnown}
 use Rattle.journal.specs.declared.entries.Entry.{Entry}
 use Rattle.journal.specs.Text.{text}
 use Rattle.journal_pdus.specs.Lawful.{IsLawful, IsWhole}
-use Rattle.pair_world.specs.Faults.{IsLawfulSoFar, IsRunFault}
+use Rattle.pair_world.specs.Faults.{IsDueAtFault, IsLawfulSoFar, IsRunFault}
 use Rattle.run_model.specs.Pair.{given_of, IsRun}
 use Rattle.run_model.specs.Run.{Given}
 use Rattle.pair_world.specs.declared.run.RunFault.{RunFault}
@@ -59,11 +59,11 @@ schedule_not_read schedule (OutsideGrammar line) is = is
 schedule_not_read schedule (PastTurns line) is = is
 schedule_not_read schedule NoRoomForTurns is = tt
 
-pub run_ended : (given : Given) (run : Result (List Entry) RunFault) → IfOk run (IsRun given) → IfErr run (IsRunFault given)
-    → IfOk (end_of run) (λ end. IsEndOf given end.0 end.1)
-run_ended given (Ok journal) ok err = ok
-run_ended given (Err (EndedUnseen turn packet sent heard journal)) ok err = err
-run_ended given (Err NoRoomForRun) ok err = tt
+pub run_ended : (script : Script) (given : Given) (run : Result (List Entry) RunFault) → IfOk run (IsRun given) → IfErr run (IsRunFault given)
+    → IfErr run (IsDueAtFault script) → IfOk (end_of run) (λ end. IsEndOf script given end.0 end.1)
+run_ended script given (Ok journal) ok err due = ok
+run_ended script given (Err (EndedUnseen turn packet sent heard journal)) ok err due = record { ends = err; undelivered = due }
+run_ended script given (Err NoRoomForRun) ok err due = tt
 
 pub run_lawful : (a b : List ℕ) (script : Script) (run : Result (List Entry) RunFault) → IfOk run (IsLawful a b script)
     → IfErr run (IsLawfulSoFar a b script) → IfOk (end_of run) (λ end. IsLawful a b script end.0)
@@ -108,19 +108,19 @@ of_journal is_journal fact a b schedule script journal read is lawful holds = re
   holds = holds;
 }
 
-is_ended : (given : Given) (journal : List Entry) (fault : Option Fault) → IsEndOf given journal fault → IsEnded given journal
-is_ended given journal None end = inl end
-is_ended given journal (Some (Unseen turn packet sent heard)) end = inr (turn, packet, sent, heard, end)
-is_ended given journal (Some (BadLine number)) end = absurd end
-is_ended given journal (Some (TooManyTurns number)) end = absurd end
-is_ended given journal (Some NoMemory) end = absurd end
-is_ended given journal (Some CannotWrite) end = absurd end
-is_ended given journal (Some (CannotRead source)) end = absurd end
-is_ended given journal (Some (TooLong source)) end = absurd end
+is_ended : (script : Script) (given : Given) (journal : List Entry) (fault : Option Fault) → IsEndOf script given journal fault → IsEnded script given journal
+is_ended script given journal None end = inl end
+is_ended script given journal (Some (Unseen turn packet sent heard)) end = inr (turn, packet, sent, heard, end)
+is_ended script given journal (Some (BadLine number)) end = absurd end
+is_ended script given journal (Some (TooManyTurns number)) end = absurd end
+is_ended script given journal (Some NoMemory) end = absurd end
+is_ended script given journal (Some CannotWrite) end = absurd end
+is_ended script given journal (Some (CannotRead source)) end = absurd end
+is_ended script given journal (Some (TooLong source)) end = absurd end
 
 -- a fault that is reported after the journal that was written
 reported : (writes : Writes) (a b schedule : List ℕ) (script : Script) (journal : List Entry) (fault : Fault)
-    → schedule_of schedule ≡ Right script.a script.b script.turns → IsEndOf (given_of a b script) journal (Some fault)
+    → schedule_of schedule ≡ Right script.a script.b script.turns → IsEndOf script (given_of a b script) journal (Some fault)
     → IsLawful a b script journal → HasWritten writes (text journal) → IsOctetsFault writes a b schedule fault
 reported writes a b schedule script journal (Unseen turn packet sent heard) read end lawful wrote =
     of_journal _ (HasWritten writes) a b schedule script journal read end lawful wrote
@@ -133,12 +133,12 @@ reported writes a b schedule script journal (TooLong source) read end lawful wro
 
 -- a journal that was not written whole
 not_written : (writes : Writes) (a b schedule : List ℕ) (script : Script) (journal : List Entry) (fault : Fault)
-    → schedule_of schedule ≡ Right script.a script.b script.turns → IsEnded (given_of a b script) journal
+    → schedule_of schedule ≡ Right script.a script.b script.turns → IsEnded script (given_of a b script) journal
     → IsLawful a b script journal → IsWriteFault writes (text journal) fault → IsOctetsFault writes a b schedule fault
 not_written writes a b schedule script journal CannotWrite read end lawful is =
-    (is.0, of_journal (λ script. IsEnded) (HasWrittenPart writes) a b schedule script journal read end lawful is.1)
+    (is.0, of_journal IsEnded (HasWrittenPart writes) a b schedule script journal read end lawful is.1)
 not_written writes a b schedule script journal NoMemory read end lawful is =
-    inr (of_journal (λ script. IsEnded) (HasWrittenPart writes) a b schedule script journal read end lawful is)
+    inr (of_journal IsEnded (HasWrittenPart writes) a b schedule script journal read end lawful is)
 not_written writes a b schedule script journal (BadLine number) read end lawful is = absurd is
 not_written writes a b schedule script journal (TooManyTurns number) read end lawful is = absurd is
 not_written writes a b schedule script journal (Unseen turn packet sent heard) read end lawful is = absurd is
@@ -148,22 +148,22 @@ not_written writes a b schedule script journal (TooLong source) read end lawful 
 -- the journal of a run was written, with what is reported after it
 pub octets_done : (writes : Writes) (a b schedule : List ℕ) (script : Script) (journal : List Entry) (fault : Option Fault)
     (result : Result (Unit {0}) Fault) → schedule_of schedule ≡ Right script.a script.b script.turns
-    → IsEndOf (given_of a b script) journal fault → IsLawful a b script journal → (fault ≡ None → IsWhole script journal)
+    → IsEndOf script (given_of a b script) journal fault → IsLawful a b script journal → (fault ≡ None → IsWhole script journal)
     → IsWrittenEnd writes (text journal) fault result → OnOk result (OfRun (HasWritten writes) a b schedule)
 octets_done writes a b schedule script journal fault (Err cause) read end lawful whole written = tt
 octets_done writes a b schedule script journal fault (Ok done) read end lawful whole written =
     of_journal IsWholeRun (HasWritten writes) a b schedule script journal read
-    (record { is_run = subst (IsEndOf (given_of a b script) journal) written.0 end; whole = whole written.0 }) lawful written.1
+    (record { is_run = subst (IsEndOf script (given_of a b script) journal) written.0 end; whole = whole written.0 }) lawful written.1
 
 pub octets_not_done : (writes : Writes) (a b schedule : List ℕ) (script : Script) (journal : List Entry) (fault : Option Fault)
     (result : Result (Unit {0}) Fault) → schedule_of schedule ≡ Right script.a script.b script.turns
-    → IsEndOf (given_of a b script) journal fault → IsLawful a b script journal → IsWrittenEnd writes (text journal) fault result
+    → IsEndOf script (given_of a b script) journal fault → IsLawful a b script journal → IsWrittenEnd writes (text journal) fault result
     → IfErr result (IsOctetsFault writes a b schedule)
 octets_not_done writes a b schedule script journal fault (Ok done) read end lawful written = tt
 octets_not_done writes a b schedule script journal fault (Err cause) read end lawful written =
     elim written [
-      | inl is ↦ reported writes a b schedule script journal cause read (subst (IsEndOf (given_of a b script) journal) is.0 end) lawful is.1
-      | inr is ↦ not_written writes a b schedule script journal cause read (is_ended (given_of a b script) journal fault end) lawful is
+      | inl is ↦ reported writes a b schedule script journal cause read (subst (IsEndOf script (given_of a b script) journal) is.0 end) lawful is.1
+      | inr is ↦ not_written writes a b schedule script journal cause read (is_ended script (given_of a b script) journal fault end) lawful is
     ]
 
 -- ---- files

@@ -5,6 +5,7 @@ use Rattle.ble_base.specs.declared.Config.{Config}
 use Rattle.journal.specs.declared.entries.Entry.{Entry}
 use Rattle.journal.specs.Text.{text}
 use Rattle.journal_pdus.specs.Lawful.{IsLawful, IsWhole}
+use Rattle.journal_pdus.specs.Undelivered.{IsUndelivered}
 use Rattle.run_model.specs.Pair.{given_of, IsRun, EndsUnseen}
 use Rattle.run_model.specs.Run.{Given}
 use Rattle.radio_replay.specs.Schedule.{Right, Wrong, TooMany, schedule_of, line_number}
@@ -75,19 +76,25 @@ pub record IsWholeRun (script : Script) (given : Given) (journal : List Entry) :
 abbrev pub OfRun : (List ℕ → Type 0) → List ℕ → List ℕ → List ℕ → Type 0
 OfRun fact a b schedule = OfJournal IsWholeRun fact a b schedule
 
--- a fact of the text of the journal of a run that ends because damage to this packet would be judged good
+-- the journal of a run that ends because damage to this packet would be judged good: it is the packet that is due next
+pub record IsUnseenRun (turn packet : ℕ) (sent heard : List ℕ) (script : Script) (given : Given) (journal : List Entry) : Type 0 where
+  pub ends : EndsUnseen given turn packet sent heard journal
+  pub undelivered : IsUndelivered script turn packet sent heard journal
+
+-- a fact of the text of the journal of such a run
 abbrev pub OfUnseen : ℕ → ℕ → List ℕ → List ℕ → (List ℕ → Type 0) → List ℕ → List ℕ → List ℕ → Type 0
 OfUnseen turn packet sent heard fact a b schedule =
-    OfJournal (λ script given. EndsUnseen given turn packet sent heard) fact a b schedule
+    OfJournal (IsUnseenRun turn packet sent heard) fact a b schedule
 
 -- the journal of a run, whole or ended by damage that would be judged good
-abbrev pub IsEnded : Given → List Entry → Type 0
-IsEnded given journal = IsRun given journal
-    ⊎ ((turn : ℕ) × (packet : ℕ) × (sent : List ℕ) × (heard : List ℕ) × EndsUnseen given turn packet sent heard journal)
+abbrev pub IsEnded : Script → Given → List Entry → Type 0
+IsEnded script given journal = IsRun given journal
+    ⊎ ((turn : ℕ) × (packet : ℕ) × (sent : List ℕ) × (heard : List ℕ)
+    × IsUnseenRun turn packet sent heard script given journal)
 
 -- a fact of the text of the journal of either run
 abbrev pub OfEnded : (List ℕ → Type 0) → List ℕ → List ℕ → List ℕ → Type 0
-OfEnded fact a b schedule = OfJournal (λ script. IsEnded) fact a b schedule
+OfEnded fact a b schedule = OfJournal IsEnded fact a b schedule
 
 -- a fact of the three files, where their content is known
 abbrev pub OfFiles : Reads → (List ℕ → List ℕ → List ℕ → Type 0) → Type 0
@@ -127,10 +134,11 @@ IsScheduleFault schedule NoMemory = Unit {0}
 IsScheduleFault schedule _ = ⊥
 
 -- a run left this journal, and this fault to report after it, if there is one
-abbrev pub IsEndOf : Given → List Entry → Option Fault → Type 0
-IsEndOf given journal None = IsRun given journal
-IsEndOf given journal (Some (Unseen turn packet sent heard)) = EndsUnseen given turn packet sent heard journal
-IsEndOf given journal (Some _) = ⊥
+abbrev pub IsEndOf : Script → Given → List Entry → Option Fault → Type 0
+IsEndOf script given journal None = IsRun given journal
+IsEndOf script given journal (Some (Unseen turn packet sent heard)) =
+    IsUnseenRun turn packet sent heard script given journal
+IsEndOf script given journal (Some _) = ⊥
 
 -- the outcome of writing this text, with this fault to report after it, if there is one
 abbrev pub IsWrittenEnd : Writes → List ℕ → Option Fault → Result (Unit {0}) Fault → Type 0

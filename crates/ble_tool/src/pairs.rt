@@ -122,7 +122,7 @@ fn run_streams(
     requires words_a { 1 ≤ length schedule.now.a.words.items }
     requires words_b { 1 ≤ length schedule.now.b.words.items }
     ensures ok { IfOk result (λ end.
-        IsEndOf (given_of a.now b.now schedule.now) end.0 end.1) }
+        IsEndOf schedule.now (given_of a.now b.now schedule.now) end.0 end.1) }
     ensures lawful { IfOk result (λ end. IsLawful a.now b.now schedule.now end.0) }
     ensures whole { IfOk result (λ end. end.1 ≡ None → IsWhole schedule.now end.0) }
     ensures err { IfErr result (λ fault. fault ≡ Fault.NoMemory) }

@@ -1,13 +1,14 @@
 -- Each step of a controller keeps the book of a handle.
-use Rattle.std.proofs.Common.{◌≡◌, ℕ, ◌+◌, ◌==◌, Bool, true, false, Option, Some, None, List, [], ◌∷◌, ◌++◌, map, cond, refl, sym, subst}
+use Rattle.std.proofs.Common.{ℕ, Bool, true, false, Option, Some, None, List, ◌++◌, refl, sym, subst}
 use Rattle.std.specs.Prelude.{filter}
 use Rattle.std.specs.Option.{option_map}
 use Rattle.acl_banks.specs.declared.pieces.Piece.{Piece}
 use Rattle.ble_base.specs.declared.notes.Note.{Note}
 use Rattle.link_model.specs.Step.{Step as EndStep, EventEntered, PduFixed, PacketSent, PacketReceived}
-use Rattle.open_links.specs.OpenLinks.{Links, OpenLink, HaveHandles, link_after, link_at, link_from, link_served, with_change}
+use Rattle.open_links.specs.OpenLinks.{Links, OpenLink, HaveHandles, link_after, link_at, link_served, with_change}
 use Rattle.open_links.specs.Turns.{entered_if, is_anchor, link_entered, links_entered}
 use Rattle.open_links.proofs.Handles.{changed_is, has_its_handle, other_stays}
+use Rattle.open_links.proofs.UnderHandles.{map_at}
 use Rattle.controller_model.specs.declared.doing.Doing.{Doing}
 use Rattle.controller_model.specs.declared.doing.Doing.TheVariants.{Advertises, CentralSends, PeripheralListens, PeripheralSends}
 use Rattle.controller_model.specs.Facts.{Facts}
@@ -99,16 +100,6 @@ module _ (most handle : ℕ) (fact : Fact) (kept : IsKeptInBook most handle fact
 
   -- ---- the links enter their events
 
-  mapped_from : (change : Option OpenLink → Option OpenLink) → change None ≡ None → (first other : ℕ) (links : Links)
-      → link_from first other (map change links) ≡ change (link_from first other links)
-  mapped_from change none first other [] = sym none
-  mapped_from change none first other (place ∷ links) = at (first == other) (mapped_from change none (first + 1) other links)
-    where
-      at : (test : Bool) → link_from (first + 1) other (map change links) ≡ change (link_from (first + 1) other links)
-          → cond test (change place) (link_from (first + 1) other (map change links)) ≡ change (cond test place (link_from (first + 1) other links))
-      at true same = refl
-      at false same = same
-
   entered_by : (anchor : Bool) (slot : ℕ) (link : OpenLink) (waiting : List (ℕ × Piece)) (since : List Note) (count : ℕ)
       → IsBook most handle fact (Some link) waiting since count
       → IsBook most handle fact (Some (entered_if anchor slot link)) waiting since count
@@ -126,4 +117,4 @@ module _ (most handle : ℕ) (fact : Fact) (kept : IsKeptInBook most handle fact
       → IsBook most handle fact (link_at handle (links_entered slot links)) waiting since count
   entering_at slot links waiting since count book =
       subst (λ (place : Option OpenLink). IsBook most handle fact place waiting since count)
-      (sym (mapped_from (option_map (link_entered slot)) refl 0 handle links)) (entered_book slot (link_at handle links) waiting since count book)
+      (sym (map_at (option_map (link_entered slot)) 0 handle links refl)) (entered_book slot (link_at handle links) waiting since count book)

@@ -41,6 +41,7 @@ pub mod BookEnds
 pub mod PiecesBelow
 pub mod BooksAlways
 pub mod NoteBooks
+pub mod UnderNotes
 pub mod DataBooks
 pub mod ReportBooks
 pub mod OpenNotes

@@ -1,9 +1,9 @@
 -- What a controller noted since a link was opened, and what its host received of data on that link in that time (Core
 -- 5.2, volume 4 part E, sections 5.4.2 and 7.7.19).
 use Rattle.std.specs.Prelude.{◌≡◌, ℕ, ◌+◌, ◌/◌, ◌%◌, ◌==◌, ◌&&◌, ◌||◌, Bool, false, List, [], ◌∷◌, ◌++◌, drop, filter, flat_map, fold, map, if◌then◌else◌}
-use Rattle.std.specs.List.{sum}
+use Rattle.std.specs.List.{list_any, sum}
 use Rattle.ble_base.specs.declared.notes.Note.{Note}
-use Rattle.ble_base.specs.declared.notes.Note.TheVariants.{Up, Opened, Sent, Took}
+use Rattle.ble_base.specs.declared.notes.Note.TheVariants.{Up, Opened, Shut, Sent, Took, Enter, Applied, Began, Refused, Done}
 use Rattle.acl_banks.specs.declared.pieces.Piece.{Piece}
 use Rattle.acl_banks.specs.Packets.{Marked, marked_octets}
 use Rattle.h4_frames.specs.declared.packet.HostPacket.TheVariants.{Acl}
@@ -12,8 +12,12 @@ use Rattle.h4_frames.specs.declared.packet.Fed.TheVariants.{Packet}
 use Rattle.hci_evt.specs.Event.{written}
 use Rattle.hci_evt.specs.declared.event.Event.TheVariants.{CompletedPackets}
 use Rattle.host_view.specs.Noted.{acl_handle, is_acl_data, two_octets}
+use Rattle.link_model.specs.Delivery.{notes_of as end_notes_of}
+use Rattle.link_model.specs.Setup.{Setup as EndSetup}
+use Rattle.link_model.specs.Step.{Step as EndStep}
 use Rattle.controller_model.specs.Step.{Step, HostOctet}
 use Rattle.controller_model.specs.Facts.{Setup, Facts, first_facts}
+use Rattle.controller_model.specs.Links.{note_opened, note_shut}
 use Rattle.controller_model.specs.Notes.{is_event}
 use Rattle.controller_model.specs.Side.{facts_after, notes_after, result_of}
 
@@ -29,6 +33,47 @@ note_since handle notes note = if opens_under handle note then [] else notes ++ 
 
 abbrev pub since_opened : ℕ → List Note → List Note
 since_opened handle notes = fold (note_since handle) [] notes
+
+-- ---- the notes of one link
+
+-- a note is of the link under this handle
+abbrev pub is_under : ℕ → Note → Bool
+is_under handle (Up packet) = false
+is_under handle (Opened other role own peer) = other == handle
+is_under handle (Shut other reason) = other == handle
+is_under handle (Sent other number llid body) = other == handle
+is_under handle (Took other number llid body) = other == handle
+is_under handle (Enter other event channel) = other == handle
+is_under handle (Applied other number event) = other == handle
+is_under handle (Began other kind) = other == handle
+is_under handle (Refused other kind code) = other == handle
+is_under handle (Done other kind) = other == handle
+
+-- the notes of the link that was opened last under a handle: that one, and those under the handle after it
+abbrev pub note_under : ℕ → List Note → Note → List Note
+note_under handle notes note =
+    if opens_under handle note then note ∷ []
+    else if is_under handle note then notes ++ note ∷ []
+    else notes
+
+abbrev pub notes_under : ℕ → List Note → List Note
+notes_under handle notes = fold (note_under handle) [] notes
+
+-- a link was opened under the handle
+abbrev pub was_opened : ℕ → List Note → Bool
+was_opened handle notes = list_any (opens_under handle) notes
+
+-- that a link was opened, and what its end noted of these steps
+abbrev pub notes_opened_on : EndSetup → List EndStep → List Note
+notes_opened_on setup past = note_opened setup.link ∷ end_notes_of setup past
+
+-- these are the notes of a link that was shut: that it was opened, what its end noted, and that it was shut
+pub record AreOfShutLink (handle : ℕ) (notes : List Note) : Type 0 where
+  pub setup : EndSetup
+  pub past : List EndStep
+  pub reason : ℕ
+  pub has_handle : setup.link.handle ≡ handle
+  pub notes_are : notes ≡ notes_opened_on setup past ++ note_shut handle reason ∷ []
 
 -- the notes of what was sent, and of what was taken, on the link under this handle
 abbrev pub is_sent_on : ℕ → Note → Bool

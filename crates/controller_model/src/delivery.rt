@@ -1,6 +1,6 @@
 //! Laws of the data of one controller: what waits in it, and for how long. The bodies are empty:
 //! the contracts are the laws.
-ghost use Rattle.std.specs.Prelude.{◌≡◌, ◌≤◌, ◌+◌, ◌++◌, ℕ, true, List, [], Some, IsSome};
+ghost use Rattle.std.specs.Prelude.{◌≡◌, ◌≤◌, ◌+◌, ◌++◌, ℕ, true, List, [], Some, None, IsSome};
 ghost use Rattle.std.specs.Prelude.{filter, flat_map, length};
 ghost use Rattle.std.specs.List.{Contains};
 ghost use Rattle.ack_bit.specs.Nonempty.{nonempty};
@@ -12,7 +12,8 @@ ghost use Rattle.open_links.specs.OpenLinks.{OpenLink, facts_in, link_at};
 ghost use Rattle.controller_model.specs.Between.{is_between_turns};
 ghost use Rattle.controller_model.specs.Facts.{Setup};
 ghost use Rattle.controller_model.specs.Side.{facts_after, facts_of, notes_after, notes_of};
-ghost use Rattle.controller_model.specs.Since.{ReportsInAll, data_up, data_waiting, empties_of};
+ghost use Rattle.controller_model.specs.Since.{AreOfShutLink, ReportsInAll, data_up, data_waiting};
+ghost use Rattle.controller_model.specs.Since.{empties_of, notes_opened_on, notes_under, was_opened};
 ghost use Rattle.controller_model.specs.Since.{is_data_note, is_sent_on, is_took_on, since_opened};
 ghost use Rattle.controller_model.specs.Step.{Step};
 
@@ -49,6 +50,19 @@ pub fn a_link_notes_its_pdus()
         → filter (is_took_on handle) (since_opened handle (notes_of setup past))
         ≡ numbered_notes (took_note handle) 1
         (nonempty is_empty (facts_in link).acknowledgement.accepted) }
+{}
+
+/// The notes under a handle, from the last one on that says that a link was opened under it, are
+/// that one and what the end of the link notes over all that happened to it, in order: its events,
+/// its indications and its PDUs. Where the link is shut, that it is comes last.
+pub fn a_link_notes_what_its_end_notes()
+    ensures open_link { (setup : Setup) (past : List Step) (handle : ℕ) (link : OpenLink)
+        → link_at handle (facts_of setup past).links ≡ Some link
+        → notes_under handle (notes_of setup past) ≡ notes_opened_on link.setup link.past }
+    ensures shut_link { (setup : Setup) (past : List Step) (handle : ℕ)
+        → link_at handle (facts_of setup past).links ≡ None
+        → was_opened handle (notes_of setup past) ≡ true
+        → AreOfShutLink handle (notes_under handle (notes_of setup past)) }
 {}
 
 /// The data that the host received in ACL packets of a handle since its link was opened, and then

@@ -8,8 +8,9 @@ mod laws;
 mod rows;
 
 pub use crate::delivery::{
-    a_link_notes_its_pdus, complete_packets_are_reported, data_is_handed_up_in_order,
-    no_more_than_its_buffers, nothing_waits_between_turns, only_open_links_have_notes,
+    a_link_notes_its_pdus, a_link_notes_what_its_end_notes, complete_packets_are_reported,
+    data_is_handed_up_in_order, no_more_than_its_buffers, nothing_waits_between_turns,
+    only_open_links_have_notes,
 };
 pub use crate::doing::{Doing, Turn};
 pub use crate::laws::{

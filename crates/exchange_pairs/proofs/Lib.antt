@@ -1,6 +1,7 @@
 -- The lemmas of this crate.
 pub mod Exchanges
 pub mod ExchangesTried
+pub mod LengthParts
 pub mod LengthsKept
 pub mod Values
 pub mod Versions

@@ -2,8 +2,9 @@
 -- (Core 5.2, volume 6 part B, sections 5.1.4 and 5.1.9).
 --
 -- Of the rules of a link a run needs one alone: an end sends a further PDU only after its last one was taken, so that
--- the PDUs of a direction are taken in order, each once. PDUs of other procedures are left out, and so is what a PDU is
--- that was taken. A run stops as an end takes LL_TERMINATE_IND or is shut, so no step takes one.
+-- the PDUs of a direction are taken in order, each once. Whether the sender has seen the acknowledgement does not
+-- matter here, nor do PDUs of other procedures. A run stops as an end takes LL_TERMINATE_IND or is shut, so no step
+-- takes one.
 use Rattle.std.specs.Prelude.{Bool, true, false, not, ◌&&◌, Option, Some, None, is_some, is_none}
 use Rattle.ble_base.specs.declared.roles.Role.{Role}
 use Rattle.ble_base.specs.declared.roles.Role.TheVariants.{Central, Peripheral}

@@ -3,6 +3,7 @@ pub mod Exchange
 pub mod ExchangeLaws
 pub mod ExchangeRun
 pub mod LengthLaws
+pub mod LengthPart
 pub mod LengthRun
 pub mod Lengths
 pub mod Version

@@ -7,13 +7,17 @@ ghost use Rattle.ble_base.specs.Limits.{first_payload_octets};
 ghost use Rattle.ble_base.specs.declared.roles.Role.{Role};
 ghost use Rattle.machines.specs.Machine.{run};
 ghost use Rattle.procedure_values.specs.Limits.{tx_of};
+ghost use Rattle.exchange_pairs.specs.Exchange;
 ghost use Rattle.exchange_pairs.specs.Exchange.{Answer, Idle, Question, Sent, Unsent, count_if};
 ghost use Rattle.exchange_pairs.specs.Exchange.{is_answer, is_idle, number_of};
 ghost use Rattle.exchange_pairs.specs.ExchangeRun;
 ghost use Rattle.exchange_pairs.specs.ExchangeRun.{ExchangeEvent, exchanges, other_role};
 ghost use Rattle.exchange_pairs.specs.ExchangeLaws;
+ghost use Rattle.exchange_pairs.specs.LengthPart.{exchange_end, exchange_link};
 ghost use Rattle.exchange_pairs.specs.LengthRun;
 ghost use Rattle.exchange_pairs.specs.LengthRun.{LengthEvent, length_exchanges};
+ghost use Rattle.exchange_pairs.specs.Lengths;
+ghost use Rattle.exchange_pairs.specs.Lengths.{LengthEnd, LengthPdu};
 ghost use Rattle.exchange_pairs.specs.VersionLaws;
 ghost use Rattle.exchange_pairs.specs.VersionRun;
 ghost use Rattle.exchange_pairs.specs.VersionRun.{VersionEvent, versions};
@@ -142,4 +146,26 @@ pub fn data_fits_its_receiver()
         → let s = run (length_exchanges central_rx peripheral_rx) events in
         LengthRun.way_to role s ≡ Some (LengthRun.Data octets)
         → octets ≤ (LengthRun.end_of role s).lengths.own_rx }
+{}
+
+/// Without the values and the data a run of exchanges of lengths is a run of an exchange of a
+/// question and an answer, so the laws of those hold of it. What an end does is the same without
+/// the values.
+pub fn lengths_are_an_exchange()
+    ensures run { (central_rx peripheral_rx : ℕ) (events : List LengthEvent)
+        → (part : List ExchangeEvent)
+        × (exchange_link (run (length_exchanges central_rx peripheral_rx) events)
+        ≡ run exchanges part) }
+    ensures begun { (e : LengthEnd) → exchange_end (Lengths.begun e)
+        ≡ Exchange.begun (exchange_end e) }
+    ensures sent { (e : LengthEnd) (pdu : LengthPdu) → exchange_end (Lengths.sent pdu e)
+        ≡ Exchange.sent pdu.pdu (exchange_end e) }
+    ensures taken { (e : LengthEnd) (pdu : LengthPdu) → exchange_end (Lengths.taken pdu e)
+        ≡ Exchange.taken pdu.pdu (exchange_end e) }
+    ensures refused { (e : LengthEnd) → exchange_end (Lengths.refused e)
+        ≡ Exchange.answered (exchange_end e) }
+    ensures terminated { (e : LengthEnd) → exchange_end (Lengths.terminated e)
+        ≡ Exchange.terminated (exchange_end e) }
+    ensures limited { (e : LengthEnd) (tx : ℕ) → exchange_end (Lengths.limited tx e)
+        ≡ exchange_end e }
 {}

@@ -7,7 +7,7 @@ mod rows;
 
 pub use crate::laws::{
     an_end_knows_what_the_other_receives, answers_find_their_questions, data_fits_its_receiver,
-    each_exchange_is_in_one_place, few_exchange_pdus_wait, version_exchanges_end,
-    versions_are_sent_once,
+    each_exchange_is_in_one_place, few_exchange_pdus_wait, lengths_are_an_exchange,
+    version_exchanges_end, versions_are_sent_once,
 };
 pub use crate::rows::{worked_exchanges, worked_lengths, worked_versions};

@@ -3,6 +3,7 @@ pub mod Answers
 pub mod Beginning
 pub mod Calls
 pub mod Going
+pub mod OneExchange
 pub mod Queues
 pub mod Same
 pub mod Sending

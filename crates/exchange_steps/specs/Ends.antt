@@ -13,7 +13,7 @@ use Rattle.procedure_stages.specs.declared.stages.Exchange.TheVariants.{Features
 use Rattle.procedure_stages.specs.Closing.{is_open}
 use Rattle.procedure_stages.specs.Kinds.{own_exchange}
 use Rattle.procedures.specs.Table.{TableFacts}
-use Rattle.exchange_pairs.specs.Exchange.{Answer, ExchangeEnd, ExchangePdu, ExchangeStage, Idle, Question, Sent, Unsent}
+use Rattle.exchange_pairs.specs.Exchange.{Answer, ExchangeEnd, ExchangePdu, ExchangeStage, Idle, Question, Sent, Unsent, count_if, is_idle}
 use Rattle.exchange_pairs.specs.Lengths.{LengthEnd, LengthPdu}
 use Rattle.exchange_pairs.specs.Version.{VersionEnd}
 
@@ -78,7 +78,12 @@ ends_by own wanted used lengths is_open drafts =
     record {
       features = record { own = features_stage own; queue = pdus_of features_pdu drafts; closed = not is_open };
       lengths =
-          record { own = lengths_stage own; lengths = lengths; queue = pdus_of lengths_pdu drafts; closed = not is_open };
+          record {
+            own = lengths_stage own;
+            lengths = lengths;
+            queue = pdus_of lengths_pdu drafts;
+            closed = not is_open;
+          };
       versions =
           record {
             own = version_stage own;
@@ -91,3 +96,9 @@ ends_by own wanted used lengths is_open drafts =
 
 abbrev pub ends_of : TableFacts → ExchangeEnds
 ends_of f = ends_by (own_exchange f.progress) f.wanted f.version_used f.lengths (is_open f.closing) f.queue.drafts
+
+-- how many exchanges of its own an end runs
+abbrev pub exchanges_running : ExchangeEnds → ℕ
+exchanges_running e =
+    count_if (not (is_idle e.features.own)) + count_if (not (is_idle e.lengths.own))
+    + count_if (not (is_idle e.versions.own))

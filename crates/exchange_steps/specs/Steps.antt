@@ -171,3 +171,18 @@ step_of_call f (enters applied) = None
 step_of_call f (host_answers answer) = None
 step_of_call f (disconnects reason) = Some terminates
 step_of_call f (is_given ctrl) = step_of_given ctrl
+
+-- ---- what is sent is taken
+
+-- the step at the other end by which a PDU is taken that this step sends
+abbrev pub taking_of : EndStep → EndStep
+taking_of (sends_features pdu) = takes_features pdu
+taking_of (sends_lengths pdu) = takes_lengths pdu
+taking_of sends_version = takes_version
+taking_of step = step
+
+-- a draft that comes to an end: only a central sends LL_FEATURE_REQ, only a peripheral LL_PERIPHERAL_FEATURE_REQ
+abbrev pub comes_to : Progress → Draft → Bool
+comes_to (Central c) feature_req = false
+comes_to (Peripheral p) peripheral_feature_req = false
+comes_to progress draft = true

@@ -5,4 +5,7 @@
 
 mod laws;
 
-pub use crate::laws::{answers_are_of_exchanges, calls_are_steps_of_exchanges};
+pub use crate::laws::{
+    an_end_runs_one_exchange, answers_are_of_exchanges, calls_are_steps_of_exchanges,
+    the_receive_maximum_stays, what_is_sent_is_taken,
+};

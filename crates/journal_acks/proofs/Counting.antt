@@ -1,6 +1,9 @@
 -- How far the journal is ahead of what each controller holds, or late, at each place of a run.
 use Rattle.std.proofs.Common.{◌≡◌, ℕ, ◌==◌, ◌&&◌, Bool, true, false, Option, Some, None, List, [], ◌∷◌, ◌++◌, length, take, refl, sym, ap, subst, ◌∙◌}
 use Rattle.ble_base.specs.Side.{other_side}
+use Rattle.ble_base.specs.declared.addresses.Address.{Address}
+use Rattle.ble_base.specs.declared.notes.Note.TheVariants.{Opened}
+use Rattle.ble_base.specs.declared.roles.Role.{Role}
 use Rattle.ble_base.specs.declared.roles.Side.{Side}
 use Rattle.air_frame.specs.Packet.{access_octets}
 use Rattle.link_model.specs.Setup.{Setup as EndSetup}
@@ -8,11 +11,12 @@ use Rattle.link_model.specs.Step.{PacketReceived}
 use Rattle.link_model.proofs.Received.{IsHeardWhole}
 use Rattle.open_links.specs.OpenLinks.{OpenLink, link_after, link_at}
 use Rattle.controller_model.specs.declared.doing.Turn.{Turn}
+use Rattle.controller_model.specs.Since.{notes_opened_on}
 use Rattle.controller_model.specs.Step.{Step}
 use Rattle.controller_model.specs.Facts.{Facts, Sends}
-use Rattle.run_model.specs.History.{Event, packet_received, steps_in}
+use Rattle.run_model.specs.History.{Event, Noted, packet_received, steps_in}
 use Rattle.run_model.specs.Journal.{journal_of, side_of}
-use Rattle.run_model.specs.Links.{is_advertising}
+use Rattle.run_model.specs.Links.{is_advertising, links_of}
 use Rattle.run_model.specs.Run.{Given, after_call, facts_at, setup_at, use_at}
 use Rattle.run_model.proofs.Stations.{is_in}
 use Rattle.run_model.proofs.Walk.{Place, AtPackets, IsKept}
@@ -21,6 +25,7 @@ use Rattle.run_laws.proofs.Agreed.{ack_of}
 use Rattle.run_laws.proofs.Hearings.{other_facts}
 use Rattle.run_laws.proofs.InAgreement.{AllAgree}
 use Rattle.run_laws.proofs.TurnPlaces.{event_past}
+use Rattle.journal_links.specs.LinkLines.{AreLinesOf, lines_of}
 use Rattle.journal_links.specs.Opened.{central_side}
 use Rattle.journal_links.specs.Begun.{LinkBegun, link_numbered, links_begun}
 use Rattle.journal_packets.specs.Belonging.{first_number}
@@ -56,6 +61,13 @@ pub record AreKnown (given : Given) (Q : Place → List Event → Type 0) : Type
   -- no two open links of a station were opened in one slot
   pub alone : (place : Place) (history : List Event) → Q place history → (station one other : ℕ) (a b : OpenLink) → is_in station given.stations ≡ true
       → link_at one (facts_at given station history).links ≡ Some a → link_at other (facts_at given station history).links ≡ Some b → a.setup.opened ≡ b.setup.opened → one ≡ other
+  -- the lines of an open link are what its end noted
+  pub lines : (place : Place) (history : List Event) → Q place history → (station handle : ℕ) (link : OpenLink) → is_in station given.stations ≡ true
+      → link_at handle (facts_at given station history).links ≡ Some link
+      → AreLinesOf (journal_of history) station (number_at station handle history) (notes_opened_on link.setup link.past)
+  -- a link that is noted as opened has no line of its side yet
+  pub fresh : (place : Place) (history : List Event) → Q place history → (station handle : ℕ) (role : Role) (own peer : Address) (before more : List Event) → is_in station given.stations ≡ true
+      → history ≡ before ++ Noted station (Opened handle role own peer) ∷ more → lines_of (side_of station) ((links_of before).last_of station) (journal_of before) ≡ []
   -- both open ends of a link are in agreement
   pub agree : IsHeardWhole → (place : Place) (history : List Event) → Q place history → (one other : ℕ) → is_in one given.stations ≡ true → is_in other given.stations ≡ true
       → (one == other) ≡ false → AllAgree (facts_at given one history).links (facts_at given other history).links

@@ -47,8 +47,7 @@ use Rattle.journal_acks.proofs.DataCalls.{on_link_notes, own_begun, received_at,
 use Rattle.journal_acks.proofs.Exchanging.{OpensNone, exchange_at, number_at, number_called, number_other, number_quiet, number_sent, opening_none}
 use Rattle.journal_acks.proofs.FirstCounts.{first_called, first_of}
 use Rattle.journal_acks.proofs.FixedPdus.{fixed_empty}
-use Rattle.journal_acks.proofs.KeptChannels.{AreChannelledAt, channels_kept}
-use Rattle.journal_acks.proofs.KeptCounts.{AreCountedAt, before_call, call_is, own_at, phased, station_is, was_taking}
+use Rattle.journal_acks.proofs.KeptCounts.{AreCountedAt, before_call, call_is, counts_kept, own_at, phased, station_is, was_taking}
 use Rattle.journal_acks.proofs.LinkCalls.{HasBegun, HasPassed, IsNew, IsOpenedNow, Stays, Takes, base_ack, begins_under, begun_before, passes_under, phase_quiet, taken_noted}
 use Rattle.journal_acks.proofs.LinkUses.{listens_under, sends_under}
 use Rattle.journal_acks.proofs.PhaseNotes.{IsOnLink, IsPhaseOf, IsPlainPhase, HasSentSame, SendsFrom, SendsNothing, SendsOne, doing_notes, notes_when, phase_of, same_but, sends_from, sent_same}
@@ -457,56 +456,56 @@ module _ (given : Given) (Q : Place → List Event → Type 0) (known : AreKnown
 -- ---- each step
 
 pub record AreLinedAt (given : Given) (Q : Place → List Event → Type 0) (place : Place) (history : List Event) : Type 0 where
-  pub channelled : AreChannelledAt given Q place history
+  pub counts : AreCountedAt given Q place history
   pub lines : AreLined given history
 
 pub lines_kept : IsHeardWhole → (given : Given) (Q : Place → List Event → Type 0) → AreKnown given Q → IsOfTwo given → HaveAddresses given → AreDistinct given.stations
     → IsKept given (AreLinedAt given Q)
-lines_kept whole given Q known are_two six distinct = let kept = channels_kept whole given Q known are_two six distinct in record {
+lines_kept whole given Q known are_two six distinct = let kept = counts_kept whole given Q known are_two six distinct in record {
   on_turn = λ slot plan history begun at has.
       let event = TurnBegan slot (map plan.radio_of given.stations) in record {
-        channelled = kept.on_turn slot plan history begun at has.channelled;
+        counts = kept.on_turn slot plan history begun at has.counts;
         lines = lines_event given history event (λ one. refl) (λ number one. turn_line number history slot (map plan.radio_of given.stations) (side_of one))
             (λ one handle. number_quiet one handle history event (λ links. refl)) has.lines;
       };
   on_feed = λ plan done left station history are some now has. record {
-    channelled = kept.on_feed plan done left station history are some now has.channelled;
+    counts = kept.on_feed plan done left station history are some now has.counts;
     lines = feed_lines given are_two station (take (plan.feed_of station) (octets_left given station history)) history (among given.stations done left station are) has.lines;
   };
-  on_fed = λ history has. record { channelled = kept.on_fed history has.channelled; lines = has.lines };
+  on_fed = λ history has. record { counts = kept.on_fed history has.counts; lines = has.lines };
   on_begin = λ slot plan done left station history are due has.
       let on = plan.radio_of station in
       let in_it = among given.stations done left station are in
       let phased = subst (λ b. PhasedBy given history station (if b then at_stage (Within 0) (turns_begun history) else at_stage Between (turns_begun history - 1)))
-      (not_before given.stations done left station distinct are) (phased_at given (AtBegins done (station ∷ left)) history has.channelled.is.holds.hearing.stand station in_it) in record {
-        channelled = kept.on_begin slot plan done left station history are due has.channelled;
+      (not_before given.stations done left station distinct are) (phased_at given (AtBegins done (station ∷ left)) history has.counts.holds.hearing.stand station in_it) in record {
+        counts = kept.on_begin slot plan done left station history are due has.counts;
         lines = lines_call given are_two station (TurnBegins slot on) history in_it
-            (begin_own given station slot on history in_it phased.phase (has.channelled.is.holds.so_far.last.each station in_it)
-            (λ one other a b at at_other differs. apart_numbers given Q known (AtBegins done (station ∷ left)) history has.channelled.is.known station one other a b in_it at at_other differs)
-            has.channelled.is.counted has.lines) has.lines;
+            (begin_own given station slot on history in_it phased.phase (has.counts.holds.so_far.last.each station in_it)
+            (λ one other a b at at_other differs. apart_numbers given Q known (AtBegins done (station ∷ left)) history has.counts.known station one other a b in_it at at_other differs)
+            has.counts.counted has.lines) has.lines;
       };
-  on_begun = λ history has. record { channelled = kept.on_begun history has.channelled; lines = has.lines };
-  on_phase = λ phases history few has. record { channelled = kept.on_phase phases history few has.channelled; lines = has.lines };
-  on_silence = λ phases done left station history are none has. record { channelled = kept.on_silence phases done left station history are none has.channelled; lines = has.lines };
+  on_begun = λ history has. record { counts = kept.on_begun history has.counts; lines = has.lines };
+  on_phase = λ phases history few has. record { counts = kept.on_phase phases history few has.counts; lines = has.lines };
+  on_silence = λ phases done left station history are none has. record { counts = kept.on_silence phases done left station history are none has.counts; lines = has.lines };
   on_packet = λ phases plan done left station channel octets history are some due has.
       let hearings = hearings_of given plan.fates station channel octets history in record {
-        channelled = kept.on_packet phases plan done left station channel octets history are some due has.channelled;
+        counts = kept.on_packet phases plan done left station channel octets history are some due has.counts;
         lines = lines_event given history (Transmitted station channel octets hearings) (λ one. refl) (λ number one. air_line number history station channel octets hearings (side_of one))
             (λ one handle. number_sent one handle history station channel octets hearings) has.lines;
       };
-  on_air = λ phases history has. record { channelled = kept.on_air phases history has.channelled; lines = has.lines };
+  on_air = λ phases history has. record { counts = kept.on_air phases history has.counts; lines = has.lines };
   on_hearing = λ phases done left station history are some has.
-      let next = kept.on_hearing phases done left station history are some has.channelled in
+      let next = kept.on_hearing phases done left station history are some has.counts in
       let in_it = among given.stations done left station are in record {
-        channelled = next;
+        counts = next;
         lines = lines_call given are_two station (step_of (packet_received station history)) history in_it
-            (passes_own given Q known distinct phases done left station history are has.channelled.is has.lines next.is.known next.is.holds) has.lines;
+            (passes_own given Q known distinct phases done left station history are has.counts has.lines next.known next.holds) has.lines;
       };
-  on_heard = λ phases history has. record { channelled = kept.on_heard phases history has.channelled; lines = has.lines };
-  on_phases = λ history has. record { channelled = kept.on_phases history has.channelled; lines = has.lines };
+  on_heard = λ phases history has. record { counts = kept.on_heard phases history has.counts; lines = has.lines };
+  on_phases = λ history has. record { counts = kept.on_phases history has.counts; lines = has.lines };
   on_end = λ done left station history are some has.
       let in_it = among given.stations done left station are in record {
-        channelled = kept.on_end done left station history are some has.channelled;
+        counts = kept.on_end done left station history are some has.counts;
         lines = lines_call given are_two station TurnEnds history in_it
             (λ handle link at.
             let setup = setup_at given station in
@@ -517,5 +516,5 @@ lines_kept whole given Q known are_two six distinct = let kept = channels_kept w
             (number_called given station TurnEnds history handle (end_noted (OpensNone handle) (opening_none handle).starts.feeds setup facts)) was.ack
             (has.lines station handle was.link in_it was.was)) has.lines;
       };
-  on_ended = λ history has. record { channelled = kept.on_ended history has.channelled; lines = has.lines };
+  on_ended = λ history has. record { counts = kept.on_ended history has.counts; lines = has.lines };
 }

@@ -1,12 +1,13 @@
 -- What is known of the links of a journal at each place of a run of two stations.
-use Rattle.std.proofs.Common.{◌≡◌, ℕ, suc, ◌⊎◌, Some, List, [], ◌∷◌, take, sym, ap, ◌∙◌, arith}
+use Rattle.std.proofs.Common.{◌≡◌, ℕ, suc, ◌⊎◌, Some, List, [], ◌∷◌, ◌++◌, take, sym, ap, ◌∙◌, append_assoc, arith}
 use Rattle.std.specs.Prelude.{slice_get}
+use Rattle.ble_base.specs.declared.notes.Note.TheVariants.{Opened}
 use Rattle.ble_base.specs.declared.roles.Role.{Role}
 use Rattle.ble_base.specs.declared.roles.Role.TheVariants.{Central, Peripheral}
 use Rattle.air_frame.specs.Packet.{access_octets}
 use Rattle.link_model.specs.Setup.{Setup as EndSetup}
 use Rattle.run_model.specs.Due.{Each}
-use Rattle.run_model.specs.History.{Event, Transmitted, turns_begun}
+use Rattle.run_model.specs.History.{Event, Noted, Transmitted, turns_begun}
 use Rattle.run_model.specs.Journal.{journal_of, side_of}
 use Rattle.run_model.specs.LinkEnds.{ConnectInd, HaveAddresses, IsAtEnd}
 use Rattle.run_model.specs.Links.{links_of}
@@ -14,6 +15,7 @@ use Rattle.run_model.specs.Numbers.{HasNumber}
 use Rattle.run_model.specs.Run.{Given, setup_at}
 use Rattle.run_model.proofs.Fronts.{front_at}
 use Rattle.run_model.proofs.LinkEnds.{AreTaken, IsUnderstood}
+use Rattle.run_model.proofs.Numbers.{opening_at}
 use Rattle.run_model.proofs.Places.{each_at}
 use Rattle.run_laws.specs.Access.{connects_sent}
 use Rattle.run_laws.proofs.ConnectInds.{TakenInOrder}
@@ -25,7 +27,9 @@ use Rattle.journal_links.specs.Begun.{LinkBegun, links_begun, with_number}
 use Rattle.journal_links.specs.Opened.{central_side}
 use Rattle.journal_packets.specs.Belonging.{first_number}
 use Rattle.journal_packets.proofs.AccessOrder.{AreNth, first_is, sent_ordered}
-use Rattle.journal_links.proofs.OfTwo.{are_distinct, of_two_stations, other_of}
+use Rattle.journal_links.proofs.LineNotes.{lines_of_end}
+use Rattle.journal_links.proofs.LinkLines.{fresh}
+use Rattle.journal_links.proofs.OfTwo.{are_distinct, of_two_stations, other_of, two_apart}
 use Rattle.journal_packets.proofs.SentLinks.{IsOfTwo, begun_are_sent, link_begun, links_sent, sent_at}
 use Rattle.journal_packets.proofs.SoFar.{IsBelongingSoFar, belonging_kept, sends_on_its_link}
 use Rattle.journal_acks.proofs.Counting.{AreKnown, IsBegun}
@@ -87,6 +91,17 @@ known_of understood taken nth apart given are_two six = record {
   alone = λ at history q station one other a b in_it is_open is_open_too same.
       let front = front_at given at history q.front in
       opened_once given history front.rest station one other a b (are_distinct given are_two) in_it front.at is_open is_open_too same;
+  lines = λ at history q station handle link in_it is_open.
+      let front = front_at given at history q.front in
+      lines_of_end understood taken given (are_distinct given are_two) six station (two_apart given are_two station in_it) history front.rest handle link front.at
+      q.numbered.numbered (q.noted.noted station) is_open;
+  fresh = λ at history q station handle role own peer before more in_it is.
+      let front = front_at given at history q.front in
+      let event = Noted station (Opened handle role own peer) in
+      let whole = front.at ∙ ap (λ xs. xs ++ front.rest) is ∙ append_assoc before (event ∷ more) front.rest in
+      let opening = opening_at understood taken given before (more ++ front.rest) station handle role own peer (are_distinct given are_two) six whole in
+      fresh given station (two_apart given are_two station in_it) before opening.known opening.since (event ∷ (more ++ front.rest)) ((links_of before).last_of station) whole
+      opening.is_at opening.number_is opening.unnoted;
   agree = λ whole at history q one other in_it in_too differs.
       let front = front_at given at history q.front in
       all_agree whole understood taken apart given six (are_distinct given are_two) (of_both given 0 1 are_two) history front.rest front.at one other in_it in_too differs;

@@ -21,10 +21,8 @@ pub mod Known
 pub mod Seen
 pub mod RunCounts
 pub mod EnteredLinks
-pub mod Readings
-pub mod KeptReadings
-pub mod Unentered
-pub mod KeptChannels
+pub mod EntryNotes
+pub mod EntryLines
 pub mod FixedPdus
 pub mod KeptLines
 pub mod LinkPackets

@@ -1,5 +1,5 @@
 -- Each packet of a link carries what the journal before it says.
-use Rattle.std.proofs.Common.{◌≡◌, ℕ, ◌+◌, false, true, Some, None, Option, replicate, List, [], ◌∷◌, ◌++◌, length, refl, sym, ap, subst, ◌∙◌, arith}
+use Rattle.std.proofs.Common.{◌≡◌, ℕ, zero, suc, ◌+◌, false, true, Some, None, Option, replicate, List, [], ◌∷◌, ◌++◌, length, refl, sym, ap, subst, ◌∙◌, arith}
 use Rattle.ble_base.specs.declared.roles.Side.{Side}
 use Rattle.ack_bit.specs.AckBits.{header_of, is_odd}
 use Rattle.air_frame.specs.Packet.{on_air}
@@ -39,10 +39,10 @@ use Rattle.journal_acks.specs.Exchange.{Exchanged, with_sent}
 use Rattle.journal_acks.proofs.AirCounts.{link_sent, own_number, sender_counted, sends_it}
 use Rattle.journal_acks.proofs.Counting.{AreKnown}
 use Rattle.journal_acks.proofs.EnteredLinks.{AreEntered, HasEntered, entered_first, entered_kept, entries_sent}
+use Rattle.journal_acks.proofs.EntryNotes.{channel_by}
+use Rattle.journal_acks.proofs.EntryLines.{channel_at, channel_read}
 use Rattle.journal_acks.proofs.Exchanging.{exchange_at, number_at}
 use Rattle.journal_acks.proofs.FixedPdus.{sent_out}
-use Rattle.journal_acks.proofs.KeptChannels.{IsOnChannel, NotYet, OnChannel, channel_at, channels, on_channels}
-use Rattle.journal_acks.proofs.KeptReadings.{AllFit}
 use Rattle.journal_acks.proofs.KeptLines.{AreLined, AreLinedAt, lines_kept}
 use Rattle.journal_acks.proofs.Known.{known_of}
 use Rattle.journal_acks.proofs.RunCounts.{counts_first}
@@ -52,10 +52,14 @@ use Rattle.journal_acks.proofs.TwoStations.{IsOfTwo}
 -- ---- where a packet is to be sent
 
 on_its_channel : (link sender : OpenLink) (may : Option ℕ) (channel : ℕ) → sender.setup ≡ link.setup → entries_in sender.past ≡ entries_in link.past → HasEntered sender
-    → channel ≡ (facts_in link).event.channel → IsOnChannel sender.setup (entries_in sender.past) may → may ≡ Some channel
-on_its_channel link sender may channel setup entries entered on (NotYet none) = absurd (omega (arith, none, entered))
-on_its_channel link sender may channel setup entries entered on (OnChannel is) =
-    is ∙ (λ i. Some (channel_of_event (setup i) (entries i))) ∙ ap Some (sym (past_in link.setup link.past).channel ∙ sym on)
+    → channel ≡ (facts_in link).event.channel → may ≡ channel_by sender.setup (entries_in sender.past) → may ≡ Some channel
+on_its_channel link sender may channel setup entries entered on is = by (entries_in sender.past) refl
+  where
+    by : (count : ℕ) → entries_in sender.past ≡ count → may ≡ Some channel
+    by zero none = absurd (omega (arith, none, entered))
+    by (suc count) are =
+        is ∙ ap (channel_by sender.setup) are ∙ (λ i. Some (channel_of_event (setup i) (sym are i)))
+        ∙ (λ i. Some (channel_of_event link.setup (entries i))) ∙ ap Some (sym (past_in link.setup link.past).channel ∙ sym on)
 
 -- the packet, by the counts and the lines of the journal
 packet_is : (link : OpenLink) (end : Exchanged) (pdu : Pdu) (channel access init : ℕ) → channel ≡ (facts_in link).event.channel → access ≡ link.setup.link.fields.access
@@ -81,22 +85,22 @@ module _ (whole : IsHeardWhole) (given : Given) (Q : Place → List Event → Ty
   pub link_packet : (phases : ℕ) (done left : List ℕ) (station channel : ℕ) (octets : List ℕ) (history : List Event) (are : given.stations ≡ done ++ station ∷ left)
       (wanted : use_at given station history ≡ Sends channel octets) (lined : AreLinedAt given Q (AtPackets phases done (station ∷ left)) history)
       (off : is_advertising channel ≡ false)
-      → IsPacketOf given history station channel octets (known.sends phases done left station history are lined.channelled.is.known channel octets wanted off)
+      → IsPacketOf given history station channel octets (known.sends phases done left station history are lined.counts.known channel octets wanted off)
   link_packet phases done left station channel octets history are wanted lined off =
-      let has = lined.channelled in
+      let has = lined.counts in
       let place = AtPackets phases done (station ∷ left) in
       let in_it = among given.stations done left station are in
       let setup = setup_at given station in
-      let from = known.sends phases done left station history are has.is.known channel octets wanted off in
-      let sender = link_sent whole given Q known are_two six distinct phases done left station channel octets [] history are wanted has.is.known has.is.holds has.is.counted off in
-      let number = own_number whole given Q known are_two six distinct phases done left station channel octets [] history are wanted has.is.known has.is.holds has.is.counted off in
+      let from = known.sends phases done left station history are has.known channel octets wanted off in
+      let sender = link_sent whole given Q known are_two six distinct phases done left station channel octets [] history are wanted has.known has.holds has.counted off in
+      let number = own_number whole given Q known are_two six distinct phases done left station channel octets [] history are wanted has.known has.holds has.counted off in
       let end = exchange_at number history (side_of station) in
       let counted : IsCounted (with_sent end) (ack_of sender) =
-      sender_counted whole given Q known are_two six distinct phases done left station channel octets [] history are wanted has.is.known has.is.holds has.is.counted off in
-      let on = sends_it whole given Q known are_two six distinct phases done left station channel octets [] history are wanted has.is.known has.is.holds has.is.counted off in
-      let begun = known.begun place history has.is.known station from.handle sender in_it from.is_open in
+      sender_counted whole given Q known are_two six distinct phases done left station channel octets [] history are wanted has.known has.holds has.counted off in
+      let on = sends_it whole given Q known are_two six distinct phases done left station channel octets [] history are wanted has.known has.holds has.counted off in
+      let begun = known.begun place history has.known station from.handle sender in_it from.is_open in
       let entered = turned setup (AreEntered setup) (entered_kept setup) (past_of station history) (record { stage = Within phases; begun = turns_begun history }) (entered_first setup)
-      (has.is.holds.hearing.stand station in_it) in
+      (has.holds.hearing.stand station in_it) in
       let acked = counted.acked ∙ ap (λ (a : Acknowledgement). a.acked) (ack_sent from.slot from.link) in
       let last = (lined.lines station from.handle sender in_it from.is_open).last end.acked
       (ap (λ n. n + 1) acked ∙ sent_out from.link ∙ ap (λ (a : Acknowledgement). length a.sent) (sym (ack_sent from.slot from.link))) in
@@ -107,7 +111,8 @@ module _ (whole : IsHeardWhole) (given : Given) (Q : Place → List Event → Ty
           link = begun.link;
           is_link = begun.is_link;
           in_event = on_its_channel from.link sender (channel_at number station history) channel refl (entries_sent true from.slot from.link)
-              (entered.sends from.handle sender from.is_open on) from.channel_is (on_channels given history has.fit station from.handle sender in_it from.is_open);
+              (entered.sends from.handle sender from.is_open on) from.channel_is
+              (channel_read (journal_of history) station number sender (known.lines place history has.known station from.handle sender in_it from.is_open));
           md = more_sent (facts_in from.link);
           carries = from.packet ∙ packet_is from.link end (carried_of number (journal_of history) (side_of station)) channel begun.link.fields.access begun.link.fields.crc_init from.channel_is
               (ap (λ f. f.access) begun.fields) (ap (λ f. f.crc_init) begun.fields) acked
@@ -123,18 +128,13 @@ module _ (whole : IsHeardWhole) (given : Given) (Q : Place → List Event → Ty
 abbrev AreLinkPackets : List Event → ℕ → ℕ → List ℕ → Type 0
 AreLinkPackets history station channel octets = is_advertising channel ≡ false → IsLinkPacket (journal_of history) (side_of station) channel octets
 
-none_on : (given : Given) → AllFit channels IsOnChannel given []
-unfolding facts_of
-none_on given = λ station handle link in_it at.
-    absurd (open_has (λ one. ⊥) 0 handle (replicate (setup_at given station).links None) link (none_open (λ one. ⊥) (setup_at given station).links) at)
-
 none_lined : (given : Given) → AreLined given []
 unfolding facts_of
 none_lined given = λ station handle link in_it at.
     absurd (open_has (λ one. ⊥) 0 handle (replicate (setup_at given station).links None) link (none_open (λ one. ⊥) (setup_at given station).links) at)
 
 pub lines_first : (given : Given) → AreLinedAt given (IsBelongingSoFar given) NoTurn []
-lines_first given = record { channelled = record { is = counts_first given; fit = none_on given }; lines = none_lined given }
+lines_first given = record { counts = counts_first given; lines = none_lined given }
 
 pub packet_of_line : IsHeardWhole → IsUnderstood → AreTaken → AreNth → AreApart → (given : Given) → IsOfTwo given → HaveAddresses given → AreDistinct given.stations
     → (front : List Entry) (side : Side) (channel : ℕ) (octets : List ℕ) (fate : Mark) (verdict : Verdict) → IsAired given front side channel octets fate verdict

@@ -1,7 +1,6 @@
 -- A feed keeps that the data of both sides arrives in order.
-use Rattle.std.proofs.Common.{◌≡◌, ℕ, ◌≤◌, ◌==◌, true, Option, Some, List, [], ◌∷◌, ◌++◌, refl, sym, ap, subst, ◌∙◌}
+use Rattle.std.proofs.Common.{◌≡◌, ℕ, ◌≤◌, true, Option, Some, List, [], ◌∷◌, ◌++◌, refl, sym, ap, subst, ◌∙◌}
 use Rattle.std.specs.Option.{option_map}
-use Rattle.std.proofs.lemmas.Bool.{eqb-true, false_from_ne_true}
 use Rattle.link_model.specs.Acknowledgement.{Acknowledgement}
 use Rattle.open_links.specs.OpenLinks.{OpenLink, link_at}
 use Rattle.controller_model.proofs.BetweenTurns.{none_complete}
@@ -22,15 +21,12 @@ use Rattle.journal_data.specs.Lines.{Lines}
 use Rattle.journal_data.proofs.Arriving.{IsAhead}
 use Rattle.journal_data.proofs.Credits.{few_feed}
 use Rattle.journal_data.proofs.EachLine.{lines_at}
-use Rattle.journal_data.proofs.Ends.{IsWell, end_at, end_of, found_at, from_end, sound}
-use Rattle.journal_data.proofs.FedOthers.{others_submit}
+use Rattle.journal_data.proofs.Ends.{IsWell, end_at, end_of, from_end, sound}
 use Rattle.journal_data.proofs.Feeds.{feed_is_fed}
 use Rattle.journal_data.proofs.NotedStays.{noted_feed}
-use Rattle.journal_data.proofs.Sides.{AreAhead, AreArriving, End, Here, IsFound, Nowhere, idle_arrives}
-use Rattle.journal_data.proofs.NotedLines.{unused_still}
-use Rattle.journal_data.proofs.StationLines.{IsNoneOf, KeepsFeed, feed_kept, numbers_event, octet_number}
+use Rattle.journal_data.proofs.Sides.{AreAhead, AreArriving, End, idle_arrives}
+use Rattle.journal_data.proofs.StationLines.{KeepsFeed, feed_kept, numbers_event, octet_number}
 use Rattle.journal_data.proofs.Submitting.{AreInStep, feed_fed, feed_submitted, in_step}
-use Rattle.journal_data.proofs.Used.{AreUsed, IsClear, IsOld, IsOldLink, IsUsed, old_feed}
 
 -- ---- what a feed does to the links of its station
 
@@ -100,28 +96,6 @@ module _ (given : Given) (few : (station : ℕ) → (setup_at given station).lin
     fed = feed_fed given station octets history well.fed;
     few = few_feed given station octets history between well.few;
   }
-
-  -- ---- which links it used
-
-  still_used : (number : ℕ) → IsNoneOf given station number history → IsUsed station number history → IsUsed station number then_on
-  still_used number none (IsOld old) = IsOld (old_feed given station octets history number old)
-  still_used number none (IsClear clear) = IsClear (record {
-    unused = unused_still number (lines_at station history) (lines_at station then_on) (kept.same number none) clear.unused;
-    submitted = others_submit given station number octets history well.booked none ∙ clear.submitted;
-  })
-
-  pub feed_used : ((handle : ℕ) (link : OpenLink) → link_at handle (facts_at given station history).links ≡ Some link → IsOldLink (number_at station handle history) history)
-      → AreUsed station history → AreUsed station then_on
-  feed_used old used = λ number. by number (found_at given station history number)
-    where
-      by : (number : ℕ) → IsFound (end_at given station history) number → IsUsed station number (after_feed given station octets history)
-      by number (Here handle end at same) =
-          let of = from_end given station history handle end at in
-          IsOld (old_feed given station octets history number
-          (subst (λ n. IsOldLink n history) (ap (λ (e : End). e.link) of.is ∙ same) (old handle of.link of.at)))
-      by number (Nowhere none) = still_used number (λ handle link at. false_from_ne_true (number_at station handle history == number)
-          (λ same. none handle (end_of station handle history given link) (ap (option_map (end_of station handle history given)) at)
-          (eqb-true (number_at station handle history) number same))) (used number)
 
   -- ---- both directions
 

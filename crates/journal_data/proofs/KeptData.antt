@@ -1,46 +1,47 @@
 -- Each step of a run of a pair keeps that the data of both sides arrives in order.
-use Rattle.std.proofs.Common.{◌≡◌, ℕ, zero, suc, ◌-◌, ◌<◌, ◌==◌, ◌⊎◌, inl, inr, Bool, true, false, Option, Some, None, List, [], ◌∷◌, ◌++◌, refl, sym, ap, subst, ◌∙◌, arith}
+use Rattle.std.proofs.Common.{◌≡◌, ℕ, zero, suc, ◌-◌, ◌==◌, ◌⊎◌, inl, inr, Bool, true, false, Option, Some, None, List, [], ◌∷◌, ◌++◌, refl, sym, ap, subst, ◌∙◌, append-nil, append_assoc}
 use Rattle.std.specs.Prelude.{map, take, if◌then◌else◌}
 use Rattle.std.proofs.lemmas.Bool.{eqb-true}
+use Rattle.ble_base.specs.declared.notes.Note.TheVariants.{Opened}
 use Rattle.link_model.proofs.Received.{IsHeardWhole}
-use Rattle.open_links.specs.OpenLinks.{OpenLink, link_at}
 use Rattle.controller_model.specs.Between.{is_between_turns}
-use Rattle.controller_model.specs.Facts.{Facts}
 use Rattle.controller_model.specs.Side.{notes_after}
 use Rattle.controller_model.specs.Step.{Step, TurnBegins, TurnEnds}
 use Rattle.controller_model.proofs.Always.{IsInTurn}
 use Rattle.run_model.specs.Feeding.{AreDistinct}
-use Rattle.run_model.specs.History.{Event, TurnBegan, Transmitted, packet_received, past_of, turns_begun}
-use Rattle.run_model.specs.Journal.{side_of}
+use Rattle.run_model.specs.History.{Event, TurnBegan, Called, Noted, Transmitted, packet_received, past_of, turns_begun}
+use Rattle.run_model.specs.Journal.{journal_of, side_of}
 use Rattle.run_model.specs.LinkEnds.{HaveAddresses}
+use Rattle.run_model.specs.Links.{links_of}
 use Rattle.run_model.specs.Run.{Given, after_call, after_feed, facts_at, hearings_of, octets_left, setup_at, step_of}
-use Rattle.run_model.proofs.Calls.{same_station, turns_called}
 use Rattle.run_model.proofs.Journals.{two}
-use Rattle.run_model.proofs.Stations.{is_in, among, in_more_same, not_before}
+use Rattle.run_model.proofs.LinksKnown.{last_by_call}
+use Rattle.run_model.proofs.OpenedNotes.{is_opened}
+use Rattle.run_model.proofs.Parts.{journal_event}
+use Rattle.run_model.proofs.Stations.{is_in, among, not_before}
 use Rattle.run_model.proofs.Walk.{Place, AtFeeds, AtBegins, AtListening, AtEnds, IsKept}
-use Rattle.run_laws.proofs.Hearings.{own_facts}
-use Rattle.run_laws.proofs.InAgreement.{IsStation, OpenedBefore, differs_back}
-use Rattle.run_laws.proofs.OpenSteps.{open_has}
+use Rattle.run_laws.proofs.InAgreement.{differs_back}
 use Rattle.run_laws.proofs.TurnPlaces.{Between, Within, at_stage}
+use Rattle.journal_links.specs.LinkLines.{lines_of}
 use Rattle.journal_packets.specs.Belonging.{is_side}
 use Rattle.journal_acks.proofs.Counting.{AreKnown, HaveOwnNumbers, apart_numbers}
 use Rattle.journal_acks.proofs.KeptCounts.{AreCountedAt, counts_kept}
 use Rattle.journal_acks.proofs.Standing.{PhasedBy, phased_at}
 use Rattle.journal_acks.proofs.TwoStations.{IsOfTwo, other_apart, other_is, other_of, own_differs}
-use Rattle.journal_acks.proofs.UnderHandles.{end_under}
+use Rattle.journal_data.proofs.ClearLines.{IsClearOn, clear_lines, opened_is_first}
 use Rattle.journal_data.proofs.Credits.{AreFew, few_begin, few_end, few_pass}
 use Rattle.journal_data.proofs.EachLine.{lines_at}
 use Rattle.journal_data.proofs.Ends.{IsWell, end_at}
 use Rattle.journal_data.proofs.FedInRuns.{between_standing}
-use Rattle.journal_data.proofs.FeedSide.{feed_arrives, feed_used, feed_well}
+use Rattle.journal_data.proofs.FeedSide.{feed_arrives, feed_well}
 use Rattle.journal_data.proofs.Mine.{AreMine, other_back, packet_mine}
 use Rattle.journal_data.proofs.MineKept.{heard_none_mine, hearing_mine}
-use Rattle.journal_data.proofs.Moves.{alike_aged, begin_moves, end_moves, phase_moves, station_aged}
-use Rattle.journal_data.proofs.OneCall.{EachAt, HasMoved, IsAged, IsCallMade, arriving_after, used_after, well_after}
+use Rattle.journal_data.proofs.Moves.{begin_moves, end_moves, phase_moves}
+use Rattle.journal_data.proofs.OneCall.{EachAt, HasMoved, IsCallMade, arriving_after, well_after}
+use Rattle.journal_data.proofs.Openness.{past_noted}
 use Rattle.journal_data.proofs.FewLinks.{HaveFewLinks}
-use Rattle.journal_data.proofs.SameView.{SeesSame, same_end, same_used, same_well, sees_other_call, sees_other_feed, sees_packet, sees_turn}
+use Rattle.journal_data.proofs.SameView.{SeesSame, same_end, same_well, sees_other_call, sees_other_feed, sees_packet, sees_turn}
 use Rattle.journal_data.proofs.Sides.{AreArriving}
-use Rattle.journal_data.proofs.Used.{AreUsed, IsOldLink, old_call, old_event, old_feed}
 
 abbrev IsArriving : Given → ℕ → ℕ → List Event → Type 0
 IsArriving given station other history =
@@ -49,7 +50,6 @@ IsArriving given station other history =
 -- what is known of all stations
 pub record AreWell (given : Given) (history : List Event) : Type 0 where
   pub well : (station : ℕ) → is_in station given.stations ≡ true → IsWell given station history
-  pub used : (station : ℕ) → is_in station given.stations ≡ true → AreUsed station history
   pub arriving : (station : ℕ) → is_in station given.stations ≡ true → IsArriving given station (other_of station) history
 
 pub record IsDataAt (given : Given) (Q : Place → List Event → Type 0) (place : Place) (history : List Event) : Type 0 where
@@ -67,11 +67,9 @@ same_arriving given station other history after own far arriving =
     (subst (λ end. AreArriving (lines_at station history) (lines_at other history) end (end_at given other after)) (sym (same_end given station history after own))
     (subst (AreArriving (lines_at station history) (lines_at other history) (end_at given station history)) (sym (same_end given other history after far)) arriving)))
 
-all_same : (given : Given) (history after : List Event) → ((station : ℕ) → SeesSame station history after)
-    → ((number : ℕ) → IsOldLink number history → IsOldLink number after) → AreWell given history → AreWell given after
-all_same given history after sees still are = record {
+all_same : (given : Given) (history after : List Event) → ((station : ℕ) → SeesSame station history after) → AreWell given history → AreWell given after
+all_same given history after sees are = record {
   well = λ station is. same_well given station history after (sees station) (are.well station is);
-  used = λ station is. same_used given station history after (sees station) still (are.used station is);
   arriving = λ station is. same_arriving given station (other_of station) history after (sees station) (sees (other_of station)) (are.arriving station is);
 }
 
@@ -90,7 +88,6 @@ other_way given station other history arriving =
 
 record IsOwn (given : Given) (station : ℕ) (after : List Event) : Type 0 where
   well : IsWell given station after
-  used : AreUsed station after
   arriving : IsArriving given station (other_of station) after
 
 module _ (given : Given) (are_two : IsOfTwo given) where
@@ -103,10 +100,9 @@ module _ (given : Given) (are_two : IsOfTwo given) where
 
   own_all : (station : ℕ) (history after : List Event) → is_in station given.stations ≡ true
       → ((one : ℕ) → is_side (side_of station) (side_of one) ≡ false → SeesSame one history after)
-      → ((number : ℕ) → IsOldLink number history → IsOldLink number after) → IsOwn given station after → AreWell given history → AreWell given after
-  own_all station history after is sees still own are = record {
+      → IsOwn given station after → AreWell given history → AreWell given after
+  own_all station history after is sees own are = record {
     well = λ one in_it. well_by one in_it (one == station) refl;
-    used = λ one in_it. used_by one in_it (one == station) refl;
     arriving = λ one in_it. arriving_by one in_it (one == station) refl;
   }
     where
@@ -116,10 +112,6 @@ module _ (given : Given) (are_two : IsOfTwo given) where
       well_by : (one : ℕ) → is_in one given.stations ≡ true → (same : Bool) → (one == station) ≡ same → IsWell given one after
       well_by one in_it true same = subst (λ n. IsWell given n after) (sym (eqb-true one station same)) own.well
       well_by one in_it false differs = same_well given one history after (sees one (apart one in_it differs)) (are.well one in_it)
-
-      used_by : (one : ℕ) → is_in one given.stations ≡ true → (same : Bool) → (one == station) ≡ same → AreUsed one after
-      used_by one in_it true same = subst (λ n. AreUsed n after) (sym (eqb-true one station same)) own.used
-      used_by one in_it false differs = same_used given one history after (sees one (apart one in_it differs)) still (are.used one in_it)
 
       arriving_by : (one : ℕ) → is_in one given.stations ≡ true → (same : Bool) → (one == station) ≡ same → IsArriving given one (other_of one) after
       arriving_by one in_it true same = subst (λ n. IsArriving given n (other_of n) after) (sym (eqb-true one station same)) own.arriving
@@ -148,20 +140,33 @@ module _ (whole : IsHeardWhole) (given : Given) (Q : Place → List Event → Ty
   abbrev C : Place → List Event → Type 0
   C place history = AreCountedAt given Q place history
 
+  -- a link that is opened has no line of its side before, so nothing is said of it
+  opened_clear : (station : ℕ) (step : Step) (history : List Event) (place : Place) → is_in station given.stations ≡ true → C place (after_call given station step history) → (handle : ℕ)
+      → is_opened handle (notes_after (setup_at given station) (facts_at given station history) step) ≡ true → IsClearOn ((links_of history).last_of station) (lines_at station history)
+  opened_clear station step history place is counted handle opened =
+      let setup = setup_at given station in
+      let called = history ++ Called station step ∷ [] in
+      let side = side_of station in
+      let first = opened_is_first handle _ _ (notes_after setup (facts_at given station history) step) (past_noted setup (past_of station history) step) opened in
+      let at = ap (λ notes. history ++ Called station step ∷ map (Noted station) notes) first.is
+      ∙ sym (append_assoc history (Called station step ∷ []) (map (Noted station) (Opened first.handle first.role first.own first.peer ∷ first.rest))) in
+      clear_lines ((links_of history).last_of station) side (journal_of history)
+      (sym (λ i. lines_of side (last_by_call station step [] history station i) ((journal_event history (Called station step) ∙ append-nil (journal_of history)) i))
+      ∙ known.fresh place (after_call given station step history) counted.known station first.handle first.role first.own first.peer called (map (Noted station) first.rest) is at)
+
   call_well : (station : ℕ) (step : Step) (history : List Event) (before place : Place) → is_in station given.stations ≡ true → IsInTurn step
       → C before history → C place (after_call given station step history)
       → EachAt given station (after_call given station step history) (HasMoved given station history)
-      → EachAt given station (after_call given station step history) (λ handle link. IsAged history link)
       → (AreFew given station history → AreFew given station (after_call given station step history))
       → AreMine given history → AreWell given history → AreWell given (after_call given station step history)
-  call_well station step history before place is in_turn was counted moved aged few mine are =
+  call_well station step history before place is in_turn was counted moved few mine are =
       let after = after_call given station step history in
       let other = other_of station in
       let far = other_in given are_two station is in
       let made : IsCallMade given station step history = record {
         well = are.well station is;
         far_well = are.well other far;
-        used = are.used station is;
+        clear = opened_clear station step history place is counted;
         arriving = are.arriving station is;
         mine = mine station is;
         own = own_numbers given Q known before history station is was.known;
@@ -170,42 +175,22 @@ module _ (whole : IsHeardWhole) (given : Given) (Q : Place → List Event → Ty
         far_begun = λ handle link at. known.begun place after counted.known other handle link far at;
         agree = known.agree whole place after counted.known station other is far (own_differs station);
         moved = moved;
-        aged = aged;
         few = few (are.well station is).few;
         in_turn = in_turn;
       } in
-      own_all given are_two station history after is (λ one differs. sees_other_call given one station step history differs)
-      (old_call given station step history) (record {
+      own_all given are_two station history after is (λ one differs. sees_other_call given one station step history differs) (record {
         well = well_after given few_links.links eight station step history made;
-        used = used_after given few_links.links eight station step history made;
         arriving = arriving_after given few_links.links eight station step history made;
       }) are
 
-  -- a station in a turn
-  turn_aged : (history after : List Event) (station phases handle : ℕ) (link : OpenLink) → turns_begun after ≡ turns_begun history
-      → IsStation (setup_at given station) (facts_at given station after) → PhasedBy given after station (at_stage (Within phases) (turns_begun after))
-      → link_at handle (facts_at given station after).links ≡ Some link → IsAged history link
-  turn_aged history after station phases handle link turns is phased at =
-      station_aged history (setup_at given station) (facts_at given station after) handle link is (phased.uses.in_turn.begun_is ∙ turns) (phased.uses.in_turn.slot_is ∙ turns) at
-
-  feed_kept : (station : ℕ) (octets : List ℕ) (history : List Event) (place : Place) → is_in station given.stations ≡ true → C place history
-      → PhasedBy given history station (at_stage Between (turns_begun history - 1)) → IsBetween given station history
+  feed_kept : (station : ℕ) (octets : List ℕ) (history : List Event) (place : Place) → is_in station given.stations ≡ true → C place history → IsBetween given station history
       → AreWell given history → AreWell given (after_feed given station octets history)
-  feed_kept station octets history place is counted phased between are =
+  feed_kept station octets history place is counted between are =
       let after = after_feed given station octets history in
       let other = other_of station in
-      let facts = facts_at given station history in
       let own = own_numbers given Q known place history station is counted.known in
-      own_all given are_two station history after is (λ one differs. sees_other_feed given one station octets history differs)
-      (old_feed given station octets history) (record {
+      own_all given are_two station history after is (λ one differs. sees_other_feed given one station octets history differs) (record {
         well = feed_well given few_links.links eight station octets history own (are.well station is) between;
-        used = feed_used given few_links.links eight station octets history own (are.well station is) between (λ handle link at.
-            let begun = known.begun place history counted.known station handle link is at in
-            let before : link.setup.opened < facts.turn.begun =
-            open_has (OpenedBefore facts.turn.begun) 0 handle facts.links link (counted.holds.so_far.last.each station is).earlier at in
-            let now = phased.uses.in_turn.begun_is in
-            let slot = begun.slot in
-            record { link = begun.link; is_link = begun.is_link; before = omega (arith, before, now, slot) }) (are.used station is);
         arriving = fed_arriving station octets history is own between are;
       }) are
     where
@@ -227,7 +212,7 @@ module _ (whole : IsHeardWhole) (given : Given) (Q : Place → List Event → Ty
         let counted = kept.on_turn slot plan history begun at is.counted in record {
           counted = counted;
           mine = heard_none_mine given after counted.holds.hearing.hears;
-          are = all_same given history after (λ station. sees_turn station history slot radios) (old_event history (TurnBegan slot radios)) is.are;
+          are = all_same given history after (λ station. sees_turn station history slot radios) is.are;
         };
     on_feed = λ plan done left station history are some now is.
         let octets = take (plan.feed_of station) (octets_left given station history) in
@@ -237,8 +222,7 @@ module _ (whole : IsHeardWhole) (given : Given) (Q : Place → List Event → Ty
         let stand = is.counted.holds.hearing.stand in record {
           counted = counted;
           mine = heard_none_mine given (after_feed given station octets history) counted.holds.hearing.hears;
-          are = feed_kept station octets history place in_it is.counted (phased_at given place history stand station in_it)
-              (between_standing (past_of station history) (at_stage Between (turns_begun history - 1)) (stand station in_it)) is.are;
+          are = feed_kept station octets history place in_it is.counted (between_standing (past_of station history) (at_stage Between (turns_begun history - 1)) (stand station in_it)) is.are;
         };
     on_fed = λ history is. record { counted = kept.on_fed history is.counted; mine = is.mine; are = is.are };
     on_begin = λ slot plan done left station history are due is.
@@ -248,14 +232,10 @@ module _ (whole : IsHeardWhole) (given : Given) (Q : Place → List Event → Ty
         let place = AtBegins (done ++ station ∷ []) left in
         let counted = kept.on_begin slot plan done left station history are due is.counted in
         let in_it = among given.stations done left station are in
-        let phased : PhasedBy given after station (at_stage (Within 0) (turns_begun after)) =
-        subst (λ b. PhasedBy given after station (if b then at_stage (Within 0) (turns_begun after) else at_stage Between (turns_begun after - 1)))
-        (in_more_same station station done (same_station station)) (phased_at given place after counted.holds.hearing.stand station in_it) in
-        let turns = turns_called station step (notes_after (setup_at given station) (facts_at given station history) step) history in record {
+        record {
           counted = counted;
           mine = heard_none_mine given after counted.holds.hearing.hears;
           are = call_well station step history (AtBegins done (station ∷ left)) place in_it tt is.counted counted (begin_moves given station slot on history)
-              (λ handle link at. turn_aged history after station 0 handle link turns (counted.holds.so_far.last.each station in_it) phased at)
               (few_begin given station slot on history) is.mine is.are;
         };
     on_begun = λ history is. record { counted = kept.on_begun history is.counted; mine = is.mine; are = is.are };
@@ -269,8 +249,7 @@ module _ (whole : IsHeardWhole) (given : Given) (Q : Place → List Event → Ty
           counted = kept.on_packet phases plan done left station channel octets history are some due is.counted;
           mine = packet_mine whole given Q known are_two six distinct phases done left station channel octets plan.fates history are due.is_wanted is.counted.known is.counted.holds
               is.counted.counted due.is_seen (λ other is_other differs. is.counted.silent other station is_other in_it differs out) is.mine;
-          are = all_same given history (history ++ Transmitted station channel octets hearings ∷ []) (λ one. sees_packet one history station channel octets hearings)
-              (old_event history (Transmitted station channel octets hearings)) is.are;
+          are = all_same given history (history ++ Transmitted station channel octets hearings ∷ []) (λ one. sees_packet one history station channel octets hearings) is.are;
         };
     on_air = λ phases history is. record { counted = kept.on_air phases history is.counted; mine = is.mine; are = is.are };
     on_hearing = λ phases done left station history are some is.
@@ -283,15 +262,11 @@ module _ (whole : IsHeardWhole) (given : Given) (Q : Place → List Event → Ty
         let before : PhasedBy given history station (at_stage (Within phases) (turns_begun history)) =
         subst (λ b. PhasedBy given history station (if b then at_stage (Within (suc phases)) (turns_begun history) else at_stage (Within phases) (turns_begun history)))
         (not_before given.stations done left station distinct are) (phased_at given (AtListening phases done (station ∷ left)) history is.counted.holds.hearing.stand station in_it) in
-        let phased : PhasedBy given after station (at_stage (Within (suc phases)) (turns_begun after)) =
-        subst (λ b. PhasedBy given after station (if b then at_stage (Within (suc phases)) (turns_begun after) else at_stage (Within phases) (turns_begun after)))
-        (in_more_same station station done (same_station station)) (phased_at given place after counted.holds.hearing.stand station in_it) in
-        let turns = turns_called station step (notes_after (setup_at given station) (facts_at given station history) step) history in record {
+        record {
           counted = counted;
           mine = hearing_mine given are_two station history in_it is.mine;
           are = call_well station step history (AtListening phases done (station ∷ left)) place in_it (pass_in_turn received) is.counted counted
-              (λ handle link at. phase_moves given station history handle link before.uses.in_turn.slot_is before.uses.in_turn.listens at)
-              (λ handle link at. turn_aged history after station (suc phases) handle link turns (counted.holds.so_far.last.each station in_it) phased at)
+              (λ handle link at. phase_moves given station history handle link before.uses.in_turn.listens at)
               (few_pass given station received history) is.mine is.are;
         };
     on_heard = λ phases history is. record { counted = kept.on_heard phases history is.counted; mine = is.mine; are = is.are };
@@ -301,23 +276,11 @@ module _ (whole : IsHeardWhole) (given : Given) (Q : Place → List Event → Ty
         let place = AtEnds (done ++ station ∷ []) left in
         let counted = kept.on_end done left station history are some is.counted in
         let in_it = among given.stations done left station are in
-        let before : PhasedBy given history station (at_stage (Within 3) (turns_begun history)) =
-        subst (λ b. PhasedBy given history station (if b then at_stage Between (turns_begun history) else at_stage (Within 3) (turns_begun history)))
-        (not_before given.stations done left station distinct are) (phased_at given (AtEnds done (station ∷ left)) history is.counted.holds.hearing.stand station in_it) in
         record {
           counted = counted;
           mine = heard_none_mine given after counted.holds.hearing.hears;
           are = call_well station TurnEnds history (AtEnds done (station ∷ left)) place in_it tt is.counted counted (end_moves given station history)
-              (λ handle link at. ended_aged station history handle link (is.counted.holds.so_far.last.each station in_it) before at)
               (few_end given station history) is.mine is.are;
         };
     on_ended = λ history is. record { counted = kept.on_ended history is.counted; mine = is.mine; are = is.are };
   }
-    where
-      ended_aged : (station : ℕ) (history : List Event) (handle : ℕ) (link : OpenLink) → IsStation (setup_at given station) (facts_at given station history)
-          → PhasedBy given history station (at_stage (Within 3) (turns_begun history))
-          → link_at handle (facts_at given station (after_call given station TurnEnds history)).links ≡ Some link → IsAged history link
-      ended_aged station history handle link is before at =
-          let was = end_under (setup_at given station) (facts_at given station history) handle link
-          (ap (λ (f : Facts). link_at handle f.links) (sym (own_facts given station TurnEnds history)) ∙ at) in
-          alike_aged history was.link link was.setup was.ack (turn_aged history history station 3 handle was.link refl is before was.was)

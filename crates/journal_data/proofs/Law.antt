@@ -37,7 +37,6 @@ use Rattle.journal_data.proofs.FewLinks.{HaveFewLinks, pair_links}
 use Rattle.journal_data.proofs.Sides.{AreAhead, AreArriving}
 use Rattle.journal_data.proofs.StationLines.{first_booked, none_at_first}
 use Rattle.journal_data.proofs.Submitting.{HasFed}
-use Rattle.journal_data.proofs.Used.{AreUsed, IsClear}
 
 -- ---- as a run begins
 
@@ -68,13 +67,6 @@ first_well given station = record {
   few = few_first given station;
 }
 
-first_used : (station : ℕ) → AreUsed station []
-unfolding lines_of journal_of
-first_used station = λ number. IsClear (record {
-  unused = record { sent = refl; taken = refl; received = refl; credited = refl };
-  submitted = refl;
-})
-
 nothing_arrives : (one other link : ℕ) → ArrivesInOrder link (lines_at one []) (lines_at other [])
 unfolding lines_of journal_of
 nothing_arrives one other link = record {
@@ -96,7 +88,6 @@ first_arriving given station other = record {
 first_are : (given : Given) → AreWell given []
 first_are given = record {
   well = λ station is. first_well given station;
-  used = λ station is. first_used station;
   arriving = λ station is. first_arriving given station (other_of station);
 }
 

@@ -28,8 +28,7 @@ mod FewComplete
 mod Credits
 pub mod FedInRuns
 pub mod Ends
-pub mod Used
-mod FedOthers
+pub mod ClearLines
 mod SameView
 mod NotedStays
 pub mod OneCall

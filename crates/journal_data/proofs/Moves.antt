@@ -1,27 +1,22 @@
 -- What each call in a turn does to the link of its station.
-use Rattle.std.proofs.Common.{◌≡◌, ℕ, ◌+◌, ◌<◌, ◌≤◌, ◌==◌, Bool, true, false, Some, List, [], ◌∷◌, ◌++◌, length, take, refl, sym, ap, subst, ◌∙◌, if◌then◌else◌, nat_lt, arith}
-use Rattle.std.proofs.lemmas.Bool.{eqb-true, eqb-false}
-use Rattle.std.proofs.lemmas.Bool.Decides.{nat_tests}
+use Rattle.std.proofs.Common.{◌≡◌, ℕ, ◌≤◌, ◌==◌, Bool, true, false, Some, List, [], ◌∷◌, ◌++◌, length, take, refl, sym, ap, subst, ◌∙◌, if◌then◌else◌}
 use Rattle.std.proofs.lemmas.List.{take-append-le}
-use Rattle.link_model.specs.Acknowledgement.{Acknowledgement, Pdu, first_acknowledgement}
-use Rattle.link_model.specs.Setup.{Setup as EndSetup}
+use Rattle.link_model.specs.Acknowledgement.{Acknowledgement, Pdu}
 use Rattle.link_model.proofs.Sending.{past_counted}
 use Rattle.open_links.specs.OpenLinks.{OpenLink, facts_in, link_at}
-use Rattle.controller_model.specs.Facts.{Facts, Setup}
+use Rattle.controller_model.specs.Facts.{Facts}
 use Rattle.controller_model.specs.Heard.{has_room}
 use Rattle.controller_model.specs.Side.{facts_after}
 use Rattle.controller_model.specs.Step.{Step, TurnBegins, TurnEnds}
-use Rattle.run_model.specs.History.{Event, packet_received, turns_begun}
+use Rattle.run_model.specs.History.{Event, packet_received}
 use Rattle.run_model.specs.Run.{Given, after_call, facts_at, setup_at, step_of}
 use Rattle.run_laws.proofs.Agreed.{ack_of, ack_sent, first_ack}
 use Rattle.run_laws.proofs.Hearings.{own_facts}
-use Rattle.run_laws.proofs.InAgreement.{IsFresh, IsStation, OpenedBefore}
-use Rattle.run_laws.proofs.OpenSteps.{open_has}
 use Rattle.run_laws.proofs.TurnSteps.{IsListening}
 use Rattle.journal_acks.proofs.LinkCalls.{HasPassed, IsNew, Stays, Takes, base_ack, begins_under, passes_under}
 use Rattle.journal_acks.proofs.LinkUses.{sends_under}
 use Rattle.journal_acks.proofs.UnderHandles.{end_under, sent_if}
-use Rattle.journal_data.proofs.OneCall.{Before, Fresh, HasMoved, IsAged, Kept, New, Took}
+use Rattle.journal_data.proofs.OneCall.{HasMoved, Kept, New, Took}
 
 -- sending takes nothing, and acknowledges nothing
 record IsSentOn (before after : Acknowledgement) : Type 0 where
@@ -65,25 +60,22 @@ begin_moves given station slot on history handle link at =
 -- ---- in a phase
 
 passed_moves : (given : Given) (station : ℕ) (history : List Event) (handle : ℕ) (link : OpenLink) (room : Bool)
-    → (next : Facts) → (facts_at given station history).turn.slot + 1 ≡ turns_begun history
-    → HasPassed (facts_at given station history) room (packet_received station history) handle next.turn.doing link → HasMoved given station history handle link
-passed_moves given station history handle link room next now (IsNew end made opened off) =
-    let setup : link.setup.opened ≡ end.opened = ap (λ (l : OpenLink). l.setup.opened) made in
-    New (omega (arith, setup, opened, now)) (ap ack_of made ∙ first_ack end)
-passed_moves given station history handle link room next now (Stays was none nothing listened) = Kept link was refl refl
-passed_moves given station history handle link room next now (Takes base octets was some on same) =
+    → (next : Facts) → HasPassed (facts_at given station history) room (packet_received station history) handle next.turn.doing link → HasMoved given station history handle link
+passed_moves given station history handle link room next (IsNew end made opened off) = New (ap ack_of made ∙ first_ack end)
+passed_moves given station history handle link room next (Stays was none nothing listened) = Kept link was refl refl
+passed_moves given station history handle link room next (Takes base octets was some on same) =
     Took base was (record { octets = octets; received = some; link = base; is_open = was; listens = on })
 
 pub phase_moves : (given : Given) (station : ℕ) (history : List Event) (handle : ℕ) (link : OpenLink)
-    → (facts_at given station history).turn.slot + 1 ≡ turns_begun history → IsListening (facts_at given station history) (facts_at given station history).turn.doing
+    → IsListening (facts_at given station history) (facts_at given station history).turn.doing
     → link_at handle (facts_at given station (after_call given station (step_of (packet_received station history)) history)).links ≡ Some link
     → HasMoved given station history handle link
-phase_moves given station history handle link now listens at =
+phase_moves given station history handle link listens at =
     let setup = setup_at given station in
     let facts = facts_at given station history in
     let received = packet_received station history in
     let next = facts_after setup facts (step_of received) in
-    passed_moves given station history handle link (has_room setup facts) next now
+    passed_moves given station history handle link (has_room setup facts) next
     (passes_under setup facts received handle link listens (own_at given station (step_of received) history handle link at))
 
 -- ---- as a turn ends
@@ -93,34 +85,3 @@ pub end_moves : (given : Given) (station : ℕ) (history : List Event) (handle :
 end_moves given station history handle link at =
     let was = end_under (setup_at given station) (facts_at given station history) handle link (own_at given station TurnEnds history handle link at) in
     Kept was.link was.was (ap (λ (a : Acknowledgement). a.accepted) was.ack) (ap (λ (a : Acknowledgement). take a.acked a.sent) was.ack)
-
--- ---- how old it is
-
-not_equal : (opened slot turns : ℕ) → (opened ≡ slot → ⊥) → opened + 1 ≤ turns → slot + 1 ≡ turns → opened + 1 < turns
-not_equal opened slot turns differs most now = by (nat_lt (opened + 1) turns) refl
-  where
-    by : (less : Bool) → nat_lt (opened + 1) turns ≡ less → opened + 1 < turns
-    by true is = grind (arith, nat_tests)
-    by false is = absurd (differs (grind (arith, nat_tests)))
-
-aged_by : (history : List Event) (link : OpenLink) (slot begun turns : ℕ) → link.setup.opened < begun → begun ≡ turns → slot + 1 ≡ turns
-    → turns ≡ turns_begun history → (link.setup.opened ≡ slot → ack_of link ≡ first_acknowledgement) → IsAged history link
-aged_by history link slot begun turns before begun_is now same fresh = by (link.setup.opened == slot) refl
-  where
-    by : (new : Bool) → (link.setup.opened == slot) ≡ new → IsAged history link
-    by true is = let equal = eqb-true link.setup.opened slot is in Fresh (omega (arith, equal, now, same)) (fresh equal)
-    by false is =
-        let differs = eqb-false link.setup.opened slot is in
-        Before (not_equal link.setup.opened slot (turns_begun history) differs (omega (arith, before, begun_is, same)) (omega (arith, now, same)))
-
--- a station in a turn, with this link
-pub station_aged : (history : List Event) (setup : Setup) (facts : Facts) (handle : ℕ) (link : OpenLink) → IsStation setup facts → facts.turn.begun ≡ turns_begun history
-    → facts.turn.slot + 1 ≡ turns_begun history → link_at handle facts.links ≡ Some link → IsAged history link
-station_aged history setup facts handle link is begun now at =
-    aged_by history link facts.turn.slot facts.turn.begun (turns_begun history) (open_has (OpenedBefore facts.turn.begun) 0 handle facts.links link is.earlier at)
-    begun now refl (open_has (IsFresh facts.turn.slot) 0 handle facts.links link is.fresh at)
-
--- and a link that is as it was
-pub alike_aged : (history : List Event) (was link : OpenLink) → link.setup ≡ was.setup → ack_of link ≡ ack_of was → IsAged history was → IsAged history link
-alike_aged history was link setup ack (Before old) = let same = ap (λ (s : EndSetup). s.opened) setup in Before (omega (arith, same, old))
-alike_aged history was link setup ack (Fresh now first) = let same = ap (λ (s : EndSetup). s.opened) setup in Fresh (omega (arith, same, now)) (ack ∙ first)

@@ -58,14 +58,6 @@ same_then link first second third one next = record {
   credited = next.credited ∙ one.credited;
 }
 
-pub unused_still : (link : ℕ) (before after : Lines) → IsSameOn link before after → IsUnused link before → IsUnused link after
-unused_still link before after same unused = record {
-  sent = same.sent ∙ unused.sent;
-  taken = same.taken ∙ unused.taken;
-  received = same.received ∙ unused.received;
-  credited = same.credited ∙ unused.credited;
-}
-
 -- a place that has a link
 pub record IsLink (place : Option OpenLink) : Type 0 where
   pub link : OpenLink

@@ -1,53 +1,48 @@
 -- A call in a turn keeps that the data of both sides arrives in order.
-use Rattle.std.proofs.Common.{◌≡◌, ℕ, zero, suc, ◌+◌, ◌<◌, ◌≤◌, ◌==◌, true, false, Option, Some, None, List, [], ◌∷◌, ◌++◌, length, take, refl, sym, ap, subst, ◌∙◌, if◌then◌else◌, arith}
-use Rattle.std.specs.Prelude.{◌≢◌, filter, is_some, not}
+use Rattle.std.proofs.Common.{◌≡◌, ℕ, zero, suc, ◌≤◌, ◌==◌, true, false, Option, Some, List, [], ◌∷◌, ◌++◌, length, take, refl, sym, ap, subst, ◌∙◌, if◌then◌else◌, arith}
+use Rattle.std.specs.Prelude.{◌≢◌}
 use Rattle.std.specs.Option.{option_map}
 use Rattle.std.proofs.lemmas.Bool.{eqb-true, false_from_ne_true}
 use Rattle.ble_base.specs.declared.notes.Note.{Note}
-use Rattle.acl_banks.specs.History.{HostData, whole_packets}
 use Rattle.ack_bit.specs.Nonempty.{nonempty}
 use Rattle.link_model.specs.Acknowledgement.{Acknowledgement, Pdu, first_acknowledgement}
 use Rattle.link_model.specs.Data.{data_of, is_empty}
-use Rattle.link_model.specs.Delivery.{IsInOrder, acked_data}
 use Rattle.link_model.specs.Pair.{AreInAgreement}
 use Rattle.open_links.specs.OpenLinks.{OpenLink, facts_in, link_at}
 use Rattle.controller_model.specs.Facts.{Facts, Setup}
-use Rattle.controller_model.specs.Side.{facts_after, notes_after}
+use Rattle.controller_model.specs.Side.{notes_after}
 use Rattle.controller_model.specs.Since.{data_waiting}
 use Rattle.controller_model.specs.Step.{Step}
 use Rattle.controller_model.proofs.Always.{IsInTurn}
-use Rattle.run_model.proofs.Calls.{turns_called}
 use Rattle.run_model.proofs.LinksKnown.{link_by_other, link_by_own}
 use Rattle.run_model.proofs.OpenedNotes.{is_opened}
-use Rattle.run_model.specs.History.{Event, past_of, turns_begun}
+use Rattle.run_model.specs.History.{Event, past_of}
 use Rattle.run_model.specs.Journal.{side_of}
 use Rattle.run_model.specs.Links.{links_of}
 use Rattle.run_model.specs.Run.{Given, after_call, facts_at, setup_at}
 use Rattle.run_laws.proofs.Agreed.{Agree, ack_of, exchange}
-use Rattle.run_laws.proofs.Hearings.{other_facts, own_facts}
+use Rattle.run_laws.proofs.Hearings.{other_facts}
 use Rattle.run_laws.proofs.InAgreement.{AllAgree, WithAll}
 use Rattle.run_laws.proofs.OpenSteps.{open_has}
 use Rattle.journal_packets.specs.Belonging.{is_side}
-use Rattle.journal_links.specs.Begun.{LinkBegun}
 use Rattle.journal_acks.proofs.Counting.{HaveOwnNumbers, IsBegun, one_begun}
 use Rattle.journal_acks.proofs.Exchanging.{number_at}
 use Rattle.journal_acks.proofs.TwoStations.{other_of}
-use Rattle.journal_data.specs.HostLines.{has_octets}
-use Rattle.journal_data.specs.Lines.{Lines, accepted_on, credited_on, empties_on, pdus_on, submitted_on}
-use Rattle.journal_data.proofs.Arriving.{IsAhead, IsEndBooked, first_ahead, pdu_lines}
+use Rattle.journal_data.specs.Lines.{Lines, accepted_on, pdus_on, submitted_on}
+use Rattle.journal_data.proofs.Arriving.{IsAhead, first_ahead, pdu_lines}
+use Rattle.journal_data.proofs.ClearLines.{IsClearOn}
 use Rattle.journal_data.proofs.Credits.{AreFew}
 use Rattle.journal_data.proofs.EachLine.{lines_at, other_lines}
 use Rattle.journal_data.proofs.Ends.{IsEndOf, IsWell, end_at, end_of, found_at, from_end, same_fed, sound}
 use Rattle.journal_data.proofs.NotedStays.{noted_own}
 use Rattle.journal_data.proofs.Mine.{HasFarEnd, IsTaking}
-use Rattle.journal_data.proofs.Openness.{opens_where_free, past_noted}
-use Rattle.journal_data.proofs.Sides.{AreArriving, End, Here, IsBusy, IsFound, IsSound, Nowhere, call_arrives}
+use Rattle.journal_data.proofs.Openness.{opens_where_free}
+use Rattle.journal_data.proofs.Sides.{AreArriving, End, IsBusy, IsFound, IsSound, call_arrives}
 use Rattle.journal_data.proofs.LinesGrow.{call_grows}
-use Rattle.journal_data.proofs.NotedLines.{IsSameOn, is_link, unused_still}
+use Rattle.journal_data.proofs.NotedLines.{IsSameOn}
 use Rattle.journal_data.proofs.StationLines.{IsNoneOf, UnusedWhereOpened, call_booked, call_same_on}
 use Rattle.journal_data.proofs.KeptSubmitted.{turn_submitted}
 use Rattle.journal_data.proofs.Submitting.{call_submits, turn_fed}
-use Rattle.journal_data.proofs.Used.{AreUsed, IsClear, IsClearOn, IsOld, IsUsed, old_call, opened_now}
 
 -- what a call does to the link of its station under a handle
 pub data HasMoved (given : Given) (station : ℕ) (history : List Event) (handle : ℕ) (link : OpenLink) : Type 0 where
@@ -55,15 +50,10 @@ pub data HasMoved (given : Given) (station : ℕ) (history : List Event) (handle
   Kept : (was : OpenLink) → link_at handle (facts_at given station history).links ≡ Some was → (ack_of link).accepted ≡ (ack_of was).accepted
       → take (ack_of link).acked (ack_of link).sent ≡ take (ack_of was).acked (ack_of was).sent → HasMoved given station history handle link
   -- it is a new one
-  New : link.setup.opened + 1 ≡ turns_begun history → ack_of link ≡ first_acknowledgement → HasMoved given station history handle link
+  New : ack_of link ≡ first_acknowledgement → HasMoved given station history handle link
   -- it takes a packet
   Took : (was : OpenLink) → link_at handle (facts_at given station history).links ≡ Some was → IsTaking given station history handle
       → HasMoved given station history handle link
-
--- it began before this turn, or in it and took nothing yet
-pub data IsAged (history : List Event) (link : OpenLink) : Type 0 where
-  Before : link.setup.opened + 1 < turns_begun history → IsAged history link
-  Fresh : link.setup.opened + 1 ≡ turns_begun history → ack_of link ≡ first_acknowledgement → IsAged history link
 
 -- this holds of each link that a station has open
 abbrev pub EachAt : Given → ℕ → List Event → (ℕ → OpenLink → Type 0) → Type 0
@@ -73,7 +63,9 @@ EachAt given station history P = (handle : ℕ) (link : OpenLink) → link_at ha
 pub record IsCallMade (given : Given) (station : ℕ) (step : Step) (history : List Event) : Type 0 where
   pub well : IsWell given station history
   pub far_well : IsWell given (other_of station) history
-  pub used : AreUsed station history
+  -- nothing is said before of a link that it opens
+  pub clear : (handle : ℕ) → is_opened handle (notes_after (setup_at given station) (facts_at given station history) step) ≡ true
+      → IsClearOn ((links_of history).last_of station) (lines_at station history)
   pub arriving : AreArriving (lines_at station history) (lines_at (other_of station) history) (end_at given station history) (end_at given (other_of station) history)
   pub mine : (handle : ℕ) → IsTaking given station history handle → HasFarEnd given station history handle
   pub own : HaveOwnNumbers given station history
@@ -84,32 +76,12 @@ pub record IsCallMade (given : Given) (station : ℕ) (step : Step) (history : L
       (λ handle link. IsBegun (after_call given station step history) (number_at (other_of station) handle (after_call given station step history)) (other_of station) link.setup)
   pub agree : AllAgree (facts_at given station (after_call given station step history)).links (facts_at given (other_of station) (after_call given station step history)).links
   pub moved : EachAt given station (after_call given station step history) (HasMoved given station history)
-  pub aged : EachAt given station (after_call given station step history) (λ handle link. IsAged history link)
   pub few : AreFew given station (after_call given station step history)
   pub in_turn : IsInTurn step
-
-is_none : {X : Type 0} (place : Option X) → is_some place ≡ false → place ≡ None
-is_none None is = refl
-is_none (Some x) is = absurd cc
-
-not_some : {X Y : Type 0} (place : Option X) (x : X) → place ≡ None → place ≡ Some x → Y
-not_some place x none some = absurd (let h : None ≡ Some x = sym none ∙ some in absurd cc)
 
 no_front : {X : Type 0} (front rest : List X) → front ++ rest ≡ [] → front ≡ []
 no_front [] rest is = refl
 no_front (x ∷ front) rest is = absurd cc
-
--- where its host submitted nothing on a link, nothing is credited on it
-none_credited : (number : ℕ) (end : End) (lines : Lines) → IsEndBooked number lines end.facts end.waiting → IsInOrder end.facts → submitted_on number lines ≡ []
-    → credited_on number lines ≡ 0
-none_credited number end lines booked order none =
-    let credits = booked.credited in
-    let counted = order.counted in
-    let given_none : end.facts.outgoing.given ≡ [] = sym booked.submitted ∙ ap (filter has_octets) none in
-    let whole : whole_packets end.facts.outgoing.given (length (acked_data end.facts.acknowledgement)) ≡ 0 =
-    ap (λ given. whole_packets given (length (acked_data end.facts.acknowledgement))) given_none in
-    let empties : empties_on number lines ≡ 0 = ap (λ all. length (filter (λ (packet : HostData). not (has_octets packet)) all)) none in
-    omega (arith, credits, counted, whole, empties)
 
 -- the other one of two stations
 other_not : (station : ℕ) → (other_of station == station) ≡ false
@@ -163,50 +135,16 @@ module _ (given : Given) (few : (station : ℕ) → (setup_at given station).lin
       ∙ ap (λ b. if b then (links_of history).last_of station else number_at station handle history)
       (opens_where_free setup (past_of station history) step handle was at)
 
-  -- nothing is said before of a link that began in this turn
-  clear_before : (handle : ℕ) (link : OpenLink) → place_after handle ≡ Some link → link.setup.opened + 1 ≡ turns_begun history → IsClearOn (number_after handle) before_lines
-  clear_before handle link at now = by (made.used (number_after handle))
-    where
-      by : IsUsed station (number_at station handle (after_call given station step history)) history
-          → IsClearOn (number_at station handle (after_call given station step history)) (lines_at station history)
-      by (IsClear clear) = clear
-      by (IsOld old) =
-          let begun = made.begun handle link at in
-          let later = old_call given station step history (number_after handle) old in
-          let same : Some later.link ≡ Some begun.link = sym later.is_link ∙ begun.is_link in
-          let equal : later.link ≡ begun.link = cc in
-          let slot : later.link.slot ≡ link.setup.opened = ap (λ (l : LinkBegun). l.slot) equal ∙ begun.slot in
-          let before = later.before in
-          let turns = turns_called station step notes history in
-          absurd (omega (arith, slot, before, turns, now))
-
-  clear_where_opened : (handle : ℕ) → is_opened handle notes ≡ true → IsClearOn ((links_of history).last_of station) before_lines
-  clear_where_opened handle opened =
-      let now = opened_now handle _ _ notes (past_noted setup (past_of station history) step) opened in
-      let found = is_link (link_at handle (facts_after setup facts step).links) now.now in
-      let at : place_after handle ≡ Some found.link = ap (λ (f : Facts). link_at handle f.links) (own_facts given station step history) ∙ found.is in
-      let free = is_none (link_at handle facts.links) now.free in
-      let number : number_after handle ≡ (links_of history).last_of station =
-      number_is handle ∙ ap (λ b. if b then (links_of history).last_of station else number_at station handle history) opened in
-      subst (λ n. IsClearOn n before_lines) number (by handle found.link at free (made.moved handle found.link at))
-    where
-      by : (handle : ℕ) (link : OpenLink) → link_at handle (facts_at given station (after_call given station step history)).links ≡ Some link
-          → link_at handle (facts_at given station history).links ≡ None → HasMoved given station history handle link
-          → IsClearOn (number_at station handle (after_call given station step history)) (lines_at station history)
-      by handle link at free (Kept was here same acked) = not_some _ was free here
-      by handle link at free (New now first) = clear_before handle link at now
-      by handle link at free (Took was here taking) = not_some _ was free here
-
   -- ---- what is known of its own lines
 
   unused : UnusedWhereOpened given station step history
-  unused = λ handle opened. (clear_where_opened handle opened).unused
+  unused = λ handle opened. (made.clear handle opened).unused
 
   pub well_after : IsWell given station then_on
   well_after = record {
     noted = noted_own given station step history made.well.noted;
     booked = call_booked given station step history (few station) made.own made.own_after unused made.well.booked;
-    submitted = turn_submitted given station step history made.in_turn (λ handle opened. (clear_where_opened handle opened).submitted) made.well.submitted;
+    submitted = turn_submitted given station step history made.in_turn (λ handle opened. (made.clear handle opened).submitted) made.well.submitted;
     fed = turn_fed given station step history made.in_turn made.well.fed;
     few = made.few;
   }
@@ -221,36 +159,6 @@ module _ (given : Given) (few : (station : ℕ) → (setup_at given station).lin
   sound_after : (handle : ℕ) (link : OpenLink) → place_after handle ≡ Some link → IsSound (end_of station handle then_on given link) after_lines
   sound_after handle link at = sound given station handle then_on link (few station) (eight station) well_after at
 
-  -- ---- which links it used
-
-  still_used : (number : ℕ) → IsSameOn number before_lines after_lines → IsUsed station number history → IsUsed station number then_on
-  still_used number same (IsOld old) = IsOld (old_call given station step history number old)
-  still_used number same (IsClear clear) = IsClear (record {
-    unused = unused_still number before_lines after_lines same clear.unused;
-    submitted = submits_same number ∙ clear.submitted;
-  })
-
-  own_used : (handle : ℕ) (link : OpenLink) → place_after handle ≡ Some link → IsAged history link → IsUsed station (number_after handle) then_on
-  own_used handle link at (Before old) =
-      let begun = made.begun handle link at in
-      let turns = turns_called station step notes history in
-      let slot = begun.slot in
-      IsOld (record { link = begun.link; is_link = begun.is_link; before = omega (arith, old, turns, slot) })
-  own_used handle link at (Fresh now first) =
-      let number = number_after handle in
-      let booked = (sound_after handle link at).booked in
-      let clear = clear_before handle link at now in
-      let accepted : (ack_of link).accepted ≡ [] = ap (λ (a : Acknowledgement). a.accepted) first in
-      IsClear (record {
-        unused = record {
-          sent = booked.sent ∙ ap (λ (a : Acknowledgement). pdu_lines number 1 (nonempty is_empty a.sent)) first;
-          taken = booked.taken ∙ ap (λ pdus. pdu_lines number 1 (nonempty is_empty pdus)) accepted;
-          received = no_front _ _ (booked.received ∙ ap data_of accepted);
-          credited = none_credited number (end_of station handle then_on given link) after_lines booked (sound_after handle link at).order (submits_same number ∙ clear.submitted);
-        };
-        submitted = submits_same number ∙ clear.submitted;
-      })
-
   found_after : (number : ℕ) → IsFound (end_at given station then_on) number
   found_after number = found_at given station then_on number
 
@@ -258,16 +166,6 @@ module _ (given : Given) (few : (station : ℕ) → (setup_at given station).lin
   none_of number none = λ handle link at.
       false_from_ne_true (number_after handle == number)
       (λ same. none handle (end_of station handle then_on given link) (ap (option_map (end_of station handle then_on given)) at) (eqb-true (number_after handle) number same))
-
-  pub used_after : AreUsed station then_on
-  used_after = λ number. by number (found_after number)
-    where
-      by : (number : ℕ) → IsFound (end_at given station (after_call given station step history)) number → IsUsed station number (after_call given station step history)
-      by number (Here handle end at same) =
-          let of = from_end given station (after_call given station step history) handle end at in
-          let own : number_at station handle (after_call given station step history) ≡ number = ap (λ (e : End). e.link) of.is ∙ same in
-          subst (λ n. IsUsed station n (after_call given station step history)) own (own_used handle of.link of.at (made.aged handle of.link of.at))
-      by number (Nowhere none) = still_used number (others_same number (none_of number none)) (made.used number)
 
   -- ---- both directions
 
@@ -350,8 +248,11 @@ module _ (given : Given) (few : (station : ℕ) → (setup_at given station).lin
     alone_by : HasMoved given station history handle link
         → (pdus_on number after_lines.taken ≡ pdus_on number before_lines.taken) × IsAhead number (ack_of link) far_lines
     alone_by (Kept was here accepted acked) = kept_alone was here accepted acked
-    alone_by (New now first) = (
-      taken_by [] (ap (λ (a : Acknowledgement). a.accepted) first) (clear_before handle link at now).unused.taken,
+    alone_by (New first) = (
+      taken_by [] (ap (λ (a : Acknowledgement). a.accepted) first)
+          (let grows = (call_grows given station station number step history).taken in
+          no_front (pdus_on number before_lines.taken) grows.more
+          (sym grows.is ∙ (sound_after handle link at).booked.taken ∙ ap (λ (a : Acknowledgement). pdu_lines number 1 (nonempty is_empty a.accepted)) first)),
       first_ahead number (ack_of link) far_lines (ap (λ (a : Acknowledgement). a.acked) first),
     )
     alone_by (Took was here taking) =

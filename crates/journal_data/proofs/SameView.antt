@@ -20,7 +20,6 @@ use Rattle.journal_data.proofs.FewComplete.{IsFedBetween}
 use Rattle.journal_data.proofs.StationLines.{not_one, numbers_event, same_booked, same_lines}
 use Rattle.journal_data.proofs.Submitting.{IsSubmitted}
 use Rattle.journal_data.proofs.EachLine.{numbers_at}
-use Rattle.journal_data.proofs.Used.{AreUsed, IsClear, IsClearOn, IsOld, IsOldLink, IsUsed}
 
 pub record SeesSame (station : ℕ) (history after : List Event) : Type 0 where
   pub lines : lines_at station after ≡ lines_at station history
@@ -68,13 +67,6 @@ module _ (given : Given) (station : ℕ) (history after : List Event) (same : Se
   pub same_end : end_at given station after ≡ end_at given station history
   same_end = λ i handle. option_map (λ (link : OpenLink). record { link = same.number i handle; facts = facts_in link; waiting = data_waiting handle (same_facts i).received })
       (link_at handle (same_facts i).links)
-
-  pub same_used : ((number : ℕ) → IsOldLink number history → IsOldLink number after) → AreUsed station history → AreUsed station after
-  same_used still used = λ number. by number (used number)
-    where
-      by : (number : ℕ) → IsUsed station number history → IsUsed station number after
-      by number (IsOld old) = IsOld (still number old)
-      by number (IsClear clear) = IsClear (subst (IsClearOn number) (sym same.lines) clear)
 
 -- ---- events that are of no call of it
 

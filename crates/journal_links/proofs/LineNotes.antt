@@ -13,14 +13,15 @@ use Rattle.ble_base.specs.declared.roles.Side.{Side}
 use Rattle.journal.specs.declared.entries.Entry.{Entry}
 use Rattle.journal.specs.declared.entries.Entry.TheVariants.{Opened as OpenedLine}
 use Rattle.open_links.specs.OpenLinks.{OpenLink, link_at}
-use Rattle.controller_model.specs.Since.{opens_under}
-use Rattle.run_model.specs.Feeding.{AreDistinct}
-use Rattle.run_model.specs.History.{Event, TurnBegan, HostFed, Called, Noted, Transmitted, noted_by, notes_in, one_if}
+use Rattle.controller_model.specs.Since.{is_under, note_under, notes_opened_on, notes_under, opens_under, was_opened}
+use Rattle.controller_model.proofs.UnderNotes.{open_noted, opened_more, or_none, some_under, under_more}
+use Rattle.run_model.specs.Feeding.{AreDistinct, HasNoted}
+use Rattle.run_model.specs.History.{Event, TurnBegan, HostFed, Called, Noted, Transmitted, noted_by, notes_in, one_if, past_of}
 use Rattle.run_model.specs.Journal.{entries_of, entry_of, journal_of, side_of}
 use Rattle.run_model.specs.LinkEnds.{HaveAddresses}
 use Rattle.run_model.specs.Links.{Links, begins_link, links_after, links_noted, links_of, with_link}
 use Rattle.run_model.specs.Numbers.{AreNumbered}
-use Rattle.run_model.specs.Run.{Given, facts_at, history_of, run_of}
+use Rattle.run_model.specs.Run.{Given, facts_at, history_of, run_of, setup_at}
 use Rattle.run_model.proofs.Calls.{flat_event, same_station}
 use Rattle.run_model.proofs.LinkEnds.{AreTaken, IsUnderstood}
 use Rattle.run_model.proofs.LinksKnown.{links_event}
@@ -28,7 +29,7 @@ use Rattle.run_model.proofs.Numbers.{opening_at}
 use Rattle.run_model.proofs.OfStations.{OfStations, run_of_stations}
 use Rattle.run_model.proofs.Parts.{journal_event}
 use Rattle.run_model.proofs.Places.{each_at}
-use Rattle.journal_links.specs.LinkLines.{IsOfItsNotes, is_under, line_of, lines_of, note_under, notes_under, was_opened, where_named, link_named}
+use Rattle.journal_links.specs.LinkLines.{AreLinesOf, IsOfItsNotes, line_of, lines_of, link_named, where_named}
 use Rattle.journal_links.proofs.LinkLines.{IsApart, across, fresh, line_more, lines_append, named_elsewhere, named_here}
 
 -- ---- notes
@@ -41,36 +42,6 @@ record IsOfLink (under : ℕ) (note : Note) : Type 0 where
       → lines_of side number (entry_of side link_of last note ∷ []) ≡ where_named side number (Some (side, link_of under)) (entry_of side link_of last note) ++ []
   line : (side : Side) (link_of : ℕ → ℕ) (last number : ℕ) → link_of under ≡ number → entry_of side link_of last note ≡ line_of side number note
   links : (station : ℕ) (links : Links) → links_noted station note links ≡ links
-
--- the notes under a handle, and whether a link was opened under it, after one more
-under_more : (handle : ℕ) (notes : List Note) (note : Note) → notes_under handle (notes ++ note ∷ []) ≡ note_under handle (notes_under handle notes) note
-under_more handle notes note = fold-append (note_under handle) [] notes (note ∷ [])
-
-or_none : (b : Bool) → (b || false) ≡ b
-or_none true = refl
-or_none false = refl
-
-opened_more : (handle : ℕ) (notes : List Note) (note : Note) → was_opened handle (notes ++ note ∷ []) ≡ (was_opened handle notes || opens_under handle note)
-opened_more handle notes note = list_any-append (opens_under handle) notes (note ∷ []) ∙ ap (λ b. was_opened handle notes || b) (or_none (opens_under handle note))
-
-no_end : (notes : List Note) (note : Note) (X : Type 0) → notes ++ note ∷ [] ≡ [] → X
-no_end [] note X is = absurd cc
-no_end (first ∷ notes) note X is = absurd cc
-
--- where a link was opened there are notes of it
-none_under : (handle : ℕ) (before notes : List Note) → fold (note_under handle) before notes ≡ [] → (before ≡ []) × (was_opened handle notes ≡ false)
-none_under handle before [] is = (is, refl)
-none_under handle before (note ∷ notes) is = let rest = none_under handle (note_under handle before note) notes is in
-    by (opens_under handle note) (is_under handle note) rest.0 rest.1
-  where
-    by : (opens under : Bool) → (if opens then note ∷ [] else if under then before ++ note ∷ [] else before) ≡ [] → was_opened handle notes ≡ false
-        → (before ≡ []) × ((opens || was_opened handle notes) ≡ false)
-    by true under none rest = absurd cc
-    by false true none rest = no_end before note _ none
-    by false false none rest = (none, rest)
-
-some_under : (handle : ℕ) (notes : List Note) (X : Type 0) → was_opened handle notes ≡ true → notes_under handle notes ≡ [] → X
-some_under handle notes X opened none = absurd (let h : true ≡ false = sym opened ∙ (none_under handle [] notes none).1 in absurd cc)
 
 -- ---- one station
 
@@ -264,9 +235,6 @@ module _ (station : ℕ) (history : List Event) (are : AreSorted station history
     opened_by handle here is =
         ap (was_opened handle) (note_added station history opening) ∙ opened_more handle notes opening ∙ ap (λ b. was_opened handle notes || b) is
 
-    was_before : (handle : ℕ) → (under == handle) ≡ false → was_opened handle (noted_by station opened_then) ≡ was_opened handle notes
-    was_before handle is = opened_by handle false is ∙ or_none (was_opened handle notes)
-
     number_then : (handle : ℕ) (here : Bool) → (under == handle) ≡ here → number_at station handle opened_then ≡ (if here then last else number handle)
     number_then handle here is =
         ap (λ (l : Links). l.link_of station handle) (links_event history (Noted station opening))
@@ -433,3 +401,12 @@ module _ (understood : IsUnderstood) (taken : AreTaken) (given : Given) (distinc
           let number = (numbers station handle link at).number_is in
           let none = (sorted_from [] before rest is none_sorted).unnumbered handle was in
           absurd (omega (arith, number, none))
+
+  -- where a link is open, its lines are what its end noted
+  pub lines_of_end : (before rest : List Event) (handle : ℕ) (link : OpenLink) → history_of (run_of given) ≡ before ++ rest → AreNumbered given before → HasNoted given station before
+      → link_at handle (facts_at given station before).links ≡ Some link
+      → AreLinesOf (journal_of before) station (number_at station handle before) (notes_opened_on link.setup link.past)
+  lines_of_end before rest handle link is numbers noted at =
+      lines_are_notes before rest handle is (open_was_opened before rest handle link is numbers at)
+      ∙ ap (map (line_of (side_of station) (number_at station handle before)))
+      (ap (notes_under handle) noted ∙ open_noted handle (setup_at given station) (past_of station before) link at)

@@ -1,5 +1,5 @@
 -- The lines of one side on one link, as a journal grows.
-use Rattle.std.proofs.Common.{◌≡◌, ◌≢◌, ℕ, ◌+◌, ◌<◌, ◌≤◌, ◌==◌, ◌&&◌, ◌||◌, Bool, true, false, Option, Some, None, List, [], ◌∷◌, ◌++◌, refl, sym, ap, subst, ◌∙◌, append-nil, append_assoc, arith}
+use Rattle.std.proofs.Common.{◌≡◌, ◌≢◌, ℕ, ◌+◌, ◌<◌, ◌≤◌, ◌==◌, ◌&&◌, ◌||◌, Bool, true, false, Option, Some, None, List, [], ◌∷◌, ◌++◌, refl, sym, ap, subst, ◌∙◌, append-nil, append_assoc, arith, ◌⊎◌, inl, inr}
 use Rattle.std.specs.Prelude.{fold, if◌then◌else◌}
 use Rattle.std.specs.List.{flat_map}
 use Rattle.std.proofs.lemmas.Bool.{false_from_ne_true, eqb-true}
@@ -18,7 +18,7 @@ use Rattle.run_model.proofs.OfStations.{OfStations, run_of_stations}
 use Rattle.run_model.proofs.Parts.{journal_more}
 use Rattle.run_model.proofs.Places.{each_at}
 use Rattle.run_model.proofs.Stations.{is_in}
-use Rattle.journal_links.specs.LinkLines.{lines_of, where_named}
+use Rattle.journal_links.specs.LinkLines.{lines_of, link_named, where_named}
 
 -- ---- sides
 
@@ -46,6 +46,32 @@ lines_append side number front rest = flat_map-append _ front rest
 pub line_more : (side : Side) (number : ℕ) (front : List Entry) (line : Entry) (lines : List Entry) → lines_of side number (line ∷ []) ≡ lines
     → lines_of side number (front ++ line ∷ []) ≡ lines_of side number front ++ lines
 line_more side number front line lines is = lines_append side number front (line ∷ []) ∙ ap (λ xs. lines_of side number front ++ xs) is
+
+-- a line is of this side and this link, or it is not
+named_or_not : (side : Side) (number : ℕ) (may : Option (Side × ℕ)) (line : Entry) → (where_named side number may line ≡ []) ⊎ (where_named side number may line ≡ line ∷ [])
+named_or_not side number None line = inl refl
+named_or_not side number (Some named) line = by side named.0 (named.1 == number)
+  where
+    by : (one other : Side) (same : Bool) → (of_side one other (if same then line ∷ [] else []) ≡ []) ⊎ (of_side one other (if same then line ∷ [] else []) ≡ line ∷ [])
+    by A A true = inr refl
+    by B B true = inr refl
+    by A B true = inl refl
+    by B A true = inl refl
+    by one other false = inl (nothing_of one other)
+
+-- what is read of these lines alone is read of the whole journal
+pub fold_lines : {X : Type 0} (side : Side) (number : ℕ) (after : X → Entry → X)
+    → ((x : X) (line : Entry) → where_named side number (link_named line) line ≡ [] → after x line ≡ x) → (x : X) (journal : List Entry)
+    → fold after x journal ≡ fold after x (lines_of side number journal)
+fold_lines {X = X} side number after skips x [] = refl
+fold_lines {X = X} side number after skips x (line ∷ journal) = by (named_or_not side number (link_named line) line) (λ y. fold_lines side number after skips y journal)
+  where
+    by : (where_named side number (link_named line) line ≡ []) ⊎ (where_named side number (link_named line) line ≡ line ∷ [])
+        → ((y : X) → fold after y journal ≡ fold after y (lines_of side number journal))
+        → fold after (after x line) journal ≡ fold after x (where_named side number (link_named line) line ++ lines_of side number journal)
+    by (inl none) rest =
+        ap (λ y. fold after y journal) (skips x line none) ∙ rest x ∙ ap (λ xs. fold after x (xs ++ lines_of side number journal)) (sym none)
+    by (inr one) rest = rest (after x line) ∙ ap (λ xs. fold after x (xs ++ lines_of side number journal)) (sym one)
 
 -- ---- the line of a note
 

@@ -44,11 +44,6 @@ pub links_more : (front rest : List Entry) → links_begun (front ++ rest) ≡ l
 unfolding links_begun
 links_more front rest = links_append [] front rest
 
--- one entry more
-pub links_entry : (front : List Entry) (entry : Entry) → links_begun (front ++ entry ∷ []) ≡ links_begun front ++ begun_in front entry
-links_entry front entry =
-    links_more front (entry ∷ []) ∙ ap (λ links. links_begun front ++ links) (append-nil (begun_in front entry))
-
 -- ---- the link with a number
 
 get_more : (links more : List LinkBegun) (place : ℕ) (link : LinkBegun) → slice_get links place ≡ Some link → slice_get (links ++ more) place ≡ Some link

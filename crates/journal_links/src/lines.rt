@@ -6,11 +6,12 @@ ghost use Rattle.ble_base.specs.declared.roles.Role.{Role};
 ghost use Rattle.ble_base.specs.declared.roles.Side.{Side};
 ghost use Rattle.chan_select.specs.Channel.{channel_of};
 ghost use Rattle.chan_select.specs.declared.selection.Algorithm.TheVariants.{One, Two};
+ghost use Rattle.controller_model.specs.Since.{notes_opened_on, was_opened};
 ghost use Rattle.journal.specs.declared.entries.Entry.{Entry};
 ghost use Rattle.journal.specs.declared.entries.Entry.TheVariants.{Enter, Opened};
 ghost use Rattle.journal_links.specs.Begun.{LinkBegun};
 ghost use Rattle.journal_links.specs.Entered.{IsEnteredInTime, anchor_in, channel_in};
-ghost use Rattle.journal_links.specs.LinkLines.{IsOfItsNotes, was_opened};
+ghost use Rattle.journal_links.specs.LinkLines.{AreLinesOf, IsOfItsNotes};
 ghost use Rattle.journal_links.specs.Opened.{IsOpenedInTime};
 ghost use Rattle.journal_links.specs.Procedures.{NoneNamesAProcedure};
 ghost use Rattle.open_links.specs.OpenLinks.{OpenLink, link_at};
@@ -19,6 +20,7 @@ ghost use Rattle.run_model.specs.Feeding.{is_note};
 ghost use Rattle.run_model.specs.History.{Event, noted_by};
 ghost use Rattle.run_model.specs.Journal.{journal_of};
 ghost use Rattle.run_model.specs.LinkEnds.{HaveAddresses};
+ghost use Rattle.run_model.specs.Links.{links_of};
 ghost use Rattle.run_model.specs.Pair.{given_of};
 ghost use Rattle.run_model.specs.Readers.{turns_of};
 ghost use Rattle.run_model.specs.Run.{Given, facts_at, history_of, run_of};
@@ -98,10 +100,11 @@ pub fn no_line_names_a_procedure()
         → NoneNamesAProcedure (journal_of (history_of (run_of (given_of a b script)))) }
 {}
 
-/// The lines of a side on one link are the notes of its end, in order, from the one that says that
-/// it was opened: those of its events, its PDUs, its indications and its procedures, and that it
-/// was shut. This is so at each place of a run of two stations, also in the middle of a call, for
-/// each handle under which a link was opened, and for any number of links.
+/// The lines of a side on one link are the notes of that link, in order, from the one that says
+/// that it was opened: those of its events, its PDUs, its indications and its procedures, and that
+/// it was shut. This is so at each place of a run of two stations, also in the middle of a call,
+/// for each handle under which a link was opened, and for any number of links. Where the link is
+/// open, they are what its end noted over all that happened to it.
 pub fn lines_of_a_link_are_its_notes()
     ensures at_any_time { (given : Given) (before rest : List Event) (station handle : ℕ)
         → given.stations ≡ 0 ∷ 1 ∷ [] → HaveAddresses given → Contains given.stations station
@@ -114,10 +117,23 @@ pub fn lines_of_a_link_are_its_notes()
         → history_of (run_of given) ≡ before ++ event ∷ rest → is_note event ≡ false
         → link_at handle (facts_at given station before).links ≡ Some link
         → was_opened handle (noted_by station before) ≡ true }
+    ensures of_its_end { (given : Given) (before rest : List Event) (event : Event)
+        (station handle : ℕ) (link : OpenLink)
+        → given.stations ≡ 0 ∷ 1 ∷ [] → HaveAddresses given → Contains given.stations station
+        → history_of (run_of given) ≡ before ++ event ∷ rest → is_note event ≡ false
+        → link_at handle (facts_at given station before).links ≡ Some link
+        → AreLinesOf (journal_of before) station ((links_of before).link_of station handle)
+        (notes_opened_on link.setup link.past) }
     ensures open_at_the_end { (given : Given) (station handle : ℕ) (link : OpenLink)
         → given.stations ≡ 0 ∷ 1 ∷ [] → HaveAddresses given → Contains given.stations station
         → link_at handle (facts_at given station (history_of (run_of given))).links ≡ Some link
         → was_opened handle (noted_by station (history_of (run_of given))) ≡ true }
+    ensures of_its_end_at_the_end { (given : Given) (station handle : ℕ) (link : OpenLink)
+        → given.stations ≡ 0 ∷ 1 ∷ [] → HaveAddresses given → Contains given.stations station
+        → link_at handle (facts_at given station (history_of (run_of given))).links ≡ Some link
+        → AreLinesOf (journal_of (history_of (run_of given))) station
+        ((links_of (history_of (run_of given))).link_of station handle)
+        (notes_opened_on link.setup link.past) }
 {
     controller_model::a_pdu_is_understood();
     advertise::laws::connections_are_taken();

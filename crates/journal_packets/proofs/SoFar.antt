@@ -1,5 +1,5 @@
 -- Each packet of a run of two stations on a data channel is of the link on which it was sent.
-use Rattle.std.proofs.Common.{◌≡◌, ℕ, false, List, [], ◌∷◌, ◌++◌}
+use Rattle.std.proofs.Common.{◌≡◌, ℕ, false, List, [], ◌∷◌, ◌++◌, sym}
 use Rattle.std.specs.Prelude.{map, take}
 use Rattle.controller_model.specs.Step.{Step, TurnBegins, TurnEnds}
 use Rattle.controller_model.specs.Facts.{Sends}
@@ -7,12 +7,13 @@ use Rattle.run_model.specs.Due.{Each}
 use Rattle.run_model.specs.History.{Event, TurnBegan, HostFed, Called, Noted, Transmitted, Hearing, packet_received}
 use Rattle.run_model.specs.LinkEnds.{HaveAddresses}
 use Rattle.run_model.specs.Links.{is_advertising}
-use Rattle.run_model.specs.Run.{Given, use_at, octets_left, after_call, after_feed, hearings_of, step_of, run_of, history_of}
+use Rattle.run_model.specs.Run.{Given, setup_at, use_at, octets_left, after_call, after_feed, hearings_of, step_of, run_of, history_of}
 use Rattle.run_model.proofs.Fronts.{IsFrontAt, front_first, fronts_kept}
 use Rattle.run_model.proofs.LinkEnds.{AreTaken, IsUnderstood}
+use Rattle.run_model.proofs.Notes.{IsNotedSoFar, first_notes, noted_stepped}
 use Rattle.run_model.proofs.Numbers.{IsNumberedSoFar, numbered_first, numbered_kept}
 use Rattle.run_model.proofs.Places.{each_at, each_event}
-use Rattle.run_model.proofs.Walk.{Place, NoTurn, AtPackets, IsKept, IsWhole, IsStopped, ends_with, run_kept}
+use Rattle.run_model.proofs.Walk.{Place, NoTurn, AtPackets, IsKept, IsWhole, IsStopped, ends_with, run_kept, stepped_kept}
 use Rattle.run_laws.proofs.DistinctAccess.{AreApart}
 use Rattle.journal_packets.specs.Senders.{IsOfSendersLink}
 use Rattle.journal_packets.proofs.AccessOrder.{AreNth}
@@ -27,39 +28,47 @@ pub record IsBelongingSoFar (given : Given) (place : Place) (history : List Even
   pub numbered : IsNumberedSoFar given place history
   pub asked : AreAsked given place history
   pub front : IsFrontAt given place history
+  pub noted : IsNotedSoFar given history
 
 pub belonging_kept : IsUnderstood → AreTaken → (given : Given) → given.stations ≡ 0 ∷ 1 ∷ [] → HaveAddresses given → IsKept given (IsBelongingSoFar given)
 belonging_kept understood taken given are_two six =
     let numbers = numbered_kept understood taken given six (are_distinct given are_two) in
     let asks = asked_kept understood given are_two six in
-    let fronts = fronts_kept given in record {
-      on_turn = λ slot plan history begun at is. record { numbered = numbers.on_turn slot plan history begun at is.numbered; asked = asks.on_turn slot plan history begun at is.asked; front = fronts.on_turn slot plan history begun at is.front };
+    let fronts = fronts_kept given in
+    let notes = stepped_kept given (IsNotedSoFar given) (noted_stepped given) in record {
+      on_turn = λ slot plan history begun at is. record { numbered = numbers.on_turn slot plan history begun at is.numbered; asked = asks.on_turn slot plan history begun at is.asked; front = fronts.on_turn slot plan history begun at is.front; noted = notes.on_turn slot plan history begun at is.noted };
       on_feed = λ plan done left station history are some now is.
-          record { numbered = numbers.on_feed plan done left station history are some now is.numbered; asked = asks.on_feed plan done left station history are some now is.asked; front = fronts.on_feed plan done left station history are some now is.front };
-      on_fed = λ history is. record { numbered = numbers.on_fed history is.numbered; asked = asks.on_fed history is.asked; front = fronts.on_fed history is.front };
+          record { numbered = numbers.on_feed plan done left station history are some now is.numbered; asked = asks.on_feed plan done left station history are some now is.asked; front = fronts.on_feed plan done left station history are some now is.front; noted = notes.on_feed plan done left station history are some now is.noted };
+      on_fed = λ history is. record { numbered = numbers.on_fed history is.numbered; asked = asks.on_fed history is.asked; front = fronts.on_fed history is.front; noted = notes.on_fed history is.noted };
       on_begin = λ slot plan done left station history are due is.
-          record { numbered = numbers.on_begin slot plan done left station history are due is.numbered; asked = asks.on_begin slot plan done left station history are due is.asked; front = fronts.on_begin slot plan done left station history are due is.front };
-      on_begun = λ history is. record { numbered = numbers.on_begun history is.numbered; asked = asks.on_begun history is.asked; front = fronts.on_begun history is.front };
-      on_phase = λ phases history few is. record { numbered = numbers.on_phase phases history few is.numbered; asked = asks.on_phase phases history few is.asked; front = fronts.on_phase phases history few is.front };
+          record { numbered = numbers.on_begin slot plan done left station history are due is.numbered; asked = asks.on_begin slot plan done left station history are due is.asked; front = fronts.on_begin slot plan done left station history are due is.front; noted = notes.on_begin slot plan done left station history are due is.noted };
+      on_begun = λ history is. record { numbered = numbers.on_begun history is.numbered; asked = asks.on_begun history is.asked; front = fronts.on_begun history is.front; noted = notes.on_begun history is.noted };
+      on_phase = λ phases history few is. record { numbered = numbers.on_phase phases history few is.numbered; asked = asks.on_phase phases history few is.asked; front = fronts.on_phase phases history few is.front; noted = notes.on_phase phases history few is.noted };
       on_silence = λ phases done left station history are none is.
-          record { numbered = numbers.on_silence phases done left station history are none is.numbered; asked = asks.on_silence phases done left station history are none is.asked; front = fronts.on_silence phases done left station history are none is.front };
+          record { numbered = numbers.on_silence phases done left station history are none is.numbered; asked = asks.on_silence phases done left station history are none is.asked; front = fronts.on_silence phases done left station history are none is.front; noted = notes.on_silence phases done left station history are none is.noted };
       on_packet = λ phases plan done left station channel octets history are some due is. record {
         numbered = numbers.on_packet phases plan done left station channel octets history are some due is.numbered;
         asked = asks.on_packet phases plan done left station channel octets history are some due is.asked;
         front = fronts.on_packet phases plan done left station channel octets history are some due is.front;
+        noted = notes.on_packet phases plan done left station channel octets history are some due is.noted;
       };
-      on_air = λ phases history is. record { numbered = numbers.on_air phases history is.numbered; asked = asks.on_air phases history is.asked; front = fronts.on_air phases history is.front };
+      on_air = λ phases history is. record { numbered = numbers.on_air phases history is.numbered; asked = asks.on_air phases history is.asked; front = fronts.on_air phases history is.front; noted = notes.on_air phases history is.noted };
       on_hearing = λ phases done left station history are some is.
-          record { numbered = numbers.on_hearing phases done left station history are some is.numbered; asked = asks.on_hearing phases done left station history are some is.asked; front = fronts.on_hearing phases done left station history are some is.front };
-      on_heard = λ phases history is. record { numbered = numbers.on_heard phases history is.numbered; asked = asks.on_heard phases history is.asked; front = fronts.on_heard phases history is.front };
-      on_phases = λ history is. record { numbered = numbers.on_phases history is.numbered; asked = asks.on_phases history is.asked; front = fronts.on_phases history is.front };
+          record { numbered = numbers.on_hearing phases done left station history are some is.numbered; asked = asks.on_hearing phases done left station history are some is.asked; front = fronts.on_hearing phases done left station history are some is.front; noted = notes.on_hearing phases done left station history are some is.noted };
+      on_heard = λ phases history is. record { numbered = numbers.on_heard phases history is.numbered; asked = asks.on_heard phases history is.asked; front = fronts.on_heard phases history is.front; noted = notes.on_heard phases history is.noted };
+      on_phases = λ history is. record { numbered = numbers.on_phases history is.numbered; asked = asks.on_phases history is.asked; front = fronts.on_phases history is.front; noted = notes.on_phases history is.noted };
       on_end = λ done left station history are some is.
-          record { numbered = numbers.on_end done left station history are some is.numbered; asked = asks.on_end done left station history are some is.asked; front = fronts.on_end done left station history are some is.front };
-      on_ended = λ history is. record { numbered = numbers.on_ended history is.numbered; asked = asks.on_ended history is.asked; front = fronts.on_ended history is.front };
+          record { numbered = numbers.on_end done left station history are some is.numbered; asked = asks.on_end done left station history are some is.asked; front = fronts.on_end done left station history are some is.front; noted = notes.on_end done left station history are some is.noted };
+      on_ended = λ history is. record { numbered = numbers.on_ended history is.numbered; asked = asks.on_ended history is.asked; front = fronts.on_ended history is.front; noted = notes.on_ended history is.noted };
     }
 
 pub belonging_first : (given : Given) → IsBelongingSoFar given NoTurn []
-belonging_first given = record { numbered = numbered_first given; asked = asked_first given; front = front_first given }
+belonging_first given = record {
+  numbered = numbered_first given;
+  asked = asked_first given;
+  front = front_first given;
+  noted = record { each = tt; noted = λ station. sym (first_notes (setup_at given station)) };
+}
 
 -- what a station wants to send on a data channel is of one of its links, and the journal names that
 pub sends_on_its_link : AreNth → AreApart → (given : Given) → given.stations ≡ 0 ∷ 1 ∷ [] → HaveAddresses given → (phases : ℕ) (done left : List ℕ) (station : ℕ) (history : List Event)

@@ -20,3 +20,8 @@ mod WhatWaits
 mod WhatWaitsInRuns
 mod StoppedRuns
 mod Law
+mod Awaited
+mod AnswersHeard
+mod CentralsOpen
+mod ResetAnswers
+mod ResetsLeaveNone

@@ -37,7 +37,7 @@ module _ (whole : IsHeardWhole) (given : Given) (Q : Place → List Event → Ty
     (wanted : use_at given station history ≡ Sends channel octets) (has : IsKnownAt given Q (AtPackets phases done (station ∷ left)) history)
     (off : is_advertising channel ≡ false) where
   abbrev counted : AreCountedAt given Q (AtPackets phases done (station ∷ left)) history
-  counted = has.lined.channelled.is
+  counted = has.lined.counts
 
   abbrev sender : Facts
   sender = facts_at given station history

@@ -126,7 +126,7 @@ module _ (whole : IsHeardWhole) (given : Given) (Q : Place → List Event → Ty
   other = other_of station
 
   abbrev counted : AreCountedAt given Q here history
-  counted = is.lined.channelled.is
+  counted = is.lined.counts
 
   in_it : is_in station given.stations ≡ true
   in_it = among given.stations done left station are
@@ -439,7 +439,7 @@ module _ (whole : IsHeardWhole) (given : Given) (Q : Place → List Event → Ty
       pending_pdu = λ station in_it.
           has.pending_pdu station in_it
           ∙ sym (unheard_none (setup_at given station) (facts_at given station history) ((links_of history).link_of station) (packet_received station history)
-          (λ handle link is_open listens. has.is.lined.channelled.is.holds.hearing.hears station in_it));
+          (λ handle link is_open listens. has.is.lined.counts.holds.hearing.hears station in_it));
       each = has.each;
     };
     on_silence = λ phases done left station history are none has.

@@ -86,7 +86,7 @@ module _ (whole : IsHeardWhole) (given : Given) (Q : Place → List Event → Ty
   fixed =
       let setup = setup_at given station in
       let stands = turned setup (IsFixed setup) (fixed_kept setup) (past_of station history) (record { stage = Within phases; begun = turns_begun history }) (fixed_first setup)
-      (has.lined.channelled.is.holds.hearing.stand station (among given.stations done left station are)) in
+      (has.lined.counts.holds.hearing.stand station (among given.stations done left station are)) in
       sender_fixed given history station channel octets sending stands.sends
       (sends_on whole given Q known are_two few_links six distinct eight phases done left station channel octets history are wanted has off)
 

@@ -16,8 +16,11 @@ use Rattle.journal_data.specs.Delivered.{AllDataArrives}
 use Rattle.journal_data.specs.Held.{LinesAreOfOpenLinks}
 use Rattle.journal_turns.specs.Follows.{FollowsSchedule}
 use Rattle.journal_turns.specs.Scheduled.{AreAllTurns}
+use Rattle.journal_pdus.specs.Answered.{AllAnswersAreHeard}
 use Rattle.journal_pdus.specs.Exchanged.{IsAtRest, PdusAreDue}
 use Rattle.journal_pdus.specs.InTime.{AllEndInTime, NoneIsOverdue}
+use Rattle.journal_pdus.specs.OpenedLinks.{AllAreOpenedByThen, AreOpened}
+use Rattle.journal_pdus.specs.Resetting.{ResetsLeaveNoLink}
 use Rattle.journal_pdus.specs.Settled.{AreSettled}
 
 -- each line of a link that a side holds from there on is in the turn of the CONNECT_IND of that link
@@ -42,6 +45,8 @@ pub record IsLawful (a b : List ℕ) (script : Script) (journal : List Entry) : 
   -- links and their events are those of their CONNECT_INDs, each of which has the next access address
   pub addresses : AllAddressesAreNext script journal
   pub opened : AllAreOpened journal
+  -- each CONNECT_IND opens its link at the side that sent it, before the next turn
+  pub begun : AllAreOpenedByThen journal
   pub entered : AllAreEntered journal
   pub events : AllAreInOrder journal
   -- lines name links that are open at their side, and a link is opened under the next free handle
@@ -49,17 +54,22 @@ pub record IsLawful (a b : List ℕ) (script : Script) (journal : List Entry) : 
   -- each link that is shut has its reason, and one that is not shut has none: it ends later
   pub shut : AllHaveReasons journal
   pub in_time : AllEndInTime journal
+  -- and a Reset leaves none
+  pub resets : ResetsLeaveNoLink journal
   -- no line is of a control procedure
   pub procedures : NoneNamesAProcedure journal
+  -- an answer on a link that passes is heard
+  pub answered : AllAnswersAreHeard journal
   -- what goes out on links and what is taken is what is due, line by line
   pub due : PdusAreDue journal
   -- data arrives in order, and is credited only as it is accepted
   pub arrives : AllDataArrives journal
 
 -- the journal of a whole run: all turns of the script begin, and at the end nothing is under way, nothing waits for a
--- host, and no link was to end
+-- host, no link was to end, and each CONNECT_IND has opened its link
 pub record IsWhole (script : Script) (journal : List Entry) : Type 0 where
   pub turns : AreAllTurns script journal
   pub at_rest : IsAtRest journal
   pub settled : AreSettled journal
   pub in_time : NoneIsOverdue journal
+  pub begun : AreOpened journal

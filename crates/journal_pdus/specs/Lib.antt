@@ -6,4 +6,7 @@ pub mod Announced
 pub mod Pending
 pub mod Exchanged
 pub mod Undelivered
+pub mod Answered
+pub mod OpenedLinks
+pub mod Resetting
 pub mod Lawful

@@ -2,12 +2,13 @@
 use Rattle.std.proofs.Common.{◌≡◌, ℕ, List, sym, ap, subst, ◌∙◌}
 use Rattle.journal.specs.declared.entries.Entry.{Entry}
 use Rattle.journal_pdus.specs.Lawful.{IsLawful, IsWhole}
+use Rattle.journal_pdus.specs.Undelivered.{IsUndelivered}
 use Rattle.radio_replay.specs.Script.{Script}
 use Rattle.run_model.specs.History.{Event}
 use Rattle.run_model.specs.Journal.{journal_of}
 use Rattle.run_model.specs.Pair.{IsRun}
-use Rattle.run_model.specs.Run.{Given, GoesOn, history_of, run_of}
-use Rattle.pair_world.specs.Faults.{IsLawfulSoFar, IsRunFault}
+use Rattle.run_model.specs.Run.{Given, GoesOn, Stop, Stops, history_of, run_of}
+use Rattle.pair_world.specs.Faults.{IsDueAtFault, IsLawfulSoFar, IsRunFault}
 use Rattle.pair_world.specs.declared.run.RunFault.{RunFault}
 use Rattle.pair_world.specs.declared.run.RunFault.TheVariants.{Unseen, Memory}
 
@@ -24,3 +25,15 @@ lawful_so_far a b script given (Unseen turn packet sent heard journal) lawful is
 pub is_whole : (script : Script) (given : Given) (journal : List Entry) → ((history : List Event) → run_of given ≡ GoesOn history → IsWhole script (journal_of history))
     → IsRun given journal → IsWhole script journal
 is_whole script given journal whole is = subst (IsWhole script) (sym is.written) (whole is.history is.is_whole)
+
+pub due_at_fault : (script : Script) (given : Given) (fault : RunFault)
+    → ((history : List Event) (stop : Stop) → run_of given ≡ Stops history stop → IsUndelivered script stop.slot stop.place stop.sent stop.heard (journal_of history))
+    → IsRunFault given fault → IsDueAtFault script fault
+due_at_fault script given Memory due is = tt
+due_at_fault script given (Unseen turn packet sent heard journal) due is =
+    let stop = due is.history is.stop is.stops in
+    subst (IsUndelivered script turn packet sent heard) (sym is.written)
+    (subst (λ octets. IsUndelivered script turn packet sent octets (journal_of is.history)) (sym is.heard_is)
+    (subst (λ octets. IsUndelivered script turn packet octets is.stop.heard (journal_of is.history)) (sym is.sent_is)
+    (subst (λ n. IsUndelivered script turn n is.stop.sent is.stop.heard (journal_of is.history)) (sym is.packet_is)
+    (subst (λ n. IsUndelivered script n is.stop.place is.stop.sent is.stop.heard (journal_of is.history)) (sym is.turn_is) stop))))

@@ -2,6 +2,7 @@
 use Rattle.std.specs.Prelude.{ℕ, List, ⊤}
 use Rattle.journal.specs.declared.entries.Entry.{Entry}
 use Rattle.journal_pdus.specs.Lawful.{IsLawful}
+use Rattle.journal_pdus.specs.Undelivered.{IsUndelivered}
 use Rattle.radio_replay.specs.Script.{Script}
 use Rattle.run_model.specs.Pair.{EndsUnseen}
 use Rattle.run_model.specs.Run.{Given}
@@ -19,6 +20,11 @@ IsRunFault given (UnseenFault turn packet sent heard journal) = EndsUnseen given
 abbrev pub IsLawfulSoFar : List ℕ → List ℕ → Script → RunFault → Type 0
 IsLawfulSoFar a b script OutOfMemory = ⊤
 IsLawfulSoFar a b script (UnseenFault turn packet sent heard journal) = IsLawful a b script journal
+
+-- and that packet is the one that is due after it
+abbrev pub IsDueAtFault : Script → RunFault → Type 0
+IsDueAtFault script OutOfMemory = ⊤
+IsDueAtFault script (UnseenFault turn packet sent heard journal) = IsUndelivered script turn packet sent heard journal
 
 -- the fault of a stop in the turn of this slot, with the journal so far
 abbrev pub fault_of : Stop → ℕ → List Entry → RunFault

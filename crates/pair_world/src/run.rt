@@ -4,7 +4,7 @@ ghost use Rattle.controller_model.specs.Facts.{setup_of};
 ghost use Rattle.run_model.specs.Pair.{IsRun, given_of};
 ghost use Rattle.run_model.specs.Run.{Given};
 ghost use Rattle.journal_pdus.specs.Lawful.{IsLawful, IsWhole};
-ghost use Rattle.pair_world.specs.Faults.{IsLawfulSoFar, IsRunFault, fault_of};
+ghost use Rattle.pair_world.specs.Faults.{IsDueAtFault, IsLawfulSoFar, IsRunFault, fault_of};
 ghost use Rattle.pair_world.specs.Logs.{first_log};
 ghost use Rattle.pair_world.specs.Order.{MayBothBegin};
 ghost use Rattle.pair_world.specs.Stations.{IsFirst};
@@ -161,6 +161,8 @@ pub fn run_pair(alloc: Global, a: &[u8], b: &[u8], schedule: &Schedule) -> Resul
     // what goes out and what is taken is what is due.
     ensures lawful { IfOk result (IsLawful a.now b.now schedule.now) }
     ensures lawful_so_far { IfErr result (IsLawfulSoFar a.now b.now schedule.now) }
+    // The packet at which damage ends it is the one that is due next.
+    ensures due { IfErr result (IsDueAtFault schedule.now) }
     // All turns begin, and at the end nothing waits for a host.
     ensures whole { IfOk result (IsWhole schedule.now) }
 {

@@ -109,6 +109,8 @@ line_in_call given front rest entry line names is =
           ∙ append_assoc call.base (Called one.station call.step ∷ map (Noted one.station) call.earlier) (Noted one.station one.note ∷ one.after);
       notes_are = call.notes_are ∙ ap (λ note. call.earlier ++ note ∷ call.later) under.note_is;
       before = one.before;
+      rest = one.after;
+      is_at = one.is_at ∙ ap (λ note. one.before ++ Noted one.station note ∷ one.after) under.note_is;
       before_is = call.before_is;
       front_is = one.front_is;
       side_is = under.side_is;

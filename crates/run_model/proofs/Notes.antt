@@ -62,7 +62,7 @@ noted_by_call given other station step history false is noted =
 not_note : (given : Given) (before : List Event) (station : ℕ) (note : Note) → NotedBefore given before (Noted station note)
 not_note given before station note is = absurd cc
 
-noted_stepped : (given : Given) → IsStepped given (IsNotedSoFar given)
+pub noted_stepped : (given : Given) → IsStepped given (IsNotedSoFar given)
 noted_stepped given = record {
   on_event = λ history event is so_far. record {
     each = each_event (NotedBefore given) history event so_far.each (λ outside. so_far.noted);
@@ -75,7 +75,7 @@ noted_stepped given = record {
   };
 }
 
-first_notes : (setup : Setup) → notes_of setup [] ≡ []
+pub first_notes : (setup : Setup) → notes_of setup [] ≡ []
 unfolding notes_of
 first_notes setup = refl
 

@@ -327,7 +327,7 @@ feed_stepped given P stepped station [] history is = is
 feed_stepped given P stepped station (octet ∷ octets) history is =
     octets_stepped given P stepped station (octet ∷ octets) _ (stepped.on_event history (HostFed station (octet ∷ octets)) refl is)
 
-stepped_kept : (given : Given) (P : List Event → Type 0) → IsStepped given P → IsKept given (λ place history. P history)
+pub stepped_kept : (given : Given) (P : List Event → Type 0) → IsStepped given P → IsKept given (λ place history. P history)
 stepped_kept given P stepped = record {
   on_turn = λ slot plan history begun at is. stepped.on_event history (TurnBegan slot (map plan.radio_of given.stations)) refl is;
   on_feed = λ plan done left station history are some now is. feed_stepped given P stepped station (take (plan.feed_of station) (octets_left given station history)) history is;

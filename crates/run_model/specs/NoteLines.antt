@@ -98,6 +98,8 @@ pub record IsLineInCall (given : Given) (front : List Entry) (line : LinkLine) :
   pub notes_are : notes_after (setup_at given station) (facts_at given station base) step
       ≡ earlier ++ line.note handle ∷ later
   pub before : List Event
+  pub rest : List Event
+  pub is_at : history_of (run_of given) ≡ before ++ Noted station (line.note handle) ∷ rest
   pub before_is : before ≡ base ++ Called station step ∷ map (Noted station) earlier
   pub front_is : front ≡ journal_of before
   pub side_is : side_of station ≡ line.side

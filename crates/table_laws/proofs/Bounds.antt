@@ -17,7 +17,7 @@ use Rattle.table_laws.proofs.Given.{answers_by, disconnects_at, given_by}
 
 -- ---- call by call
 
-keeps : (f : TableFacts) (key : Bool) (call : Call) → Kept f key → May f key call → Kept (after_call f call) (key_after_call key call)
+pub keeps : (f : TableFacts) (key : Bool) (call : Call) → Kept f key → May f key call → Kept (after_call f call) (key_after_call key call)
 keeps f key (asks ask) kept may = record { bound = kept.bound; own = kept.own; version = kept.version; end = kept.end }
 keeps f key (begins_one slot quiet) kept may = begin_by f slot quiet key _ _ kept refl refl
 keeps f key (takes read slot quiet) kept may = takes_one f read slot quiet key kept may
@@ -34,7 +34,7 @@ keeps_all f key [] kept may = kept
 keeps_all f key (call ∷ calls) kept may =
     keeps_all (after_call f call) (key_after_call key call) calls (keeps f key call kept may.0) may.1
 
-first_kept : (role : Role) (max_rx : ℕ) → Kept (first_facts role max_rx) false
+pub first_kept : (role : Role) (max_rx : ℕ) → Kept (first_facts role max_rx) false
 first_kept central_role max_rx = record { bound = omega arith; own = omega arith; version = omega arith; end = omega arith }
 first_kept peripheral_role max_rx = record { bound = omega arith; own = omega arith; version = omega arith; end = omega arith }
 

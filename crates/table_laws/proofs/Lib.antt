@@ -12,4 +12,5 @@ pub mod LastPdus
 pub mod Encrypting
 pub mod OneProcedure
 pub mod OneAtATime
+pub mod Quiet
 pub mod WorkedCalls

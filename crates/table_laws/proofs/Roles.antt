@@ -45,16 +45,16 @@ use Rattle.table_laws.proofs.Outcomes.{Took, is_answer, is_reply, took}
 use Rattle.table_laws.proofs.Begun.{begins_of}
 
 -- a draft of an end with this role, whenever it is sent
-abbrev IsOfRole : Role → Draft → Type 0
+abbrev pub IsOfRole : Role → Draft → Type 0
 IsOfRole role draft = (event skips : ℕ) → is_sent_by role (ctrl_of_draft draft event skips) ≡ true
 
-abbrev IsRejectedBy : Role → TheRejection → Type 0
+abbrev pub IsRejectedBy : Role → TheRejection → Type 0
 IsRejectedBy role rejection = is_sent_by role (RejectExtInd rejection.opcode rejection.code.0) ≡ true
 
-record Sends (role : Role) (f : TableFacts) : Type 0 where
-  same_role : role_of f.progress ≡ role
-  rejections : AllByRecursion (IsRejectedBy role) f.queue.rejections
-  drafts : AllByRecursion (IsOfRole role) f.queue.drafts
+pub record Sends (role : Role) (f : TableFacts) : Type 0 where
+  pub same_role : role_of f.progress ≡ role
+  pub rejections : AllByRecursion (IsRejectedBy role) f.queue.rejections
+  pub drafts : AllByRecursion (IsOfRole role) f.queue.drafts
 
 push : {X : Type 0} (P : X → Type 0) (xs : List X) (x : X) → AllByRecursion P xs → P x → AllByRecursion P (xs ++ x ∷ [])
 push P [] x all h = (h, all)
@@ -333,7 +333,7 @@ given_of peripheral_role f (peripheral p) key other r may event skips = absurd m
 given_of central_role f (peripheral p) key ctrl r may event skips = absurd (cc)
 given_of peripheral_role f (central c) key ctrl r may event skips = absurd (cc)
 
-keeps : (role : Role) (f : TableFacts) (key : Bool) (call : Call) → Sends role f → May f key call → Sends role (after_call f call)
+pub keeps : (role : Role) (f : TableFacts) (key : Bool) (call : Call) → Sends role f → May f key call → Sends role (after_call f call)
 keeps role f key (asks ask) s may = record { same_role = s.same_role; rejections = s.rejections; drafts = s.drafts }
 keeps role f key (begins_one slot quiet) s may = begin_by role f slot quiet _ _ s refl refl
 keeps role f key (takes read slot quiet) s may = takes_one role f read slot quiet s
@@ -354,7 +354,7 @@ keeps_all role f key [] s may = s
 keeps_all role f key (call ∷ calls) s may =
     keeps_all role (after_call f call) (key_after_call key call) calls (keeps role f key call s may.0) may.1
 
-first_sends : (role : Role) (max_rx : ℕ) → Sends role (first_facts role max_rx)
+pub first_sends : (role : Role) (max_rx : ℕ) → Sends role (first_facts role max_rx)
 first_sends central_role max_rx = record { same_role = refl; rejections = _; drafts = _ }
 first_sends peripheral_role max_rx = record { same_role = refl; rejections = _; drafts = _ }
 

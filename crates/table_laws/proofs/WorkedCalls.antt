@@ -1,18 +1,20 @@
 -- Worked lists of calls.
-use Rattle.std.proofs.Common.{◌≡◌, ℕ, ◌≤◌, Bool, true, false, List, Option, Some, None, refl, arith}
+use Rattle.std.proofs.Common.{◌≡◌, ℕ, ◌≤◌, Bool, true, false, List, ◌++◌, Option, Some, None, refl, arith}
 use Rattle.ble_base.specs.declared.procedure_kinds.Kind.{Kind}
 use Rattle.ble_base.specs.declared.procedure_kinds.Kind.TheVariants.{Encrypt}
 use Rattle.ble_base.specs.declared.roles.Role.{Role}
 use Rattle.ble_base.specs.declared.roles.Role.TheVariants.{Central}
 use Rattle.procedure_stages.specs.Kinds.{own_kind}
-use Rattle.procedures.specs.Table.{first_facts}
+use Rattle.procedures.specs.Table.{TableFacts, first_facts}
 use Rattle.procedure_stages.specs.InProgress.{has_peer}
 use Rattle.procedure_stages.specs.Queue.{waiting_in}
 use Rattle.procedures.specs.Calls.{Call, after_calls}
 use Rattle.table_laws.specs.Pasts.{MayAll}
 use Rattle.table_laws.specs.Waiting.{version_waiting}
 use Rattle.table_laws.specs.Exclusive.{AllKeepRules, exclusive_waiting}
-use Rattle.table_laws.specs.Worked.{begun_anew, crowding}
+use Rattle.table_laws.specs.Encrypting.{has_encryption}
+use Rattle.table_laws.specs.Quiet.{AllMeanwhile, IsMeanwhile, MayKeep, TakesMeanwhile}
+use Rattle.table_laws.specs.Worked.{begun_anew, crowding, encryption_asked, encryption_begun}
 use Rattle.table_laws.proofs.Bounds.{all_after, version_after}
 use Rattle.table_laws.proofs.OneAtATime.{none_after}
 
@@ -106,3 +108,26 @@ pub left_over : (max_rx : ℕ) (calls : List Call) → MayAll (first_facts Centr
     → has_peer (after_calls (first_facts Central max_rx) calls).progress ≡ false → ⊥
 left_over max_rx calls may rules is none gone =
     let empty = none_after max_rx calls may rules none gone in absurd (omega (arith, empty, is))
+
+-- ---- an encryption during which a PDU may be kept
+
+pub encryption_comes : MayAll (first_facts Central 27) false encryption_begun
+encryption_comes = (_, (_, (λ opens. record { encrypts = refl; none_waits = refl }, _)))
+
+pub encryption_rules : AllKeepRules (first_facts Central 27) encryption_begun
+encryption_rules = (_, (_, (_, _)))
+
+pub encryption_keeps : MayKeep (after_calls (first_facts Central 27) encryption_begun)
+encryption_keeps = record { encrypts = refl; owes_nothing = refl }
+
+pub later_comes : MayAll (after_calls (first_facts Central 27) encryption_begun) false encryption_asked
+later_comes = (_, (_, (λ is waits. refl, (λ is waits. refl, (λ opens. omega arith, _)))))
+
+now : (f : TableFacts) (call : Call) → has_encryption f.progress ≡ true → TakesMeanwhile call → IsMeanwhile f call
+now f call is may = record { encrypts = is; takes_it = may }
+
+pub later_meanwhile : AllMeanwhile (after_calls (first_facts Central 27) encryption_begun) encryption_asked
+later_meanwhile = (now _ _ refl _, (now _ _ refl _, (now _ _ refl _, (now _ _ refl _, (now _ _ refl _, _)))))
+
+pub one_waits : waiting_in (after_calls (first_facts Central 27) (encryption_begun ++ encryption_asked)).queue ≡ 1
+one_waits = refl

@@ -5,4 +5,5 @@ pub mod Sent
 pub mod Ending
 pub mod Encrypting
 pub mod Exclusive
+pub mod Quiet
 pub mod Worked

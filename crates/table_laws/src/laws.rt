@@ -27,6 +27,8 @@ ghost use Rattle.table_laws.specs.Sent.{is_sent_by};
 ghost use Rattle.table_laws.specs.Ending.{last_sent, last_waiting};
 ghost use Rattle.table_laws.specs.Exclusive.{AllKeepRules, exclusive_waiting};
 ghost use Rattle.table_laws.specs.Exclusive.{is_indication_ahead};
+ghost use Rattle.table_laws.specs.Quiet.{AllMeanwhile, MayKeep, PassesPhase};
+ghost use Rattle.table_laws.specs.Quiet.{first_pdus_waiting, is_unquiet, others_waiting};
 ghost use Rattle.table_laws.specs.Encrypting.{MayBeginBy, MayEndBy, has_encryption};
 
 /// Whatever the peer sends and the host asks, at most twenty control PDUs wait, so that there is
@@ -135,4 +137,50 @@ pub fn an_encryption_ends_by_its_last_pdu()
         → has_encryption
         (after_call f (Call.takes (CtrlRead.Known Ctrl.StartEncRsp) slot false)).progress
         ≡ false }
+{}
+
+/// Outside Clear and Secure, as the layer above passes the phase, a central runs an encryption of
+/// its own and nothing else: no procedure of the peripheral that excludes others is in progress
+/// there, no first PDU of another own procedure waits, and nothing begins. For an encryption begins
+/// only where neither end has a procedure in progress, and what the peripheral begins meanwhile is
+/// kept.
+pub fn outside_clear_and_secure_only_encryption_runs()
+    ensures own { (max_rx : ℕ) (calls : List Call) (call : Call)
+        → MayAll (first_facts Role.Central max_rx) false calls
+        → PassesPhase (after_calls (first_facts Role.Central max_rx) calls) call
+        → is_unquiet call ≡ true
+        → own_kind (after_calls (first_facts Role.Central max_rx) calls).progress
+        ≡ Some Kind.Encrypt }
+    ensures peer { (max_rx : ℕ) (calls : List Call) (call : Call)
+        → MayAll (first_facts Role.Central max_rx) false calls
+        → AllKeepRules (first_facts Role.Central max_rx) calls
+        → PassesPhase (after_calls (first_facts Role.Central max_rx) calls) call
+        → is_unquiet call ≡ true
+        → has_peer (after_calls (first_facts Role.Central max_rx) calls).progress ≡ false }
+    ensures first { (max_rx : ℕ) (calls : List Call) (call : Call)
+        → MayAll (first_facts Role.Central max_rx) false calls
+        → PassesPhase (after_calls (first_facts Role.Central max_rx) calls) call
+        → is_unquiet call ≡ true
+        → first_pdus_waiting (after_calls (first_facts Role.Central max_rx) calls) ≡ 0 }
+    ensures begins { (max_rx : ℕ) (calls : List Call) (call : Call) (slot : ℕ) (quiet : Bool)
+        → MayAll (first_facts Role.Central max_rx) false calls
+        → PassesPhase (after_calls (first_facts Role.Central max_rx) calls) call
+        → is_unquiet call ≡ true
+        → begin_step (after_calls (first_facts Role.Central max_rx) calls) slot quiet
+        ≡ (after_calls (first_facts Role.Central max_rx) calls, None) }
+{}
+
+/// While a central keeps a PDU of the peripheral, it has no rejection, and of control PDUs only
+/// those of its encryption and LL_TERMINATE_IND wait. The peripheral begins a procedure only where
+/// it awaits no answer to what it began before; until the phase is Clear or Secure again, the
+/// central takes PDUs of the encryption, refusals and LL_TERMINATE_IND alone.
+pub fn beside_a_kept_pdu_only_encryption_waits()
+    ensures { (max_rx : ℕ) (calls later : List Call)
+        → MayAll (first_facts Role.Central max_rx) false calls
+        → AllKeepRules (first_facts Role.Central max_rx) calls
+        → MayKeep (after_calls (first_facts Role.Central max_rx) calls)
+        → MayAll (after_calls (first_facts Role.Central max_rx) calls) (is_key_asked calls) later
+        → AllMeanwhile (after_calls (first_facts Role.Central max_rx) calls) later
+        → others_waiting (after_calls (after_calls (first_facts Role.Central max_rx) calls) later)
+        ≡ 0 }
 {}

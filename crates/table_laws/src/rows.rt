@@ -1,5 +1,5 @@
 //! Worked lists of calls, and tables to which no calls lead.
-ghost use Rattle.std.specs.Prelude.{◌≡◌, ℕ, true, false, List, None};
+ghost use Rattle.std.specs.Prelude.{◌≡◌, ◌++◌, ℕ, true, false, List, None};
 ghost use Rattle.ble_base.specs.declared.roles.Role.{Role};
 ghost use Rattle.procedure_stages.specs.Kinds.{own_kind};
 ghost use Rattle.procedures.specs.Table.{first_facts};
@@ -9,7 +9,9 @@ ghost use Rattle.procedures.specs.Calls.{Call, after_calls};
 ghost use Rattle.table_laws.specs.Waiting.{asked, end_waiting, version_waiting};
 ghost use Rattle.table_laws.specs.Pasts.{MayAll};
 ghost use Rattle.table_laws.specs.Exclusive.{AllKeepRules, exclusive_waiting};
+ghost use Rattle.table_laws.specs.Quiet.{AllMeanwhile, MayKeep};
 ghost use Rattle.table_laws.specs.Worked.{asked_at_the_end, begun_anew, crowding};
+ghost use Rattle.table_laws.specs.Worked.{encryption_asked, encryption_begun};
 
 /// Calls that meet the premises of the laws, after which twenty control PDUs wait.
 pub fn twenty_may_wait()
@@ -56,4 +58,18 @@ pub fn no_calls_lead_to_these()
         → exclusive_waiting (after_calls (first_facts Role.Central max_rx) calls) ≡ 1
         → own_kind (after_calls (first_facts Role.Central max_rx) calls).progress ≡ None
         → has_peer (after_calls (first_facts Role.Central max_rx) calls).progress ≡ false → ⊥ }
+{}
+
+/// A central that begins an encryption may keep a PDU of the peripheral from then on, and goes on
+/// to LL_START_ENC_RSP meanwhile.
+pub fn a_pdu_may_be_kept()
+    ensures comes { MayAll (first_facts Role.Central 27) false encryption_begun }
+    ensures rules { AllKeepRules (first_facts Role.Central 27) encryption_begun }
+    ensures keeps { MayKeep (after_calls (first_facts Role.Central 27) encryption_begun) }
+    ensures comes_later { MayAll (after_calls (first_facts Role.Central 27) encryption_begun) false
+        encryption_asked }
+    ensures meanwhile { AllMeanwhile (after_calls (first_facts Role.Central 27) encryption_begun)
+        encryption_asked }
+    ensures waits { waiting_in (after_calls (first_facts Role.Central 27)
+        (encryption_begun ++ encryption_asked)).queue ≡ 1 }
 {}

@@ -3,3 +3,4 @@ pub mod Differing
 pub mod Packets
 pub mod Turning
 pub mod Shutting
+pub mod Opening

@@ -1,7 +1,9 @@
 -- The journals of this crate.
+pub mod Answers
 pub mod Events
 pub mod Exchanges
 pub mod Held
 pub mod Hosts
+pub mod Resetting
 pub mod Shuts
 pub mod Turns

@@ -2,13 +2,16 @@
 //! its law names. No code.
 #![tactic(auto)]
 
+mod answers;
 mod events;
 mod exchanges;
 mod held;
 mod hosts;
+mod resets;
 mod shuts;
 mod turns;
 
+pub use crate::answers::{missed_answers_are_refused, unopened_links_are_refused};
 pub use crate::events::{wrong_links_are_refused, wrong_orders_of_events_are_refused};
 pub use crate::exchanges::{
     wrong_packets_are_refused, wrong_sending_is_refused, wrong_taking_is_refused,
@@ -16,6 +19,7 @@ pub use crate::exchanges::{
 };
 pub use crate::held::{lines_of_no_link_are_refused, packets_of_no_link_are_refused};
 pub use crate::hosts::{wrong_credits_are_refused, wrong_data_is_refused};
+pub use crate::resets::links_left_by_a_reset_are_refused;
 pub use crate::shuts::{links_that_stay_open_are_refused, wrong_reasons_are_refused};
 pub use crate::turns::{
     wrong_fates_are_refused, wrong_feeds_are_refused, wrong_radios_are_refused,

@@ -32,5 +32,4 @@ returns-clause-new_pdus c = λ given front rest side number count llid body stat
 
 pub returns-clause-events : goal.returns-clause-events
 returns-clause-events c = λ given front rest side number event channel stations six at.
-    event_in_order c.packet_tells_its_pdu.ensures.heard c.a_pdu_is_understood.ensures.says c.connections_are_taken.ensures.taken c.searches_give_each_valid_address.ensures.valid
-    c.searches_give_each_valid_address.ensures.distinct given stations six (are_distinct given stations) front rest side number event channel at
+    event_in_order c.a_pdu_is_understood.ensures.says c.connections_are_taken.ensures.taken given stations six (are_distinct given stations) front rest side number event channel at

@@ -1,7 +1,7 @@
 -- Proof of `run::run_pair`.
 use Rattle.std.proofs.Common.{refl}
 use Rattle.run_model.specs.Pair.{given_of}
-use Rattle.pair_world.proofs.Lawful.{all_lawful, is_whole, lawful_so_far}
+use Rattle.pair_world.proofs.Lawful.{all_lawful, due_at_fault, is_whole, lawful_so_far}
 use Rattle.pair_world.proofs.Outcomes.{if_err_more, if_ok_more}
 use Rattle.pair_world.proofs.run.run_pair.Goals as goal
 
@@ -39,3 +39,12 @@ returns-clause-whole c =
     (λ history whole. c.each_journal_is_lawful.ensures.whole c.args.a.now c.args.b.now c.args.schedule.now history
     c.publics_are_six.ensures.a c.publics_are_six.ensures.b whole)
     (is given refl c.in_ok-pair.ensures.up)) c.run_turns.ensures.ok
+
+pub returns-clause-due : goal.returns-clause-due
+returns-clause-due c =
+    let given = given_of c.args.a.now c.args.b.now c.args.schedule.now in
+    if_err_more c.run_turns.result _ _
+    (λ fault is. due_at_fault c.args.schedule.now given fault
+    (λ history stop stops. c.each_journal_is_lawful.ensures.stopped c.args.a.now c.args.b.now c.args.schedule.now history stop
+    c.publics_are_six.ensures.a c.publics_are_six.ensures.b stops)
+    (is given refl c.in_ok-pair.ensures.up)) c.run_turns.ensures.err

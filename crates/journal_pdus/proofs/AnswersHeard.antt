@@ -1,0 +1,294 @@
+-- In every run of two stations, each answer on a link that passes is judged good.
+use Rattle.std.proofs.Common.{◌≡◌, ℕ, zero, suc, ◌==◌, ◌≤◌, Bool, true, false, Some, List, [], ◌∷◌, ◌++◌, take, refl, sym, ap, subst, ◌∙◌, arith}
+use Rattle.std.specs.Prelude.{⊤, not, ◌&&◌}
+use Rattle.ble_base.specs.declared.roles.Role.{Role}
+use Rattle.ble_base.specs.declared.roles.Role.TheVariants.{Central, Peripheral}
+use Rattle.ble_base.specs.declared.verdicts.Verdict.TheVariants.{Good}
+use Rattle.journal.specs.declared.entries.Mark.TheVariants.{Pass as Passed}
+use Rattle.link_model.specs.Facts.{Facts as EndFacts}
+use Rattle.link_model.specs.Packets.{verdict_of as end_verdict}
+use Rattle.link_model.specs.Pair.{AreOneLink}
+use Rattle.link_model.specs.Step.{PacketSent}
+use Rattle.link_model.proofs.InEvents.{pasts_agree}
+use Rattle.link_model.proofs.Payloads.{past_fits, past_form}
+use Rattle.link_model.proofs.Received.{IsHeardWhole, judged_good}
+use Rattle.open_links.specs.OpenLinks.{Links, OpenLink, facts_in, link_after, link_at}
+use Rattle.open_links.specs.Slots.{IsOnTime}
+use Rattle.radio_replay.specs.Damage.{damaged_packet}
+use Rattle.radio_replay.specs.declared.fates.Fate.{Fate}
+use Rattle.radio_replay.specs.declared.fates.Fate.TheVariants.{Pass, Lost, Damage}
+use Rattle.controller_model.specs.declared.doing.Doing.{Doing}
+use Rattle.controller_model.specs.declared.doing.Doing.TheVariants.{Advertises, CentralSends, CentralListens, PeripheralSends}
+use Rattle.controller_model.specs.Facts.{Facts, Use, Sends, Listens}
+use Rattle.controller_model.specs.Packets.{channel_listened, listens_on, verdict_doing, verdict_of, verdict_of_link}
+use Rattle.controller_model.specs.Sent.{SendsOn}
+use Rattle.run_model.specs.Feeding.{AreDistinct}
+use Rattle.run_model.specs.History.{Event, Hearing, Transmitted, packet_received, turns_begun}
+use Rattle.run_model.specs.Journal.{journal_of, mark_of, side_of}
+use Rattle.run_model.specs.LinkEnds.{HaveAddresses}
+use Rattle.run_model.specs.Links.{is_advertising}
+use Rattle.run_model.specs.Run.{Given, facts_at, hearing_at, history_of, reaches, run_of, setup_at, use_at, verdict_where}
+use Rattle.run_model.proofs.EntryEvents.{is_aired}
+use Rattle.run_model.proofs.LinkEnds.{AreTaken, IsUnderstood}
+use Rattle.run_model.proofs.OfStations.{OfStations, run_of_stations}
+use Rattle.run_model.proofs.Places.{each_at}
+use Rattle.run_model.proofs.Stations.{is_in, among}
+use Rattle.run_model.proofs.Walk.{AtPackets}
+use Rattle.run_laws.specs.Ends.{HaveOneConnectInd}
+use Rattle.run_laws.proofs.Agreed.{step_facts}
+use Rattle.run_laws.proofs.ByCalls.{always_by_calls}
+use Rattle.run_laws.proofs.ChSel.{link_two}
+use Rattle.run_laws.proofs.DistinctAccess.{AreApart}
+use Rattle.run_laws.proofs.Entering.{entering_in_run, same_number as same_entries}
+use Rattle.run_laws.proofs.Hearings.{sends_deaf, wanted_is}
+use Rattle.run_laws.proofs.InAgreement.{AreStations, TakesShort, first_station, stations_kept}
+use Rattle.run_laws.proofs.LinkPhases.{HasRole, IsInPhase}
+use Rattle.run_laws.proofs.OpenSteps.{open_has}
+use Rattle.run_laws.proofs.OwnLinks.{sent_begins}
+use Rattle.run_laws.proofs.TurnPlaces.{Within, at_stage}
+use Rattle.run_laws.proofs.TurnSteps.{IsListening}
+use Rattle.journal_links.specs.Begun.{links_begun}
+use Rattle.journal_links.specs.Opened.{central_side}
+use Rattle.journal_links.proofs.OfTwo.{are_distinct}
+use Rattle.journal_packets.specs.Belonging.{first_number, is_answer}
+use Rattle.journal_packets.specs.Senders.{IsOfSendersLink}
+use Rattle.journal_packets.proofs.AccessOrder.{AreNth}
+use Rattle.journal_packets.proofs.Asked.{is_asked}
+use Rattle.journal_packets.proofs.SoFar.{IsBelongingSoFar}
+use Rattle.journal_acks.proofs.Counting.{AreKnown, one_begun}
+use Rattle.journal_acks.proofs.Exchanging.{number_at}
+use Rattle.journal_acks.proofs.Known.{known_of}
+use Rattle.journal_acks.proofs.Seen.{IsSeen, seen_packet}
+use Rattle.journal_acks.proofs.Standing.{PhasedBy, phased_at}
+use Rattle.journal_acks.proofs.TwoStations.{IsOfTwo, hearing_of, one_hearing, other_of, same_number, side_other}
+use Rattle.journal_data.proofs.KeptData.{other_in}
+use Rattle.journal_pdus.specs.Answered.{AllAnswersAreHeard}
+use Rattle.journal_pdus.proofs.Awaited.{AreAskedWell, IsAsker, IsAsking, asked_well_first, asked_well_kept}
+
+-- ---- who sends and who listens after the first phase
+
+answers_in : (phases handle : ℕ) (links : Links) (doing : Doing) → IsInPhase (suc phases) links doing → SendsOn handle doing → doing ≡ PeripheralSends handle
+answers_in phases handle links (PeripheralSends other) phase sends = ap PeripheralSends sends
+answers_in phases handle links (CentralSends other) phase sends = absurd (let none = phase.0 in omega (arith, none))
+answers_in phases handle links (Advertises channel) phase sends = absurd sends
+answers_in phases handle links doing phase sends = absurd sends
+
+listens_in : (phases handle : ℕ) (links : Links) (doing : Doing) → IsInPhase (suc phases) links doing → IsAsking handle doing → doing ≡ CentralListens handle
+listens_in phases handle links (CentralListens other) phase asks = ap CentralListens asks
+listens_in phases handle links (CentralSends other) phase asks = absurd (let none = phase.0 in omega (arith, none))
+listens_in phases handle links (Advertises channel) phase asks = absurd asks
+listens_in phases handle links doing phase asks = absurd asks
+
+role_at : (role : Role) (handle : ℕ) (links : Links) (link : OpenLink) → HasRole role (link_at handle links) → link_at handle links ≡ Some link → link.setup.link.role ≡ role
+role_at role handle links link has is = subst (HasRole role) is has
+
+-- the end that answers, and the one that listens for it
+record IsAwaited (given : Given) (history : List Event) (station channel : ℕ) (octets : List ℕ) : Type 0 where
+  sent : IsOfSendersLink given history station channel octets
+  asker : IsAsker (facts_at given (other_of station) history) octets
+  listens : (facts_at given (other_of station) history).turn.doing ≡ CentralListens asker.handle
+  wants : IsListening (facts_at given (other_of station) history) (facts_at given (other_of station) history).turn.doing
+  turns : (facts_at given station history).turn.begun ≡ (facts_at given (other_of station) history).turn.begun
+  one : HaveOneConnectInd sent.link.setup asker.far.setup
+
+abbrev IsAwaitedAnswer : Given → List Event → ℕ → ℕ → List ℕ → Type 0
+IsAwaitedAnswer given history station channel octets =
+    is_advertising channel ≡ false → is_asked history station octets ≡ true → IsAwaited given history station channel octets
+
+-- ---- its verdict
+
+record ListensFor (facts : Facts) (channel : ℕ) (octets : List ℕ) : Type 0 where
+  wants : facts.wanted ≡ Listens channel
+  judges : verdict_of facts octets ≡ Good
+
+listens_for : (facts : Facts) (handle : ℕ) (far : OpenLink) (channel : ℕ) (octets : List ℕ) → facts.turn.doing ≡ CentralListens handle → IsListening facts facts.turn.doing
+    → link_at handle facts.links ≡ Some far → channel ≡ (facts_in far).event.channel → end_verdict far.setup (facts_in far) octets ≡ Good → ListensFor facts channel octets
+unfolding verdict_of
+listens_for facts handle far channel octets doing listens is_open channel_is good = record {
+  wants = subst (IsListening facts) doing listens ∙ ap listens_on is_open ∙ ap Listens (sym channel_is);
+  judges = ap (λ (d : Doing). verdict_doing facts.links d octets) doing ∙ ap (λ may. verdict_of_link may octets) is_open ∙ good;
+}
+
+pass_mark : (fate : Fate) → Passed ≡ mark_of fate → fate ≡ Pass
+pass_mark Pass is = refl
+pass_mark Lost is = absurd cc
+pass_mark (Damage at pattern) is = absurd cc
+
+judged_where : (same : Bool) (facts : Facts) (octets : List ℕ) → same ≡ true → verdict_where (not false && same) facts octets ≡ verdict_of facts octets
+judged_where true facts octets is = refl
+judged_where false facts octets is = absurd cc
+
+judges_good : (given : Given) (channel : ℕ) (octets : List ℕ) (history : List Event) (listener : ℕ) → ListensFor (facts_at given listener history) channel octets
+    → (hearing_at given Pass channel octets history listener).verdict ≡ Good
+judges_good given channel octets history listener listens =
+    let facts = facts_at given listener history in
+    ap (λ (wanted : Use). verdict_where (reaches Pass channel (channel_listened wanted)) facts (damaged_packet Pass octets))
+    (sym (wanted_is given listener history) ∙ listens.wants)
+    ∙ judged_where (channel == channel) facts octets (same_number channel) ∙ listens.judges
+
+one_of_list : (hearing one : Hearing) (others : List Hearing) → hearing ∷ others ≡ one ∷ [] → hearing ≡ one
+one_of_list hearing one others is = cc
+
+module _ (whole : IsHeardWhole) (understood : IsUnderstood) (taken : AreTaken) (nth : AreNth) (apart : AreApart) (given : Given) (pair : IsOfTwo given) (six : HaveAddresses given) where
+  distinct : AreDistinct given.stations
+  distinct = are_distinct given pair
+
+  known : AreKnown given (IsBelongingSoFar given)
+  known = known_of understood taken nth apart given pair six
+
+  -- ---- before each packet
+
+  module _ (phases : ℕ) (done left : List ℕ) (station channel : ℕ) (octets : List ℕ) (history : List Event) (are : given.stations ≡ done ++ station ∷ left)
+      (wanted : use_at given station history ≡ Sends channel octets) (so_far : IsBelongingSoFar given (AtPackets (suc phases) done (station ∷ left)) history)
+      (asker : IsAsker (facts_at given (other_of station) history) octets) (off : is_advertising channel ≡ false) where
+    abbrev other : ℕ
+    other = other_of station
+
+    abbrev facts : ℕ → Facts
+    facts one = facts_at given one history
+
+    in_it : is_in station given.stations ≡ true
+    in_it = among given.stations done left station are
+
+    too : is_in other given.stations ≡ true
+    too = other_in given pair station in_it
+
+    phased : (one : ℕ) → is_in one given.stations ≡ true → PhasedBy given history one (at_stage (Within (suc phases)) (turns_begun history))
+    phased one is = phased_at given (AtPackets (suc phases) done (station ∷ left)) history so_far.asked.hearing.stand one is
+
+    sent : IsOfSendersLink given history station channel octets
+    sent = known.sends (suc phases) done left station history are so_far channel octets wanted off
+
+    answers : (facts station).turn.doing ≡ PeripheralSends sent.handle
+    answers = answers_in phases sent.handle (facts station).links (facts station).turn.doing (phased station in_it).phase sent.sends
+
+    listens : (facts other).turn.doing ≡ CentralListens asker.handle
+    listens = listens_in phases asker.handle (facts other).links (facts other).turn.doing (phased other too).phase asker.asks
+
+    peripheral : sent.link.setup.link.role ≡ Peripheral
+    peripheral = role_at Peripheral sent.handle (facts station).links (link_after (PacketSent sent.slot) sent.link)
+        (subst (IsInPhase (suc phases) (facts station).links) answers (phased station in_it).phase).1 sent.is_open
+
+    central : asker.far.setup.link.role ≡ Central
+    central = role_at Central asker.handle (facts other).links asker.far (subst (IsInPhase (suc phases) (facts other).links) listens (phased other too).phase).1 asker.is_open
+
+    numbers : number_at station sent.handle history ≡ number_at other asker.handle history
+    numbers =
+        let here = AtPackets (suc phases) done (station ∷ left) in
+        let own = known.fits here history so_far station sent.handle (link_after (PacketSent sent.slot) sent.link) octets in_it sent.is_open
+        (ap (take 4) sent.packet ∙ sent_begins sent.link.setup (facts_in sent.link)) in
+        let far = known.fits here history so_far other asker.handle asker.far octets too asker.is_open asker.begins in
+        let sides : central_side sent.link.setup.link.role (side_of station) ≡ central_side asker.far.setup.link.role (side_of other) =
+        ap (λ role. central_side role (side_of station)) peripheral ∙ sym (side_other station) ∙ ap (λ role. central_side role (side_of other)) (sym central) in
+        let both : Some (number_at station sent.handle history) ≡ Some (number_at other asker.handle history) =
+        sym own ∙ ap (λ s. first_number s octets 1 (links_begun (journal_of history))) sides ∙ far in cc
+
+    is_awaited : IsAwaited given history station channel octets
+    is_awaited = record {
+      sent = sent;
+      asker = asker;
+      listens = listens;
+      wants = (phased other too).uses.in_turn.listens;
+      turns = (phased station in_it).uses.in_turn.begun_is ∙ sym (phased other too).uses.in_turn.begun_is;
+      one =
+          let here = AtPackets (suc phases) done (station ∷ left) in
+          one_begun history (number_at station sent.handle history) (number_at other asker.handle history) station other (link_after (PacketSent sent.slot) sent.link) asker.far numbers
+          (known.begun here history so_far station sent.handle (link_after (PacketSent sent.slot) sent.link) in_it sent.is_open)
+          (known.begun here history so_far other asker.handle asker.far too asker.is_open);
+    }
+
+  waits : (phases : ℕ) (done left : List ℕ) (station channel : ℕ) (octets : List ℕ) (history : List Event) → given.stations ≡ done ++ station ∷ left
+      → use_at given station history ≡ Sends channel octets → AreAskedWell given (AtPackets phases done (station ∷ left)) history
+      → IsAwaitedAnswer given history station channel octets
+  waits zero done left station channel octets history are wanted is off asked =
+      let in_it = among given.stations done left station are in
+      let all = is.so_far.asked in
+      let none = sends_deaf given [] history station channel octets (all.hearing.hears station in_it) wanted (packet_received station history) refl in
+      absurd (let h : false ≡ true = sym ((all.asked station in_it).2 none octets) ∙ asked in absurd cc)
+  waits (suc zero) done left station channel octets history are wanted is off asked =
+      is_awaited zero done left station channel octets history are wanted is.so_far
+      (is.asked station (among given.stations done left station are) channel octets wanted octets asked) off
+  waits (suc (suc phases)) done left station channel octets history are wanted is off asked =
+      let in_it = among given.stations done left station are in
+      let place = AtPackets (suc (suc phases)) done (station ∷ left) in
+      let phase = (phased_at given place history is.so_far.asked.hearing.stand station in_it).phase in
+      let facts = facts_at given station history in
+      let sent = known.sends (suc (suc phases)) done left station history are is.so_far channel octets wanted off in
+      let answers = answers_in (suc phases) sent.handle facts.links facts.turn.doing phase sent.sends in
+      let second = (subst (IsInPhase (suc (suc phases)) facts.links) answers phase).0 in
+      absurd (omega (arith, second))
+
+  sees : IsSeen given (AreAskedWell given) (λ history. ⊤) (IsAwaitedAnswer given)
+  sees = record { turn = λ history is. tt; packet = waits }
+
+  -- ---- at a time of a run
+
+  module _ (before rest : List Event) (at : history_of (run_of given) ≡ before ++ rest) (station channel : ℕ) (octets : List ℕ) (in_it : is_in station given.stations ≡ true)
+      (awaited : IsAwaited given before station channel octets) where
+    abbrev far_side : ℕ
+    far_side = other_of station
+
+    far_in : is_in far_side given.stations ≡ true
+    far_in = other_in given pair station in_it
+
+    abbrev own : OpenLink
+    own = link_after (PacketSent awaited.sent.slot) awaited.sent.link
+
+    abbrev far : OpenLink
+    far = awaited.asker.far
+
+    on_time : IsOnTime (facts_at given far_side before).turn.begun own
+    on_time = subst (λ n. IsOnTime n own) awaited.turns (entering_in_run taken given before rest station awaited.sent.handle own distinct in_it at awaited.sent.is_open)
+
+    one_link : AreOneLink own.setup far.setup
+    one_link = record {
+      fields = awaited.one.fields;
+      two = link_two understood given before rest station awaited.sent.handle own distinct six in_it at awaited.sent.is_open
+          ∙ sym (link_two understood given before rest far_side awaited.asker.handle far distinct six far_in at awaited.asker.is_open);
+      opened = awaited.one.opened;
+    }
+
+    sent_channel : (facts_in awaited.sent.link).event.channel ≡ (facts_in far).event.channel
+    sent_channel =
+        let entries = same_entries (facts_at given far_side before).turn.begun own far awaited.one on_time
+        (entering_in_run taken given before rest far_side awaited.asker.handle far distinct far_in at awaited.asker.is_open) in
+        sym (ap (λ (f : EndFacts). f.event.channel) (step_facts awaited.sent.link (PacketSent awaited.sent.slot)))
+        ∙ (pasts_agree own.setup far.setup own.past far.past one_link entries).channel
+
+    short : 27 ≤ far.setup.link.max_rx
+    short =
+        let stations = always_by_calls given (AreStations given) (stations_kept given) six distinct
+        (record { each = λ one is. first_station (setup_at given one) }) before rest at in
+        open_has TakesShort 0 awaited.asker.handle (facts_at given far_side before).links far (stations.each far_side far_in).short awaited.asker.is_open
+
+    good : end_verdict far.setup (facts_in far) octets ≡ Good
+    good =
+        ap (end_verdict far.setup (facts_in far)) awaited.sent.packet
+        ∙ judged_good whole awaited.sent.link.setup far.setup (facts_in awaited.sent.link) (facts_in far) one_link
+        (past_fits awaited.sent.link.setup awaited.sent.link.past far.setup (facts_in far) short)
+        (past_form awaited.sent.link.setup awaited.sent.link.past) sent_channel
+
+    is_heard : ListensFor (facts_at given far_side before) channel octets
+    is_heard =
+        listens_for (facts_at given far_side before) awaited.asker.handle far channel octets awaited.listens awaited.wants awaited.asker.is_open
+        (awaited.sent.channel_is ∙ sent_channel) good
+
+  -- ---- each line
+
+  pub answers_heard : AllAnswersAreHeard (journal_of (history_of (run_of given)))
+  answers_heard = λ front rest side channel octets verdict is off asked.
+      let aired = is_aired given front rest side channel octets Passed verdict is in
+      let before = aired.before in
+      let station = aired.station in
+      let hearings = aired.hearing ∷ aired.others in
+      let event = Transmitted station channel octets hearings in
+      let in_it = each_at (OfStations given) (history_of (run_of given)) before aired.after event (run_of_stations given) aired.is_at in
+      let asked_now = ap (λ xs. is_answer xs (side_of station) octets) (sym aired.front_is) ∙ ap (λ s. is_answer front s octets) (sym aired.side_is) ∙ asked in
+      let awaited = seen_packet given (AreAskedWell given) (asked_well_kept given pair six understood taken distinct) (λ history. ⊤) (IsAwaitedAnswer given) sees
+      (asked_well_first given pair six) before aired.after station channel octets hearings aired.is_at off asked_now in
+      let one = one_of_list aired.hearing (hearing_of given aired.is_due.plan.fates station channel octets before) aired.others
+      (aired.is_due.hearings_are ∙ one_hearing given pair aired.is_due.plan.fates station channel octets before in_it) in
+      let passes = pass_mark _ (aired.fate_is ∙ ap (λ (h : Hearing). mark_of h.fate) one) in
+      aired.verdict_is ∙ ap (λ (h : Hearing). h.verdict) one
+      ∙ ap (λ (fate : Fate). (hearing_at given fate channel octets before (other_of station)).verdict) passes
+      ∙ judges_good given channel octets before (other_of station) (is_heard before (event ∷ aired.after) aired.is_at station channel octets in_it awaited)

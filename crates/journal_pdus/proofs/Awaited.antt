@@ -1,0 +1,318 @@
+-- In every run of two stations, a central whose packet was heard listens in the next phase.
+use Rattle.std.proofs.Common.{◌≡◌, ℕ, zero, suc, ◌==◌, ◌⊎◌, inl, inr, ◌&&◌, ◌||◌, not, Bool, true, false, Option, Some, None, List, [], ◌∷◌, ◌++◌, take, refl, sym, ap, subst, ◌∙◌, arith}
+use Rattle.std.specs.Prelude.{⊤, if◌then◌else◌}
+use Rattle.std.proofs.lemmas.Bool.{eqb-true}
+use Rattle.std.proofs.lemmas.Slice.Eq.{bytes_eq-Decides}
+use Rattle.air_frame.specs.Packet.{access_octets}
+use Rattle.link_model.specs.Step.{PacketSent}
+use Rattle.open_links.specs.OpenLinks.{Links, OpenLink, facts_in, link_after, link_at}
+use Rattle.radio_replay.specs.declared.fates.Fate.{Fate}
+use Rattle.controller_model.specs.declared.doing.Doing.{Doing}
+use Rattle.controller_model.specs.declared.doing.Doing.TheVariants.{Advertises, CentralSends, CentralListens, PeripheralSends}
+use Rattle.controller_model.specs.Facts.{Setup, Facts, Sends, Listens}
+use Rattle.controller_model.specs.Heard.{heard, unheard}
+use Rattle.controller_model.specs.Outcome.{facts_passed}
+use Rattle.controller_model.specs.Sent.{SendsOn}
+use Rattle.controller_model.specs.Side.{facts_after, facts_of}
+use Rattle.controller_model.specs.Step.{Step}
+use Rattle.run_model.specs.Feeding.{AreDistinct}
+use Rattle.run_model.specs.History.{Event, Hearing, Transmitted, has_received, packet_received, turns_begun}
+use Rattle.run_model.specs.LinkEnds.{HaveAddresses}
+use Rattle.run_model.specs.Links.{is_advertising}
+use Rattle.run_model.specs.Run.{Given, after_call, facts_at, hearings_of, setup_at, step_of, use_at}
+use Rattle.run_model.proofs.LinkEnds.{AreTaken, IsUnderstood, is_listener}
+use Rattle.run_model.proofs.Stations.{is_in, among, not_before}
+use Rattle.run_model.proofs.Walk.{Place, NoTurn, AtFeeds, AtBegins, AfterPhases, AtPackets, AtListening, AtEnds, IsKept}
+use Rattle.run_laws.proofs.ConnectInds.{on_channel}
+use Rattle.run_laws.proofs.Hearings.{other_facts, own_facts, use_same, use_sent_at}
+use Rattle.run_laws.proofs.InAgreement.{differs_back}
+use Rattle.run_laws.proofs.LinkPhases.{IsInPhase}
+use Rattle.run_laws.proofs.OwnLinks.{sent_begins}
+use Rattle.run_laws.proofs.SentPackets.{IsUseSent}
+use Rattle.run_laws.proofs.TurnPlaces.{Within, at_stage, event_past}
+use Rattle.journal_links.proofs.OfTwo.{of_two_stations}
+use Rattle.journal_packets.specs.Belonging.{have_one_access}
+use Rattle.journal_packets.proofs.Asked.{asked_called, asked_packet, asks_in, is_asked}
+use Rattle.journal_packets.proofs.SoFar.{IsBelongingSoFar, belonging_first, belonging_kept}
+use Rattle.journal_acks.proofs.Standing.{PhasedBy, phased_at}
+use Rattle.journal_acks.proofs.TwoStations.{IsOfTwo, other_is, other_of}
+
+-- ---- a central that asked
+
+-- a central sends or listens on this link
+abbrev pub IsAsking : ℕ → Doing → Type 0
+IsAsking handle (CentralSends other) = other ≡ handle
+IsAsking handle (CentralListens other) = other ≡ handle
+IsAsking handle other = ⊥
+
+-- it does so on a link with the access address of these octets
+pub record IsAsker (facts : Facts) (octets : List ℕ) : Type 0 where
+  pub handle : ℕ
+  pub far : OpenLink
+  pub is_open : link_at handle facts.links ≡ Some far
+  pub asks : IsAsking handle facts.turn.doing
+  pub begins : take 4 octets ≡ access_octets far.setup.link.fields.access
+
+-- a packet of it was heard
+abbrev pub HasAsker : Given → List Event → ℕ → Type 0
+HasAsker given history station = (octets : List ℕ) → is_asked history station octets ≡ true → IsAsker (facts_at given (other_of station) history) octets
+
+-- it is so from the first packet on, and up to the answer
+abbrev pub AskedWell : Given → Place → List Event → ℕ → Type 0
+AskedWell given NoTurn history station = ⊤
+AskedWell given (AtFeeds done left) history station = ⊤
+AskedWell given (AtBegins done left) history station = ⊤
+AskedWell given (AfterPhases zero) history station = ⊤
+AskedWell given (AfterPhases (suc zero)) history station = HasAsker given history station
+AskedWell given (AfterPhases (suc (suc phases))) history station = ⊤
+AskedWell given (AtPackets zero done left) history station = HasAsker given history station
+AskedWell given (AtPackets (suc zero) done left) history station = (channel : ℕ) (octets : List ℕ) → use_at given station history ≡ Sends channel octets → HasAsker given history station
+AskedWell given (AtPackets (suc (suc phases)) done left) history station = ⊤
+AskedWell given (AtListening zero done left) history station = HasAsker given history station
+AskedWell given (AtListening (suc phases) done left) history station = ⊤
+AskedWell given (AtEnds done left) history station = ⊤
+
+pub record AreAskedWell (given : Given) (place : Place) (history : List Event) : Type 0 where
+  pub so_far : IsBelongingSoFar given place history
+  pub asked : (station : ℕ) → is_in station given.stations ≡ true → AskedWell given place history station
+
+asker_same : (one after : Facts) (octets : List ℕ) → after ≡ one → IsAsker one octets → IsAsker after octets
+asker_same one after octets same is = subst (λ f. IsAsker f octets) (sym same) is
+
+-- ---- the central takes that it heard nothing
+
+record ListensNext (handle : ℕ) (before after : Facts) : Type 0 where
+  links : after.links ≡ before.links
+  asks : IsAsking handle after.turn.doing
+
+first_none : (other : ℕ) (links : Links) (X : Type 0) → IsInPhase 0 links (CentralListens other) → X
+first_none other links X phase = absurd (let one = phase.0 in omega (arith, one))
+
+goes_on : (handle : ℕ) (facts : Facts) (doing : Doing) → IsInPhase 0 facts.links doing → IsAsking handle doing → ListensNext handle facts (facts_passed (unheard doing facts))
+goes_on handle facts (CentralSends other) phase asks = record { links = refl; asks = asks }
+goes_on handle facts (CentralListens other) phase asks = first_none other facts.links _ phase
+goes_on handle facts (Advertises channel) phase asks = absurd asks
+goes_on handle facts doing phase asks = absurd asks
+
+deaf_goes_on : (setup : Setup) (octets : List ℕ) (handle : ℕ) (facts : Facts) (doing : Doing) → IsInPhase 0 facts.links doing → IsAsking handle doing
+    → ListensNext handle facts (facts_passed (heard setup doing octets facts))
+deaf_goes_on setup octets handle facts (CentralSends other) phase asks = record { links = refl; asks = asks }
+deaf_goes_on setup octets handle facts (CentralListens other) phase asks = first_none other facts.links _ phase
+deaf_goes_on setup octets handle facts (Advertises channel) phase asks = absurd asks
+deaf_goes_on setup octets handle facts doing phase asks = absurd asks
+
+listens_next : (setup : Setup) (received : Option (List ℕ)) (handle : ℕ) (facts : Facts) → IsInPhase 0 facts.links facts.turn.doing → IsAsking handle facts.turn.doing
+    → ListensNext handle facts (facts_after setup facts (step_of received))
+listens_next setup None handle facts phase asks = goes_on handle facts facts.turn.doing phase asks
+listens_next setup (Some octets) handle facts phase asks = deaf_goes_on setup octets handle facts facts.turn.doing phase asks
+
+asker_next : (setup : Setup) (received : Option (List ℕ)) (facts : Facts) (octets : List ℕ) → IsInPhase 0 facts.links facts.turn.doing → IsAsker facts octets
+    → IsAsker (facts_after setup facts (step_of received)) octets
+asker_next setup received facts octets phase asker =
+    let next = listens_next setup received asker.handle facts phase asker.asks in record {
+      handle = asker.handle;
+      far = asker.far;
+      is_open = ap (link_at asker.handle) next.links ∙ asker.is_open;
+      asks = next.asks;
+      begins = asker.begins;
+    }
+
+-- ---- a packet
+
+asks_first : (handle : ℕ) (links : Links) (doing : Doing) → IsInPhase 0 links doing → SendsOn handle doing → IsAsking handle doing
+asks_first handle links (CentralSends other) phase sends = sends
+asks_first handle links (PeripheralSends other) phase sends = absurd (let one = phase.0 in omega (arith, one))
+asks_first handle links (Advertises channel) phase sends = absurd sends
+asks_first handle links doing phase sends = absurd sends
+
+-- what is sent on a data channel in the first phase is sent by a central
+asker_sends : (facts : Facts) (channel : ℕ) (sent octets : List ℕ) → IsUseSent facts (Sends channel sent) → IsInPhase 0 facts.links facts.turn.doing
+    → is_advertising channel ≡ false → have_one_access sent octets ≡ true → IsAsker facts octets
+asker_sends facts channel sent octets (inl advertises) phase off same =
+    absurd (let h : true ≡ false = sym (on_channel channel advertises.on_channel) ∙ off in absurd cc)
+asker_sends facts channel sent octets (inr link) phase off same = record {
+  handle = link.handle;
+  far = link_after (PacketSent facts.turn.slot) link.link;
+  is_open = link.is_open;
+  asks = asks_first link.handle facts.links facts.turn.doing phase link.sends;
+  begins = sym ((bytes_eq-Decides (take 4 sent) (take 4 octets)).0 same) ∙ ap (take 4) link.packet ∙ sent_begins link.link.setup (facts_in link.link);
+}
+
+-- it was received, on a data channel, with the same access address
+record IsAskedNow (received off same : Bool) : Type 0 where
+  received_is : received ≡ true
+  off_is : off ≡ false
+  same_is : same ≡ true
+
+not_advertising : (received off same : Bool) → (received && (not off && same)) ≡ true → IsAskedNow received off same
+not_advertising true false true is = record { received_is = refl; off_is = refl; same_is = refl }
+not_advertising true false false is = absurd cc
+not_advertising true true same is = absurd cc
+not_advertising false off same is = absurd cc
+
+either : (one other : Bool) → (one || other) ≡ true → (one ≡ true) ⊎ (other ≡ true)
+either true other is = inl refl
+either false other is = inr is
+
+module _ (given : Given) (pair : IsOfTwo given) (six : HaveAddresses given) where
+  stands : (phases : ℕ) (done left : List ℕ) (history : List Event) → IsBelongingSoFar given (AtPackets phases done left) history
+      → (station : ℕ) → is_in station given.stations ≡ true → PhasedBy given history station (at_stage (Within phases) (turns_begun history))
+  stands phases done left history so_far station in_it = phased_at given (AtPackets phases done left) history so_far.asked.hearing.stand station in_it
+
+  module _ (fates : List Fate) (done left : List ℕ) (sender channel : ℕ) (sent : List ℕ) (history : List Event) (phases : ℕ) (are : given.stations ≡ done ++ sender ∷ left)
+      (wanted : use_at given sender history ≡ Sends channel sent) (so_far : IsBelongingSoFar given (AtPackets phases done (sender ∷ left)) history)
+      (station : ℕ) (in_it : is_in station given.stations ≡ true) where
+    abbrev hearings : List Hearing
+    hearings = hearings_of given fates sender channel sent history
+
+    abbrev after : List Event
+    after = history ++ Transmitted sender channel sent hearings ∷ []
+
+    sender_in : is_in sender given.stations ≡ true
+    sender_in = among given.stations done left sender are
+
+    same_facts : (other : ℕ) → facts_at given other after ≡ facts_at given other history
+    same_facts other = ap (facts_of (setup_at given other)) (event_past other history (Transmitted sender channel sent hearings) refl)
+
+    asked_is : (octets : List ℕ) → is_asked after station octets ≡ (is_asked history station octets || asks_in station channel sent hearings octets)
+    asked_is octets =
+        asked_packet given pair fates sender channel sent history station octets (of_two_stations given pair sender sender_in) (of_two_stations given pair station in_it)
+
+    old_asker : (octets : List ℕ) → IsAsker (facts_at given (other_of station) history) octets → IsAsker (facts_at given (other_of station) after) octets
+    old_asker octets is = asker_same _ _ octets (same_facts (other_of station)) is
+
+    -- in the first phase
+    new_asker : phases ≡ 0 → (octets : List ℕ) → asks_in station channel sent hearings octets ≡ true → IsAsker (facts_at given (other_of station) history) octets
+    new_asker first octets asks =
+        let parts = not_advertising (has_received station hearings) (is_advertising channel) (have_one_access sent octets) asks in
+        let listener = is_listener given fates channel sent history sender station parts.received_is in
+        let one = other_is given pair station sender in_it sender_in (differs_back station sender listener.differs) in
+        let uses = use_sent_at given six (AtPackets phases done (sender ∷ left)) history so_far.asked.hearing.stand sender sender_in channel sent wanted in
+        let phase = (stands phases done (sender ∷ left) history so_far sender sender_in).phase in
+        subst (λ n. IsAsker (facts_at given n history) octets) one
+        (asker_sends (facts_at given sender history) channel sent octets uses
+        (subst (λ n. IsInPhase n (facts_at given sender history).links (facts_at given sender history).turn.doing) first phase) parts.off_is parts.same_is)
+
+    first_packet : phases ≡ 0 → HasAsker given history station → HasAsker given after station
+    first_packet first has = λ octets asked. elim (either _ _ (sym (asked_is octets) ∙ asked)) [
+      | inl before ↦ old_asker octets (has octets before)
+      | inr now ↦ old_asker octets (new_asker first octets now)
+    ]
+
+    -- who sends an answer hears nothing meanwhile
+    second_packet : (on : ℕ) (own : List ℕ) → use_at given station after ≡ Sends on own → HasAsker given history station → HasAsker given after station
+    second_packet on own wants has = λ octets asked. elim (either _ _ (sym (asked_is octets) ∙ asked)) [
+      | inl before ↦ old_asker octets (has octets before)
+      | inr now ↦
+          let parts = not_advertising (has_received station hearings) (is_advertising channel) (have_one_access sent octets) now in
+          let listener = is_listener given fates channel sent history sender station parts.received_is in
+          let own_use = use_same given station history after (event_past station history (Transmitted sender channel sent hearings) refl) in
+          let h : Sends on own ≡ Listens channel = sym wants ∙ own_use ∙ listener.listens in absurd cc
+    ]
+
+  packet_asked : (phases : ℕ) (fates : List Fate) (done left : List ℕ) (sender channel : ℕ) (sent : List ℕ) (history : List Event) → given.stations ≡ done ++ sender ∷ left
+      → use_at given sender history ≡ Sends channel sent → IsBelongingSoFar given (AtPackets phases done (sender ∷ left)) history
+      → (station : ℕ) → is_in station given.stations ≡ true → AskedWell given (AtPackets phases done (sender ∷ left)) history station
+      → AskedWell given (AtPackets phases (done ++ sender ∷ []) left) (history ++ Transmitted sender channel sent (hearings_of given fates sender channel sent history) ∷ []) station
+  packet_asked zero fates done left sender channel sent history are wanted so_far station in_it has =
+      first_packet fates done left sender channel sent history 0 are wanted so_far station in_it refl has
+  packet_asked (suc zero) fates done left sender channel sent history are wanted so_far station in_it has = λ on own wants.
+      let event = Transmitted sender channel sent (hearings_of given fates sender channel sent history) in
+      let own_use = use_same given station history (history ++ event ∷ []) (event_past station history event refl) in
+      second_packet fates done left sender channel sent history 1 are wanted so_far station in_it on own wants (has on own (sym own_use ∙ wants))
+  packet_asked (suc (suc phases)) fates done left sender channel sent history are wanted so_far station in_it has = tt
+
+  silent_asked : (phases : ℕ) (done later left rest : List ℕ) (history : List Event) (station : ℕ) → AskedWell given (AtPackets phases done left) history station
+      → AskedWell given (AtPackets phases later rest) history station
+  silent_asked zero done later left rest history station has = has
+  silent_asked (suc zero) done later left rest history station has = has
+  silent_asked (suc (suc phases)) done later left rest history station has = tt
+
+  air_asked : (phases : ℕ) (history : List Event) (station : ℕ) → AskedWell given (AtPackets phases given.stations []) history station
+      → AskedWell given (AtListening phases [] given.stations) history station
+  air_asked zero history station has = has
+  air_asked (suc phases) history station has = tt
+
+  phase_asked : (phases : ℕ) (history : List Event) → IsBelongingSoFar given (AfterPhases phases) history → (station : ℕ) → is_in station given.stations ≡ true
+      → AskedWell given (AfterPhases phases) history station → AskedWell given (AtPackets phases [] given.stations) history station
+  phase_asked zero history so_far station in_it has = λ octets asked.
+      let none = so_far.asked.asked station in_it octets in absurd (let h : false ≡ true = sym none ∙ asked in absurd cc)
+  phase_asked (suc zero) history so_far station in_it has = λ channel octets wanted. has
+  phase_asked (suc (suc phases)) history so_far station in_it has = tt
+
+  heard_asked : (phases : ℕ) (history : List Event) (station : ℕ) → AskedWell given (AtListening phases given.stations []) history station
+      → AskedWell given (AfterPhases (suc phases)) history station
+  heard_asked zero history station has = has
+  heard_asked (suc phases) history station has = tt
+
+  -- ---- a call
+
+  call_asked : AreDistinct given.stations → (phases : ℕ) (done left : List ℕ) (caller : ℕ) (history : List Event) → given.stations ≡ done ++ caller ∷ left
+      → IsBelongingSoFar given (AtListening phases done (caller ∷ left)) history → (station : ℕ) → is_in station given.stations ≡ true
+      → AskedWell given (AtListening phases done (caller ∷ left)) history station
+      → AskedWell given (AtListening phases (done ++ caller ∷ []) left) (after_call given caller (step_of (packet_received caller history)) history) station
+  call_asked distinct (suc phases) done left caller history are so_far station in_it has = tt
+  call_asked distinct zero done left caller history are so_far station in_it has = λ octets asked.
+      by octets (has octets (sym (asked_called given caller step history station octets) ∙ asked)) (other_of station == caller) refl
+    where
+      step : Step
+      step = step_of (packet_received caller history)
+
+      is_one : is_in caller given.stations ≡ true
+      is_one = among given.stations done left caller are
+
+      phase : IsInPhase 0 (facts_at given caller history).links (facts_at given caller history).turn.doing
+      phase = (subst (λ b. PhasedBy given history caller (if b then at_stage (Within 1) (turns_begun history) else at_stage (Within 0) (turns_begun history)))
+          (not_before given.stations done left caller distinct are)
+          (phased_at given (AtListening 0 done (caller ∷ left)) history so_far.asked.hearing.stand caller is_one)).phase
+
+      by : (octets : List ℕ) → IsAsker (facts_at given (other_of station) history) octets → (same : Bool) → (other_of station == caller) ≡ same
+          → IsAsker (facts_at given (other_of station) (after_call given caller step history)) octets
+      by octets asker false differs = asker_same _ _ octets (other_facts given caller step history (other_of station) differs) asker
+      by octets asker true is =
+          let equal = eqb-true (other_of station) caller is in
+          let now = subst (λ n. IsAsker (facts_at given n history) octets) equal asker in
+          subst (λ n. IsAsker (facts_at given n (after_call given caller step history)) octets) (sym equal)
+          (asker_same _ _ octets (own_facts given caller step history)
+          (asker_next (setup_at given caller) (packet_received caller history) (facts_at given caller history) octets phase now))
+
+  -- ---- along a run
+
+  pub asked_well_kept : IsUnderstood → AreTaken → AreDistinct given.stations → IsKept given (AreAskedWell given)
+  asked_well_kept understood taken distinct = let kept = belonging_kept understood taken given pair six in record {
+    on_turn = λ slot plan history begun at is. record { so_far = kept.on_turn slot plan history begun at is.so_far; asked = λ station in_it. tt };
+    on_feed = λ plan done left station history are some now is. record { so_far = kept.on_feed plan done left station history are some now is.so_far; asked = λ one in_it. tt };
+    on_fed = λ history is. record { so_far = kept.on_fed history is.so_far; asked = λ station in_it. tt };
+    on_begin = λ slot plan done left station history are due is. record { so_far = kept.on_begin slot plan done left station history are due is.so_far; asked = λ one in_it. tt };
+    on_begun = λ history is. record { so_far = kept.on_begun history is.so_far; asked = λ station in_it. tt };
+    on_phase = λ phases history few is. record {
+      so_far = kept.on_phase phases history few is.so_far;
+      asked = λ station in_it. phase_asked phases history is.so_far station in_it (is.asked station in_it);
+    };
+    on_silence = λ phases done left station history are none is. record {
+      so_far = kept.on_silence phases done left station history are none is.so_far;
+      asked = λ one in_it. silent_asked phases done (done ++ station ∷ []) (station ∷ left) left history one (is.asked one in_it);
+    };
+    on_packet = λ phases plan done left station channel octets history are some due is. record {
+      so_far = kept.on_packet phases plan done left station channel octets history are some due is.so_far;
+      asked = λ one in_it. packet_asked phases plan.fates done left station channel octets history are due.is_wanted is.so_far one in_it (is.asked one in_it);
+    };
+    on_air = λ phases history is. record {
+      so_far = kept.on_air phases history is.so_far;
+      asked = λ station in_it. air_asked phases history station (is.asked station in_it);
+    };
+    on_hearing = λ phases done left station history are some is. record {
+      so_far = kept.on_hearing phases done left station history are some is.so_far;
+      asked = λ one in_it. call_asked distinct phases done left station history are is.so_far one in_it (is.asked one in_it);
+    };
+    on_heard = λ phases history is. record {
+      so_far = kept.on_heard phases history is.so_far;
+      asked = λ station in_it. heard_asked phases history station (is.asked station in_it);
+    };
+    on_phases = λ history is. record { so_far = kept.on_phases history is.so_far; asked = λ station in_it. tt };
+    on_end = λ done left station history are some is. record { so_far = kept.on_end done left station history are some is.so_far; asked = λ one in_it. tt };
+    on_ended = λ history is. record { so_far = kept.on_ended history is.so_far; asked = λ station in_it. tt };
+  }
+
+  pub asked_well_first : AreAskedWell given NoTurn []
+  asked_well_first = record { so_far = belonging_first given; asked = λ station in_it. tt }

@@ -1,0 +1,51 @@
+//! Answers on links and links that open, from the lines of a journal. The bodies only call the laws
+//! that they rest on: the contracts are the laws.
+ghost use Rattle.std.specs.Prelude.{◌≡◌, ◌≤◌, ◌∷◌, [], ℕ, List};
+ghost use Rattle.journal_pdus.specs.Answered.{AllAnswersAreHeard};
+ghost use Rattle.journal_pdus.specs.OpenedLinks.{AllAreOpenedByThen, AreOpened};
+ghost use Rattle.journal_pdus.specs.Resetting.{ResetsLeaveNoLink};
+ghost use Rattle.run_model.specs.History.{Event};
+ghost use Rattle.run_model.specs.Journal.{journal_of};
+ghost use Rattle.run_model.specs.LinkEnds.{HaveAddresses};
+ghost use Rattle.run_model.specs.Run.{Given, GoesOn, history_of, run_of, setup_at};
+
+/// In the journal of a run of two stations, with any number of links each, each answer on a link
+/// that passes is judged good: who sends first listens for the answer, on the channel of the event,
+/// and knows its access address (Core 5.2, volume 6 part B, sections 2.1.2 and 4.5.1).
+pub fn each_answer_on_a_link_is_heard()
+    ensures { (given : Given) → given.stations ≡ 0 ∷ 1 ∷ [] → HaveAddresses given
+        → AllAnswersAreHeard (journal_of (history_of (run_of given))) }
+{
+    controller_model::a_pdu_is_understood();
+    advertise::laws::connections_are_taken();
+    scan_init::laws::searches_give_each_valid_address();
+    air_frame::laws::packet_tells_its_pdu();
+}
+
+/// In the journal of a run of two stations, with any number of links each, each link that a
+/// CONNECT_IND began has, before the next turn and at the end of a whole run, its line that the side
+/// that sent the CONNECT_IND holds it from there on (Core 5.2, volume 6 part B, section 4.5).
+pub fn each_link_is_opened_at_its_central()
+    ensures before_a_turn { (given : Given) → given.stations ≡ 0 ∷ 1 ∷ [] → HaveAddresses given
+        → AllAreOpenedByThen (journal_of (history_of (run_of given))) }
+    ensures at_the_end { (given : Given) (history : List Event) → given.stations ≡ 0 ∷ 1 ∷ []
+        → HaveAddresses given → run_of given ≡ GoesOn history → AreOpened (journal_of history) }
+{
+    controller_model::a_pdu_is_understood();
+    advertise::laws::connections_are_taken();
+}
+
+/// In the journal of a run of two stations, with any number of links each, no link is open at a side
+/// by the lines before a packet to its host that answers an HCI_Reset as done (Core 5.2, volume 4
+/// part E, section 7.3.2).
+pub fn a_reset_leaves_no_link()
+    ensures { (given : Given) → given.stations ≡ 0 ∷ 1 ∷ [] → HaveAddresses given
+        → ((station : ℕ) → (setup_at given station).links ≤ 4096)
+        → ((station : ℕ) → (setup_at given station).host_buffers ≡ 8)
+        → ResetsLeaveNoLink (journal_of (history_of (run_of given))) }
+{
+    controller_model::a_pdu_is_understood();
+    advertise::laws::connections_are_taken();
+    scan_init::laws::searches_give_each_valid_address();
+    air_frame::laws::packet_tells_its_pdu();
+}

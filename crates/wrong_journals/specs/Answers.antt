@@ -1,0 +1,37 @@
+-- Journals in which an answer is missed, or a CONNECT_IND opens no link at the side that sent it.
+use Rattle.std.specs.Prelude.{List, [], ◌∷◌, ◌++◌}
+use Rattle.ble_base.specs.declared.roles.Role.TheVariants.{Peripheral}
+use Rattle.ble_base.specs.declared.roles.Side.TheVariants.{A, B}
+use Rattle.ble_base.specs.declared.verdicts.Verdict.TheVariants.{Good, Missed}
+use Rattle.journal.specs.declared.entries.Entry.{Entry}
+use Rattle.journal.specs.declared.entries.Entry.TheVariants.{Air, Enter, Opened}
+use Rattle.journal.specs.declared.entries.Mark.TheVariants.{Pass}
+use Rattle.run_model.specs.Rows.{connect_packet, connectable_packet, first_packet, first_reply, turn_entry}
+use Rattle.wrong_journals.specs.Events.{turns_before_first}
+
+-- ---- an answer
+
+-- the central sends the first packet of the link, and the peripheral hears it
+abbrev pub before_answer : List Entry
+before_answer = turns_before_first ++ Enter A 1 0 25 ∷ Enter B 1 0 25 ∷ Air B 25 first_packet Pass Good ∷ []
+
+-- the answer passes, and the central misses it
+abbrev pub answer_missed : List Entry
+answer_missed = before_answer ++ Air A 25 first_reply Pass Missed ∷ []
+
+-- ---- a CONNECT_IND
+
+-- B sends a CONNECT_IND, which A hears
+abbrev pub asked_to_connect : List Entry
+asked_to_connect = turn_entry 0 ∷ Air A 37 connectable_packet Pass Good ∷ Air B 37 connect_packet Pass Good ∷ []
+
+-- A holds the link from there on, and B does not
+abbrev pub opened_by_other : List Entry
+opened_by_other = asked_to_connect ++ Opened A 1 0 Peripheral ∷ []
+
+-- the next turn begins, and neither holds the link, or only A does
+abbrev pub never_opened : List Entry
+never_opened = asked_to_connect ++ turn_entry 1 ∷ []
+
+abbrev pub never_opened_by_central : List Entry
+never_opened_by_central = opened_by_other ++ turn_entry 1 ∷ []

@@ -1,0 +1,20 @@
+//! Answers that are missed, and CONNECT_INDs that open no link at the side that sent them.
+ghost use Rattle.journal_pdus.specs.Answered.{AllAnswersAreHeard};
+ghost use Rattle.journal_pdus.specs.OpenedLinks.{AllAreOpenedByThen, AreOpened};
+ghost use Rattle.run_model.specs.Rows.{one_connection_journal};
+ghost use Rattle.wrong_journals.specs.Answers.{answer_missed, never_opened};
+ghost use Rattle.wrong_journals.specs.Answers.{never_opened_by_central, opened_by_other};
+
+/// A central does not miss the answer to its packet where that passes.
+pub fn missed_answers_are_refused()
+    ensures { AllAnswersAreHeard answer_missed → ⊥ }
+{}
+
+/// A CONNECT_IND opens its link at the side that sent it, before the next turn and by the end of a
+/// whole run, whoever else opens it.
+pub fn unopened_links_are_refused()
+    ensures never { AllAreOpenedByThen never_opened → ⊥ }
+    ensures by_other { AllAreOpenedByThen never_opened_by_central → ⊥ }
+    ensures at_the_end { AreOpened opened_by_other → ⊥ }
+    ensures right { AreOpened one_connection_journal }
+{}
