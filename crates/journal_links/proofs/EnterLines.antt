@@ -1,11 +1,7 @@
 -- Each line of an end that enters an event is in the turn of the anchor of the event, on its channel.
-use Rattle.std.proofs.Common.{◌≡◌, ℕ, zero, suc, ◌+◌, ◌*◌, ◌||◌, Bool, true, false, List, [], ◌∷◌, ◌++◌, length, map, Some, refl, sym, ap, subst, ◌∙◌, append_assoc, arith}
+use Rattle.std.proofs.Common.{◌≡◌, ℕ, zero, suc, ◌+◌, ◌*◌, Bool, true, List, [], ◌∷◌, ◌++◌, length, map, Some, refl, sym, ap, subst, ◌∙◌, arith}
 use Rattle.std.specs.Prelude.{if◌then◌else◌}
 use Rattle.std.specs.List.{Contains}
-use Rattle.std.proofs.lemmas.List.Elements.{Contains-append_left, Contains-append_right, Contains-push}
-use Rattle.std.proofs.lemmas.List.Folds.{list_any-append}
-use Rattle.ble_base.specs.declared.notes.Note.{Note}
-use Rattle.ble_base.specs.declared.notes.Note.TheVariants.{Up as UpNote, Enter as EnterNote}
 use Rattle.ble_base.specs.declared.roles.Side.{Side}
 use Rattle.chan_select.specs.Channel.{channel_of}
 use Rattle.chan_select.specs.declared.selection.Algorithm.TheVariants.{One, Two}
@@ -21,9 +17,9 @@ use Rattle.controller_model.specs.Step.{Step, HostOctet, TurnBegins, PacketHeard
 use Rattle.controller_model.proofs.Entries.{enters_as_turns_begin, enters_at_anchors}
 use Rattle.radio_replay.specs.Script.{Script}
 use Rattle.run_model.specs.Due.{IsCallDue, IsDue}
-use Rattle.run_model.specs.History.{Event, TurnBegan, HostFed, Called, Noted, Transmitted, past_of, turns_begun}
-use Rattle.run_model.specs.Journal.{entries_of, entry_of, journal_from, journal_of, side_of}
-use Rattle.run_model.specs.Links.{Links, links_of}
+use Rattle.run_model.specs.History.{Called, Noted, past_of, turns_begun}
+use Rattle.run_model.specs.Journal.{journal_from, journal_of}
+use Rattle.run_model.specs.Links.{links_of}
 use Rattle.run_model.specs.NoteLines.{enter_line}
 use Rattle.run_model.specs.OnAir.{ends_phase}
 use Rattle.run_model.specs.Pair.{given_of}
