@@ -4,3 +4,4 @@ pub mod CentralTaking
 pub mod PeripheralGoing
 pub mod PeripheralTaking
 pub mod SubLists
+pub mod Untaken

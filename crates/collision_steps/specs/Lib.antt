@@ -3,3 +3,4 @@ pub mod CentralPart
 pub mod Parts
 pub mod PeripheralPart
 pub mod SubLists
+pub mod Untaken

@@ -3,7 +3,9 @@
 #![tactic(auto)]
 
 mod laws;
+mod ways;
 
 pub use crate::laws::{
     calls_on_a_central_are_steps, calls_on_a_peripheral_are_steps, other_pdus_may_be_left_out,
 };
+pub use crate::ways::each_move_sends_or_takes_at_most_one;

@@ -2,6 +2,7 @@
 pub mod Exchanges
 pub mod ExchangesTried
 pub mod LengthParts
+pub mod LengthsFixed
 pub mod LengthsKept
 pub mod Values
 pub mod Versions

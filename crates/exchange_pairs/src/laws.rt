@@ -13,6 +13,7 @@ ghost use Rattle.exchange_pairs.specs.Exchange.{is_answer, is_idle, number_of};
 ghost use Rattle.exchange_pairs.specs.ExchangeRun;
 ghost use Rattle.exchange_pairs.specs.ExchangeRun.{ExchangeEvent, exchanges, other_role};
 ghost use Rattle.exchange_pairs.specs.ExchangeLaws;
+ghost use Rattle.exchange_pairs.specs.LengthLaws.{first_rx, none_accepts};
 ghost use Rattle.exchange_pairs.specs.LengthPart.{exchange_end, exchange_link};
 ghost use Rattle.exchange_pairs.specs.LengthRun;
 ghost use Rattle.exchange_pairs.specs.LengthRun.{LengthEvent, length_exchanges};
@@ -131,6 +132,22 @@ pub fn an_end_knows_what_the_other_receives()
         → let s = run (length_exchanges central_rx peripheral_rx) events in
         tx_of (LengthRun.end_of (other_role role) s).lengths
         ≤ (LengthRun.end_of role s).lengths.own_rx }
+{}
+
+/// In runs in which no end receives more than as the link began, as in this product, what an end
+/// knows of the receive maximum of the other is 27 or exactly that.
+pub fn a_receive_maximum_that_stays_is_known()
+    ensures stays { (central_rx peripheral_rx : ℕ) (events : List LengthEvent) (role : Role)
+        → none_accepts events ≡ true
+        → let s = run (length_exchanges central_rx peripheral_rx) events in
+        (LengthRun.end_of role s).lengths.own_rx ≡ first_rx role central_rx peripheral_rx }
+    ensures known { (central_rx peripheral_rx : ℕ) (events : List LengthEvent) (role : Role)
+        → none_accepts events ≡ true
+        → first_payload_octets ≤ central_rx → first_payload_octets ≤ peripheral_rx
+        → let s = run (length_exchanges central_rx peripheral_rx) events in
+        ((LengthRun.end_of (other_role role) s).lengths.peer_rx ≡ first_payload_octets)
+        ⊎ ((LengthRun.end_of (other_role role) s).lengths.peer_rx
+        ≡ first_rx role central_rx peripheral_rx) }
 {}
 
 /// Data that an end fixes, and data that was fixed or sent and not taken, has at most as many

@@ -23,5 +23,9 @@ mod Law
 mod Awaited
 mod AnswersHeard
 mod CentralsOpen
+mod RadioUses
+mod HeldRadio
+mod EventSlots
+mod PacketTurns
 mod ResetAnswers
 mod ResetsLeaveNone

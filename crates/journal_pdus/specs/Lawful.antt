@@ -18,6 +18,7 @@ use Rattle.journal_turns.specs.Follows.{FollowsSchedule}
 use Rattle.journal_turns.specs.Scheduled.{AreAllTurns}
 use Rattle.journal_pdus.specs.Answered.{AllAnswersAreHeard}
 use Rattle.journal_pdus.specs.Exchanged.{IsAtRest, PdusAreDue}
+use Rattle.journal_pdus.specs.InEvent.{AllAreInEvents}
 use Rattle.journal_pdus.specs.InTime.{AllEndInTime, NoneIsOverdue}
 use Rattle.journal_pdus.specs.OpenedLinks.{AllAreOpenedByThen, AreOpened}
 use Rattle.journal_pdus.specs.Resetting.{ResetsLeaveNoLink}
@@ -49,6 +50,8 @@ pub record IsLawful (a b : List ℕ) (script : Script) (journal : List Entry) : 
   pub begun : AllAreOpenedByThen journal
   pub entered : AllAreEntered journal
   pub events : AllAreInOrder journal
+  -- a packet of a link is in the turn of the event that its side entered last, or in the next one
+  pub in_events : AllAreInEvents journal
   -- lines name links that are open at their side, and a link is opened under the next free handle
   pub held : LinesAreOfOpenLinks journal
   -- each link that is shut has its reason, and one that is not shut has none: it ends later

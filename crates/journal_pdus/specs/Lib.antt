@@ -7,6 +7,7 @@ pub mod Pending
 pub mod Exchanged
 pub mod Undelivered
 pub mod Answered
+pub mod InEvent
 pub mod OpenedLinks
 pub mod Resetting
 pub mod Lawful

@@ -11,18 +11,20 @@ ghost use Rattle.journal_pdus.specs.Undelivered.{IsUndelivered};
 
 use crate::links::{
     a_reset_leaves_no_link, each_answer_on_a_link_is_heard, each_link_is_opened_at_its_central,
+    each_packet_is_in_its_event,
 };
 
 /// The journal of a run of a pair, whole or ended by damage, follows its schedule
 /// (`journal_turns::each_journal_follows_its_schedule`). Links and their events are those of their
 /// CONNECT_INDs, each of which has the next access address of its side and opens its link there
-/// before the next turn; each side enters the events of a link one after another; lines name links
-/// that are open at their side; each link that is shut has its reason, none that is to end stays open
-/// after that turn, and a Reset leaves none; no line is of a control procedure, since none is built;
-/// an answer on a link that passes is heard; and data arrives in order
+/// before the next turn; each side enters the events of a link one after another, and sends on it
+/// only in the turn of the last one or in the next turn; lines name links that are open at their
+/// side; each link that is shut has its reason, none that is to end stays open after that turn, and
+/// a Reset leaves none; no line is of a control procedure, since none is built; an answer on a link
+/// that passes is heard; and data arrives in order
 /// (`journal_data::data_arrives_in_order_in_every_journal`). The packet at which damage ends a run
-/// is due as those before it are. Line by line (Core 5.2, volume 6 part B,
-/// sections 4.5.6 and 4.5.9, and volume 4 part E, section 7.7.19):
+/// is due as those before it are. Line by line (Core 5.2, volume 6 part B, sections 4.5.6 and 4.5.9,
+/// and volume 4 part E, section 7.7.19):
 ///
 /// - each packet of a link has the channel, the access address, the CRCInit, SN and NESN that the
 ///   lines before it give, and carries the PDU that its side sent last, until that is acknowledged;
@@ -69,5 +71,6 @@ pub fn each_journal_is_lawful()
     journal_data::data_arrives_in_order_in_every_journal();
     each_answer_on_a_link_is_heard();
     each_link_is_opened_at_its_central();
+    each_packet_is_in_its_event();
     a_reset_leaves_no_link();
 }

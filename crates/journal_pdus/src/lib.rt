@@ -9,6 +9,7 @@ mod rows;
 pub use crate::lawful::each_journal_is_lawful;
 pub use crate::links::{
     a_reset_leaves_no_link, each_answer_on_a_link_is_heard, each_link_is_opened_at_its_central,
+    each_packet_is_in_its_event,
 };
 pub use crate::rows::{
     worked_acknowledged, worked_control_pdus, worked_new_pdu, worked_next_pdu, worked_taking,

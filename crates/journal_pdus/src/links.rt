@@ -1,7 +1,9 @@
-//! Answers on links and links that open, from the lines of a journal. The bodies only call the laws
-//! that they rest on: the contracts are the laws.
+//! Links of a journal, from its lines: that they open, that their packets are in their events and
+//! answers are heard, and that a Reset leaves none. The bodies only call the laws that they rest on:
+//! the contracts are the laws.
 ghost use Rattle.std.specs.Prelude.{◌≡◌, ◌≤◌, ◌∷◌, [], ℕ, List};
 ghost use Rattle.journal_pdus.specs.Answered.{AllAnswersAreHeard};
+ghost use Rattle.journal_pdus.specs.InEvent.{AllAreInEvents};
 ghost use Rattle.journal_pdus.specs.OpenedLinks.{AllAreOpenedByThen, AreOpened};
 ghost use Rattle.journal_pdus.specs.Resetting.{ResetsLeaveNoLink};
 ghost use Rattle.run_model.specs.History.{Event};
@@ -33,6 +35,20 @@ pub fn each_link_is_opened_at_its_central()
 {
     controller_model::a_pdu_is_understood();
     advertise::laws::connections_are_taken();
+}
+
+/// In the journal of a run of two stations, with any number of links each, each packet of a link
+/// comes in the turn of the anchor of the event that its side entered last on that link, or in the
+/// next turn (Core 5.2, volume 6 part B, section 4.5.1; that an event has at most two slots is our
+/// choice).
+pub fn each_packet_is_in_its_event()
+    ensures { (given : Given) → given.stations ≡ 0 ∷ 1 ∷ [] → HaveAddresses given
+        → AllAreInEvents (journal_of (history_of (run_of given))) }
+{
+    controller_model::a_pdu_is_understood();
+    advertise::laws::connections_are_taken();
+    scan_init::laws::searches_give_each_valid_address();
+    air_frame::laws::packet_tells_its_pdu();
 }
 
 /// In the journal of a run of two stations, with any number of links each, no link is open at a side

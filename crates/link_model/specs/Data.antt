@@ -101,8 +101,9 @@ abbrev pub has_some : List Pdu → Bool
 has_some [] = false
 has_some (pdu ∷ pdus) = true
 
--- a further PDU waits behind that: behind a control PDU another one, also one that may not be sent yet, or a piece of
--- data; behind a piece the octets that it does not have (section 4.5.6; what counts is our choice)
+-- a further PDU waits behind that: behind a control PDU another one, also one that is held back, or a piece of data;
+-- behind a piece the octets that it does not have (section 4.5.6; what counts is our choice). The piece and the number of
+-- octets are those of the data that may be sent
 abbrev pub waits_behind : List Pdu → List Pdu → Option Piece → ℕ → Bool
 waits_behind [] held piece unsent = nat_lt (length (pdu_with piece).body) unsent
 waits_behind (control ∷ controls) held piece unsent = has_some controls || has_some held || is_some piece

@@ -3,4 +3,5 @@ pub mod Differing
 pub mod Packets
 pub mod Turning
 pub mod Shutting
+pub mod InEvents
 pub mod Opening

@@ -4,6 +4,7 @@ pub mod Events
 pub mod Exchanges
 pub mod Held
 pub mod Hosts
+pub mod InEvent
 pub mod Resetting
 pub mod Shuts
 pub mod Turns

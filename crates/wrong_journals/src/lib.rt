@@ -9,6 +9,7 @@ mod held;
 mod hosts;
 mod resets;
 mod shuts;
+mod slots;
 mod turns;
 
 pub use crate::answers::{missed_answers_are_refused, unopened_links_are_refused};
@@ -21,6 +22,7 @@ pub use crate::held::{lines_of_no_link_are_refused, packets_of_no_link_are_refus
 pub use crate::hosts::{wrong_credits_are_refused, wrong_data_is_refused};
 pub use crate::resets::links_left_by_a_reset_are_refused;
 pub use crate::shuts::{links_that_stay_open_are_refused, wrong_reasons_are_refused};
+pub use crate::slots::packets_outside_events_are_refused;
 pub use crate::turns::{
     wrong_fates_are_refused, wrong_feeds_are_refused, wrong_radios_are_refused,
     wrong_stops_are_refused, wrong_turns_are_refused, wrong_verdicts_are_refused,
