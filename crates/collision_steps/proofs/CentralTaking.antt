@@ -1,19 +1,23 @@
 -- A central takes a PDU.
-use Rattle.std.proofs.Common.{◌≡◌, ℕ, ◌⊎◌, inl, inr, Bool, true, false, not, ◌||◌, List, [], ◌∷◌, ◌++◌, Option, Some, None, is_some, append-nil, refl, ap, sym, ◌∙◌, subst}
+use Rattle.std.proofs.Common.{◌≡◌, ℕ, Bool, true, false, not, ◌||◌, List, [], ◌∷◌, ◌++◌, Option, Some, None, is_some, if◌then◌else◌, append-nil, refl, ap, sym, ◌∙◌, subst}
 use Rattle.ble_base.specs.declared.error_codes.ErrCode.{ErrCode}
+use Rattle.ble_base.specs.declared.procedure_kinds.Kind.{Kind}
+use Rattle.ble_base.specs.declared.procedure_kinds.Kind.TheVariants.{Request as request_kind, Phy as phy_kind, Version as version_kind}
 use Rattle.procedure_values.specs.declared.drafts.Draft.{Draft}
 use Rattle.procedure_values.specs.declared.drafts.Rejection.{Rejection}
-use Rattle.collisions.specs.declared.pdus.Pdu.{Pdu}
+use Rattle.exclusive_stages.specs.declared.pdus.Pdu.{Pdu}
 use Rattle.data_pdu.specs.declared.ctrl.Ctrl.{Ctrl}
-use Rattle.data_pdu.specs.declared.ctrl.Ctrl.TheVariants.{ConnectionUpdateInd, ChannelMapInd, TerminateInd, EncReq, EncRsp, StartEncReq, StartEncRsp, UnknownRsp, FeatureReq, FeatureRsp, PauseEncReq, PauseEncRsp, VersionInd, RejectInd, PeripheralFeatureReq, ConnectionParamReq, ConnectionParamRsp, RejectExtInd, LengthReq, LengthRsp, PhyReq, PhyRsp, PhyUpdateInd}
+use Rattle.data_pdu.specs.declared.ctrl.Ctrl.TheVariants.{TerminateInd, EncRsp, StartEncReq, StartEncRsp, UnknownRsp, FeatureRsp, PauseEncRsp, VersionInd, RejectInd, ConnectionParamReq, RejectExtInd, LengthRsp, PhyReq, PhyRsp}
 use Rattle.data_pdu.specs.declared.ctrl.CtrlRead.{CtrlRead}
 use Rattle.data_pdu.specs.declared.ctrl.CtrlRead.TheVariants.{Known, Unknown, Bare}
 use Rattle.procedures.specs.declared.outcome.Outcome.{Outcome}
+use Rattle.procedure_stages.specs.declared.stages.Exchange.{Exchange}
 use Rattle.procedure_stages.specs.declared.stages.Exchange.TheVariants.{FeaturesUnsent, FeaturesSent, VersionUnsent, VersionSent, LengthUnsent, LengthSent}
 use Rattle.procedure_stages.specs.declared.stages.OwnCentral.{OwnCentral}
-use Rattle.procedure_stages.specs.declared.stages.OwnCentral.TheVariants.{Idle, Exchange as exchange, UpdateUnsent, UpdateSent, MapUnsent, MapSent, PhyUnsent, PhySent, PhyAnswered, PhyIndicated, EncryptUnsent, EncryptSent}
-use Rattle.procedure_stages.specs.declared.stages.PeerAtCentral.{PeerAtCentral}
-use Rattle.procedure_stages.specs.declared.stages.PeerAtCentral.TheVariants.{Absent, PhyIndUnsent}
+use Rattle.procedure_stages.specs.declared.stages.OwnCentral.TheVariants.{Exclusive as exclusive, Exchange as exchange, EncryptUnsent, EncryptSent}
+use Rattle.exclusive_stages.specs.declared.stages.CentralStage.TheVariants.{Idle, UpdateUnsent, UpdateSent, MapUnsent, MapSent, PhyUnsent, PhySent, PhyAnswered, PhyIndicated}
+use Rattle.exclusive_stages.specs.declared.stages.PeerAtCentral.{PeerAtCentral}
+use Rattle.exclusive_stages.specs.declared.stages.PeerAtCentral.TheVariants.{Absent, PhyIndUnsent}
 use Rattle.procedure_stages.specs.declared.stages.Central.{Central}
 use Rattle.ble_base.specs.declared.counters.EventNo.{EventNo}
 use Rattle.procedure_values.specs.declared.drafts.Draft.TheVariants.{PhyInd as PhyIndDraft, VersionInd as VersionDraft}
@@ -21,38 +25,49 @@ use Rattle.procedures.specs.Outcomes.{moved_and_answered}
 use Rattle.procedures.specs.Phy.{phy_req_at_central, phy_rsp_taken}
 use Rattle.procedures.specs.Features.{features_taken}
 use Rattle.procedures.specs.Version.{version_taken}
-use Rattle.procedures.specs.Termination.{terminate_taken}
 use Rattle.procedures.specs.Length.{length_taken}
 use Rattle.procedures.specs.Encryption.{cipher_at_central, start_rsp_at_central}
 use Rattle.procedure_stages.specs.declared.stages.Progress.{Progress}
 use Rattle.procedure_stages.specs.declared.stages.Progress.TheVariants.{Central as central, Peripheral as peripheral}
 use Rattle.procedure_stages.specs.declared.closing.Closing.{Closing}
 use Rattle.procedure_stages.specs.declared.closing.Closing.TheVariants.{Open, Closed, Disconnecting}
+use Rattle.procedure_stages.specs.declared.steps.Step.{Step}
+use Rattle.procedure_stages.specs.Collisions.{collision}
+use Rattle.procedure_stages.specs.Exclusive.{central_stage, pdu_of_draft}
+use Rattle.procedure_stages.specs.Kinds.{kind_at_central, kind_of_exchange}
 use Rattle.procedure_stages.specs.Queue.{QueueFacts, with_draft, with_rejection}
+use Rattle.procedure_stages.specs.Steps.{asks_host}
 use Rattle.procedures.specs.Table.{TableFacts}
 use Rattle.procedure_stages.specs.Closing.{is_open}
 use Rattle.procedure_values.specs.Values.{are_valid}
+use Rattle.procedure_values.specs.Wants.{is_wanted}
 use Rattle.procedures.specs.Request.{request_judged, request_taken}
-use Rattle.procedures.specs.Taking.{facts_with, lacks_room, outcome_of, settled, taken_by_central, took_step}
+use Rattle.procedures.specs.Taking.{facts_with, lacks_room, no_room, outcome_of, settled, taken_by_central, took_step}
 use Rattle.procedure_stages.specs.Opcodes.{is_opcode, later_opcode_at_central, opcode_at_central}
-use Rattle.procedures.specs.Refusals.{refused_if}
+use Rattle.procedures.specs.Refusals.{refused_if, refused_with}
+use Rattle.exclusive_stages.specs.Awaited.{peer_answered}
+use Rattle.exclusive_stages.specs.Kinds.{central_kind, kind_sent_by_central}
 use Rattle.collisions.specs.declared.central.Central.{Central as CentralTableFacts}
-use Rattle.collisions.specs.declared.pdus.Reason.TheVariants.{SameKind, OtherKind, Other}
-use Rattle.collisions.specs.declared.pdus.Pdu.TheVariants.{ParamReq, PhyReq as PhyReqPdu, PhyRsp as PhyRspPdu, PhyInd, RejectParam, RejectPhy}
-use Rattle.collisions.specs.declared.stages.CentralOwn.TheVariants.{Idle as JointIdle}
-use Rattle.collisions.specs.declared.stages.CentralPeer.TheVariants.{PhyIndUnsent as JointPhyIndUnsent}
+use Rattle.collisions.specs.declared.joint.End.{End}
+use Rattle.collisions.specs.declared.joint.End.TheVariants.{Open as JointOpen, Collided}
+use Rattle.exclusive_stages.specs.Pdus.{reason_of, rejection_of}
+use Rattle.exclusive_stages.specs.declared.pdus.Exclusive.{Exclusive}
+use Rattle.exclusive_stages.specs.declared.pdus.Exclusive.TheVariants.{Request as RequestKind, Phy as PhyKind}
+use Rattle.exclusive_stages.specs.declared.pdus.Reason.TheVariants.{SameKind, OtherKind, Other}
+use Rattle.exclusive_stages.specs.declared.pdus.Pdu.TheVariants.{ParamReq, PhyReq as PhyReqPdu, PhyRsp as PhyRspPdu, PhyInd, RejectParam, RejectPhy, Refusal}
 use Rattle.collisions.specs.CentralTable
-use Rattle.collision_steps.specs.CentralPart.{after_steps, central_of, own_part, refusal_if, step_of_ctrl, step_of_read, view}
-use Rattle.collision_steps.specs.Parts.{draft_part, drafts_part, rejection_part, rejections_part, with_part}
+use Rattle.collision_steps.specs.Answers.{code_of_end, code_of_refusal, exclusive_done, exclusive_refusal, refusal_with, stops_run}
+use Rattle.collision_steps.specs.CentralPart.{CentralStep, answer_to, asks_host_by, begins, central_of, enters, grants, refusal_if, refused_kind, refuses, sees_acknowledged, sends, step_of_ctrl, step_of_read, takes, terminates, view}
+use Rattle.collision_steps.specs.Parts.{drafts_part, rejection_part, rejections_part, with_part}
 
 -- a PDU more in a queue
 with_more : (first : Option Pdu) (xs ys : List Pdu) → with_part first (xs ++ ys) ≡ with_part first xs ++ ys
 with_more None xs ys = refl
 with_more (Some pdu) xs ys = refl
 
-pub drafts_more : (ds : List Draft) (d : Draft) → drafts_part (ds ++ d ∷ []) ≡ drafts_part ds ++ with_part (draft_part d) []
+pub drafts_more : (ds : List Draft) (d : Draft) → drafts_part (ds ++ d ∷ []) ≡ drafts_part ds ++ with_part (pdu_of_draft d) []
 drafts_more [] d = refl
-drafts_more (x ∷ ds) d = ap (with_part (draft_part x)) (drafts_more ds d) ∙ with_more (draft_part x) (drafts_part ds) (with_part (draft_part d) [])
+drafts_more (x ∷ ds) d = ap (with_part (pdu_of_draft x)) (drafts_more ds d) ∙ with_more (pdu_of_draft x) (drafts_part ds) (with_part (pdu_of_draft d) [])
 
 pub rejections_more : (rs : List Rejection) (r : Rejection) → rejections_part (rs ++ r ∷ []) ≡ rejections_part rs ++ with_part (rejection_part r) []
 rejections_more [] r = refl
@@ -61,7 +76,7 @@ rejections_more (x ∷ rs) r = ap (with_part (rejection_part x)) (rejections_mor
 -- ---- queues
 
 -- a PDU of another kind that is queued changes nothing
-pub other_draft : (p : Progress) (d : Draft) (cl : Closing) (q : QueueFacts) → draft_part d ≡ None
+pub other_draft : (p : Progress) (d : Draft) (cl : Closing) (q : QueueFacts) → pdu_of_draft d ≡ None
     → view p (is_open cl) (with_draft cl d q).rejections (with_draft cl d q).drafts ≡ view p (is_open cl) q.rejections q.drafts
 other_draft p d Open q none = by p
   where
@@ -75,7 +90,7 @@ other_draft p d Closed q none = refl
 other_draft p d Disconnecting q none = refl
 
 -- one of these kinds is queued as joint runs have it
-pub one_draft : (c : Central) (d : Draft) (pdu : Pdu) (cl : Closing) (q : QueueFacts) → draft_part d ≡ Some pdu
+pub one_draft : (c : Central) (d : Draft) (pdu : Pdu) (cl : Closing) (q : QueueFacts) → pdu_of_draft d ≡ Some pdu
     → view (central c) (is_open cl) (with_draft cl d q).rejections (with_draft cl d q).drafts
     ≡ CentralTable.queued pdu (view (central c) (is_open cl) q.rejections q.drafts)
 one_draft c d pdu Open q is =
@@ -103,198 +118,322 @@ c_of own peer last = record { own = own; peer = peer; last_instant = last }
 abbrev pub at : TableFacts → OwnCentral → PeerAtCentral → Option EventNo → TableFacts
 at f own peer last = record f { progress = central (c_of own peer last) }
 
-module _ (f : TableFacts) (peer : PeerAtCentral) (last : Option EventNo) (slot : ℕ) where
-  judged : (own : OwnCentral) (min max latency timeout : ℕ) (b : Bool) → are_valid min max latency timeout ≡ b → own_part own ≡ JointIdle
-      → central_of (facts_with (at f own peer last) slot (request_judged (at f own peer last) (c_of own peer last) min max latency timeout))
-      ≡ (CentralTable.request_taken None (not b) (central_of (at f own peer last))).0
-  judged own min max latency timeout true is none = rw is refl
-  judged own min max latency timeout false is none =
-      rw is (one_rejection (c_of own Absent last) _ (RejectParam Other) f.closing f.queue refl)
+-- what an outcome is in a joint run: the table and the end of the link, and what the host hears
+record Answers (f : TableFacts) (slot : ℕ) (o : Outcome) (answer : CentralTableFacts × End) (refusal : Option (Kind × ErrCode)) (asks : Bool) : Type 0 where
+  pub part : central_of (facts_with f slot o) ≡ answer.0
+  pub ends : o.step.ends ≡ code_of_end answer.1
+  pub refused : exclusive_refusal o.step.refused ≡ refusal
+  pub done : exclusive_done o.step.done ≡ None
+  pub host : asks_host o.step.effect ≡ asks
 
-  idle_taken : (own : OwnCentral) (b : Bool) → own_part own ≡ JointIdle
-      → (CentralTable.request_taken None b (central_of (at f own peer last))).0
-      ≡ (CentralTable.request_taken (CentralTable.own_kind (own_part own)) b (central_of (at f own peer last))).0
-  idle_taken own b none =
-      ap (λ k. (CentralTable.request_taken (CentralTable.own_kind k) b (central_of (at f own peer last))).0) (sym none)
+-- an exchange excludes nothing
+exchange_apart : (stage : Exchange) (kind : Kind) → collision (Some (kind_of_exchange stage)) kind ≡ None
+exchange_apart FeaturesUnsent kind = refl
+exchange_apart FeaturesSent kind = refl
+exchange_apart VersionUnsent kind = refl
+exchange_apart VersionSent kind = refl
+exchange_apart LengthUnsent kind = refl
+exchange_apart LengthSent kind = refl
+
+pub version_apart : (b : Bool) → exclusive_done (if b then Some version_kind else None) ≡ None
+version_apart true = refl
+version_apart false = refl
+
+pub named : (own : Option ℕ) (opcode : ℕ) → is_opcode own opcode ≡ true → is_some own ≡ true
+named None opcode h = absurd (cc)
+named (Some own) opcode h = refl
+
+-- the later PDU of a procedure follows its first
+named_either : (own : OwnCentral) (opcode : ℕ) → (is_opcode (opcode_at_central own) opcode || is_opcode (later_opcode_at_central own) opcode) ≡ true
+    → is_some (opcode_at_central own) ≡ true
+named_either (exclusive PhyIndicated) opcode h = refl
+named_either (exclusive UpdateSent) opcode h = refl
+named_either (exclusive MapSent) opcode h = refl
+named_either (exclusive PhySent) opcode h = refl
+named_either (exclusive PhyAnswered) opcode h = refl
+named_either (exclusive other) opcode h = absurd (cc)
+named_either (exchange FeaturesSent) opcode h = refl
+named_either (exchange VersionSent) opcode h = refl
+named_either (exchange LengthSent) opcode h = refl
+named_either (exchange other) opcode h = absurd (cc)
+named_either EncryptUnsent opcode h = absurd (cc)
+named_either EncryptSent opcode h = refl
+
+-- a procedure whose first PDU was sent is over as it is refused, and it is the one that the host hears of
+record Refusable (own : OwnCentral) (code : ErrCode) : Type 0 where
+  pub over : CentralTable.own_after_refusal (central_stage own) ≡ Idle
+  pub told : exclusive_refusal (refused_with (kind_at_central own) code) ≡ refusal_with (kind_sent_by_central (central_stage own)) code
+
+refusable : (own : OwnCentral) (code : ErrCode) → is_some (opcode_at_central own) ≡ true → Refusable own code
+refusable (exclusive UpdateSent) code h = record { over = refl; told = refl }
+refusable (exclusive MapSent) code h = record { over = refl; told = refl }
+refusable (exclusive PhySent) code h = record { over = refl; told = refl }
+refusable (exclusive PhyAnswered) code h = record { over = refl; told = refl }
+refusable (exclusive PhyIndicated) code h = record { over = refl; told = refl }
+refusable (exclusive other) code h = absurd (cc)
+refusable (exchange FeaturesSent) code h = record { over = refl; told = refl }
+refusable (exchange VersionSent) code h = record { over = refl; told = refl }
+refusable (exchange LengthSent) code h = record { over = refl; told = refl }
+refusable (exchange other) code h = absurd (cc)
+refusable EncryptUnsent code h = absurd (cc)
+refusable EncryptSent code h = record { over = refl; told = refl }
+
+module _ (f : TableFacts) (peer : PeerAtCentral) (last : Option EventNo) (slot : ℕ) where
+  abbrev table : OwnCentral → CentralTableFacts
+  table own = central_of (at f own peer last)
+
+  abbrev Does : OwnCentral → Outcome → CentralTableFacts × End → Option (Kind × ErrCode) → Bool → Type 0
+  Does own o answer refusal asks = Answers (at f own peer last) slot o answer refusal asks
+
+  -- the PDU is of no concern to the procedures that exclude each other
+  abbrev Ignores : OwnCentral → Outcome → Type 0
+  Ignores own o = Does own o (table own, JointOpen) None false
+
+  judged : (own : OwnCentral) (min max latency timeout : ℕ) (b : Bool) → are_valid min max latency timeout ≡ b
+      → Does own (request_judged (at f own peer last) (c_of own peer last) min max latency timeout)
+      (CentralTable.request_taken None (not (are_valid min max latency timeout)) (table own)) None (not (not (are_valid min max latency timeout)))
+  judged own min max latency timeout true is = rw is (record { part = refl; ends = refl; refused = refl; done = refl; host = refl })
+  judged own min max latency timeout false is =
+      rw is (record { part = one_rejection (c_of own Absent last) _ (RejectParam Other) f.closing f.queue refl; ends = refl; refused = refl; done = refl; host = refl })
 
   request : (own : OwnCentral) (min max latency timeout : ℕ)
-      → central_of (facts_with (at f own peer last) slot (request_taken (at f own peer last) (c_of own peer last) min max latency timeout))
-      ≡ (CentralTable.taken (not (are_valid min max latency timeout)) ParamReq (central_of (at f own peer last))).0
-  request UpdateUnsent min max latency timeout = one_rejection (c_of UpdateUnsent peer last) _ (RejectParam OtherKind) f.closing f.queue refl
-  request UpdateSent min max latency timeout = one_rejection (c_of UpdateSent peer last) _ (RejectParam OtherKind) f.closing f.queue refl
-  request MapUnsent min max latency timeout = one_rejection (c_of MapUnsent peer last) _ (RejectParam OtherKind) f.closing f.queue refl
-  request MapSent min max latency timeout = one_rejection (c_of MapSent peer last) _ (RejectParam OtherKind) f.closing f.queue refl
-  request PhyUnsent min max latency timeout = one_rejection (c_of PhyUnsent peer last) _ (RejectParam OtherKind) f.closing f.queue refl
-  request PhySent min max latency timeout = one_rejection (c_of PhySent peer last) _ (RejectParam OtherKind) f.closing f.queue refl
-  request PhyAnswered min max latency timeout = refl
-  request PhyIndicated min max latency timeout = refl
-  request Idle min max latency timeout = judged Idle min max latency timeout (are_valid min max latency timeout) refl refl
-  request EncryptUnsent min max latency timeout = judged EncryptUnsent min max latency timeout (are_valid min max latency timeout) refl refl
-  request EncryptSent min max latency timeout = judged EncryptSent min max latency timeout (are_valid min max latency timeout) refl refl
-  request (exchange FeaturesUnsent) min max latency timeout = judged (exchange FeaturesUnsent) min max latency timeout (are_valid min max latency timeout) refl refl
-  request (exchange FeaturesSent) min max latency timeout = judged (exchange FeaturesSent) min max latency timeout (are_valid min max latency timeout) refl refl
-  request (exchange VersionUnsent) min max latency timeout = judged (exchange VersionUnsent) min max latency timeout (are_valid min max latency timeout) refl refl
-  request (exchange VersionSent) min max latency timeout = judged (exchange VersionSent) min max latency timeout (are_valid min max latency timeout) refl refl
-  request (exchange LengthUnsent) min max latency timeout = judged (exchange LengthUnsent) min max latency timeout (are_valid min max latency timeout) refl refl
-  request (exchange LengthSent) min max latency timeout = judged (exchange LengthSent) min max latency timeout (are_valid min max latency timeout) refl refl
+      → Does own (request_taken (at f own peer last) (c_of own peer last) min max latency timeout)
+      (CentralTable.taken (not (are_valid min max latency timeout)) ParamReq (table own)) None
+      (asks_host_by (Some (takes (not (are_valid min max latency timeout)) ParamReq)) (central_stage own))
+  request (exclusive UpdateUnsent) min max latency timeout =
+      record { part = one_rejection (c_of (exclusive UpdateUnsent) peer last) _ (RejectParam OtherKind) f.closing f.queue refl; ends = refl; refused = refl; done = refl; host = refl }
+  request (exclusive UpdateSent) min max latency timeout =
+      record { part = one_rejection (c_of (exclusive UpdateSent) peer last) _ (RejectParam OtherKind) f.closing f.queue refl; ends = refl; refused = refl; done = refl; host = refl }
+  request (exclusive MapUnsent) min max latency timeout =
+      record { part = one_rejection (c_of (exclusive MapUnsent) peer last) _ (RejectParam OtherKind) f.closing f.queue refl; ends = refl; refused = refl; done = refl; host = refl }
+  request (exclusive MapSent) min max latency timeout =
+      record { part = one_rejection (c_of (exclusive MapSent) peer last) _ (RejectParam OtherKind) f.closing f.queue refl; ends = refl; refused = refl; done = refl; host = refl }
+  request (exclusive PhyUnsent) min max latency timeout =
+      record { part = one_rejection (c_of (exclusive PhyUnsent) peer last) _ (RejectParam OtherKind) f.closing f.queue refl; ends = refl; refused = refl; done = refl; host = refl }
+  request (exclusive PhySent) min max latency timeout =
+      record { part = one_rejection (c_of (exclusive PhySent) peer last) _ (RejectParam OtherKind) f.closing f.queue refl; ends = refl; refused = refl; done = refl; host = refl }
+  request (exclusive PhyAnswered) min max latency timeout = record { part = refl; ends = refl; refused = refl; done = refl; host = refl }
+  request (exclusive PhyIndicated) min max latency timeout = record { part = refl; ends = refl; refused = refl; done = refl; host = refl }
+  request (exclusive Idle) min max latency timeout = judged (exclusive Idle) min max latency timeout (are_valid min max latency timeout) refl
+  request EncryptUnsent min max latency timeout = judged EncryptUnsent min max latency timeout (are_valid min max latency timeout) refl
+  request EncryptSent min max latency timeout = judged EncryptSent min max latency timeout (are_valid min max latency timeout) refl
+  request (exchange stage) min max latency timeout =
+      let apart = exchange_apart stage request_kind in rw apart (judged (exchange stage) min max latency timeout (are_valid min max latency timeout) refl)
 
   phy_accepted : (own : OwnCentral)
-      → central_of (facts_with (at f own peer last) slot (moved_and_answered (at f own peer last) (central (record (c_of own peer last) { peer = PhyIndUnsent })) PhyIndDraft))
-      ≡ CentralTable.queued PhyInd (record (central_of (at f own peer last)) { peer = JointPhyIndUnsent })
-  phy_accepted own = one_draft (c_of own PhyIndUnsent last) PhyIndDraft PhyInd f.closing f.queue refl
+      → Does own (moved_and_answered (at f own peer last) (central (record (c_of own peer last) { peer = PhyIndUnsent })) PhyIndDraft)
+      (CentralTable.queued PhyInd (record (table own) { peer = PhyIndUnsent }), JointOpen) None false
+  phy_accepted own = record { part = one_draft (c_of own PhyIndUnsent last) PhyIndDraft PhyInd f.closing f.queue refl; ends = refl; refused = refl; done = refl; host = refl }
 
   phy_request : (own : OwnCentral)
-      → central_of (facts_with (at f own peer last) slot (phy_req_at_central (at f own peer last) (c_of own peer last)))
-      ≡ (CentralTable.taken false PhyReqPdu (central_of (at f own peer last))).0
-  phy_request UpdateUnsent = one_rejection (c_of UpdateUnsent peer last) _ (RejectPhy OtherKind) f.closing f.queue refl
-  phy_request UpdateSent = one_rejection (c_of UpdateSent peer last) _ (RejectPhy OtherKind) f.closing f.queue refl
-  phy_request MapUnsent = one_rejection (c_of MapUnsent peer last) _ (RejectPhy OtherKind) f.closing f.queue refl
-  phy_request MapSent = one_rejection (c_of MapSent peer last) _ (RejectPhy OtherKind) f.closing f.queue refl
-  phy_request PhyUnsent = one_rejection (c_of PhyUnsent peer last) _ (RejectPhy SameKind) f.closing f.queue refl
-  phy_request PhySent = one_rejection (c_of PhySent peer last) _ (RejectPhy SameKind) f.closing f.queue refl
-  phy_request PhyAnswered = refl
-  phy_request PhyIndicated = refl
-  phy_request Idle = phy_accepted Idle
+      → Does own (phy_req_at_central (at f own peer last) (c_of own peer last)) (CentralTable.taken false PhyReqPdu (table own)) None false
+  phy_request (exclusive UpdateUnsent) =
+      record { part = one_rejection (c_of (exclusive UpdateUnsent) peer last) _ (RejectPhy OtherKind) f.closing f.queue refl; ends = refl; refused = refl; done = refl; host = refl }
+  phy_request (exclusive UpdateSent) =
+      record { part = one_rejection (c_of (exclusive UpdateSent) peer last) _ (RejectPhy OtherKind) f.closing f.queue refl; ends = refl; refused = refl; done = refl; host = refl }
+  phy_request (exclusive MapUnsent) =
+      record { part = one_rejection (c_of (exclusive MapUnsent) peer last) _ (RejectPhy OtherKind) f.closing f.queue refl; ends = refl; refused = refl; done = refl; host = refl }
+  phy_request (exclusive MapSent) =
+      record { part = one_rejection (c_of (exclusive MapSent) peer last) _ (RejectPhy OtherKind) f.closing f.queue refl; ends = refl; refused = refl; done = refl; host = refl }
+  phy_request (exclusive PhyUnsent) =
+      record { part = one_rejection (c_of (exclusive PhyUnsent) peer last) _ (RejectPhy SameKind) f.closing f.queue refl; ends = refl; refused = refl; done = refl; host = refl }
+  phy_request (exclusive PhySent) =
+      record { part = one_rejection (c_of (exclusive PhySent) peer last) _ (RejectPhy SameKind) f.closing f.queue refl; ends = refl; refused = refl; done = refl; host = refl }
+  phy_request (exclusive PhyAnswered) = record { part = refl; ends = refl; refused = refl; done = refl; host = refl }
+  phy_request (exclusive PhyIndicated) = record { part = refl; ends = refl; refused = refl; done = refl; host = refl }
+  phy_request (exclusive Idle) = phy_accepted (exclusive Idle)
   phy_request EncryptUnsent = phy_accepted EncryptUnsent
   phy_request EncryptSent = phy_accepted EncryptSent
-  phy_request (exchange FeaturesUnsent) = phy_accepted (exchange FeaturesUnsent)
-  phy_request (exchange FeaturesSent) = phy_accepted (exchange FeaturesSent)
-  phy_request (exchange VersionUnsent) = phy_accepted (exchange VersionUnsent)
-  phy_request (exchange VersionSent) = phy_accepted (exchange VersionSent)
-  phy_request (exchange LengthUnsent) = phy_accepted (exchange LengthUnsent)
-  phy_request (exchange LengthSent) = phy_accepted (exchange LengthSent)
+  phy_request (exchange stage) = let apart = exchange_apart stage phy_kind in rw apart (phy_accepted (exchange stage))
 
   phy_response : (own : OwnCentral)
-      → central_of (facts_with (at f own peer last) slot (phy_rsp_taken (at f own peer last) (c_of own peer last)))
-      ≡ (CentralTable.taken false PhyRspPdu (central_of (at f own peer last))).0
-  phy_response PhySent = one_draft (c_of PhyAnswered peer last) PhyIndDraft PhyInd f.closing f.queue refl
-  phy_response (exchange stage) = refl
-  phy_response Idle = refl
-  phy_response other = refl
+      → Does own (phy_rsp_taken (at f own peer last) (c_of own peer last)) (CentralTable.taken false PhyRspPdu (table own)) None false
+  phy_response (exclusive PhySent) = record { part = one_draft (c_of (exclusive PhyAnswered) peer last) PhyIndDraft PhyInd f.closing f.queue refl; ends = refl; refused = refl; done = refl; host = refl }
+  phy_response (exclusive other) = record { part = refl; ends = refl; refused = refl; done = refl; host = refl }
+  phy_response (exchange stage) = record { part = refl; ends = refl; refused = refl; done = refl; host = refl }
+  phy_response EncryptUnsent = record { part = refl; ends = refl; refused = refl; done = refl; host = refl }
+  phy_response EncryptSent = record { part = refl; ends = refl; refused = refl; done = refl; host = refl }
 
-  refused_view : (own : OwnCentral) (code : ErrCode) (b : Bool) → (b ≡ true → CentralTable.own_after_refusal (own_part own) ≡ JointIdle)
-      → central_of (facts_with (at f own peer last) slot (refused_if b (at f own peer last) code))
-      ≡ after_steps (refusal_if b) (central_of (at f own peer last))
-  refused_view own code true is = let ends = sym (is refl) in λ i. record (central_of (at f own peer last)) { own = ends i }
-  refused_view own code false is = refl
+  refusal : (own : OwnCentral) (code : ErrCode) (b : Bool) → (b ≡ true → is_some (opcode_at_central own) ≡ true)
+      → Does own (refused_if b (at f own peer last) code) (answer_to (refusal_if b) (table own))
+      (refusal_with (refused_kind (refusal_if b) (central_stage own)) code) (asks_host_by (refusal_if b) (central_stage own))
+  refusal own code true is =
+      let may = refusable own code (is refl) in
+      let ends = sym may.over in
+      record { part = λ i. record (table own) { own = ends i }; ends = refl; refused = may.told; done = refl; host = refl }
+  refusal own code false is = record { part = refl; ends = refl; refused = refl; done = refl; host = refl }
 
-  other_ctrl : (own : OwnCentral) (d : Draft) → draft_part d ≡ None
+  other_ctrl : (own : OwnCentral) (d : Draft) → pdu_of_draft d ≡ None
       → view (central (c_of own peer last)) (is_open f.closing) (with_draft f.closing d f.queue).rejections (with_draft f.closing d f.queue).drafts
-      ≡ central_of (at f own peer last)
+      ≡ table own
   other_ctrl own d none = other_draft (central (c_of own peer last)) d f.closing f.queue none
 
-  features : (own : OwnCentral) (value : ℕ)
-      → central_of (facts_with (at f own peer last) slot (features_taken (at f own peer last) value)) ≡ central_of (at f own peer last)
-  features (exchange FeaturesSent) value = refl
-  features (exchange stage) value = refl
-  features Idle value = refl
-  features other value = refl
+  features : (own : OwnCentral) (value : ℕ) → Ignores own (features_taken (at f own peer last) value)
+  features (exchange FeaturesSent) value = record { part = refl; ends = refl; refused = refl; done = refl; host = refl }
+  features (exchange other) value = record { part = refl; ends = refl; refused = refl; done = refl; host = refl }
+  features (exclusive stage) value = record { part = refl; ends = refl; refused = refl; done = refl; host = refl }
+  features EncryptUnsent value = record { part = refl; ends = refl; refused = refl; done = refl; host = refl }
+  features EncryptSent value = record { part = refl; ends = refl; refused = refl; done = refl; host = refl }
 
-  lengths : (own : OwnCentral) (rx tx : ℕ)
-      → central_of (facts_with (at f own peer last) slot (length_taken (at f own peer last) rx tx)) ≡ central_of (at f own peer last)
-  lengths (exchange LengthSent) rx tx = refl
-  lengths (exchange stage) rx tx = refl
-  lengths Idle rx tx = refl
-  lengths other rx tx = refl
+  lengths : (own : OwnCentral) (rx tx : ℕ) → Ignores own (length_taken (at f own peer last) rx tx)
+  lengths (exchange LengthSent) rx tx = record { part = refl; ends = refl; refused = refl; done = refl; host = refl }
+  lengths (exchange other) rx tx = record { part = refl; ends = refl; refused = refl; done = refl; host = refl }
+  lengths (exclusive stage) rx tx = record { part = refl; ends = refl; refused = refl; done = refl; host = refl }
+  lengths EncryptUnsent rx tx = record { part = refl; ends = refl; refused = refl; done = refl; host = refl }
+  lengths EncryptSent rx tx = record { part = refl; ends = refl; refused = refl; done = refl; host = refl }
 
-  secured_view : (own : OwnCentral) (quiet : Bool) (ctrl : Ctrl)
-      → central_of (facts_with (at f own peer last) slot (start_rsp_at_central (at f own peer last) (c_of own peer last) quiet ctrl)) ≡ central_of (at f own peer last)
-  secured_view own true ctrl = refl
-  secured_view EncryptUnsent false ctrl = refl
-  secured_view EncryptSent false ctrl = refl
-  secured_view other false ctrl = refl
+  secured : (own : OwnCentral) (quiet : Bool) (ctrl : Ctrl) → Ignores own (start_rsp_at_central (at f own peer last) (c_of own peer last) quiet ctrl)
+  secured own true ctrl = record { part = refl; ends = refl; refused = refl; done = refl; host = refl }
+  secured EncryptUnsent false ctrl = record { part = refl; ends = refl; refused = refl; done = refl; host = refl }
+  secured EncryptSent false ctrl = record { part = refl; ends = refl; refused = refl; done = refl; host = refl }
+  secured (exchange stage) false ctrl = record { part = refl; ends = refl; refused = refl; done = refl; host = refl }
+  secured (exclusive stage) false ctrl = record { part = refl; ends = refl; refused = refl; done = refl; host = refl }
 
-  cipher : (own : OwnCentral) (quiet : Bool) (ctrl : Ctrl)
-      → central_of (facts_with (at f own peer last) slot (cipher_at_central (at f own peer last) (c_of own peer last) quiet ctrl)) ≡ central_of (at f own peer last)
-  cipher own true ctrl = refl
-  cipher own false ctrl = refl
-
-  opcode_sent : (own : OwnCentral) (opcode : ℕ) → is_opcode (opcode_at_central own) opcode ≡ true → CentralTable.own_after_refusal (own_part own) ≡ JointIdle
-  opcode_sent UpdateUnsent opcode h = absurd (cc)
-  opcode_sent MapUnsent opcode h = absurd (cc)
-  opcode_sent PhyUnsent opcode h = absurd (cc)
-  opcode_sent own opcode h = refl
-
-  some_sent : (own : OwnCentral) → is_some (opcode_at_central own) ≡ true → CentralTable.own_after_refusal (own_part own) ≡ JointIdle
-  some_sent UpdateUnsent h = absurd (cc)
-  some_sent MapUnsent h = absurd (cc)
-  some_sent PhyUnsent h = absurd (cc)
-  some_sent own h = refl
-
-  either_sent : (own : OwnCentral) (opcode : ℕ) → (is_opcode (opcode_at_central own) opcode || is_opcode (later_opcode_at_central own) opcode) ≡ true
-      → CentralTable.own_after_refusal (own_part own) ≡ JointIdle
-  either_sent UpdateUnsent opcode h = absurd (cc)
-  either_sent MapUnsent opcode h = absurd (cc)
-  either_sent PhyUnsent opcode h = absurd (cc)
-  either_sent own opcode h = refl
+  cipher : (own : OwnCentral) (quiet : Bool) (ctrl : Ctrl) → Ignores own (cipher_at_central (at f own peer last) (c_of own peer last) quiet ctrl)
+  cipher own true ctrl = record { part = refl; ends = refl; refused = refl; done = refl; host = refl }
+  cipher own false ctrl = record { part = refl; ends = refl; refused = refl; done = refl; host = refl }
 
   versions_by : (own : OwnCentral) (version company sub : ℕ) (used : Bool) → f.version_used ≡ used
-      → central_of (facts_with (at f own peer last) slot (version_taken (at f own peer last) version company sub)) ≡ central_of (at f own peer last)
-  versions_by (exchange VersionUnsent) version company sub true is = rw is refl
-  versions_by (exchange VersionSent) version company sub true is = rw is refl
-  versions_by (exchange VersionUnsent) version company sub false is = rw is (other_draft (central (c_of Idle peer last)) VersionDraft f.closing f.queue refl)
-  versions_by (exchange VersionSent) version company sub false is = rw is (other_draft (central (c_of Idle peer last)) VersionDraft f.closing f.queue refl)
-  versions_by (exchange stage) version company sub true is = rw is refl
-  versions_by Idle version company sub true is = rw is refl
-  versions_by other version company sub true is = rw is refl
-  versions_by other version company sub false is = rw is (other_ctrl other VersionDraft refl)
+      → Ignores own (version_taken (at f own peer last) version company sub)
+  versions_by (exchange VersionUnsent) version company sub true is = rw is (record { part = refl; ends = refl; refused = refl; done = version_apart true; host = refl })
+  versions_by (exchange VersionUnsent) version company sub false is =
+      rw is (record { part = other_draft (central (c_of (exclusive Idle) peer last)) VersionDraft f.closing f.queue refl; ends = refl; refused = refl; done = version_apart true; host = refl })
+  versions_by (exchange VersionSent) version company sub true is = rw is (record { part = refl; ends = refl; refused = refl; done = version_apart true; host = refl })
+  versions_by (exchange VersionSent) version company sub false is =
+      rw is (record { part = other_draft (central (c_of (exclusive Idle) peer last)) VersionDraft f.closing f.queue refl; ends = refl; refused = refl; done = version_apart true; host = refl })
+  versions_by (exchange other) version company sub true is = rw is (record { part = refl; ends = refl; refused = refl; done = version_apart (is_wanted version_kind f.wanted); host = refl })
+  versions_by (exchange other) version company sub false is = rw is (record { part = other_ctrl (exchange other) VersionDraft refl; ends = refl; refused = refl; done = version_apart (is_wanted version_kind f.wanted); host = refl })
+  versions_by (exclusive stage) version company sub true is = rw is (record { part = refl; ends = refl; refused = refl; done = version_apart (is_wanted version_kind f.wanted); host = refl })
+  versions_by (exclusive stage) version company sub false is = rw is (record { part = other_ctrl (exclusive stage) VersionDraft refl; ends = refl; refused = refl; done = version_apart (is_wanted version_kind f.wanted); host = refl })
+  versions_by EncryptUnsent version company sub true is = rw is (record { part = refl; ends = refl; refused = refl; done = version_apart (is_wanted version_kind f.wanted); host = refl })
+  versions_by EncryptUnsent version company sub false is = rw is (record { part = other_ctrl EncryptUnsent VersionDraft refl; ends = refl; refused = refl; done = version_apart (is_wanted version_kind f.wanted); host = refl })
+  versions_by EncryptSent version company sub true is = rw is (record { part = refl; ends = refl; refused = refl; done = version_apart (is_wanted version_kind f.wanted); host = refl })
+  versions_by EncryptSent version company sub false is = rw is (record { part = other_ctrl EncryptSent VersionDraft refl; ends = refl; refused = refl; done = version_apart (is_wanted version_kind f.wanted); host = refl })
 
-  terminated : (own : OwnCentral) (code : ℕ) (cl : Closing) → f.closing ≡ cl
-      → central_of (facts_with (at f own peer last) slot (terminate_taken (at f own peer last) code))
-      ≡ CentralTable.terminated (central_of (at f own peer last))
-  terminated own code Open is = rw is refl
-  terminated own code Closed is = rw is refl
-  terminated own code Disconnecting is = rw is refl
+  unknown : (own : OwnCentral) (d : Draft) (o : Outcome) → pdu_of_draft d ≡ None
+      → central_of (facts_with (at f own peer last) slot o)
+      ≡ view (central (c_of own peer last)) (is_open f.closing) (with_draft f.closing d f.queue).rejections (with_draft f.closing d f.queue).drafts
+      → o.step.ends ≡ None → exclusive_refusal o.step.refused ≡ None → exclusive_done o.step.done ≡ None → asks_host o.step.effect ≡ false → Ignores own o
+  unknown own d o none is ends refused done host =
+      record { part = is ∙ other_ctrl own d none; ends = ends; refused = refused; done = done; host = host }
 
-  taken : (own : OwnCentral) (quiet : Bool) (ctrl : Ctrl)
-      → central_of (facts_with (at f own peer last) slot (taken_by_central (at f own peer last) (c_of own peer last) quiet ctrl))
-      ≡ after_steps (step_of_ctrl (central (c_of own peer last)) ctrl) (central_of (at f own peer last))
-  taken own quiet (ConnectionUpdateInd win_size win_offset interval latency timeout instant) = other_ctrl own _ refl
-  taken own quiet (ChannelMapInd map instant) = other_ctrl own _ refl
-  taken own quiet (TerminateInd code) = terminated own code f.closing refl
-  taken own quiet (EncReq rand ediv skd_m iv_m) = other_ctrl own _ refl
-  taken own quiet (EncRsp skd_s iv_s) = cipher own quiet (EncRsp skd_s iv_s)
-  taken own quiet StartEncReq = cipher own quiet StartEncReq
-  taken own quiet StartEncRsp = secured_view own quiet StartEncRsp
-  taken own quiet (UnknownRsp opcode) = refused_view own _ (is_opcode (opcode_at_central own) opcode) (opcode_sent own opcode)
-  taken own quiet (FeatureReq value) = other_ctrl own _ refl
-  taken own quiet (FeatureRsp value) = features own value
-  taken own quiet PauseEncReq = other_ctrl own _ refl
-  taken own quiet PauseEncRsp = cipher own quiet PauseEncRsp
-  taken own quiet (VersionInd version company sub) = versions_by own version company sub f.version_used refl
-  taken own quiet (RejectInd code) = refused_view own _ (is_some (opcode_at_central own)) (some_sent own)
-  taken own quiet (PeripheralFeatureReq value) = other_ctrl own _ refl
-  taken own quiet (ConnectionParamReq min max latency timeout periodicity reference offsets) = request own min max latency timeout
-  taken own quiet (ConnectionParamRsp min max latency timeout periodicity reference offsets) = other_ctrl own _ refl
-  taken own quiet (RejectExtInd opcode code) =
-      refused_view own _ (is_opcode (opcode_at_central own) opcode || is_opcode (later_opcode_at_central own) opcode) (either_sent own opcode)
-  taken own quiet (LengthReq rx rx_time tx tx_time) = other_ctrl own _ refl
-  taken own quiet (LengthRsp rx rx_time tx tx_time) = lengths own rx tx
-  taken own quiet (PhyReq tx rx) = phy_request own
-  taken own quiet (PhyRsp tx rx) = phy_response own
-  taken own quiet (PhyUpdateInd to_peripheral to_central instant) = other_ctrl own _ refl
+  taken : (own : OwnCentral) (quiet : Bool) (ctrl : Ctrl) → stops_run (Known ctrl) ≡ false
+      → Does own (taken_by_central (at f own peer last) (c_of own peer last) quiet ctrl)
+      (answer_to (step_of_ctrl (central (c_of own peer last)) ctrl) (table own))
+      (refusal_with (refused_kind (step_of_ctrl (central (c_of own peer last)) ctrl) (central_stage own)) (code_of_refusal (Known ctrl)))
+      (asks_host_by (step_of_ctrl (central (c_of own peer last)) ctrl) (central_stage own))
+  taken own quiet (TerminateInd code) h = absurd (cc)
+  taken own quiet (EncRsp skd_s iv_s) h = cipher own quiet (EncRsp skd_s iv_s)
+  taken own quiet StartEncReq h = cipher own quiet StartEncReq
+  taken own quiet StartEncRsp h = secured own quiet StartEncRsp
+  taken own quiet PauseEncRsp h = cipher own quiet PauseEncRsp
+  taken own quiet (UnknownRsp opcode) h = refusal own _ (is_opcode (opcode_at_central own) opcode) (named (opcode_at_central own) opcode)
+  taken own quiet (FeatureRsp value) h = features own value
+  taken own quiet (VersionInd version company sub) h = versions_by own version company sub f.version_used refl
+  taken own quiet (RejectInd code) h = refusal own _ (is_some (opcode_at_central own)) (λ is. is)
+  taken own quiet (ConnectionParamReq min max latency timeout periodicity reference offsets) h = request own min max latency timeout
+  taken own quiet (RejectExtInd opcode code) h =
+      refusal own _ (is_opcode (opcode_at_central own) opcode || is_opcode (later_opcode_at_central own) opcode) (named_either own opcode)
+  taken own quiet (LengthRsp rx rx_time tx tx_time) h = lengths own rx tx
+  taken own quiet (PhyReq tx rx) h = phy_request own
+  taken own quiet (PhyRsp tx rx) h = phy_response own
+  taken own quiet other h = unknown own _ _ refl refl refl refl refl refl
 
-  read : (own : OwnCentral) (quiet : Bool) (r : CtrlRead)
-      → central_of (facts_with (at f own peer last) slot (outcome_of (at f own peer last) quiet r))
-      ≡ after_steps (step_of_read (central (c_of own peer last)) r) (central_of (at f own peer last))
-  read own quiet (Known ctrl) = taken own quiet ctrl
-  read own quiet (Unknown opcode) = other_ctrl own _ refl
-  read own quiet Bare = refl
+  read : (own : OwnCentral) (quiet : Bool) (r : CtrlRead) → stops_run r ≡ false
+      → Does own (outcome_of (at f own peer last) quiet r) (answer_to (step_of_read (central (c_of own peer last)) r) (table own))
+      (refusal_with (refused_kind (step_of_read (central (c_of own peer last)) r) (central_stage own)) (code_of_refusal r))
+      (asks_host_by (step_of_read (central (c_of own peer last)) r) (central_stage own))
+  read own quiet (Known ctrl) h = taken own quiet ctrl h
+  read own quiet (Unknown opcode) h = unknown own _ _ refl refl refl refl refl refl
+  read own quiet Bare h = record { part = refl; ends = refl; refused = refl; done = refl; host = refl }
 
--- the table is as it was where there is no room or the link ends, else it makes the step
-settled_by : (f : TableFacts) (slot : ℕ) (outcome : Outcome) (t : CentralTableFacts) (lacks ends : Bool) → lacks_room f outcome ≡ lacks
-    → is_some outcome.step.ends ≡ ends → central_of (facts_with f slot outcome) ≡ t
-    → (central_of (settled f slot outcome).0 ≡ central_of f) ⊎ (central_of (settled f slot outcome).0 ≡ t)
-settled_by f slot outcome t true ends l e is = rw l (inl refl)
-settled_by f slot outcome t false true l e is = rw (l, e) (inl refl)
-settled_by f slot outcome t false false l e is = rw (l, e) (inr is)
+-- ---- the end of the link
+
+abbrev collided_if : Exclusive → Exclusive → CentralTableFacts → Bool → CentralTableFacts × End
+collided_if p q t b = (if b then (t, Collided (reason_of p q)) else (CentralTable.rejected (rejection_of q (reason_of p q)) t, JointOpen))
+
+collided_stays : (p q : Exclusive) (t : CentralTableFacts) (b : Bool) → peer_answered t.own ≡ b
+    → is_some (code_of_end (CentralTable.collision p q t).1) ≡ true → (CentralTable.collision p q t).0 ≡ t
+collided_stays p q t true is h = rw is refl
+collided_stays p q t false is h = absurd (let impossible : false ≡ true = subst (λ (b : Bool). is_some (code_of_end (collided_if p q t b).1) ≡ true) is h in cc)
+
+request_stays : (own : Option Exclusive) (judged : Bool) (t : CentralTableFacts)
+    → is_some (code_of_end (CentralTable.request_taken own judged t).1) ≡ true → (CentralTable.request_taken own judged t).0 ≡ t
+request_stays (Some p) judged t h = collided_stays p RequestKind t (peer_answered t.own) refl h
+request_stays None judged t h = absurd (cc)
+
+phy_stays : (own : Option Exclusive) (t : CentralTableFacts)
+    → is_some (code_of_end (CentralTable.phy_taken own t).1) ≡ true → (CentralTable.phy_taken own t).0 ≡ t
+phy_stays (Some p) t h = collided_stays p PhyKind t (peer_answered t.own) refl h
+phy_stays None t h = absurd (cc)
+
+-- a table whose link ends is as it was
+stays : (step : Option CentralStep) (t : CentralTableFacts) → is_some (code_of_end (answer_to step t).1) ≡ true → (answer_to step t).0 ≡ t
+stays (Some (takes judged ParamReq)) t h = request_stays (central_kind t.own) judged t h
+stays (Some (takes judged PhyReqPdu)) t h = phy_stays (central_kind t.own) t h
+stays (Some (takes judged PhyRspPdu)) t h = absurd (cc)
+stays (Some (takes judged Refusal)) t h = absurd (cc)
+stays (Some (takes judged pdu)) t h = refl
+stays (Some (begins kind)) t h = absurd (cc)
+stays (Some grants) t h = absurd (cc)
+stays (Some (refuses reason)) t h = absurd (cc)
+stays (Some (sends pdu)) t h = absurd (cc)
+stays (Some (sees_acknowledged pdu)) t h = absurd (cc)
+stays (Some (enters at)) t h = absurd (cc)
+stays (Some terminates) t h = absurd (cc)
+stays None t h = absurd (cc)
+
+-- ---- the call
+
+abbrev settled_of : Bool → Bool → TableFacts → TableFacts → Step → Step → Step → TableFacts × Step
+settled_of a b f g x y z = if a then (f, x) else (if b then (f, y) else (g, z))
+
+pub step_of_settled : (f : TableFacts) (slot : ℕ) (o : Outcome) (b : Bool) → lacks_room f o ≡ false → is_some o.step.ends ≡ b
+    → (settled f slot o).1 ≡ o.step
+step_of_settled f slot o true l e = rw (l, e) refl
+step_of_settled f slot o false l e = rw (l, e) refl
+
+part_of_settled : (f : TableFacts) (slot : ℕ) (o : Outcome) (step : Option CentralStep) (refusal : Option (Kind × ErrCode)) (asks b : Bool)
+    → Answers f slot o (answer_to step (central_of f)) refusal asks → lacks_room f o ≡ false → is_some o.step.ends ≡ b
+    → central_of (settled f slot o).0 ≡ (answer_to step (central_of f)).0
+part_of_settled f slot o step refusal asks true a l e =
+    rw (l, e) (sym (stays step (central_of f) (ap is_some (sym a.ends) ∙ e)))
+part_of_settled f slot o step refusal asks false a l e = rw (l, e) a.part
+
+pub no_room_left : (f : TableFacts) (r : CtrlRead) (slot : ℕ) (quiet : Bool) → lacks_room f (outcome_of f quiet r) ≡ true
+    → took_step f r slot quiet ≡ (f, no_room)
+no_room_left f r slot quiet lacks = rw lacks refl
+
+-- what a PDU does that is taken where there is room
+pub record Took (f : TableFacts) (r : CtrlRead) (slot : ℕ) (quiet : Bool) : Type 0 where
+  pub part : central_of (took_step f r slot quiet).0 ≡ (answer_to (step_of_read f.progress r) (central_of f)).0
+  pub ends : (took_step f r slot quiet).1.ends ≡ code_of_end (answer_to (step_of_read f.progress r) (central_of f)).1
+  pub refused : exclusive_refusal (took_step f r slot quiet).1.refused
+      ≡ refusal_with (refused_kind (step_of_read f.progress r) (central_of f).own) (code_of_refusal r)
+  pub done : exclusive_done (took_step f r slot quiet).1.done ≡ None
+  pub host : asks_host (took_step f r slot quiet).1.effect ≡ asks_host_by (step_of_read f.progress r) (central_of f).own
+
+took_at : (f : TableFacts) (own : OwnCentral) (peer : PeerAtCentral) (last : Option EventNo) (r : CtrlRead) (slot : ℕ) (quiet : Bool)
+    → lacks_room (at f own peer last) (outcome_of (at f own peer last) quiet r) ≡ false → stops_run r ≡ false → Took (at f own peer last) r slot quiet
+took_at f own peer last r slot quiet room goes =
+    let o : Outcome = outcome_of (at f own peer last) quiet r in
+    let a = read f peer last slot own quiet r goes in
+    let same : (settled (at f own peer last) slot o).1 ≡ o.step = step_of_settled (at f own peer last) slot o (is_some o.step.ends) room refl in
+    record {
+      part = part_of_settled (at f own peer last) slot o _ _ _ (is_some o.step.ends) a room refl;
+      ends = ap (λ (s : Step). s.ends) same ∙ a.ends;
+      refused = ap (λ (s : Step). exclusive_refusal s.refused) same ∙ a.refused;
+      done = ap (λ (s : Step). exclusive_done s.done) same ∙ a.done;
+      host = ap (λ (s : Step). asks_host s.effect) same ∙ a.host;
+    }
+
+-- a fact of the table with this progress is one of each table with it
+pub over : (P : TableFacts → Type 0) (f : TableFacts) (c : Central) → f.progress ≡ central c → P (at f c.own c.peer c.last_instant) → P f
+over P f c is h =
+    let same : record f { progress = central c } ≡ f = λ i. record f { progress = sym is i } in subst P same h
 
 pub took : (f : TableFacts) (c : Central) (r : CtrlRead) (slot : ℕ) (quiet : Bool) → f.progress ≡ central c
-    → (central_of (took_step f r slot quiet).0 ≡ central_of f)
-    ⊎ (central_of (took_step f r slot quiet).0 ≡ after_steps (step_of_read f.progress r) (central_of f))
+    → lacks_room f (outcome_of f quiet r) ≡ false → stops_run r ≡ false → Took f r slot quiet
 took f c r slot quiet is =
-    let same : record f { progress = central c } ≡ f = λ i. record f { progress = sym is i } in
-    subst (λ (g : TableFacts). (central_of (took_step g r slot quiet).0 ≡ central_of g)
-    ⊎ (central_of (took_step g r slot quiet).0 ≡ after_steps (step_of_read g.progress r) (central_of g))) same
-    (settled_by (at f c.own c.peer c.last_instant) slot (outcome_of (at f c.own c.peer c.last_instant) quiet r) _ _ _ refl refl
-    (read f c.peer c.last_instant slot c.own quiet r))
+    over (λ g. lacks_room g (outcome_of g quiet r) ≡ false → stops_run r ≡ false → Took g r slot quiet) f c is
+    (λ room goes. took_at f c.own c.peer c.last_instant r slot quiet room goes)

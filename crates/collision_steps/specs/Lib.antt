@@ -1,4 +1,5 @@
 -- The definitions of this crate.
+pub mod Answers
 pub mod CentralPart
 pub mod Parts
 pub mod PeripheralPart

@@ -4,14 +4,14 @@ use Rattle.std.specs.Prelude.{ℕ, ◌==◌, List, [], ◌∷◌, Option, Some, 
 use Rattle.ble_base.specs.ErrorCodes.{ll_procedure_collision, different_transaction_collision}
 use Rattle.ble_base.specs.declared.error_codes.ErrCode.{ErrCode}
 use Rattle.procedure_values.specs.declared.drafts.Draft.{Draft}
-use Rattle.procedure_values.specs.declared.drafts.Draft.TheVariants.{Update as update_draft, Grant as grant_draft, Map as map_draft, Request as request_draft, PhyReq as phy_req_draft, PhyRsp as phy_rsp_draft, PhyInd as phy_ind_draft}
 use Rattle.procedure_values.specs.declared.drafts.Rejection.{Rejection}
 use Rattle.procedure_values.specs.declared.drafts.Outgoing.{Outgoing}
 use Rattle.procedure_values.specs.declared.drafts.Outgoing.TheVariants.{Nothing, Rejection as outgoing_rejection, Disconnect, Other as outgoing_draft}
-use Rattle.collisions.specs.declared.pdus.Reason.{Reason}
-use Rattle.collisions.specs.declared.pdus.Reason.TheVariants.{SameKind, OtherKind, Other}
-use Rattle.collisions.specs.declared.pdus.Pdu.{Pdu}
-use Rattle.collisions.specs.declared.pdus.Pdu.TheVariants.{UpdateInd, GrantInd, MapInd, PhyReq, PhyRsp, PhyInd, ParamReq, RejectParam, RejectPhy}
+use Rattle.exclusive_stages.specs.declared.pdus.Reason.{Reason}
+use Rattle.exclusive_stages.specs.declared.pdus.Reason.TheVariants.{SameKind, OtherKind, Other}
+use Rattle.exclusive_stages.specs.declared.pdus.Pdu.{Pdu}
+use Rattle.exclusive_stages.specs.declared.pdus.Pdu.TheVariants.{RejectParam, RejectPhy}
+use Rattle.procedure_stages.specs.Exclusive.{pdu_of_draft}
 
 -- the opcodes of the two first PDUs of a peripheral's procedures (sections 2.4.2.16 and 2.4.2.22)
 abbrev pub param_request_opcode : ℕ
@@ -32,17 +32,6 @@ rejection_part rejection =
     (if rejection.opcode == param_request_opcode then Some (RejectParam (reason_part rejection.code))
     else (if rejection.opcode == phy_request_opcode then Some (RejectPhy (reason_part rejection.code)) else None))
 
--- another PDU that waits
-abbrev pub draft_part : Draft → Option Pdu
-draft_part (update_draft params) = Some UpdateInd
-draft_part (grant_draft params) = Some GrantInd
-draft_part (map_draft map) = Some MapInd
-draft_part (request_draft min max latency timeout) = Some ParamReq
-draft_part phy_req_draft = Some PhyReq
-draft_part phy_rsp_draft = Some PhyRsp
-draft_part phy_ind_draft = Some PhyInd
-draft_part draft = None
-
 abbrev pub with_part : Option Pdu → List Pdu → List Pdu
 with_part None more = more
 with_part (Some pdu) more = pdu ∷ more
@@ -54,11 +43,11 @@ rejections_part (rejection ∷ rejections) = with_part (rejection_part rejection
 
 abbrev pub drafts_part : List Draft → List Pdu
 drafts_part [] = []
-drafts_part (draft ∷ drafts) = with_part (draft_part draft) (drafts_part drafts)
+drafts_part (draft ∷ drafts) = with_part (pdu_of_draft draft) (drafts_part drafts)
 
 -- what is sent
 abbrev pub outgoing_part : Outgoing → Option Pdu
 outgoing_part Nothing = None
 outgoing_part (outgoing_rejection rejection) = rejection_part rejection
 outgoing_part (Disconnect code) = None
-outgoing_part (outgoing_draft draft) = draft_part draft
+outgoing_part (outgoing_draft draft) = pdu_of_draft draft

@@ -1,56 +1,36 @@
 -- A peripheral's table of procedures as joint runs see it, and the step of that table which each call is.
-use Rattle.std.specs.Prelude.{ℕ, ◌==◌, Bool, false, not, List, Option, Some, None, is_some, if◌then◌else◌}
+use Rattle.std.specs.Prelude.{ℕ, ◌==◌, Bool, true, false, not, List, Option, Some, None, is_some, if◌then◌else◌}
 use Rattle.ble_base.specs.declared.error_codes.ErrCode.{ErrCode}
 use Rattle.data_pdu.specs.declared.ctrl.Ctrl.{Ctrl}
 use Rattle.data_pdu.specs.declared.ctrl.Ctrl.TheVariants.{ConnectionUpdateInd, ChannelMapInd, TerminateInd, UnknownRsp, RejectInd, RejectExtInd, PhyReq as phy_req, PhyUpdateInd as phy_ind}
 use Rattle.data_pdu.specs.declared.ctrl.CtrlRead.{CtrlRead}
 use Rattle.data_pdu.specs.declared.ctrl.CtrlRead.TheVariants.{Known, Unknown, Bare}
-use Rattle.procedure_values.specs.declared.asks.Ask.{Ask}
-use Rattle.procedure_values.specs.declared.asks.Ask.TheVariants.{Request as ask_request, Phy as ask_phy}
+use Rattle.ble_base.specs.declared.procedure_kinds.Kind.{Kind}
+use Rattle.ble_base.specs.declared.procedure_kinds.Kind.TheVariants.{Request as request, Phy as phy}
 use Rattle.procedure_values.specs.declared.drafts.Draft.{Draft}
-use Rattle.procedure_values.specs.declared.drafts.Outgoing.{Outgoing}
-use Rattle.procedure_values.specs.declared.drafts.Outgoing.TheVariants.{Other as outgoing_draft}
 use Rattle.procedure_stages.specs.declared.stages.Ahead.{Ahead}
 use Rattle.procedure_stages.specs.declared.stages.Ahead.TheVariants.{Nothing as nothing_ahead, Update as update_ahead, Map as map_ahead}
-use Rattle.procedure_stages.specs.declared.stages.OwnPeripheral.{OwnPeripheral}
-use Rattle.procedure_stages.specs.declared.stages.OwnPeripheral.TheVariants.{RequestUnsent as request_unsent, RequestSent as request_sent, RequestAcknowledged as request_acknowledged, RequestGranted as request_granted, PhyUnsent as phy_unsent, PhySent as phy_sent}
-use Rattle.procedure_stages.specs.declared.stages.PeerAtPeripheral.{PeerAtPeripheral}
-use Rattle.procedure_stages.specs.declared.stages.PeerAtPeripheral.TheVariants.{Absent as absent, UpdateTaken as update_taken, MapTaken as map_taken, PhyRspUnsent as phy_rsp_unsent, PhyRspSent as phy_rsp_sent}
 use Rattle.procedure_stages.specs.declared.stages.Progress.{Progress}
 use Rattle.procedure_stages.specs.declared.stages.Progress.TheVariants.{Central as central, Peripheral as peripheral}
 use Rattle.procedures.specs.Table.{TableFacts}
+use Rattle.procedure_stages.specs.Exclusive.{peripheral_stage}
 use Rattle.procedure_stages.specs.Closing.{is_open}
 use Rattle.procedure_stages.specs.Opcodes.{first_opcode, is_opcode}
-use Rattle.collisions.specs.declared.pdus.Exclusive.{Exclusive}
-use Rattle.collisions.specs.declared.pdus.Exclusive.TheVariants.{Update, Request, Map, Phy}
-use Rattle.collisions.specs.declared.pdus.Pdu.{Pdu}
-use Rattle.collisions.specs.declared.pdus.Pdu.TheVariants.{UpdateInd, MapInd, PhyReq, PhyInd, RejectParam, RejectPhy, Refusal}
-use Rattle.collisions.specs.declared.stages.PeripheralOwn.{PeripheralOwn}
-use Rattle.collisions.specs.declared.stages.PeripheralOwn.TheVariants.{Idle, RequestUnsent, RequestSent, RequestAcknowledged, RequestGranted, PhyUnsent, PhySent}
-use Rattle.collisions.specs.declared.stages.PeripheralPeer.{PeripheralPeer}
-use Rattle.collisions.specs.declared.stages.PeripheralPeer.TheVariants.{Absent, UpdateTaken, MapTaken, PhyRspUnsent, PhyRspSent}
+use Rattle.exclusive_stages.specs.declared.pdus.Exclusive.{Exclusive}
+use Rattle.exclusive_stages.specs.declared.pdus.Exclusive.TheVariants.{Update, Request, Map, Phy}
+use Rattle.exclusive_stages.specs.declared.pdus.Pdu.{Pdu}
+use Rattle.exclusive_stages.specs.declared.pdus.Pdu.TheVariants.{UpdateInd, MapInd, PhyReq, PhyInd, RejectParam, RejectPhy, Refusal}
+use Rattle.exclusive_stages.specs.declared.stages.PeripheralStage.{PeripheralStage}
+use Rattle.exclusive_stages.specs.Kinds.{kind_sent_by_peripheral, peripheral_kind}
+use Rattle.exclusive_stages.specs.Pdus.{is_kind}
 use Rattle.collisions.specs.declared.peripheral.Peripheral.{Peripheral}
+use Rattle.collisions.specs.declared.joint.End.{End}
+use Rattle.collisions.specs.declared.joint.End.TheVariants.{Open}
+use Rattle.collision_steps.specs.Answers.{kind_over}
 use Rattle.collisions.specs.PeripheralTable
-use Rattle.collision_steps.specs.Parts.{draft_part, drafts_part, param_request_opcode, phy_request_opcode, reason_part}
+use Rattle.collision_steps.specs.Parts.{drafts_part, param_request_opcode, phy_request_opcode, reason_part}
 
 -- ---- the table
-
--- an own procedure that excludes no other counts as none
-abbrev pub own_part : OwnPeripheral → PeripheralOwn
-own_part request_unsent = RequestUnsent
-own_part request_sent = RequestSent
-own_part request_acknowledged = RequestAcknowledged
-own_part request_granted = RequestGranted
-own_part phy_unsent = PhyUnsent
-own_part phy_sent = PhySent
-own_part own = Idle
-
-abbrev pub peer_part : PeerAtPeripheral → PeripheralPeer
-peer_part absent = Absent
-peer_part update_taken = UpdateTaken
-peer_part map_taken = MapTaken
-peer_part phy_rsp_unsent = PhyRspUnsent
-peer_part phy_rsp_sent = PhyRspSent
 
 abbrev pub ahead_part : Ahead → Option Exclusive
 ahead_part nothing_ahead = None
@@ -61,8 +41,8 @@ ahead_part map_ahead = Some Map
 abbrev pub view : Progress → Bool → List Draft → Peripheral
 view (peripheral p) is_open drafts =
     record {
-      own = own_part p.own;
-      peer = peer_part p.peer;
+      own = peripheral_stage p.own;
+      peer = p.peer;
       ahead = ahead_part p.ahead;
       queue = record { items = drafts_part drafts };
       closed = not is_open;
@@ -96,7 +76,8 @@ abbrev pub after_steps : Option PeripheralStep → Peripheral → Peripheral
 after_steps None t = t
 after_steps (Some step) t = after_step step t
 
--- ---- the step that a PDU is which is taken
+-- ---- the step that a PDU is which is taken: none where it is of no concern to the procedures that exclude each other.
+-- LL_TERMINATE_IND is apart, since a joint run stops at it
 
 abbrev pub refusal_if : Bool → Option PeripheralStep
 refusal_if b = (if b then Some (takes Refusal) else None)
@@ -118,7 +99,6 @@ step_of_ctrl progress (phy_ind to_peripheral to_central instant) = Some (takes P
 step_of_ctrl progress (UnknownRsp opcode) = refusal_if (is_opcode (first_opcode progress) opcode)
 step_of_ctrl progress (RejectInd code) = refusal_if (is_some (first_opcode progress))
 step_of_ctrl progress (RejectExtInd opcode code) = step_of_rejection progress opcode (record { 0 = code })
-step_of_ctrl progress (TerminateInd code) = Some terminates
 step_of_ctrl progress ctrl = None
 
 abbrev pub step_of_read : Progress → CtrlRead → Option PeripheralStep
@@ -126,26 +106,54 @@ step_of_read progress (Known ctrl) = step_of_ctrl progress ctrl
 step_of_read progress (Unknown opcode) = None
 step_of_read progress Bare = None
 
+-- ---- what the call answers
+
+-- the table after the PDU, and whether and why the link ends
+abbrev pub answer_to : Option PeripheralStep → Peripheral → Peripheral × End
+answer_to (Some (takes pdu)) t = PeripheralTable.taken false pdu t
+answer_to step t = (after_steps step t, Open)
+
+-- the own procedure that a PDU refuses: that whose first PDU was sent, if a rejection names it
+abbrev pub refused_by : Pdu → PeripheralStage → Option Exclusive
+refused_by (RejectParam reason) own = (if is_kind (kind_sent_by_peripheral own) Request then Some Request else None)
+refused_by (RejectPhy reason) own = (if is_kind (kind_sent_by_peripheral own) Phy then Some Phy else None)
+refused_by Refusal own = kind_sent_by_peripheral own
+refused_by pdu own = None
+
+abbrev pub refused_kind : Option PeripheralStep → PeripheralStage → Option Exclusive
+refused_kind (Some (takes pdu)) own = refused_by pdu own
+refused_kind step own = None
+
+-- the own procedure that a PDU completes: that which LL_PHY_UPDATE_IND ends
+abbrev pub done_by : Option PeripheralStep → Peripheral → Option Kind
+done_by (Some (takes PhyInd)) t =
+    kind_over (peripheral_kind t.own) (peripheral_kind (PeripheralTable.taken false PhyInd t).0.own)
+done_by step t = None
+
 -- ---- the step that another call is
 
-abbrev pub step_of_ask : Ask → Option PeripheralStep
-step_of_ask (ask_request min max latency timeout) = Some (begins Request)
-step_of_ask ask_phy = Some (begins Phy)
-step_of_ask ask = None
+-- a procedure begins, if it is one of these
+abbrev pub step_of_begun : Option Kind → Option PeripheralStep
+step_of_begun (Some request) = Some (begins Request)
+step_of_begun (Some phy) = Some (begins Phy)
+step_of_begun kind = None
 
--- what is sent, but for rejections
-abbrev pub outgoing_part : Outgoing → Option Pdu
-outgoing_part (outgoing_draft draft) = draft_part draft
-outgoing_part other = None
+-- the rule of joint runs about what begins
+abbrev pub may_begin_by : Option PeripheralStep → Peripheral → Bool
+may_begin_by (Some (begins kind)) t = PeripheralTable.may_begin kind t
+may_begin_by step t = true
 
+-- a control PDU is sent
 abbrev pub sending_of : Option Pdu → Option PeripheralStep
 sending_of None = None
 sending_of (Some pdu) = Some (sends pdu)
 
+-- the last one is acknowledged
 abbrev pub ack_of : Option Pdu → Option PeripheralStep
 ack_of None = None
 ack_of (Some pdu) = Some (sees_acknowledged pdu)
 
+-- the layer above queues a PDU of the encryption, or LL_TERMINATE_IND
 abbrev pub step_of_given : Ctrl → Option PeripheralStep
 step_of_given (TerminateInd code) = Some terminates
 step_of_given ctrl = None

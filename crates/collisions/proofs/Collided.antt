@@ -1,15 +1,15 @@
 -- What becomes of two procedures that collide.
-use Rattle.std.proofs.Common.{◌≡◌, ◌≢◌, inl, inr, Bool, true, false, not, ◌&&◌, ◌||◌, List, [], ◌∷◌, ◌++◌, Option, Some, None, is_none, if◌then◌else◌, refl, ap, sym, ◌∙◌, subst}
+use Rattle.std.proofs.Common.{◌≡◌, ◌≢◌, inl, inr, Bool, true, false, not, ◌&&◌, List, [], ◌∷◌, ◌++◌, Option, Some, None, is_none, if◌then◌else◌, refl, ap, sym, subst}
 use Rattle.std.proofs.lemmas.Bool.{and_parts}
-use Rattle.collisions.specs.declared.pdus.Exclusive.{Exclusive}
-use Rattle.collisions.specs.declared.pdus.Exclusive.TheVariants.{Request, Phy}
-use Rattle.collisions.specs.declared.pdus.Reason.{Reason}
-use Rattle.collisions.specs.declared.pdus.Pdu.{Pdu}
-use Rattle.collisions.specs.declared.pdus.Pdu.TheVariants.{UpdateInd, GrantInd, MapInd, PhyReq, PhyRsp, PhyInd, ParamReq, RejectParam, RejectPhy, Refusal}
-use Rattle.collisions.specs.declared.stages.CentralPeer.{CentralPeer}
-use Rattle.collisions.specs.declared.stages.CentralPeer.TheVariants.{Absent, HostAsked, GrantUnsent, GrantSent, PhyIndUnsent, PhyIndSent}
-use Rattle.collisions.specs.declared.stages.PeripheralOwn.{PeripheralOwn}
-use Rattle.collisions.specs.declared.stages.PeripheralOwn.TheVariants.{Idle, RequestUnsent, RequestSent, RequestAcknowledged, RequestGranted, PhyUnsent, PhySent}
+use Rattle.exclusive_stages.specs.declared.pdus.Exclusive.{Exclusive}
+use Rattle.exclusive_stages.specs.declared.pdus.Exclusive.TheVariants.{Request, Phy}
+use Rattle.exclusive_stages.specs.declared.pdus.Reason.{Reason}
+use Rattle.exclusive_stages.specs.declared.pdus.Pdu.{Pdu}
+use Rattle.exclusive_stages.specs.declared.pdus.Pdu.TheVariants.{UpdateInd, GrantInd, MapInd, PhyReq, PhyRsp, PhyInd, ParamReq, RejectParam, RejectPhy, Refusal}
+use Rattle.exclusive_stages.specs.declared.stages.PeerAtCentral.{PeerAtCentral}
+use Rattle.exclusive_stages.specs.declared.stages.PeerAtCentral.TheVariants.{Absent, HostAsked, GrantUnsent, GrantSent, PhyIndUnsent, PhyIndSent}
+use Rattle.exclusive_stages.specs.declared.stages.PeripheralStage.{PeripheralStage}
+use Rattle.exclusive_stages.specs.declared.stages.PeripheralStage.TheVariants.{Idle, RequestUnsent, RequestSent, RequestAcknowledged, RequestGranted, PhyUnsent, PhySent}
 use Rattle.collisions.specs.declared.central.Central.{Central}
 use Rattle.collisions.specs.declared.events.Event.{Event}
 use Rattle.collisions.specs.declared.events.Event.TheVariants.{CentralSends, CentralTakes, PeripheralTakes}
@@ -19,12 +19,14 @@ use Rattle.collisions.specs.declared.joint.End.TheVariants.{Open, Collided}
 use Rattle.collisions.specs.declared.joint.Way.{Way}
 use Rattle.collisions.specs.declared.joint.Way.TheVariants.{OnAir}
 use Rattle.collisions.specs.declared.joint.Link.{Link}
-use Rattle.machines.specs.Machine.{run, run_from, step}
-use Rattle.collisions.specs.Pdus.{first_kind, is_held_back, is_timed, reason_of, rejection_of}
+use Rattle.machines.specs.Machine.{run, run_from}
+use Rattle.exclusive_stages.specs.Pdus.{first_kind, is_kind, is_timed, reason_of, rejection_of}
+use Rattle.exclusive_stages.specs.Kinds.{central_kind, kind_sent_by_peripheral}
+use Rattle.exclusive_stages.specs.Awaited.{peer_answered}
 use Rattle.collisions.specs.CentralTable
 use Rattle.collisions.specs.PeripheralTable
-use Rattle.collisions.specs.JointRun.{act, central_takes, central_sends, collisions, fits_sending, is_after, is_clear, is_empty, may, may_act, may_send_pdu, pdu_on_air, peripheral_takes, Timing, timing_of}
-use Rattle.collisions.specs.Meaning.{central_reads, is_free, is_meant, is_ready, peripheral_reads, reads_if_some}
+use Rattle.collisions.specs.JointRun.{act, central_takes, central_sends, collisions, is_clear, is_empty, may, may_act, may_send_pdu, pdu_on_air, peripheral_takes, Timing, timing_of}
+use Rattle.collisions.specs.Meaning.{central_reads, is_free, is_ready, peripheral_reads, reads_if_some}
 use Rattle.collisions.specs.CollisionLaws.{IsCollision, is_silent}
 use Rattle.machines.proofs.Closing.{act_is_known, is_lawful}
 use Rattle.collisions.proofs.CollisionEvents.{coded, is_coded}
@@ -34,7 +36,7 @@ use Rattle.collisions.proofs.Collisions.{known, meant, never_collided}
 use Rattle.collisions.proofs.Rejections.{Waits, after_silence}
 
 -- a first PDU that is taken collides with the own procedure
-taken_is : (pdu : Pdu) (p q : Exclusive) (judged : Bool) (t : Central) → first_kind pdu ≡ Some q → CentralTable.own_kind t.own ≡ Some p
+taken_is : (pdu : Pdu) (p q : Exclusive) (judged : Bool) (t : Central) → first_kind pdu ≡ Some q → central_kind t.own ≡ Some p
     → CentralTable.taken judged pdu t ≡ CentralTable.collision p q t
 taken_is ParamReq p q judged t first runs = let e : Request ≡ q = cc in rw runs (subst (λ (k : Exclusive). CentralTable.collision p Request t ≡ CentralTable.collision p k t) e refl)
 taken_is PhyReq p q judged t first runs = let e : Phy ≡ q = cc in rw runs (subst (λ (k : Exclusive). CentralTable.collision p Phy t ≡ CentralTable.collision p k t) e refl)
@@ -48,7 +50,7 @@ taken_is (RejectParam reason) p q judged t first runs = absurd (cc)
 taken_is (RejectPhy reason) p q judged t first runs = absurd (cc)
 
 -- the central has nothing of a procedure of the peripheral, and no rejection waits
-no_peer : (peer : CentralPeer) → CentralTable.has_no_peer peer ≡ true → peer ≡ Absent
+no_peer : (peer : PeerAtCentral) → CentralTable.has_no_peer peer ≡ true → peer ≡ Absent
 no_peer Absent h = refl
 no_peer HostAsked h = absurd (cc)
 no_peer GrantUnsent h = absurd (cc)
@@ -91,7 +93,7 @@ rejected_left p q t false closed peer none =
       waits = inl ([], ap (λ (xs : List Pdu). xs ++ rejection_of q (reason_of p q) ∷ []) none);
     }
 
-collision_left : (p q : Exclusive) (t : Central) (b : Bool) → CentralTable.is_answered t.own ≡ b
+collision_left : (p q : Exclusive) (t : Central) (b : Bool) → peer_answered t.own ≡ b
     → ((CentralTable.collision p q t).1 ≢ Collided (reason_of p q)) → t.peer ≡ Absent → t.rejections.items ≡ []
     → Left p q t (CentralTable.collision p q t).0 (CentralTable.collision p q t).1
 collision_left p q t true is still peer none = absurd (still (rw is refl))
@@ -104,7 +106,7 @@ taken_left p q judged pdu s c reads still =
     let is = taken_is pdu p q judged s.central c.first c.runs in
     let ready = and_parts (CentralTable.has_no_peer s.central.peer) (is_empty s.central.rejections.items) (ready_is pdu q s c.first reads) in
     subst (λ (answer : Central × End). Left p q s.central answer.0 answer.1) (sym is)
-    (collision_left p q s.central (CentralTable.is_answered s.central.own) refl
+    (collision_left p q s.central (peer_answered s.central.own) refl
     (subst (λ (answer : Central × End). answer.1 ≢ Collided (reason_of p q)) is still)
     (no_peer s.central.peer ready.0) (empty_is s.central.rejections.items ready.1))
 
@@ -177,24 +179,6 @@ rejected_next p q judged pdu events c later next silent comes =
 
 -- ---- the peripheral takes a rejection
 
-rejected_own : (own : PeripheralOwn) → PeripheralTable.is_requesting own ≡ true → PeripheralTable.own_after_rejection Request own ≡ Idle
-rejected_own RequestSent h = refl
-rejected_own RequestAcknowledged h = refl
-rejected_own Idle h = absurd (cc)
-rejected_own RequestUnsent h = absurd (cc)
-rejected_own RequestGranted h = absurd (cc)
-rejected_own PhyUnsent h = absurd (cc)
-rejected_own PhySent h = absurd (cc)
-
-rejected_phy : (own : PeripheralOwn) → PeripheralTable.is_phy_sent own ≡ true → PeripheralTable.own_after_rejection Phy own ≡ Idle
-rejected_phy PhySent h = refl
-rejected_phy Idle h = absurd (cc)
-rejected_phy RequestUnsent h = absurd (cc)
-rejected_phy RequestSent h = absurd (cc)
-rejected_phy RequestAcknowledged h = absurd (cc)
-rejected_phy RequestGranted h = absurd (cc)
-rejected_phy PhyUnsent h = absurd (cc)
-
 reads_down : (pdu : Pdu) (way : Way) (s : Link) → way ≡ OnAir pdu → reads_if_some peripheral_reads (pdu_on_air way) s ≡ true
     → peripheral_reads pdu s ≡ true
 reads_down pdu way s is reads = subst (λ (w : Way). reads_if_some peripheral_reads (pdu_on_air w) s ≡ true) is reads
@@ -204,14 +188,32 @@ pub reads_taken : (events : List Event) (pdu : Pdu) → may PeripheralTakes (run
 reads_taken events pdu comes is =
     let s = run collisions events in reads_down pdu s.down s is (meant events PeripheralTakes comes)
 
+sent_request : (own : PeripheralStage) → PeripheralTable.is_requesting own ≡ true → is_kind (kind_sent_by_peripheral own) Request ≡ true
+sent_request RequestSent h = refl
+sent_request RequestAcknowledged h = refl
+sent_request Idle h = absurd (cc)
+sent_request RequestUnsent h = absurd (cc)
+sent_request RequestGranted h = absurd (cc)
+sent_request PhyUnsent h = absurd (cc)
+sent_request PhySent h = absurd (cc)
+
+sent_phy : (own : PeripheralStage) → PeripheralTable.is_phy_sent own ≡ true → is_kind (kind_sent_by_peripheral own) Phy ≡ true
+sent_phy PhySent h = refl
+sent_phy Idle h = absurd (cc)
+sent_phy RequestUnsent h = absurd (cc)
+sent_phy RequestSent h = absurd (cc)
+sent_phy RequestAcknowledged h = absurd (cc)
+sent_phy RequestGranted h = absurd (cc)
+sent_phy PhyUnsent h = absurd (cc)
+
 -- the host hears of it, and the procedure is over
 learns_request : (reason : Reason) (way : Way) (s : Link) → way ≡ OnAir (RejectParam reason) → PeripheralTable.is_requesting s.peripheral.own ≡ true
     → (PeripheralTable.refusal_by (RejectParam reason) s.peripheral.own ≡ Some (Request, reason)) × ((peripheral_takes way s).peripheral.own ≡ Idle)
-learns_request reason way s is runs = (rw runs refl, rw is (rejected_own s.peripheral.own runs))
+learns_request reason way s is runs = (let sent = sent_request s.peripheral.own runs in rw sent refl, let sent = sent_request s.peripheral.own runs in rw (is, sent) refl)
 
 learns_phy : (reason : Reason) (way : Way) (s : Link) → way ≡ OnAir (RejectPhy reason) → PeripheralTable.is_phy_sent s.peripheral.own ≡ true
     → (PeripheralTable.refusal_by (RejectPhy reason) s.peripheral.own ≡ Some (Phy, reason)) × ((peripheral_takes way s).peripheral.own ≡ Idle)
-learns_phy reason way s is runs = (rw runs refl, rw is (rejected_phy s.peripheral.own runs))
+learns_phy reason way s is runs = (let sent = sent_phy s.peripheral.own runs in rw sent refl, let sent = sent_phy s.peripheral.own runs in rw (is, sent) refl)
 
 pub request_refused : (events : List Event) (reason : Reason) → may PeripheralTakes (run collisions events) ≡ true
     → (run collisions events).down ≡ OnAir (RejectParam reason)

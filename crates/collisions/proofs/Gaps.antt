@@ -1,18 +1,18 @@
 -- What numbered runs say: each is a joint run, and sixteen bits of an event tell whether an instant has passed.
-use Rattle.std.proofs.Common.{◌≡◌, ℕ, ◌+◌, ◌-◌, ◌*◌, ◌%◌, ◌^◌, ◌<◌, ◌≤◌, ◌==◌, nat_le, is_some, is_none, Bool, true, false, not, ◌&&◌, ◌||◌, List, [], ◌∷◌, ◌++◌, Option, Some, None, if◌then◌else◌, refl, ap, sym, ◌∙◌, subst, arith, leb-true, leb-false, eqb-true, append-nil}
+use Rattle.std.proofs.Common.{◌≡◌, ℕ, ◌+◌, ◌-◌, ◌%◌, ◌^◌, ◌<◌, ◌≤◌, ◌==◌, nat_le, is_some, Bool, true, false, not, ◌&&◌, ◌||◌, List, [], ◌∷◌, ◌++◌, if◌then◌else◌, refl, ap, sym, ◌∙◌, subst, arith, leb-true, eqb-true}
 use Rattle.std.proofs.lemmas.Bool.{and_parts}
 use Rattle.ble_base.specs.Instant.{gap_of}
-use Rattle.collisions.specs.declared.pdus.Pdu.{Pdu}
+use Rattle.exclusive_stages.specs.declared.pdus.Pdu.{Pdu}
 use Rattle.collisions.specs.declared.events.Event.{Event}
 use Rattle.collisions.specs.declared.events.Event.TheVariants.{PeripheralTakes}
 use Rattle.collisions.specs.declared.joint.Way.{Way}
 use Rattle.collisions.specs.declared.joint.Way.TheVariants.{OnAir}
 use Rattle.collisions.specs.declared.joint.Link.{Link}
 use Rattle.machines.specs.Machine.{Machine, run, run_from, step}
-use Rattle.collisions.specs.Pdus.{is_timed}
+use Rattle.exclusive_stages.specs.Pdus.{is_timed}
 use Rattle.collisions.specs.JointRun.{act, collisions, is_after, is_open, is_pdu, is_taken, may, may_act, pdu_on_air, start}
 use Rattle.collisions.specs.Numbers.{Move, Numbered, central_enters, central_sends, peripheral_enters, event_of, last_instant, makes, may_move, move, numbered_collisions, numbered_start, timing_by}
-use Rattle.collisions.proofs.Lifting.{FitsNumbers, Moves, Sound, moves, sound}
+use Rattle.collisions.proofs.Lifting.{Sound, moves, sound}
 use Rattle.collisions.proofs.Numbers.{passed_is}
 
 -- ---- each numbered run is a joint run

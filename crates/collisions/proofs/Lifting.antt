@@ -1,8 +1,8 @@
 -- Each joint run with the numbers of events is a joint run, with the same links.
-use Rattle.std.proofs.Common.{◌≡◌, ℕ, ◌+◌, ◌<◌, ◌≤◌, ◌==◌, nat_le, ◌≢◌, is_some, is_none, Bool, true, false, not, ◌&&◌, ◌||◌, List, [], ◌∷◌, Option, Some, None, if◌then◌else◌, refl, ap, sym, ◌∙◌, subst, arith, leb-true}
+use Rattle.std.proofs.Common.{◌≡◌, ℕ, ◌+◌, ◌<◌, ◌≤◌, ◌==◌, nat_le, is_none, Bool, true, false, not, ◌&&◌, ◌||◌, List, [], ◌∷◌, Option, Some, None, if◌then◌else◌, refl, sym, ◌∙◌, subst, arith, leb-true}
 use Rattle.std.proofs.lemmas.Bool.{and_parts, and_from}
-use Rattle.collisions.specs.declared.pdus.Pdu.{Pdu}
-use Rattle.collisions.specs.declared.pdus.Pdu.TheVariants.{UpdateInd, GrantInd, MapInd, PhyReq, PhyRsp, PhyInd, ParamReq, RejectParam, RejectPhy, Refusal}
+use Rattle.exclusive_stages.specs.declared.pdus.Pdu.{Pdu}
+use Rattle.exclusive_stages.specs.declared.pdus.Pdu.TheVariants.{UpdateInd, GrantInd, MapInd, PhyReq, PhyRsp, PhyInd, ParamReq, RejectParam, RejectPhy, Refusal}
 use Rattle.collisions.specs.declared.events.Event.{Event}
 use Rattle.collisions.specs.declared.events.Event.TheVariants.{CentralEnters, CentralBegins, HostGrants, HostRefuses, CentralCloses, CentralSends, CentralAcked, CentralTakes, CentralKeeps, CentralTakesKept}
 use Rattle.collisions.specs.declared.events.Event.TheVariants.{PeripheralEnters, PeripheralBegins, PeripheralCloses, PeripheralFixes, PeripheralSends, PeripheralAcked, PeripheralTakes}
@@ -12,13 +12,12 @@ use Rattle.collisions.specs.declared.joint.Way.{Way}
 use Rattle.collisions.specs.declared.joint.Way.TheVariants.{Clear, Fixed, OnAir, Taken}
 use Rattle.collisions.specs.declared.joint.Link.{Link}
 use Rattle.machines.specs.Machine.{run, run_from, step}
-use Rattle.collisions.specs.Pdus.{is_held_back, is_timed}
+use Rattle.exclusive_stages.specs.Pdus.{is_held_back, is_timed}
 use Rattle.collisions.specs.CentralTable
 use Rattle.collisions.specs.PeripheralTable
-use Rattle.collisions.specs.JointRun.{Timing, act, central_acked, central_keeps, central_sends, central_takes, central_takes_kept, fits_entering, fits_sending, is_after, is_clear, is_empty, is_open, is_pdu, may, may_act, may_send, may_send_pdu, pdu_on_air, peripheral_acked, peripheral_fixes, peripheral_sends, peripheral_takes, place_after, timing_of}
+use Rattle.collisions.specs.JointRun.{Timing, act, central_acked, central_keeps, central_sends, central_takes, central_takes_kept, fits_sending, is_clear, is_empty, is_open, is_pdu, may, may_act, may_send, may_send_pdu, pdu_on_air, peripheral_acked, peripheral_fixes, peripheral_sends, peripheral_takes, timing_of}
 use Rattle.collisions.specs.Numbers.{Move, Numbered, central_enters, central_sends as sends, event_of, has_move, is_next_timed, makes, may_move, move, numbered_collisions, numbered_start, peripheral_enters, timing_by}
 use Rattle.collisions.specs.Agreement.{is_lagging}
-use Rattle.collisions.specs.Meaning.{is_meant}
 use Rattle.machines.proofs.Closing.{act_is_known, is_known, right_is}
 use Rattle.collisions.proofs.CollisionEvents.{coded, is_coded}
 use Rattle.collisions.proofs.CollisionStates.{states}

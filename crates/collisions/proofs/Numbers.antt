@@ -1,21 +1,18 @@
 -- The places of a joint run are what the numbers of events say, and each run with numbers is a joint run.
-use Rattle.std.proofs.Common.{◌≡◌, ℕ, ◌+◌, ◌<◌, ◌≤◌, ◌==◌, ◌≢◌, nat_le, is_some, is_none, ◌⊎◌, inl, inr, Bool, true, false, not, ◌&&◌, ◌||◌, List, [], ◌∷◌, Option, Some, None, if◌then◌else◌, refl, ap, sym, ◌∙◌, subst, arith, eqb-true, leb-true, leb-false, le-leb, eq-eqb, ne_eqb}
+use Rattle.std.proofs.Common.{◌≡◌, ℕ, ◌+◌, ◌<◌, ◌≤◌, ◌==◌, ◌≢◌, nat_le, is_some, is_none, Bool, true, false, not, ◌&&◌, ◌||◌, Option, Some, None, if◌then◌else◌, refl, arith, eqb-true, leb-true, leb-false, le-leb, eq-eqb, ne_eqb}
 use Rattle.std.proofs.lemmas.Bool.{and_parts, and_from}
-use Rattle.collisions.specs.declared.pdus.Pdu.{Pdu}
+use Rattle.exclusive_stages.specs.declared.pdus.Pdu.{Pdu}
 use Rattle.collisions.specs.declared.events.Event.{Event}
 use Rattle.collisions.specs.declared.events.Event.TheVariants.{CentralEnters, CentralBegins, HostGrants, HostRefuses, CentralCloses, CentralSends, CentralAcked, CentralTakes, CentralKeeps, CentralTakesKept}
 use Rattle.collisions.specs.declared.events.Event.TheVariants.{PeripheralEnters, PeripheralBegins, PeripheralCloses, PeripheralFixes, PeripheralSends, PeripheralAcked, PeripheralTakes}
 use Rattle.collisions.specs.declared.events.Place.{Place}
 use Rattle.collisions.specs.declared.events.Place.TheVariants.{Before, At, After, LateBefore, LateAt}
-use Rattle.collisions.specs.declared.joint.Way.{Way}
-use Rattle.collisions.specs.declared.joint.Way.TheVariants.{Clear, Fixed, OnAir, Taken}
 use Rattle.collisions.specs.declared.joint.Link.{Link}
-use Rattle.machines.specs.Machine.{run, run_from, step}
-use Rattle.collisions.specs.Pdus.{is_timed, is_held_back}
+use Rattle.exclusive_stages.specs.Pdus.{is_held_back}
+use Rattle.exclusive_stages.specs.Kinds.{central_kind}
 use Rattle.collisions.specs.CentralTable
-use Rattle.collisions.specs.PeripheralTable
-use Rattle.collisions.specs.JointRun.{Timing, is_clear, is_first, is_judgeable, is_taken, act, fits_entering, fits_places, fits_sending, is_after, is_late, is_pdu, is_same, is_same_event, may, may_act, may_send_pdu, pdu_on_air, place_after, timing_of}
-use Rattle.collisions.specs.Numbers.{Move, Numbered, central_enters, central_sends, event_of, is_next_timed, makes, may_move, move, next_passed_from, numbered_collisions, numbered_start, peripheral_enters, place_by, place_in, timing_by}
+use Rattle.collisions.specs.JointRun.{Timing, is_clear, is_first, is_judgeable, is_taken, fits_entering, fits_sending, is_after, is_pdu, is_same_event, may_act, may_send_pdu, pdu_on_air, place_after}
+use Rattle.collisions.specs.Numbers.{place_by}
 use Rattle.collisions.specs.Agreement.{is_lagging}
 
 -- ---- what a place says of the numbers
@@ -124,7 +121,7 @@ module _ (t u : Timing) (s : Link) (more : AtLeast t u) where
       and_more (is_clear s.down) _ _ (and_more (is_none (pdu_on_air s.up)) (may_send_pdu t (CentralTable.next_pdu s.central) s) (may_send_pdu u (CentralTable.next_pdu s.central) s) (sends_more (CentralTable.next_pdu s.central))) h
   may_more CentralAcked h = and_more (is_taken s.down) t.same u.same more.same h
   may_more (CentralTakes judged) h = take_more (is_judgeable judged) h
-  may_more CentralKeeps h = and_first _ (is_none (CentralTable.own_kind s.central.own)) _ (take_more is_first) h
+  may_more CentralKeeps h = and_first _ (is_none (central_kind s.central.own)) _ (take_more is_first) h
   may_more (CentralTakesKept judged) h = h
   may_more (PeripheralEnters at) h = more.fits h
   may_more (PeripheralBegins kind) h = h

@@ -1,28 +1,28 @@
 -- Of two procedures that collide the peripheral's is rejected: its rejection is what the central sends next.
-use Rattle.std.proofs.Common.{◌≡◌, ◌⊎◌, inl, inr, Bool, true, false, not, ◌&&◌, List, [], ◌∷◌, ◌++◌, Option, Some, None, is_none, if◌then◌else◌, refl, ap, sym, ◌∙◌, subst}
+use Rattle.std.proofs.Common.{◌≡◌, ◌⊎◌, inl, inr, Bool, true, false, not, List, [], ◌∷◌, ◌++◌, Option, Some, None, if◌then◌else◌, refl, ap}
 use Rattle.std.proofs.lemmas.Bool.{and_parts}
-use Rattle.collisions.specs.declared.pdus.Exclusive.{Exclusive}
-use Rattle.collisions.specs.declared.pdus.Exclusive.TheVariants.{Update, Request, Map, Phy}
-use Rattle.collisions.specs.declared.pdus.Reason.TheVariants.{Other}
-use Rattle.collisions.specs.declared.pdus.Pdu.{Pdu}
-use Rattle.collisions.specs.declared.pdus.Pdu.TheVariants.{UpdateInd, GrantInd, MapInd, PhyReq, PhyRsp, PhyInd, ParamReq, RejectParam, RejectPhy, Refusal}
-use Rattle.collisions.specs.declared.stages.CentralOwn.{CentralOwn}
-use Rattle.collisions.specs.declared.stages.CentralOwn.TheVariants.{Idle, UpdateUnsent, UpdateSent, MapUnsent, MapSent, PhyUnsent, PhySent, PhyAnswered, PhyIndicated}
-use Rattle.collisions.specs.declared.stages.CentralPeer.TheVariants.{Absent, GrantUnsent, PhyIndUnsent}
+use Rattle.exclusive_stages.specs.declared.pdus.Exclusive.{Exclusive}
+use Rattle.exclusive_stages.specs.declared.pdus.Exclusive.TheVariants.{Request, Phy}
+use Rattle.exclusive_stages.specs.declared.pdus.Reason.TheVariants.{Other}
+use Rattle.exclusive_stages.specs.declared.pdus.Pdu.{Pdu}
+use Rattle.exclusive_stages.specs.declared.pdus.Pdu.TheVariants.{GrantInd, PhyReq, PhyRsp, PhyInd, ParamReq, RejectParam, Refusal}
+use Rattle.exclusive_stages.specs.declared.stages.CentralStage.TheVariants.{PhyAnswered}
+use Rattle.exclusive_stages.specs.declared.stages.PeerAtCentral.TheVariants.{Absent, GrantUnsent, PhyIndUnsent}
 use Rattle.collisions.specs.declared.central.Central.{Central}
-use Rattle.collisions.specs.declared.peripheral.Peripheral.{Peripheral}
 use Rattle.collisions.specs.declared.events.Event.{Event}
 use Rattle.collisions.specs.declared.events.Event.TheVariants.{CentralEnters, CentralBegins, HostGrants, HostRefuses, CentralCloses, CentralSends, CentralAcked, CentralTakes, CentralKeeps, CentralTakesKept}
 use Rattle.collisions.specs.declared.events.Event.TheVariants.{PeripheralEnters, PeripheralBegins, PeripheralCloses, PeripheralFixes, PeripheralSends, PeripheralAcked, PeripheralTakes}
-use Rattle.collisions.specs.declared.events.Place.{Place}
 use Rattle.collisions.specs.declared.joint.Way.{Way}
 use Rattle.collisions.specs.declared.joint.Way.TheVariants.{Clear, Fixed, OnAir, Taken}
 use Rattle.collisions.specs.declared.joint.Link.{Link}
 use Rattle.machines.specs.Machine.{run_from, step}
-use Rattle.collisions.specs.Pdus.{first_pdu_of, reason_of, rejection_of}
+use Rattle.exclusive_stages.specs.Pdus.{first_pdu_of, reason_of, rejection_of}
+use Rattle.exclusive_stages.specs.Kinds.{central_kind}
+use Rattle.exclusive_stages.specs.Awaited.{awaits_phy_rsp, peer_answered}
+use Rattle.exclusive_stages.specs.Begun.{stage_begun_at_central}
 use Rattle.collisions.specs.CentralTable
 use Rattle.collisions.specs.PeripheralTable
-use Rattle.collisions.specs.JointRun.{act, central_acked, central_keeps, central_sends, central_takes, central_takes_kept, collisions, is_empty, may, peripheral_acked, peripheral_fixes, peripheral_sends, peripheral_takes}
+use Rattle.collisions.specs.JointRun.{act, central_acked, central_keeps, central_takes, central_takes_kept, collisions, may, peripheral_acked, peripheral_fixes, peripheral_sends, peripheral_takes}
 use Rattle.collisions.specs.CollisionLaws.{is_sending, is_silent}
 
 -- a rejection is the first of those that wait; or a termination was queued and none waits, so that none is sent
@@ -42,12 +42,12 @@ module _ (x : Pdu) where
   rejected pdu t false e (inl (more, is)) = inl (more ++ pdu ∷ [], ap (λ (xs : List Pdu). xs ++ pdu ∷ []) is)
   rejected pdu t false e (inr (closed, is)) = absurd (cc)
 
-  collision_by : (p q : Exclusive) (t : Central) (b : Bool) → CentralTable.is_answered t.own ≡ b → Waits x t → Waits x (CentralTable.collision p q t).0
+  collision_by : (p q : Exclusive) (t : Central) (b : Bool) → peer_answered t.own ≡ b → Waits x t → Waits x (CentralTable.collision p q t).0
   collision_by p q t true e w = rw e w
   collision_by p q t false e w = rw e (rejected (rejection_of q (reason_of p q)) t t.closed refl w)
 
   collision : (p q : Exclusive) (t : Central) → Waits x t → Waits x (CentralTable.collision p q t).0
-  collision p q t w = collision_by p q t (CentralTable.is_answered t.own) refl w
+  collision p q t w = collision_by p q t (peer_answered t.own) refl w
 
   accepted : (judged : Bool) (t : Central) → Waits x t → Waits x (CentralTable.request_accepted judged t)
   unfolding Waits
@@ -63,19 +63,22 @@ module _ (x : Pdu) where
   phy (Some p) t w = collision p Phy t w
   phy None t w = queued PhyInd (record t { peer = PhyIndUnsent }) t.closed refl w
 
-  response : (own : CentralOwn) (t : Central) → Waits x t → Waits x (CentralTable.response_taken own t)
+  response_by : (t : Central) (b : Bool) → awaits_phy_rsp t.own ≡ b → Waits x t → Waits x (CentralTable.response_taken t)
   unfolding Waits
-  response PhySent t w = queued PhyInd (record t { own = PhyAnswered }) t.closed refl w
-  response own t w = w
+  response_by t true e w = rw e (queued PhyInd (record t { own = PhyAnswered }) t.closed refl w)
+  response_by t false e w = rw e w
+
+  response : (t : Central) → Waits x t → Waits x (CentralTable.response_taken t)
+  response t w = response_by t (awaits_phy_rsp t.own) refl w
 
   refusal : (t : Central) → Waits x t → Waits x (record t { own = CentralTable.own_after_refusal t.own })
   unfolding Waits
   refusal t w = w
 
   taken : (judged : Bool) (pdu : Pdu) (t : Central) → Waits x t → Waits x (CentralTable.taken judged pdu t).0
-  taken judged ParamReq t w = request (CentralTable.own_kind t.own) judged t w
-  taken judged PhyReq t w = phy (CentralTable.own_kind t.own) t w
-  taken judged PhyRsp t w = response t.own t w
+  taken judged ParamReq t w = request (central_kind t.own) judged t w
+  taken judged PhyReq t w = phy (central_kind t.own) t w
+  taken judged PhyRsp t w = response t w
   taken judged Refusal t w = refusal t w
   taken judged pdu t w = w
 
@@ -90,7 +93,6 @@ module _ (x : Pdu) where
 
   acked : (pdu : Pdu) (t : Central) → Waits x t → Waits x (CentralTable.acked pdu t)
   unfolding Waits
-  acked PhyInd t w = w
   acked pdu t w = w
 
   terminated : (t : Central) → Waits x t → Waits x (CentralTable.terminated t)
@@ -143,7 +145,7 @@ module _ (x : Pdu) where
   after_act : (event : Event) (s : Link) → is_sending event ≡ false → Waits x s.central → Waits x (act event s).central
   unfolding Waits
   after_act (CentralEnters at) s silent w = entered at s.central w
-  after_act (CentralBegins kind) s silent w = queued (first_pdu_of kind) (record s.central { own = CentralTable.begun_stage kind }) s.central.closed refl w
+  after_act (CentralBegins kind) s silent w = queued (first_pdu_of kind) (record s.central { own = stage_begun_at_central kind }) s.central.closed refl w
   after_act HostGrants s silent w = queued GrantInd (record s.central { peer = GrantUnsent }) s.central.closed refl w
   after_act (HostRefuses reason) s silent w = rejected (RejectParam reason) (record s.central { peer = Absent }) s.central.closed refl w
   after_act CentralCloses s silent w = terminated s.central w

@@ -5,6 +5,5 @@ pub mod CollisionLaws
 pub mod JointRun
 pub mod Meaning
 pub mod Numbers
-pub mod Pdus
 pub mod PeripheralTable
 pub mod Rows

@@ -6,7 +6,7 @@ use Rattle.collisions.specs.declared.events.Event.TheVariants.{CentralEnters, Ce
 use Rattle.collisions.specs.declared.events.Place.{Place}
 use Rattle.collisions.specs.declared.events.Place.TheVariants.{Before, At, After, LateBefore, LateAt}
 use Rattle.collisions.specs.declared.joint.Link.{Link}
-use Rattle.collisions.specs.Pdus.{is_timed}
+use Rattle.exclusive_stages.specs.Pdus.{is_timed}
 use Rattle.collisions.specs.CentralTable.{next_pdu}
 use Rattle.collisions.specs.JointRun.{Timing, act, is_open, is_pdu, may_act, pdu_on_air, start}
 use Rattle.machines.specs.Machine.{Machine}

@@ -7,15 +7,11 @@ mod codes;
 mod events;
 mod joint;
 pub mod laws;
-mod pdus;
 mod peripheral;
 pub mod rows;
-mod stages;
 
 pub use crate::central::Central;
 pub use crate::codes::EVENTS;
 pub use crate::events::{Event, Place};
 pub use crate::joint::{End, Link, Way};
-pub use crate::pdus::{Exclusive, Pdu, Reason};
 pub use crate::peripheral::Peripheral;
-pub use crate::stages::{CentralOwn, CentralPeer, PeripheralOwn, PeripheralPeer};

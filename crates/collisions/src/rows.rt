@@ -1,16 +1,16 @@
 //! Worked runs, which the definitions compute.
 ghost use Rattle.std.specs.Prelude.{◌≡◌, [], ◌∷◌, ◌++◌, Some, true, false};
-ghost use Rattle.collisions.specs.declared.pdus.Exclusive.TheVariants.{Update, Request, Map, Phy};
-ghost use Rattle.collisions.specs.declared.pdus.Reason.TheVariants.{SameKind, OtherKind};
-ghost use Rattle.collisions.specs.declared.pdus.Pdu.TheVariants.{RejectParam, RejectPhy};
-ghost use Rattle.collisions.specs.declared.pdus.Pdu.TheVariants.{ParamReq};
-ghost use Rattle.collisions.specs.declared.stages.CentralOwn.TheVariants.{Idle as IdleCentral};
-ghost use Rattle.collisions.specs.declared.stages.CentralOwn.TheVariants.{MapSent, PhySent};
-ghost use Rattle.collisions.specs.declared.stages.CentralPeer.TheVariants.{GrantSent};
-ghost use Rattle.collisions.specs.declared.stages.CentralPeer.TheVariants.{Absent as CentralAbsent};
-ghost use Rattle.collisions.specs.declared.stages.PeripheralOwn.TheVariants.{Idle, RequestGranted};
-ghost use Rattle.collisions.specs.declared.stages.PeripheralPeer.TheVariants.{Absent, UpdateTaken};
-ghost use Rattle.collisions.specs.declared.stages.PeripheralPeer.TheVariants.{PhyRspUnsent};
+ghost use Rattle.exclusive_stages.specs.declared.pdus.Exclusive.TheVariants.{Update, Request, Map, Phy};
+ghost use Rattle.exclusive_stages.specs.declared.pdus.Reason.TheVariants.{SameKind, OtherKind};
+ghost use Rattle.exclusive_stages.specs.declared.pdus.Pdu.TheVariants.{RejectParam, RejectPhy};
+ghost use Rattle.exclusive_stages.specs.declared.pdus.Pdu.TheVariants.{ParamReq};
+ghost use Rattle.exclusive_stages.specs.declared.stages.CentralStage.TheVariants.{Idle as IdleCentral};
+ghost use Rattle.exclusive_stages.specs.declared.stages.CentralStage.TheVariants.{MapSent, PhySent};
+ghost use Rattle.exclusive_stages.specs.declared.stages.PeerAtCentral.TheVariants.{GrantSent};
+ghost use Rattle.exclusive_stages.specs.declared.stages.PeerAtCentral.TheVariants.{Absent as CentralAbsent};
+ghost use Rattle.exclusive_stages.specs.declared.stages.PeripheralStage.TheVariants.{Idle, RequestGranted};
+ghost use Rattle.exclusive_stages.specs.declared.stages.PeerAtPeripheral.TheVariants.{Absent, UpdateTaken};
+ghost use Rattle.exclusive_stages.specs.declared.stages.PeerAtPeripheral.TheVariants.{PhyRspUnsent};
 ghost use Rattle.collisions.specs.declared.events.Event.TheVariants.{CentralTakesKept, HostGrants};
 ghost use Rattle.collisions.specs.declared.events.Event.TheVariants.{PeripheralEnters};
 ghost use Rattle.collisions.specs.declared.events.Place.TheVariants.{Before};

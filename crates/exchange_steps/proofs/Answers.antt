@@ -16,9 +16,10 @@ use Rattle.procedure_stages.specs.declared.stages.Central.{Central}
 use Rattle.procedure_stages.specs.declared.stages.Exchange.{Exchange}
 use Rattle.procedure_stages.specs.declared.stages.Exchange.TheVariants.{FeaturesUnsent, FeaturesSent, VersionUnsent, VersionSent, LengthUnsent, LengthSent}
 use Rattle.procedure_stages.specs.declared.stages.OwnCentral.{OwnCentral}
-use Rattle.procedure_stages.specs.declared.stages.OwnCentral.TheVariants.{Exchange as exchange}
+use Rattle.procedure_stages.specs.declared.stages.OwnCentral.TheVariants.{Exclusive as exclusive, Exchange as exchange}
 use Rattle.procedure_stages.specs.declared.stages.OwnPeripheral.{OwnPeripheral}
-use Rattle.procedure_stages.specs.declared.stages.OwnPeripheral.TheVariants.{Exchange as exchange_p}
+use Rattle.procedure_stages.specs.declared.stages.OwnPeripheral.TheVariants.{Exclusive as exclusive_p, Exchange as exchange_p}
+use Rattle.exclusive_stages.specs.Kinds.{central_kind, peripheral_kind}
 use Rattle.procedure_stages.specs.declared.stages.Peripheral.{Peripheral}
 use Rattle.procedure_stages.specs.declared.stages.Progress.{Progress}
 use Rattle.procedure_stages.specs.declared.stages.Progress.TheVariants.{Central as central, Peripheral as peripheral}
@@ -38,6 +39,7 @@ use Rattle.exchange_pairs.specs.Exchange.{Answer, Question, is_idle}
 use Rattle.exchange_steps.specs.Answers.{completed, exchange_effect, exchange_kind, exchange_refusal, if_sent, known_by, refusal_code, refused_by, sent_exchange, with_code}
 use Rattle.exchange_steps.specs.Ends.{ends_of, version_stage}
 use Rattle.exchange_steps.specs.Steps.{EndStep, refusal_if, step_of_ctrl, step_of_read, takes_features, takes_lengths, takes_version, terminates, unless_ended}
+use Rattle.exchange_steps.proofs.Apart.{none_of}
 use Rattle.exchange_steps.proofs.Same
 use Rattle.exchange_steps.proofs.Same.{IsSame, unchanged_same, unknown_same}
 use Rattle.exchange_steps.proofs.Taking.{IsNotUnsent, at, features_done, lengths_done}
@@ -63,6 +65,7 @@ kind_central f (exchange LengthSent) is = refl
 kind_central f (exchange FeaturesUnsent) is = absurd is
 kind_central f (exchange VersionUnsent) is = absurd is
 kind_central f (exchange LengthUnsent) is = absurd is
+kind_central f (exclusive stage) is = none_of (central_kind stage)
 kind_central f own is = refl
 
 kind_peripheral : (f : TableFacts) (own : OwnPeripheral) → IsNotUnsent (exchange_at_peripheral own) → exchange_kind (kind_at_peripheral own) ≡ sent_exchange (at f 0 (exchange_at_peripheral own))
@@ -72,7 +75,7 @@ kind_peripheral f (exchange_p LengthSent) is = refl
 kind_peripheral f (exchange_p FeaturesUnsent) is = absurd is
 kind_peripheral f (exchange_p VersionUnsent) is = absurd is
 kind_peripheral f (exchange_p LengthUnsent) is = absurd is
-kind_peripheral f own is = refl
+kind_peripheral f (exclusive_p stage) is = none_of (peripheral_kind stage)
 
 kind_sent : (f : TableFacts) (p : Progress) → IsNotUnsent (own_exchange p) → exchange_kind (own_kind p) ≡ sent_exchange (at f 0 (own_exchange p))
 kind_sent f (central c) is = kind_central f c.own is

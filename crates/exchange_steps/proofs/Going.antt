@@ -1,5 +1,5 @@
 -- The other calls on a table, but for those that begin a procedure or send a PDU.
-use Rattle.std.proofs.Common.{◌≡◌, ℕ, Bool, true, false, None, Result, Ok, Err, if◌then◌else◌, refl, ap, ◌∙◌}
+use Rattle.std.proofs.Common.{◌≡◌, ℕ, Bool, true, false, None, Result, Ok, Err, if◌then◌else◌, refl, ap, ◌∙◌, Option, Some}
 use Rattle.ble_base.specs.declared.error_codes.ErrCode.{ErrCode}
 use Rattle.ble_base.specs.declared.procedure_kinds.Kind.TheVariants.{Version}
 use Rattle.data_pdu.specs.declared.ctrl.Ctrl.{Ctrl}
@@ -14,20 +14,22 @@ use Rattle.procedure_values.proofs.Counts.{count-with}
 use Rattle.procedure_stages.specs.declared.closing.Closing.{Closing}
 use Rattle.procedure_stages.specs.declared.closing.Closing.TheVariants.{Open, Closed, Disconnecting}
 use Rattle.procedure_stages.specs.declared.stages.OwnCentral.{OwnCentral}
-use Rattle.procedure_stages.specs.declared.stages.OwnCentral.TheVariants.{Exchange as exchange, MapSent, PhyIndicated, UpdateSent}
+use Rattle.procedure_stages.specs.declared.stages.OwnCentral.TheVariants.{Exclusive as exclusive, Exchange as exchange}
 use Rattle.procedure_stages.specs.declared.stages.OwnPeripheral.{OwnPeripheral}
-use Rattle.procedure_stages.specs.declared.stages.OwnPeripheral.TheVariants.{Exchange as exchange_p, RequestGranted, RequestSent}
-use Rattle.procedure_stages.specs.declared.stages.PeerAtCentral.{PeerAtCentral}
-use Rattle.procedure_stages.specs.declared.stages.PeerAtCentral.TheVariants.{Absent, GrantUnsent}
+use Rattle.procedure_stages.specs.declared.stages.OwnPeripheral.TheVariants.{Exclusive as exclusive_p, Exchange as exchange_p}
+use Rattle.exclusive_stages.specs.declared.stages.PeerAtCentral.{PeerAtCentral}
+use Rattle.exclusive_stages.specs.declared.stages.PeerAtCentral.TheVariants.{Absent, GrantUnsent}
 use Rattle.procedure_stages.specs.Opcodes.{connection_param_req_opcode}
 use Rattle.procedure_stages.specs.declared.stages.Progress.{Progress}
 use Rattle.procedure_stages.specs.declared.stages.Progress.TheVariants.{Central as central, Peripheral as peripheral}
-use Rattle.procedure_stages.specs.Acked.{central_acked, done_by_ack, peripheral_acked, phy_done_by_acknowledgement, phy_ind_acknowledged, progress_acked, request_acknowledged}
+use Rattle.procedure_stages.specs.Acked.{central_acked, done_at_central_by_ack, done_by_ack, peripheral_acked, progress_acked}
+use Rattle.exclusive_stages.specs.Acked.{done_by_ack_at_central, own_acked_at_central, own_acked_at_peripheral}
+use Rattle.exclusive_stages.specs.declared.pdus.Pdu.{Pdu}
 use Rattle.procedure_stages.specs.Closing.{is_open}
-use Rattle.procedure_stages.specs.Held.{done_at_central, done_at_peripheral, done_held, own_held_at_central, own_held_at_peripheral, progress_held}
+use Rattle.procedure_stages.specs.Held.{done_held, progress_held}
+use Rattle.exclusive_stages.specs.Held.{done_at_central, done_at_peripheral, own_held_at_central, own_held_at_peripheral}
 use Rattle.procedure_stages.specs.InProgress.{peer_becomes}
 use Rattle.procedure_stages.specs.Kinds.{exchange_at_central, exchange_at_peripheral, own_exchange}
-use Rattle.procedure_values.specs.Drafts.{is_phy_ind, is_request}
 use Rattle.procedures.specs.Beginning.{ask_step}
 use Rattle.procedures.specs.Encryption.{is_rejection, progress_given}
 use Rattle.procedures.specs.Going.{closing_given, entered_step, granted_by, host_answer_step, owe_step, request_refused, terminate_step}
@@ -36,7 +38,9 @@ use Rattle.procedures.specs.Table.{TableFacts}
 use Rattle.exchange_steps.specs.Answers.{exchange_kind}
 use Rattle.exchange_steps.specs.Ends.{ends_by, ends_of}
 use Rattle.exchange_steps.specs.Steps.{after_step, after_steps, step_of_ask, step_of_given, terminates}
+use Rattle.exchange_steps.proofs.Apart.{none_of}
 use Rattle.exchange_steps.proofs.Queues.{other_queued, rejection_queued}
+use Rattle.procedure_stages.specs.Exclusive.{central_stage, on_central_stage, on_peripheral_stage, pdu_of_outgoing, peripheral_stage}
 
 -- ---- another progress with the same exchange
 
@@ -69,43 +73,40 @@ module _ (f : TableFacts) where
 
 -- ---- an acknowledgement
 
-acked_central : (own : OwnCentral) → exchange_at_central (phy_ind_acknowledged own) ≡ exchange_at_central own
-acked_central PhyIndicated = refl
-acked_central (exchange stage) = refl
-acked_central own = refl
+acked_central : (pdu : Pdu) (own : OwnCentral) → exchange_at_central (on_central_stage (own_acked_at_central pdu) own) ≡ exchange_at_central own
+acked_central pdu (exclusive own) = refl
+acked_central pdu (exchange stage) = refl
+acked_central pdu own = refl
 
-acked_peripheral : (own : OwnPeripheral) → exchange_at_peripheral (request_acknowledged own) ≡ exchange_at_peripheral own
-acked_peripheral RequestSent = refl
-acked_peripheral (exchange_p stage) = refl
-acked_peripheral own = refl
+acked_peripheral : (pdu : Pdu) (own : OwnPeripheral) → exchange_at_peripheral (on_peripheral_stage (own_acked_at_peripheral pdu) own) ≡ exchange_at_peripheral own
+acked_peripheral pdu (exclusive_p own) = refl
+acked_peripheral pdu (exchange_p stage) = refl
 
 acked_exchange : (out : Outgoing) (p : Progress) → own_exchange (progress_acked out p) ≡ own_exchange p
-acked_exchange out (central c) = by (is_phy_ind out)
+acked_exchange out (central c) = by (pdu_of_outgoing out)
   where
-    by : (b : Bool) → own_exchange (central (central_acked b c)) ≡ exchange_at_central c.own
-    by true = acked_central c.own
-    by false = refl
-acked_exchange out (peripheral p) = by (is_request out)
+    by : (pdu : Option Pdu) → own_exchange (central (central_acked pdu c)) ≡ exchange_at_central c.own
+    by (Some pdu) = acked_central pdu c.own
+    by None = refl
+acked_exchange out (peripheral p) = by (pdu_of_outgoing out)
   where
-    by : (b : Bool) → own_exchange (peripheral (peripheral_acked b p)) ≡ exchange_at_peripheral p.own
-    by true = acked_peripheral p.own
-    by false = refl
+    by : (pdu : Option Pdu) → own_exchange (peripheral (peripheral_acked pdu p)) ≡ exchange_at_peripheral p.own
+    by (Some pdu) = acked_peripheral pdu p.own
+    by None = refl
 
 pub acked_one : (f : TableFacts) → ends_of (acked_step f).0 ≡ ends_of f
 acked_one f = with_progress f (progress_acked f.out f.progress) (acked_exchange f.out f.progress)
 
 -- ---- an event is entered
 
-held_central : (own : OwnCentral) → exchange_at_central (own_held_at_central own) ≡ exchange_at_central own
-held_central UpdateSent = refl
-held_central MapSent = refl
+held_central : (own : OwnCentral) → exchange_at_central (on_central_stage own_held_at_central own) ≡ exchange_at_central own
+held_central (exclusive own) = refl
 held_central (exchange stage) = refl
 held_central own = refl
 
-held_peripheral : (own : OwnPeripheral) → exchange_at_peripheral (own_held_at_peripheral own) ≡ exchange_at_peripheral own
-held_peripheral RequestGranted = refl
+held_peripheral : (own : OwnPeripheral) → exchange_at_peripheral (on_peripheral_stage own_held_at_peripheral own) ≡ exchange_at_peripheral own
+held_peripheral (exclusive_p own) = refl
 held_peripheral (exchange_p stage) = refl
-held_peripheral own = refl
 
 held_exchange : (p : Progress) → own_exchange (progress_held p) ≡ own_exchange p
 held_exchange (central c) = held_central c.own
@@ -180,36 +181,20 @@ module _ (f : TableFacts) where
 
 -- ---- which procedures end by an acknowledgement, and by an event
 
-none_at_central : (own : OwnCentral) → exchange_kind (phy_done_by_acknowledgement own) ≡ None
-none_at_central PhyIndicated = refl
-none_at_central (exchange stage) = refl
-none_at_central own = refl
-
 acked_by : (out : Outgoing) (p : Progress) → exchange_kind (done_by_ack out p) ≡ None
-acked_by out (central c) = by (is_phy_ind out)
+acked_by out (central c) = by (pdu_of_outgoing out)
   where
-    by : (b : Bool) → exchange_kind (if b then phy_done_by_acknowledgement c.own else None) ≡ None
-    by true = none_at_central c.own
-    by false = refl
+    by : (pdu : Option Pdu) → exchange_kind (done_at_central_by_ack pdu c) ≡ None
+    by (Some pdu) = none_of (done_by_ack_at_central pdu (central_stage c.own))
+    by None = refl
 acked_by out (peripheral p) = refl
 
 pub acked_none : (f : TableFacts) → exchange_kind (acked_step f).1 ≡ None
 acked_none f = acked_by f.out f.progress
 
-held_at_central : (own : OwnCentral) → exchange_kind (done_at_central own) ≡ None
-held_at_central UpdateSent = refl
-held_at_central MapSent = refl
-held_at_central (exchange stage) = refl
-held_at_central own = refl
-
-held_at_peripheral : (own : OwnPeripheral) → exchange_kind (done_at_peripheral own) ≡ None
-held_at_peripheral RequestGranted = refl
-held_at_peripheral (exchange_p stage) = refl
-held_at_peripheral own = refl
-
 held_by : (p : Progress) → exchange_kind (done_held p) ≡ None
-held_by (central c) = held_at_central c.own
-held_by (peripheral p) = held_at_peripheral p.own
+held_by (central c) = none_of (done_at_central (central_stage c.own))
+held_by (peripheral p) = none_of (done_at_peripheral (peripheral_stage p.own))
 
 pub entered_none : (f : TableFacts) (applied : Bool) → exchange_kind (entered_step f applied).1 ≡ None
 entered_none f true = held_by f.progress

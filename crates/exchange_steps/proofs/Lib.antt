@@ -1,5 +1,6 @@
 -- The lemmas of this crate.
 pub mod Answers
+pub mod Apart
 pub mod Beginning
 pub mod Calls
 pub mod Going

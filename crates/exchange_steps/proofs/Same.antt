@@ -15,16 +15,19 @@ use Rattle.procedure_stages.specs.declared.stages.Ahead.{Ahead}
 use Rattle.procedure_stages.specs.declared.stages.Ahead.TheVariants.{Nothing, Update, Map}
 use Rattle.procedure_stages.specs.declared.stages.Central.{Central}
 use Rattle.procedure_stages.specs.declared.stages.OwnCentral.{OwnCentral}
-use Rattle.procedure_stages.specs.declared.stages.OwnCentral.TheVariants.{EncryptSent, EncryptUnsent, Exchange as exchange, Idle, PhySent}
+use Rattle.procedure_stages.specs.declared.stages.OwnCentral.TheVariants.{Exclusive as exclusive, EncryptSent, EncryptUnsent, Exchange as exchange}
+use Rattle.exclusive_stages.specs.declared.stages.CentralStage.TheVariants.{Idle, PhySent}
 use Rattle.procedure_stages.specs.declared.stages.OwnPeripheral.{OwnPeripheral}
-use Rattle.procedure_stages.specs.declared.stages.OwnPeripheral.TheVariants.{Exchange as exchange_p, Idle as idle, PhySent as phy_sent, RequestAcknowledged, RequestGranted}
-use Rattle.procedure_stages.specs.declared.stages.PeerAtCentral.TheVariants.{Absent, HostAsked, PhyIndUnsent}
-use Rattle.procedure_stages.specs.declared.stages.PeerAtPeripheral.TheVariants.{Absent as absent, MapTaken, PhyRspUnsent}
+use Rattle.procedure_stages.specs.declared.stages.OwnPeripheral.TheVariants.{Exclusive as exclusive_p, Exchange as exchange_p}
+use Rattle.exclusive_stages.specs.declared.stages.PeripheralStage.TheVariants.{Idle as idle, PhySent as phy_sent, RequestAcknowledged, RequestGranted}
+use Rattle.exclusive_stages.specs.declared.stages.PeerAtCentral.TheVariants.{Absent, HostAsked, PhyIndUnsent}
+use Rattle.exclusive_stages.specs.declared.stages.PeerAtPeripheral.TheVariants.{Absent as absent, MapTaken, PhyRspUnsent}
 use Rattle.procedure_stages.specs.declared.stages.Peripheral.{Peripheral}
 use Rattle.procedure_stages.specs.declared.stages.Progress.{Progress}
 use Rattle.procedure_stages.specs.declared.stages.Progress.TheVariants.{Central as central, Peripheral as peripheral}
 use Rattle.procedure_stages.specs.declared.steps.Effect.TheVariants.{AskHost, Cipher, Nothing as NoEffect}
-use Rattle.procedure_stages.specs.Awaited.{awaits_phy_ind, awaits_phy_rsp, central_answered, has_phy_of_central, is_own_encryption, peer_answered, reads_as_answer}
+use Rattle.procedure_stages.specs.Awaited.{is_own_encryption}
+use Rattle.exclusive_stages.specs.Awaited.{awaits_phy_ind, awaits_phy_rsp, central_answered, has_phy_of_central, peer_answered, reads_as_answer}
 use Rattle.procedure_stages.specs.Closing.{is_open}
 use Rattle.procedure_stages.specs.Collisions.{collision}
 use Rattle.procedure_stages.specs.Kinds.{exchange_at_central, exchange_at_peripheral, kind_at_central, kind_at_peripheral, own_exchange}
@@ -44,6 +47,7 @@ use Rattle.procedures.specs.Update.{follow, followed, granted, update_begun, upd
 use Rattle.exchange_steps.specs.Answers.{exchange_effect, exchange_kind, exchange_refusal}
 use Rattle.exchange_steps.specs.Ends.{ends_by, ends_of}
 use Rattle.exchange_steps.proofs.Queues.{IsOtherDraft, other_queued, rejection_queued}
+use Rattle.procedure_stages.specs.Exclusive.{central_stage, peripheral_stage}
 
 -- what is sent for the PDU is no PDU of an exchange
 abbrev pub IsOtherReply : Reply → Type 0
@@ -132,7 +136,7 @@ module _ (f : TableFacts) where
 
     pub request_same : (min max latency timeout : ℕ) → IsSame f (request_taken f c min max latency timeout)
     request_same min max latency timeout =
-        collided_same (peer_answered c.own) connection_param_req_opcode (collision (kind_at_central c.own) Request) (request_judged f c min max latency timeout) (judged (are_valid min max latency timeout))
+        collided_same (peer_answered (central_stage c.own)) connection_param_req_opcode (collision (kind_at_central c.own) Request) (request_judged f c min max latency timeout) (judged (are_valid min max latency timeout))
       where
         judged : (b : Bool) → IsSame f (if b then with_effect (AskHost min max latency timeout) (moved f (central (record c { peer = HostAsked })))
             else record (rejected f connection_param_req_opcode (record { 0 = invalid_ll_parameters })) { progress = central (record c { peer = Absent }) })
@@ -141,7 +145,7 @@ module _ (f : TableFacts) where
 
     pub phy_req_same : IsSame f (phy_req_at_central f c)
     phy_req_same =
-        collided_same (peer_answered c.own) phy_req_opcode (collision (kind_at_central c.own) Phy) (moved_and_answered f (central (record c { peer = PhyIndUnsent })) PhyInd)
+        collided_same (peer_answered (central_stage c.own)) phy_req_opcode (collision (kind_at_central c.own) Phy) (moved_and_answered f (central (record c { peer = PhyIndUnsent })) PhyInd)
         (record {
           own = own_c;
           lengths = refl;
@@ -156,8 +160,8 @@ module _ (f : TableFacts) where
     pub phy_rsp_same : IsSame f (phy_rsp_taken f c)
     phy_rsp_same = by c.own refl
       where
-        by : (own : OwnCentral) → c.own ≡ own → IsSame f (if awaits_phy_rsp own then phy_answered f c else unchanged f)
-        by PhySent o =
+        by : (own : OwnCentral) → c.own ≡ own → IsSame f (if awaits_phy_rsp (central_stage own) then phy_answered f c else unchanged f)
+        by (exclusive PhySent) o =
             record {
               own = sym (ap exchange_at_central o) ∙ own_c;
               lengths = refl;
@@ -169,6 +173,7 @@ module _ (f : TableFacts) where
               effect = refl;
             }
         by (exchange stage) o = unchanged_same
+        by (exclusive own) o = unchanged_same
         by own o = unchanged_same
 
     pub cipher_same : (quiet : Bool) (ctrl : Ctrl) → IsSame f (cipher_at_central f c quiet ctrl)
@@ -176,7 +181,7 @@ module _ (f : TableFacts) where
     cipher_same false ctrl = record { own = refl; lengths = refl; reply = tt; closing = λ cl. refl; wanted = λ w. refl; done = refl; refused = refl; effect = refl }
 
     secured_same : (ctrl : Ctrl) (own : OwnCentral) → c.own ≡ own
-        → IsSame f (with_effect (Cipher ctrl) (if is_own_encryption own then with_done Encrypt (moved f (central (record c { own = Idle }))) else unchanged f))
+        → IsSame f (with_effect (Cipher ctrl) (if is_own_encryption own then with_done Encrypt (moved f (central (record c { own = exclusive Idle }))) else unchanged f))
     secured_same ctrl EncryptUnsent o = record { own = sym (ap exchange_at_central o) ∙ own_c; lengths = refl; reply = tt; closing = λ cl. refl; wanted = λ w. refl; done = refl; refused = refl; effect = refl }
     secured_same ctrl EncryptSent o = record { own = sym (ap exchange_at_central o) ∙ own_c; lengths = refl; reply = tt; closing = λ cl. refl; wanted = λ w. refl; done = refl; refused = refl; effect = refl }
     secured_same ctrl (exchange stage) o = record { own = refl; lengths = refl; reply = tt; closing = λ cl. refl; wanted = λ w. refl; done = refl; refused = refl; effect = refl }
@@ -194,7 +199,7 @@ module _ (f : TableFacts) where
 
   after_grant_same : (p : Peripheral) (kind : Kind) (other : Outcome) → IsSame f other → IsSame f (after_grant f p kind other)
   after_grant_same p kind other is =
-      if_same (central_answered p.own) (outlived f (collision (kind_at_peripheral p.own) kind) other) other
+      if_same (central_answered (peripheral_stage p.own)) (outlived f (collision (kind_at_peripheral p.own) kind) other) other
       (outlived_same (collision (kind_at_peripheral p.own) kind) other is) is
 
   follow_same : (ahead new : Ahead) (outcome : Outcome) → IsSame f outcome → IsSame f (follow f ahead new outcome)
@@ -208,13 +213,13 @@ module _ (f : TableFacts) where
 
     pub update_same : (indication : Indication) → IsSame f (update_taken f p indication)
     update_same indication =
-        follow_same p.ahead Update (if reads_as_answer p.own then granted f p indication else update_begun f p indication) (by p.own refl)
+        follow_same p.ahead Update (if reads_as_answer (peripheral_stage p.own) then granted f p indication else update_begun f p indication) (by p.own refl)
       where
-        by : (own : OwnPeripheral) → p.own ≡ own → IsSame f (if reads_as_answer own then granted f p indication else update_begun f p indication)
-        by RequestAcknowledged o = record { own = sym (ap exchange_at_peripheral o) ∙ own_p; lengths = refl; reply = tt; closing = λ cl. refl; wanted = λ w. refl; done = refl; refused = refl; effect = refl }
-        by RequestGranted o = record { own = sym (ap exchange_at_peripheral o) ∙ own_p; lengths = refl; reply = tt; closing = λ cl. refl; wanted = λ w. refl; done = refl; refused = refl; effect = refl }
+        by : (own : OwnPeripheral) → p.own ≡ own → IsSame f (if reads_as_answer (peripheral_stage own) then granted f p indication else update_begun f p indication)
+        by (exclusive_p RequestAcknowledged) o = record { own = sym (ap exchange_at_peripheral o) ∙ own_p; lengths = refl; reply = tt; closing = λ cl. refl; wanted = λ w. refl; done = refl; refused = refl; effect = refl }
+        by (exclusive_p RequestGranted) o = record { own = sym (ap exchange_at_peripheral o) ∙ own_p; lengths = refl; reply = tt; closing = λ cl. refl; wanted = λ w. refl; done = refl; refused = refl; effect = refl }
         by (exchange_p stage) o = record { own = own_p; lengths = refl; reply = tt; closing = λ cl. refl; wanted = λ w. refl; done = refl; refused = refl; effect = refl }
-        by own o = record { own = own_p; lengths = refl; reply = tt; closing = λ cl. refl; wanted = λ w. refl; done = refl; refused = refl; effect = refl }
+        by (exclusive_p other) o = record { own = own_p; lengths = refl; reply = tt; closing = λ cl. refl; wanted = λ w. refl; done = refl; refused = refl; effect = refl }
 
     pub map_same : (indication : Indication) → IsSame f (map_taken f p indication)
     map_same indication =
@@ -250,11 +255,11 @@ module _ (f : TableFacts) where
     pub phy_ind_same : IsSame f (phy_ind_taken f p)
     phy_ind_same =
         if_same (has_phy_of_central p.peer) (moved f (peripheral (record p { peer = absent })))
-        (if awaits_phy_ind p.own then with_done Phy (moved f (peripheral (record p { own = idle }))) else unchanged f)
+        (if awaits_phy_ind (peripheral_stage p.own) then with_done Phy (moved f (peripheral (record p { own = exclusive_p idle }))) else unchanged f)
         (moved_same (peripheral (record p { peer = absent })) own_p) (by p.own refl)
       where
         by : (own : OwnPeripheral) → p.own ≡ own
-            → IsSame f (if awaits_phy_ind own then with_done Phy (moved f (peripheral (record p { own = idle }))) else unchanged f)
-        by phy_sent o = record { own = sym (ap exchange_at_peripheral o) ∙ own_p; lengths = refl; reply = tt; closing = λ cl. refl; wanted = λ w. refl; done = refl; refused = refl; effect = refl }
+            → IsSame f (if awaits_phy_ind (peripheral_stage own) then with_done Phy (moved f (peripheral (record p { own = exclusive_p idle }))) else unchanged f)
+        by (exclusive_p phy_sent) o = record { own = sym (ap exchange_at_peripheral o) ∙ own_p; lengths = refl; reply = tt; closing = λ cl. refl; wanted = λ w. refl; done = refl; refused = refl; effect = refl }
         by (exchange_p stage) o = unchanged_same
-        by own o = unchanged_same
+        by (exclusive_p own) o = unchanged_same

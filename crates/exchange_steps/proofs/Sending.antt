@@ -1,5 +1,5 @@
 -- A PDU is sent: the step of the exchanges that it is.
-use Rattle.std.proofs.Common.{◌≡◌, ℕ, ◌+◌, ◌-◌, ◌==◌, Bool, true, false, not, ◌&&◌, List, [], ◌∷◌, Option, Some, None, unwrap_or, refl, ap, ◌∙◌, eqb-true, arith}
+use Rattle.std.proofs.Common.{◌≡◌, ℕ, ◌+◌, ◌-◌, ◌==◌, Bool, true, false, not, ◌&&◌, List, [], ◌∷◌, Option, Some, None, unwrap_or, refl, ap, ◌∙◌, eqb-true, arith, option_map}
 use Rattle.ble_base.specs.declared.error_codes.ErrCode.{ErrCode}
 use Rattle.procedure_values.specs.declared.drafts.Draft.{Draft}
 use Rattle.procedure_values.specs.declared.drafts.Draft.TheVariants.{Cipher, FeatureReq, FeatureRsp, Grant, LengthReq, LengthRsp, Map, PeripheralFeatureReq, PhyInd, PhyReq, PhyRsp, Request, UnknownRsp, Update, VersionInd}
@@ -8,15 +8,17 @@ use Rattle.procedure_values.specs.Drafts.{waits_for_instant}
 use Rattle.procedure_stages.specs.declared.stages.Exchange.{Exchange}
 use Rattle.procedure_stages.specs.declared.stages.Exchange.TheVariants.{FeaturesUnsent, FeaturesSent, VersionUnsent, VersionSent, LengthUnsent, LengthSent}
 use Rattle.procedure_stages.specs.declared.stages.OwnCentral.{OwnCentral}
-use Rattle.procedure_stages.specs.declared.stages.OwnCentral.TheVariants.{EncryptSent, EncryptUnsent, Exchange as exchange, MapUnsent, PhyAnswered, PhyUnsent, UpdateUnsent}
+use Rattle.procedure_stages.specs.declared.stages.OwnCentral.TheVariants.{Exclusive as exclusive, EncryptSent, EncryptUnsent, Exchange as exchange}
+use Rattle.exclusive_stages.specs.declared.stages.CentralStage.{CentralStage}
 use Rattle.procedure_stages.specs.declared.stages.OwnPeripheral.{OwnPeripheral}
-use Rattle.procedure_stages.specs.declared.stages.OwnPeripheral.TheVariants.{Exchange as exchange_p, PhyUnsent as phy_unsent, RequestUnsent}
+use Rattle.procedure_stages.specs.declared.stages.OwnPeripheral.TheVariants.{Exclusive as exclusive_p, Exchange as exchange_p}
+use Rattle.exclusive_stages.specs.declared.stages.PeripheralStage.{PeripheralStage}
 use Rattle.procedure_stages.specs.declared.stages.Progress.{Progress}
 use Rattle.procedure_stages.specs.declared.stages.Progress.TheVariants.{Central as central, Peripheral as peripheral}
 use Rattle.procedure_stages.specs.Closing.{is_disconnecting, is_open}
 use Rattle.procedure_stages.specs.Kinds.{exchange_at_central, exchange_at_peripheral, own_exchange}
 use Rattle.procedure_stages.specs.Queue.{is_past_instant, next_draft}
-use Rattle.procedure_stages.specs.Sent.{exchange_sent, own_sent_by_central, own_sent_by_peripheral, progress_after_draft}
+use Rattle.procedure_stages.specs.Sent.{exchange_sent, own_draft_sent_by_central, own_draft_sent_by_peripheral, progress_after_draft}
 use Rattle.procedures.specs.Queue.{next_of}
 use Rattle.procedures.specs.Sending.{facts_sent, went_step}
 use Rattle.procedures.specs.Table.{TableFacts}
@@ -30,60 +32,35 @@ exchange_after d (Some stage) = Some (unwrap_or (exchange_sent d stage) stage)
 
 -- ---- one of its stages, by draft
 
-stage_after : (d : Draft) (stage : Exchange) → exchange_at_central (unwrap_or (own_sent_by_central d (exchange stage)) (exchange stage)) ≡ exchange_after d (Some stage)
-stage_after (Update params) stage = refl
-stage_after (Map map) stage = refl
-stage_after PhyReq stage = refl
-stage_after PhyInd stage = refl
-stage_after (Cipher ctrl) stage = refl
-stage_after FeatureReq FeaturesUnsent = refl
-stage_after PeripheralFeatureReq FeaturesUnsent = refl
-stage_after VersionInd VersionUnsent = refl
-stage_after (LengthReq rx tx) LengthUnsent = refl
-stage_after d FeaturesUnsent = refl
-stage_after d FeaturesSent = refl
-stage_after d VersionUnsent = refl
-stage_after d VersionSent = refl
-stage_after d LengthUnsent = refl
-stage_after d LengthSent = refl
+stage_goes : (next : Option Exchange) (stage : Exchange)
+    → exchange_at_central (unwrap_or (option_map (λ (s : Exchange). exchange s) next) (exchange stage)) ≡ Some (unwrap_or next stage)
+stage_goes None stage = refl
+stage_goes (Some next) stage = refl
 
-stage_after_p : (d : Draft) (stage : Exchange) → exchange_at_peripheral (unwrap_or (own_sent_by_peripheral d (exchange_p stage)) (exchange_p stage)) ≡ exchange_after d (Some stage)
-stage_after_p (Request min max latency timeout) stage = refl
-stage_after_p PhyReq stage = refl
-stage_after_p FeatureReq FeaturesUnsent = refl
-stage_after_p PeripheralFeatureReq FeaturesUnsent = refl
-stage_after_p VersionInd VersionUnsent = refl
-stage_after_p (LengthReq rx tx) LengthUnsent = refl
-stage_after_p d FeaturesUnsent = refl
-stage_after_p d FeaturesSent = refl
-stage_after_p d VersionUnsent = refl
-stage_after_p d VersionSent = refl
-stage_after_p d LengthUnsent = refl
-stage_after_p d LengthSent = refl
+stage_goes_p : (next : Option Exchange) (stage : Exchange)
+    → exchange_at_peripheral (unwrap_or (option_map (λ (s : Exchange). exchange_p s) next) (exchange_p stage)) ≡ Some (unwrap_or next stage)
+stage_goes_p None stage = refl
+stage_goes_p (Some next) stage = refl
 
-own_after : (d : Draft) (own : OwnCentral) → exchange_at_central (unwrap_or (own_sent_by_central d own) own) ≡ exchange_after d (exchange_at_central own)
-own_after d (exchange stage) = stage_after d stage
-own_after (Update params) UpdateUnsent = refl
-own_after (Update params) own = refl
-own_after (Map map) MapUnsent = refl
-own_after (Map map) own = refl
-own_after PhyReq PhyUnsent = refl
-own_after PhyReq own = refl
-own_after PhyInd PhyAnswered = refl
-own_after PhyInd own = refl
-own_after (Cipher ctrl) EncryptUnsent = refl
-own_after (Cipher ctrl) EncryptSent = refl
+other_goes : (next : Option CentralStage) (stage : CentralStage)
+    → exchange_at_central (unwrap_or (option_map (λ (s : CentralStage). exclusive s) next) (exclusive stage)) ≡ None
+other_goes None stage = refl
+other_goes (Some next) stage = refl
+
+other_goes_p : (next : Option PeripheralStage) (stage : PeripheralStage)
+    → exchange_at_peripheral (unwrap_or (option_map (λ (s : PeripheralStage). exclusive_p s) next) (exclusive_p stage)) ≡ None
+other_goes_p None stage = refl
+other_goes_p (Some next) stage = refl
+
+own_after : (d : Draft) (own : OwnCentral) → exchange_at_central (unwrap_or (own_draft_sent_by_central d own) own) ≡ exchange_after d (exchange_at_central own)
+own_after d (exchange stage) = stage_goes (exchange_sent d stage) stage
+own_after d (exclusive stage) = other_goes _ stage
 own_after (Cipher ctrl) own = refl
-own_after (Grant params) own = refl
 own_after d own = refl
 
-own_after_p : (d : Draft) (own : OwnPeripheral) → exchange_at_peripheral (unwrap_or (own_sent_by_peripheral d own) own) ≡ exchange_after d (exchange_at_peripheral own)
-own_after_p d (exchange_p stage) = stage_after_p d stage
-own_after_p (Request min max latency timeout) RequestUnsent = refl
-own_after_p (Request min max latency timeout) own = refl
-own_after_p PhyReq phy_unsent = refl
-own_after_p PhyReq own = refl
-own_after_p d own = refl
+own_after_p : (d : Draft) (own : OwnPeripheral) → exchange_at_peripheral (unwrap_or (own_draft_sent_by_peripheral d own) own) ≡ exchange_after d (exchange_at_peripheral own)
+own_after_p d (exchange_p stage) = stage_goes_p (exchange_sent d stage) stage
+own_after_p d (exclusive_p stage) = other_goes_p _ stage
 
 progress_after : (d : Draft) (event skips : ℕ) (p : Progress) → own_exchange (progress_after_draft d event skips p) ≡ exchange_after d (own_exchange p)
 progress_after d event skips (central c) = own_after d c.own

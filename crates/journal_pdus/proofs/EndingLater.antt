@@ -1,5 +1,5 @@
 -- No link that is open at a side as a turn begins, or at the end of a run, was to end before.
-use Rattle.std.proofs.Common.{◌≡◌, ℕ, ◌+◌, ◌*◌, ◌≤◌, Bool, true, Option, Some, None, List, [], ◌∷◌, ◌++◌, length, refl, sym, ap, subst, ◌∙◌}
+use Rattle.std.proofs.Common.{◌≡◌, ℕ, ◌+◌, ◌*◌, ◌≤◌, true, Option, Some, None, List, ◌∷◌, ◌++◌, sym, ap, subst, ◌∙◌}
 use Rattle.ble_base.specs.declared.roles.Side.{Side}
 use Rattle.adv_pdu.specs.declared.pdu.ConnectFields.{ConnectFields}
 use Rattle.journal.specs.declared.entries.Entry.TheVariants.{Turn}
@@ -10,7 +10,6 @@ use Rattle.run_model.specs.History.{Event, packet_received, past_of, turns_begun
 use Rattle.run_model.specs.Journal.{journal_of, side_of}
 use Rattle.run_model.specs.LinkEnds.{HaveAddresses}
 use Rattle.run_model.specs.Links.{links_of}
-use Rattle.run_model.specs.Readers.{turns_of}
 use Rattle.run_model.specs.Run.{Given, GoesOn, facts_at, history_of, run_of, setup_at}
 use Rattle.run_model.proofs.EntryEvents.{is_of_event}
 use Rattle.run_model.proofs.Fates.{turns_are}
@@ -24,7 +23,7 @@ use Rattle.journal_packets.proofs.AccessOrder.{AreNth}
 use Rattle.journal_packets.proofs.SoFar.{IsBelongingSoFar}
 use Rattle.journal_acks.specs.Shut.{end_slot, last_heard}
 use Rattle.journal_acks.proofs.Counting.{AreKnown}
-use Rattle.journal_acks.proofs.DueLinks.{AreLater, end_of, ends_by, later_first, later_kept}
+use Rattle.journal_acks.proofs.DueLinks.{AreLater, ends_by, later_first, later_kept}
 use Rattle.journal_acks.proofs.Exchanging.{number_at}
 use Rattle.journal_acks.proofs.GoodCalls.{AreGoodAt, plain}
 use Rattle.journal_acks.proofs.GoodLinks.{good_of}

@@ -1,5 +1,5 @@
 -- The packet at which a run of a pair stops is due by the lines before it.
-use Rattle.std.proofs.Common.{◌≡◌, ℕ, Bool, false, List}
+use Rattle.std.proofs.Common.{◌≡◌, ℕ, false, List}
 use Rattle.link_model.proofs.Received.{IsHeardWhole}
 use Rattle.radio_replay.specs.Script.{Script}
 use Rattle.run_model.specs.Feeding.{AreDistinct}
@@ -14,7 +14,7 @@ use Rattle.journal_turns.specs.Stopped.{IsStoppedAt}
 use Rattle.journal_packets.proofs.AccessOrder.{AreNth}
 use Rattle.journal_packets.proofs.SoFar.{IsBelongingSoFar}
 use Rattle.journal_acks.proofs.Known.{known_of}
-use Rattle.journal_acks.proofs.Seen.{IsSeen, seen_stop}
+use Rattle.journal_acks.proofs.Seen.{seen_stop}
 use Rattle.journal_acks.proofs.TwoStations.{IsOfTwo}
 use Rattle.journal_data.proofs.FewLinks.{HaveFewLinks}
 use Rattle.journal_pdus.specs.Announced.{announced_pdu, new_pdu_on}

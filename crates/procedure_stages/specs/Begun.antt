@@ -8,9 +8,11 @@ use Rattle.procedure_stages.specs.declared.stages.Exchange.TheVariants.{VersionU
 use Rattle.procedure_values.specs.declared.asks.Ask.{Ask}
 use Rattle.procedure_values.specs.declared.asks.Ask.TheVariants.{Update, Request, Map, Phy, Features, Version, Length, Encrypt}
 use Rattle.procedure_stages.specs.declared.stages.OwnCentral.{OwnCentral}
-use Rattle.procedure_stages.specs.declared.stages.OwnCentral.TheVariants.{Exchange as exchange, UpdateUnsent, MapUnsent, PhyUnsent, EncryptUnsent}
+use Rattle.procedure_stages.specs.declared.stages.OwnCentral.TheVariants.{Exclusive as exclusive, Exchange as exchange, EncryptUnsent}
 use Rattle.procedure_stages.specs.declared.stages.OwnPeripheral.{OwnPeripheral}
-use Rattle.procedure_stages.specs.declared.stages.OwnPeripheral.TheVariants.{Exchange as exchange_p, RequestUnsent, PhyUnsent as phy_unsent}
+use Rattle.procedure_stages.specs.declared.stages.OwnPeripheral.TheVariants.{Exclusive as exclusive_p, Exchange as exchange_p}
+use Rattle.exclusive_stages.specs.declared.stages.CentralStage.TheVariants.{UpdateUnsent, MapUnsent, PhyUnsent}
+use Rattle.exclusive_stages.specs.declared.stages.PeripheralStage.TheVariants.{RequestUnsent, PhyUnsent as phy_unsent}
 use Rattle.procedure_stages.specs.declared.stages.Progress.{Progress}
 use Rattle.procedure_stages.specs.declared.stages.Progress.TheVariants.{Central as central, Peripheral as peripheral}
 use Rattle.procedure_values.specs.declared.drafts.Draft.{Draft}
@@ -38,10 +40,10 @@ version_stage false = VersionUnsent
 version_stage true = VersionSent
 
 abbrev pub stage_at_central : Ask → Bool → OwnCentral → OwnCentral
-stage_at_central (Update interval latency timeout) used own = UpdateUnsent
+stage_at_central (Update interval latency timeout) used own = exclusive UpdateUnsent
 stage_at_central (Request min max latency timeout) used own = own
-stage_at_central (Map map) used own = MapUnsent
-stage_at_central Phy used own = PhyUnsent
+stage_at_central (Map map) used own = exclusive MapUnsent
+stage_at_central Phy used own = exclusive PhyUnsent
 stage_at_central Features used own = exchange FeaturesUnsent
 stage_at_central Version used own = exchange (version_stage used)
 stage_at_central (Length tx) used own = exchange LengthUnsent
@@ -49,9 +51,9 @@ stage_at_central (Encrypt rand ediv ltk skd_m iv_m) used own = EncryptUnsent
 
 abbrev pub stage_at_peripheral : Ask → Bool → OwnPeripheral → OwnPeripheral
 stage_at_peripheral (Update interval latency timeout) used own = own
-stage_at_peripheral (Request min max latency timeout) used own = RequestUnsent
+stage_at_peripheral (Request min max latency timeout) used own = exclusive_p RequestUnsent
 stage_at_peripheral (Map map) used own = own
-stage_at_peripheral Phy used own = phy_unsent
+stage_at_peripheral Phy used own = exclusive_p phy_unsent
 stage_at_peripheral Features used own = exchange_p FeaturesUnsent
 stage_at_peripheral Version used own = exchange_p (version_stage used)
 stage_at_peripheral (Length tx) used own = exchange_p LengthUnsent

@@ -1,30 +1,24 @@
 -- What is in progress at an end (Core 5.2, volume 6 part B, section 5.1).
-use Rattle.std.specs.Prelude.{false, None, Bool, true, ◌||◌, is_some}
+use Rattle.std.specs.Prelude.{false, None, Bool, ◌||◌, is_some}
 use Rattle.ble_base.specs.declared.roles.Role.{Role}
 use Rattle.ble_base.specs.declared.roles.Role.TheVariants.{Central, Peripheral}
-use Rattle.procedure_stages.specs.declared.stages.OwnCentral.TheVariants.{Idle}
-use Rattle.procedure_stages.specs.declared.stages.PeerAtCentral.TheVariants.{Absent, HostAsked}
-use Rattle.procedure_stages.specs.declared.stages.OwnPeripheral.TheVariants.{Idle as idle}
-use Rattle.procedure_stages.specs.declared.stages.PeerAtPeripheral.TheVariants.{Absent as absent}
 use Rattle.procedure_stages.specs.declared.stages.Ahead.TheVariants.{Nothing as nothing_ahead}
 use Rattle.procedure_stages.specs.declared.stages.Progress.{Progress}
 use Rattle.procedure_stages.specs.declared.stages.Progress.TheVariants.{Central as central, Peripheral as peripheral}
-use Rattle.procedure_stages.specs.declared.stages.PeerAtCentral.{PeerAtCentral}
-use Rattle.procedure_stages.specs.declared.stages.PeerAtPeripheral.{PeerAtPeripheral}
+use Rattle.procedure_stages.specs.declared.stages.OwnCentral.TheVariants.{Exclusive as exclusive}
+use Rattle.procedure_stages.specs.declared.stages.OwnPeripheral.TheVariants.{Exclusive as exclusive_p}
+use Rattle.exclusive_stages.specs.declared.stages.CentralStage.TheVariants.{Idle}
+use Rattle.exclusive_stages.specs.declared.stages.PeripheralStage.TheVariants.{Idle as idle}
+use Rattle.exclusive_stages.specs.declared.stages.PeerAtCentral.{PeerAtCentral}
+use Rattle.exclusive_stages.specs.declared.stages.PeerAtCentral.TheVariants.{Absent}
+use Rattle.exclusive_stages.specs.declared.stages.PeerAtPeripheral.TheVariants.{Absent as absent}
+use Rattle.exclusive_stages.specs.Kinds.{has_peer_at_central, has_peer_at_peripheral, is_host_asked_at_central}
 use Rattle.procedure_stages.specs.Kinds.{own_kind}
 
 -- nothing is in progress
 abbrev pub first_progress : Role → Progress
-first_progress Central = central (record { own = Idle; peer = Absent; last_instant = None })
-first_progress Peripheral = peripheral (record { own = idle; peer = absent; ahead = nothing_ahead; encrypting = false })
-
-abbrev pub has_peer_at_central : PeerAtCentral → Bool
-has_peer_at_central Absent = false
-has_peer_at_central other = true
-
-abbrev pub has_peer_at_peripheral : PeerAtPeripheral → Bool
-has_peer_at_peripheral absent = false
-has_peer_at_peripheral other = true
+first_progress Central = central (record { own = exclusive Idle; peer = Absent; last_instant = None })
+first_progress Peripheral = peripheral (record { own = exclusive_p idle; peer = absent; ahead = nothing_ahead; encrypting = false })
 
 -- a procedure of the peer that excludes others is in progress here
 abbrev pub has_peer : Progress → Bool
@@ -41,10 +35,6 @@ abbrev pub is_busy : Progress → Bool
 is_busy progress = is_some (own_kind progress) || has_peer progress || is_encrypting progress
 
 -- a request of the peripheral waits for the host's answer
-abbrev pub is_host_asked_at_central : PeerAtCentral → Bool
-is_host_asked_at_central HostAsked = true
-is_host_asked_at_central other = false
-
 abbrev pub is_host_asked : Progress → Bool
 is_host_asked (central c) = is_host_asked_at_central c.peer
 is_host_asked (peripheral p) = false

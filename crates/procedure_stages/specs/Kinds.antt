@@ -1,7 +1,7 @@
 -- The kinds of control procedures, and the kind of each stage (Core 5.2, volume 6 part B, section 5.1).
-use Rattle.std.specs.Prelude.{Bool, true, false, Option, Some, None}
+use Rattle.std.specs.Prelude.{Bool, true, false, Option, Some, None, option_map}
 use Rattle.ble_base.specs.declared.procedure_kinds.Kind.{Kind}
-use Rattle.ble_base.specs.declared.procedure_kinds.Kind.TheVariants.{Update, Request, Map, Phy, Features, Version, Length, Encrypt}
+use Rattle.ble_base.specs.declared.procedure_kinds.Kind.TheVariants.{Update, Request, Map, Features, Version, Length, Encrypt}
 use Rattle.ble_base.specs.declared.roles.Role.{Role}
 use Rattle.ble_base.specs.declared.roles.Role.TheVariants.{Central, Peripheral}
 use Rattle.procedure_stages.specs.declared.stages.Progress.{Progress}
@@ -9,9 +9,12 @@ use Rattle.procedure_stages.specs.declared.stages.Progress.TheVariants.{Central 
 use Rattle.procedure_stages.specs.declared.stages.Exchange.{Exchange}
 use Rattle.procedure_stages.specs.declared.stages.Exchange.TheVariants.{FeaturesUnsent, FeaturesSent, VersionUnsent, VersionSent, LengthUnsent, LengthSent}
 use Rattle.procedure_stages.specs.declared.stages.OwnCentral.{OwnCentral}
-use Rattle.procedure_stages.specs.declared.stages.OwnCentral.TheVariants.{Idle, Exchange as exchange, UpdateUnsent, UpdateSent, MapUnsent, MapSent, PhyUnsent, PhySent, PhyAnswered, PhyIndicated, EncryptUnsent, EncryptSent}
+use Rattle.procedure_stages.specs.declared.stages.OwnCentral.TheVariants.{Exclusive as exclusive, Exchange as exchange, EncryptUnsent, EncryptSent}
 use Rattle.procedure_stages.specs.declared.stages.OwnPeripheral.{OwnPeripheral}
-use Rattle.procedure_stages.specs.declared.stages.OwnPeripheral.TheVariants.{Idle as idle, Exchange as exchange_p, RequestUnsent, RequestSent, RequestAcknowledged, RequestGranted, PhyUnsent as phy_unsent, PhySent as phy_sent}
+use Rattle.procedure_stages.specs.declared.stages.OwnPeripheral.TheVariants.{Exclusive as exclusive_p, Exchange as exchange_p}
+use Rattle.exclusive_stages.specs.declared.stages.CentralStage.TheVariants.{Idle}
+use Rattle.exclusive_stages.specs.declared.stages.PeripheralStage.TheVariants.{Idle as idle}
+use Rattle.exclusive_stages.specs.Kinds.{central_kind, kind_of, peripheral_kind}
 use Rattle.procedure_values.specs.Asks.{is_same_kind}
 
 -- which role begins a kind (sections 5.1.1 to 5.1.10); the central sends its own indication and makes no request
@@ -38,28 +41,14 @@ kind_of_exchange LengthUnsent = Length
 kind_of_exchange LengthSent = Length
 
 abbrev pub kind_at_central : OwnCentral → Option Kind
-kind_at_central Idle = None
+kind_at_central (exclusive stage) = option_map kind_of (central_kind stage)
 kind_at_central (exchange stage) = Some (kind_of_exchange stage)
-kind_at_central UpdateUnsent = Some Update
-kind_at_central UpdateSent = Some Update
-kind_at_central MapUnsent = Some Map
-kind_at_central MapSent = Some Map
-kind_at_central PhyUnsent = Some Phy
-kind_at_central PhySent = Some Phy
-kind_at_central PhyAnswered = Some Phy
-kind_at_central PhyIndicated = Some Phy
 kind_at_central EncryptUnsent = Some Encrypt
 kind_at_central EncryptSent = Some Encrypt
 
 abbrev pub kind_at_peripheral : OwnPeripheral → Option Kind
-kind_at_peripheral idle = None
+kind_at_peripheral (exclusive_p stage) = option_map kind_of (peripheral_kind stage)
 kind_at_peripheral (exchange_p stage) = Some (kind_of_exchange stage)
-kind_at_peripheral RequestUnsent = Some Request
-kind_at_peripheral RequestSent = Some Request
-kind_at_peripheral RequestAcknowledged = Some Request
-kind_at_peripheral RequestGranted = Some Request
-kind_at_peripheral phy_unsent = Some Phy
-kind_at_peripheral phy_sent = Some Phy
 
 abbrev pub own_kind : Progress → Option Kind
 own_kind (central c) = kind_at_central c.own
@@ -67,8 +56,8 @@ own_kind (peripheral p) = kind_at_peripheral p.own
 
 -- an end whose own procedure is over
 abbrev pub without_own : Progress → Progress
-without_own (central c) = central (record c { own = Idle })
-without_own (peripheral p) = peripheral (record p { own = idle })
+without_own (central c) = central (record c { own = exclusive Idle })
+without_own (peripheral p) = peripheral (record p { own = exclusive_p idle })
 
 -- the exchange that an end began
 abbrev pub exchange_at_central : OwnCentral → Option Exchange

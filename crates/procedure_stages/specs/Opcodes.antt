@@ -1,14 +1,18 @@
 -- The opcodes of control PDUs that are named in an answer, and those of the PDUs that were sent of a procedure (Core
 -- 5.2, volume 6 part B, section 2.4.2).
-use Rattle.std.specs.Prelude.{ℕ, Option, Some, None, ◌==◌, Bool, false}
+use Rattle.std.specs.Prelude.{ℕ, Option, Some, None, ◌==◌, Bool, false, option_map}
 use Rattle.ble_base.specs.declared.roles.Role.{Role}
 use Rattle.ble_base.specs.declared.roles.Role.TheVariants.{Central, Peripheral}
 use Rattle.procedure_stages.specs.declared.stages.Exchange.{Exchange}
 use Rattle.procedure_stages.specs.declared.stages.Exchange.TheVariants.{FeaturesSent, VersionSent, LengthSent}
 use Rattle.procedure_stages.specs.declared.stages.OwnCentral.{OwnCentral}
-use Rattle.procedure_stages.specs.declared.stages.OwnCentral.TheVariants.{Exchange as exchange, UpdateSent, MapSent, PhySent, PhyAnswered, PhyIndicated, EncryptSent}
+use Rattle.procedure_stages.specs.declared.stages.OwnCentral.TheVariants.{Exclusive as exclusive, Exchange as exchange, EncryptUnsent, EncryptSent}
 use Rattle.procedure_stages.specs.declared.stages.OwnPeripheral.{OwnPeripheral}
-use Rattle.procedure_stages.specs.declared.stages.OwnPeripheral.TheVariants.{Exchange as exchange_p, RequestSent, RequestAcknowledged, RequestGranted, PhySent as phy_sent}
+use Rattle.procedure_stages.specs.declared.stages.OwnPeripheral.TheVariants.{Exclusive as exclusive_p, Exchange as exchange_p}
+use Rattle.exclusive_stages.specs.declared.stages.CentralStage.TheVariants.{PhyIndicated}
+use Rattle.exclusive_stages.specs.declared.pdus.Exclusive.{Exclusive}
+use Rattle.exclusive_stages.specs.declared.pdus.Exclusive.TheVariants.{Update, Request, Map, Phy}
+use Rattle.exclusive_stages.specs.Kinds.{kind_sent_by_central, kind_sent_by_peripheral}
 use Rattle.procedure_stages.specs.declared.stages.Progress.{Progress}
 use Rattle.procedure_stages.specs.declared.stages.Progress.TheVariants.{Central as central, Peripheral as peripheral}
 
@@ -67,23 +71,22 @@ opcode_of_exchange role VersionSent = Some version_ind_opcode
 opcode_of_exchange role LengthSent = Some length_req_opcode
 opcode_of_exchange role other = None
 
+-- the first PDU of a procedure that excludes others
+abbrev pub opcode_of_kind : Exclusive → ℕ
+opcode_of_kind Update = connection_update_ind_opcode
+opcode_of_kind Request = connection_param_req_opcode
+opcode_of_kind Map = channel_map_ind_opcode
+opcode_of_kind Phy = phy_req_opcode
+
 abbrev pub opcode_at_central : OwnCentral → Option ℕ
+opcode_at_central (exclusive stage) = option_map opcode_of_kind (kind_sent_by_central stage)
 opcode_at_central (exchange stage) = opcode_of_exchange Central stage
-opcode_at_central UpdateSent = Some connection_update_ind_opcode
-opcode_at_central MapSent = Some channel_map_ind_opcode
-opcode_at_central PhySent = Some phy_req_opcode
-opcode_at_central PhyAnswered = Some phy_req_opcode
-opcode_at_central PhyIndicated = Some phy_req_opcode
+opcode_at_central EncryptUnsent = None
 opcode_at_central EncryptSent = Some enc_req_opcode
-opcode_at_central other = None
 
 abbrev pub opcode_at_peripheral : OwnPeripheral → Option ℕ
+opcode_at_peripheral (exclusive_p stage) = option_map opcode_of_kind (kind_sent_by_peripheral stage)
 opcode_at_peripheral (exchange_p stage) = opcode_of_exchange Peripheral stage
-opcode_at_peripheral RequestSent = Some connection_param_req_opcode
-opcode_at_peripheral RequestAcknowledged = Some connection_param_req_opcode
-opcode_at_peripheral RequestGranted = Some connection_param_req_opcode
-opcode_at_peripheral phy_sent = Some phy_req_opcode
-opcode_at_peripheral other = None
 
 -- the opcode of the first PDU of the own procedure, once it was sent; of an encryption only a start that follows no
 -- pause can be refused, and its first PDU is LL_ENC_REQ
@@ -93,7 +96,7 @@ first_opcode (peripheral p) = opcode_at_peripheral p.own
 
 -- the opcode of a later PDU of the own procedure that was sent: a central's PHY update has two
 abbrev pub later_opcode_at_central : OwnCentral → Option ℕ
-later_opcode_at_central PhyIndicated = Some phy_update_ind_opcode
+later_opcode_at_central (exclusive PhyIndicated) = Some phy_update_ind_opcode
 later_opcode_at_central other = None
 
 abbrev pub later_opcode : Progress → Option ℕ

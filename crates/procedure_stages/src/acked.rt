@@ -1,80 +1,75 @@
 //! The stages of procedures after a PDU was acknowledged.
 ghost use Rattle.std.specs.Prelude.{◌≡◌};
-ghost use Rattle.procedure_stages.specs.Acked.{phy_ind_acknowledged, phy_ind_of_peer_acknowledged};
-ghost use Rattle.procedure_stages.specs.Acked.{phy_done_by_acknowledgement, request_acknowledged};
+ghost use Rattle.exclusive_stages.specs.Acked.{own_acked_at_central, own_acked_at_peripheral};
+ghost use Rattle.procedure_stages.specs.Exclusive.{on_central_stage, on_peripheral_stage};
 ghost use Rattle.procedure_stages.specs.Acked.{central_acked, peripheral_acked};
-ghost use Rattle.procedure_stages.specs.Acked.{progress_acked, done_by_ack};
+ghost use Rattle.procedure_stages.specs.Acked.{progress_acked, done_by_ack, done_at_central_by_ack};
 
-use crate::stages::{Central, OwnCentral, OwnPeripheral, PeerAtCentral, Peripheral, Progress};
+use crate::exclusive::pdu_of_outgoing;
+use crate::kinds::kind_of;
+use crate::stages::{Central, OwnCentral, OwnPeripheral, Peripheral, Progress};
 use ble_base::Kind;
+use exclusive_stages::Pdu;
 use procedure_values::Outgoing;
 
-/// LL_PHY_UPDATE_IND is acknowledged.
-fn phy_ind_acknowledged(own: OwnCentral) -> OwnCentral
-    ensures { result ≡ phy_ind_acknowledged own }
-{
-    match own {
-        OwnCentral::PhyIndicated => OwnCentral::Idle,
-        _ => own,
+impl OwnCentral {
+    /// The same after this PDU was acknowledged.
+    fn acked(self, pdu: Pdu) -> Self
+        ensures { result ≡ on_central_stage (own_acked_at_central pdu) self }
+    {
+        match self {
+            OwnCentral::Exclusive(stage) => OwnCentral::Exclusive(stage.acked(pdu)),
+            _ => self,
+        }
     }
 }
 
-/// The same of the peripheral's procedure.
-fn phy_ind_of_peer_acknowledged(peer: PeerAtCentral) -> PeerAtCentral
-    ensures { result ≡ phy_ind_of_peer_acknowledged peer }
-{
-    match peer {
-        PeerAtCentral::PhyIndSent => PeerAtCentral::Absent,
-        _ => peer,
+impl OwnPeripheral {
+    /// The same after this PDU was acknowledged.
+    fn acked(self, pdu: Pdu) -> Self
+        ensures { result ≡ on_peripheral_stage (own_acked_at_peripheral pdu) self }
+    {
+        match self {
+            OwnPeripheral::Exclusive(stage) => OwnPeripheral::Exclusive(stage.acked(pdu)),
+            OwnPeripheral::Exchange(_) => self,
+        }
     }
 }
 
-/// The procedure of the central that the acknowledgement of LL_PHY_UPDATE_IND completes.
-fn phy_done_by_acknowledgement(own: OwnCentral) -> Option<Kind>
-    ensures { result ≡ phy_done_by_acknowledgement own }
+/// A central after a PDU was acknowledged, which may be of procedures that exclude each other.
+fn central_acked(pdu: Option<Pdu>, c: Central) -> Central
+    ensures { result ≡ central_acked pdu c }
 {
-    match own {
-        OwnCentral::PhyIndicated => Some(Kind::Phy),
-        _ => None,
-    }
-}
-
-/// LL_CONNECTION_PARAM_REQ is acknowledged.
-fn request_acknowledged(own: OwnPeripheral) -> OwnPeripheral
-    ensures { result ≡ request_acknowledged own }
-{
-    match own {
-        OwnPeripheral::RequestSent => OwnPeripheral::RequestAcknowledged,
-        _ => own,
-    }
-}
-
-/// A central after a PDU was acknowledged, which may be LL_PHY_UPDATE_IND.
-fn central_acked(is_phy: bool, c: Central) -> Central
-    ensures { result ≡ central_acked is_phy c }
-{
-    if is_phy {
-        Central {
-            own: phy_ind_acknowledged(c.own),
-            peer: phy_ind_of_peer_acknowledged(c.peer),
+    match pdu {
+        Some(pdu) => Central {
+            own: c.own.acked(pdu),
+            peer: c.peer.acked(pdu),
             ..c
-        }
-    } else {
-        c
+        },
+        None => c,
     }
 }
 
-/// A peripheral after a PDU was acknowledged, which may be LL_CONNECTION_PARAM_REQ.
-fn peripheral_acked(is_request: bool, p: Peripheral) -> Peripheral
-    ensures { result ≡ peripheral_acked is_request p }
+/// The same of a peripheral.
+fn peripheral_acked(pdu: Option<Pdu>, p: Peripheral) -> Peripheral
+    ensures { result ≡ peripheral_acked pdu p }
 {
-    if is_request {
-        Peripheral {
-            own: request_acknowledged(p.own),
+    match pdu {
+        Some(pdu) => Peripheral {
+            own: p.own.acked(pdu),
             ..p
-        }
-    } else {
-        p
+        },
+        None => p,
+    }
+}
+
+/// The procedure of a central that the acknowledgement of a PDU completes.
+fn done_at_central(pdu: Option<Pdu>, c: Central) -> Option<Kind>
+    ensures { result ≡ done_at_central_by_ack pdu c }
+{
+    match pdu {
+        Some(pdu) => kind_of(c.own.stage().done_by_ack(pdu)),
+        None => None,
     }
 }
 
@@ -84,8 +79,10 @@ impl Progress {
         ensures { result ≡ progress_acked out.now self }
     {
         match self {
-            Progress::Central(c) => Progress::Central(central_acked(out.is_phy_ind(), c)),
-            Progress::Peripheral(p) => Progress::Peripheral(peripheral_acked(out.is_request(), p)),
+            Progress::Central(c) => Progress::Central(central_acked(pdu_of_outgoing(out), c)),
+            Progress::Peripheral(p) => {
+                Progress::Peripheral(peripheral_acked(pdu_of_outgoing(out), p))
+            }
         }
     }
 
@@ -94,8 +91,8 @@ impl Progress {
         ensures { result ≡ done_by_ack out.now self }
     {
         match self {
-            Progress::Central(c) if out.is_phy_ind() => phy_done_by_acknowledgement(c.own),
-            _ => None,
+            Progress::Central(c) => done_at_central(pdu_of_outgoing(out), c),
+            Progress::Peripheral(_) => None,
         }
     }
 }

@@ -10,6 +10,7 @@ use crate::collisions::peer_lets;
 use crate::kinds::begins;
 use crate::stages::{Central, Exchange, OwnCentral, OwnPeripheral, Peripheral, Progress};
 use ble_base::{Kind, Role};
+use exclusive_stages::{CentralStage, PeripheralStage};
 use procedure_values::{Ask, Draft, Lengths, NewParams};
 
 /// Whether a kind that is wanted may begin, at an end that may begin something if it is `ready`.
@@ -45,10 +46,10 @@ fn stage_at_central(ask: &Ask, used: bool, own: OwnCentral) -> OwnCentral
     ensures { result ≡ stage_at_central ask.now used own }
 {
     match ask {
-        Ask::Update { .. } => OwnCentral::UpdateUnsent,
+        Ask::Update { .. } => OwnCentral::Exclusive(CentralStage::UpdateUnsent),
         Ask::Request { .. } => own,
-        Ask::Map(_) => OwnCentral::MapUnsent,
-        Ask::Phy => OwnCentral::PhyUnsent,
+        Ask::Map(_) => OwnCentral::Exclusive(CentralStage::MapUnsent),
+        Ask::Phy => OwnCentral::Exclusive(CentralStage::PhyUnsent),
         Ask::Features => OwnCentral::Exchange(Exchange::FeaturesUnsent),
         Ask::Version => OwnCentral::Exchange(version_stage(used)),
         Ask::Length { .. } => OwnCentral::Exchange(Exchange::LengthUnsent),
@@ -62,8 +63,8 @@ fn stage_at_peripheral(ask: &Ask, used: bool, own: OwnPeripheral) -> OwnPeripher
 {
     match ask {
         Ask::Update { .. } | Ask::Map(_) | Ask::Encrypt { .. } => own,
-        Ask::Request { .. } => OwnPeripheral::RequestUnsent,
-        Ask::Phy => OwnPeripheral::PhyUnsent,
+        Ask::Request { .. } => OwnPeripheral::Exclusive(PeripheralStage::RequestUnsent),
+        Ask::Phy => OwnPeripheral::Exclusive(PeripheralStage::PhyUnsent),
         Ask::Features => OwnPeripheral::Exchange(Exchange::FeaturesUnsent),
         Ask::Version => OwnPeripheral::Exchange(version_stage(used)),
         Ask::Length { .. } => OwnPeripheral::Exchange(Exchange::LengthUnsent),

@@ -1,46 +1,20 @@
 //! The stages of procedures after an event was entered from which an indication holds.
 ghost use Rattle.std.specs.Prelude.{◌≡◌};
-ghost use Rattle.procedure_stages.specs.Held.{own_held_at_central, done_at_central};
-ghost use Rattle.procedure_stages.specs.Held.{peer_held_at_central, own_held_at_peripheral};
-ghost use Rattle.procedure_stages.specs.Held.{done_at_peripheral, peer_held_at_peripheral};
+ghost use Rattle.exclusive_stages.specs.Held.{own_held_at_central, own_held_at_peripheral};
+ghost use Rattle.procedure_stages.specs.Exclusive.{on_central_stage, on_peripheral_stage};
 ghost use Rattle.procedure_stages.specs.Held.{progress_held, done_held};
 
-use crate::stages::{
-    Ahead, Central, OwnCentral, OwnPeripheral, PeerAtCentral, PeerAtPeripheral, Peripheral,
-    Progress,
-};
+use crate::kinds::kind_of;
+use crate::stages::{Ahead, Central, OwnCentral, OwnPeripheral, Peripheral, Progress};
 use ble_base::Kind;
 
 impl OwnCentral {
     /// The same after its indication holds.
     fn held(self) -> Self
-        ensures { result ≡ own_held_at_central self }
+        ensures { result ≡ on_central_stage own_held_at_central self }
     {
         match self {
-            OwnCentral::UpdateSent | OwnCentral::MapSent => OwnCentral::Idle,
-            _ => self,
-        }
-    }
-
-    /// The procedure that is completed as an indication holds.
-    fn done(self) -> Option<Kind>
-        ensures { result ≡ done_at_central self }
-    {
-        match self {
-            OwnCentral::UpdateSent => Some(Kind::Update),
-            OwnCentral::MapSent => Some(Kind::Map),
-            _ => None,
-        }
-    }
-}
-
-impl PeerAtCentral {
-    /// The same after an indication holds.
-    fn held(self) -> Self
-        ensures { result ≡ peer_held_at_central self }
-    {
-        match self {
-            PeerAtCentral::GrantSent => PeerAtCentral::Absent,
+            OwnCentral::Exclusive(stage) => OwnCentral::Exclusive(stage.held()),
             _ => self,
         }
     }
@@ -49,33 +23,11 @@ impl PeerAtCentral {
 impl OwnPeripheral {
     /// The same after an indication holds.
     fn held(self) -> Self
-        ensures { result ≡ own_held_at_peripheral self }
+        ensures { result ≡ on_peripheral_stage own_held_at_peripheral self }
     {
         match self {
-            OwnPeripheral::RequestGranted => OwnPeripheral::Idle,
-            _ => self,
-        }
-    }
-
-    /// The procedure that is completed as an indication holds.
-    fn done(self) -> Option<Kind>
-        ensures { result ≡ done_at_peripheral self }
-    {
-        match self {
-            OwnPeripheral::RequestGranted => Some(Kind::Request),
-            _ => None,
-        }
-    }
-}
-
-impl PeerAtPeripheral {
-    /// The same after an indication holds.
-    fn held(self) -> Self
-        ensures { result ≡ peer_held_at_peripheral self }
-    {
-        match self {
-            PeerAtPeripheral::UpdateTaken | PeerAtPeripheral::MapTaken => PeerAtPeripheral::Absent,
-            _ => self,
+            OwnPeripheral::Exclusive(stage) => OwnPeripheral::Exclusive(stage.held()),
+            OwnPeripheral::Exchange(_) => self,
         }
     }
 }
@@ -105,8 +57,8 @@ impl Progress {
         ensures { result ≡ done_held self }
     {
         match self {
-            Progress::Central(c) => c.own.done(),
-            Progress::Peripheral(p) => p.own.done(),
+            Progress::Central(c) => kind_of(c.own.stage().done()),
+            Progress::Peripheral(p) => kind_of(p.own.stage().done()),
         }
     }
 }

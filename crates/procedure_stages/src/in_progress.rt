@@ -3,11 +3,9 @@ ghost use Rattle.std.specs.Prelude.{◌≡◌};
 ghost use Rattle.procedure_stages.specs.InProgress.{first_progress, has_peer, is_encrypting};
 ghost use Rattle.procedure_stages.specs.InProgress.{is_busy, is_host_asked, peer_becomes};
 
-use crate::stages::{
-    Ahead, Central, OwnCentral, OwnPeripheral, PeerAtCentral, PeerAtPeripheral, Peripheral,
-    Progress,
-};
+use crate::stages::{Ahead, Central, OwnCentral, OwnPeripheral, Peripheral, Progress};
 use ble_base::Role;
+use exclusive_stages::{CentralStage, PeerAtCentral, PeerAtPeripheral, PeripheralStage};
 
 impl Progress {
     /// Nothing is in progress.
@@ -16,12 +14,12 @@ impl Progress {
     {
         match role {
             Role::Central => Progress::Central(Central {
-                own: OwnCentral::Idle,
+                own: OwnCentral::Exclusive(CentralStage::Idle),
                 peer: PeerAtCentral::Absent,
                 last_instant: None,
             }),
             Role::Peripheral => Progress::Peripheral(Peripheral {
-                own: OwnPeripheral::Idle,
+                own: OwnPeripheral::Exclusive(PeripheralStage::Idle),
                 peer: PeerAtPeripheral::Absent,
                 ahead: Ahead::Nothing,
                 encrypting: false,
@@ -34,8 +32,8 @@ impl Progress {
         ensures { result ≡ has_peer self }
     {
         match self {
-            Progress::Central(c) => !matches!(c.peer, PeerAtCentral::Absent),
-            Progress::Peripheral(p) => !matches!(p.peer, PeerAtPeripheral::Absent),
+            Progress::Central(c) => c.peer.is_some(),
+            Progress::Peripheral(p) => p.peer.is_some(),
         }
     }
 
@@ -61,7 +59,7 @@ impl Progress {
         ensures { result ≡ is_host_asked self }
     {
         match self {
-            Progress::Central(c) => matches!(c.peer, PeerAtCentral::HostAsked),
+            Progress::Central(c) => c.peer.is_host_asked(),
             Progress::Peripheral(_) => false,
         }
     }

@@ -1,5 +1,6 @@
 //! The kinds of control procedures, and the kind of each stage.
-ghost use Rattle.std.specs.Prelude.{◌≡◌};
+ghost use Rattle.std.specs.Prelude.{◌≡◌, option_map};
+ghost use Rattle.exclusive_stages.specs.Kinds.{kind_of};
 ghost use Rattle.procedure_stages.specs.Kinds.{begins, kind_of_exchange};
 ghost use Rattle.procedure_stages.specs.Kinds.{kind_at_central, exchange_at_central};
 ghost use Rattle.procedure_stages.specs.Kinds.{kind_at_peripheral, exchange_at_peripheral, role_of};
@@ -8,6 +9,7 @@ ghost use Rattle.procedure_stages.specs.Kinds.{is_timed};
 
 use crate::stages::{Central, Exchange, OwnCentral, OwnPeripheral, Peripheral, Progress};
 use ble_base::{Kind, Role};
+use exclusive_stages::{CentralStage, Exclusive, PeripheralStage};
 use procedure_values::asks::is_same_kind;
 
 /// Whether an end of this role begins a procedure of this kind (Core 5.2, volume 6 part B, sections
@@ -18,6 +20,16 @@ pub fn begins(role: Role, kind: Kind) -> bool
     match role {
         Role::Central => !matches!(kind, Kind::Request),
         Role::Peripheral => !matches!(kind, Kind::Update | Kind::Map | Kind::Encrypt),
+    }
+}
+
+/// The same kind among all kinds of control procedures, if there is one.
+pub(crate) fn kind_of(kind: Option<Exclusive>) -> Option<Kind>
+    ensures { result ≡ option_map kind_of kind }
+{
+    match kind {
+        Some(kind) => Some(kind.kind()),
+        None => None,
     }
 }
 
@@ -40,14 +52,8 @@ impl OwnCentral {
         ensures { result ≡ kind_at_central self }
     {
         match self {
-            OwnCentral::Idle => None,
+            OwnCentral::Exclusive(stage) => kind_of(stage.kind()),
             OwnCentral::Exchange(stage) => Some(stage.kind()),
-            OwnCentral::UpdateUnsent | OwnCentral::UpdateSent => Some(Kind::Update),
-            OwnCentral::MapUnsent | OwnCentral::MapSent => Some(Kind::Map),
-            OwnCentral::PhyUnsent
-            | OwnCentral::PhySent
-            | OwnCentral::PhyAnswered
-            | OwnCentral::PhyIndicated => Some(Kind::Phy),
             OwnCentral::EncryptUnsent | OwnCentral::EncryptSent => Some(Kind::Encrypt),
         }
     }
@@ -69,13 +75,8 @@ impl OwnPeripheral {
         ensures { result ≡ kind_at_peripheral self }
     {
         match self {
-            OwnPeripheral::Idle => None,
+            OwnPeripheral::Exclusive(stage) => kind_of(stage.kind()),
             OwnPeripheral::Exchange(stage) => Some(stage.kind()),
-            OwnPeripheral::RequestUnsent
-            | OwnPeripheral::RequestSent
-            | OwnPeripheral::RequestAcknowledged
-            | OwnPeripheral::RequestGranted => Some(Kind::Request),
-            OwnPeripheral::PhyUnsent | OwnPeripheral::PhySent => Some(Kind::Phy),
         }
     }
 
@@ -127,11 +128,11 @@ impl Progress {
     {
         match self {
             Progress::Central(c) => Progress::Central(Central {
-                own: OwnCentral::Idle,
+                own: OwnCentral::Exclusive(CentralStage::Idle),
                 ..c
             }),
             Progress::Peripheral(p) => Progress::Peripheral(Peripheral {
-                own: OwnPeripheral::Idle,
+                own: OwnPeripheral::Exclusive(PeripheralStage::Idle),
                 ..p
             }),
         }

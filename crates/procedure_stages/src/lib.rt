@@ -8,6 +8,7 @@ pub mod awaited;
 pub mod begun;
 mod closing;
 pub mod collisions;
+mod exclusive;
 mod held;
 mod in_progress;
 pub mod kinds;
@@ -22,7 +23,6 @@ pub use crate::closing::Closing;
 pub use crate::queue::Queue;
 pub use crate::reply::Reply;
 pub use crate::stages::{
-    Ahead, Central, Exchange, OwnCentral, OwnPeripheral, PeerAtCentral, PeerAtPeripheral,
-    Peripheral, Progress,
+    Ahead, Central, Exchange, OwnCentral, OwnPeripheral, Peripheral, Progress,
 };
 pub use crate::steps::{Effect, Step};

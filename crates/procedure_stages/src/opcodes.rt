@@ -1,12 +1,14 @@
 //! The opcodes of control PDUs that are named in an answer, and those of the PDUs that were sent of
 //! a procedure (Core 5.2, volume 6 part B, section 2.4.2).
-ghost use Rattle.std.specs.Prelude.{◌≡◌};
+ghost use Rattle.std.specs.Prelude.{◌≡◌, option_map};
 ghost use Rattle.procedure_stages.specs.Opcodes.{feature_opcode, opcode_of_exchange};
 ghost use Rattle.procedure_stages.specs.Opcodes.{opcode_at_central, opcode_at_peripheral};
+ghost use Rattle.procedure_stages.specs.Opcodes.{opcode_of_kind};
 ghost use Rattle.procedure_stages.specs.Opcodes.{first_opcode, later_opcode, is_opcode};
 
 use crate::stages::{Exchange, OwnCentral, OwnPeripheral, Progress};
 use ble_base::Role;
+use exclusive_stages::{CentralStage, Exclusive};
 
 /// LL_CONNECTION_UPDATE_IND.
 pub const CONNECTION_UPDATE_IND: u8 = 0x00;
@@ -72,17 +74,37 @@ fn opcode_of_exchange(role: Role, stage: Exchange) -> Option<u8>
     }
 }
 
+/// The opcode of the first PDU of a procedure that excludes others.
+fn opcode_of_kind(kind: Exclusive) -> u8
+    ensures { result ≡ opcode_of_kind kind }
+{
+    match kind {
+        Exclusive::Update => CONNECTION_UPDATE_IND,
+        Exclusive::Request => CONNECTION_PARAM_REQ,
+        Exclusive::Map => CHANNEL_MAP_IND,
+        Exclusive::Phy => PHY_REQ,
+    }
+}
+
+/// The same, if there is such a procedure.
+fn opcode_of(kind: Option<Exclusive>) -> Option<u8>
+    ensures { result ≡ option_map opcode_of_kind kind }
+{
+    match kind {
+        Some(kind) => Some(opcode_of_kind(kind)),
+        None => None,
+    }
+}
+
 /// The opcode of the first PDU of a central's own procedure, once it was sent.
 fn opcode_at_central(own: OwnCentral) -> Option<u8>
     ensures { result ≡ opcode_at_central own }
 {
     match own {
+        OwnCentral::Exclusive(stage) => opcode_of(stage.sent_kind()),
         OwnCentral::Exchange(stage) => opcode_of_exchange(Role::Central, stage),
-        OwnCentral::UpdateSent => Some(CONNECTION_UPDATE_IND),
-        OwnCentral::MapSent => Some(CHANNEL_MAP_IND),
-        OwnCentral::PhySent | OwnCentral::PhyAnswered | OwnCentral::PhyIndicated => Some(PHY_REQ),
+        OwnCentral::EncryptUnsent => None,
         OwnCentral::EncryptSent => Some(ENC_REQ),
-        _ => None,
     }
 }
 
@@ -91,12 +113,8 @@ fn opcode_at_peripheral(own: OwnPeripheral) -> Option<u8>
     ensures { result ≡ opcode_at_peripheral own }
 {
     match own {
+        OwnPeripheral::Exclusive(stage) => opcode_of(stage.sent_kind()),
         OwnPeripheral::Exchange(stage) => opcode_of_exchange(Role::Peripheral, stage),
-        OwnPeripheral::RequestSent
-        | OwnPeripheral::RequestAcknowledged
-        | OwnPeripheral::RequestGranted => Some(CONNECTION_PARAM_REQ),
-        OwnPeripheral::PhySent => Some(PHY_REQ),
-        _ => None,
     }
 }
 
@@ -115,7 +133,10 @@ pub fn later_opcode(progress: Progress) -> Option<u8>
     ensures { result ≡ later_opcode progress }
 {
     match progress {
-        Progress::Central(c) if matches!(c.own, OwnCentral::PhyIndicated) => Some(PHY_UPDATE_IND),
+        Progress::Central(c)
+            if matches!(c.own, OwnCentral::Exclusive(CentralStage::PhyIndicated)) => {
+            Some(PHY_UPDATE_IND)
+        }
         _ => None,
     }
 }

@@ -1,22 +1,20 @@
 //! The stages of procedures after a PDU was first sent.
 ghost use Rattle.std.specs.Prelude.{◌≡◌, ◌<◌, ◌^◌};
 ghost use Rattle.procedure_stages.specs.Sent.{features_sent, version_sent, length_sent};
-ghost use Rattle.procedure_stages.specs.Sent.{update_sent, map_sent, encryption_sent, grant_sent};
-ghost use Rattle.procedure_stages.specs.Sent.{request_sent, phy_req_sent, phy_ind_sent};
-ghost use Rattle.procedure_stages.specs.Sent.{phy_ind_of_peer_sent, phy_req_of_peripheral_sent};
-ghost use Rattle.procedure_stages.specs.Sent.{phy_rsp_sent, exchange_sent};
-ghost use Rattle.procedure_stages.specs.Sent.{exchange_of_central_sent, own_sent_by_central};
-ghost use Rattle.procedure_stages.specs.Sent.{exchange_of_peripheral_sent, own_sent_by_peripheral};
-ghost use Rattle.procedure_stages.specs.Sent.{peer_sent_by_central, peer_sent_by_peripheral};
+ghost use Rattle.procedure_stages.specs.Sent.{exchange_sent, encryption_sent};
+ghost use Rattle.procedure_stages.specs.Sent.{exclusive_sent_by_central, own_draft_sent_by_central};
+ghost use Rattle.procedure_stages.specs.Sent.{exclusive_sent_by_peripheral};
+ghost use Rattle.procedure_stages.specs.Sent.{own_draft_sent_by_peripheral};
+ghost use Rattle.procedure_stages.specs.Sent.{peer_draft_sent_by_central};
+ghost use Rattle.procedure_stages.specs.Sent.{peer_draft_sent_by_peripheral};
 ghost use Rattle.procedure_stages.specs.Sent.{last_instant_after, central_after, peripheral_after};
 ghost use Rattle.procedure_stages.specs.Sent.{progress_after_draft, progress_after_sending};
 ghost use Rattle.procedure_stages.specs.Sent.{is_own_draft, is_own};
 
-use crate::stages::{
-    Central, Exchange, OwnCentral, OwnPeripheral, PeerAtCentral, PeerAtPeripheral, Peripheral,
-    Progress,
-};
+use crate::exclusive::pdu_of_draft;
+use crate::stages::{Central, Exchange, OwnCentral, OwnPeripheral, Peripheral, Progress};
 use ble_base::EventNo;
+use exclusive_stages::{CentralStage, Pdu, PeerAtCentral, PeerAtPeripheral, PeripheralStage};
 use procedure_values::drafts::instant_event;
 use procedure_values::{Draft, Outgoing};
 
@@ -50,109 +48,6 @@ fn length_sent(stage: Exchange) -> Option<Exchange>
     }
 }
 
-/// LL_CONNECTION_UPDATE_IND of a central's own procedure is sent: the stage after it, if it is of
-/// that procedure.
-fn update_sent(own: OwnCentral) -> Option<OwnCentral>
-    ensures { result ≡ update_sent own }
-{
-    match own {
-        OwnCentral::UpdateUnsent => Some(OwnCentral::UpdateSent),
-        _ => None,
-    }
-}
-
-/// LL_CHANNEL_MAP_IND is sent: the stage of the central's own procedure after it, if it is of that.
-fn map_sent(own: OwnCentral) -> Option<OwnCentral>
-    ensures { result ≡ map_sent own }
-{
-    match own {
-        OwnCentral::MapUnsent => Some(OwnCentral::MapSent),
-        _ => None,
-    }
-}
-
-/// A PDU of an encryption is sent by a central: the stage of its own procedure after it, if it is
-/// of that.
-fn encryption_sent(own: OwnCentral) -> Option<OwnCentral>
-    ensures { result ≡ encryption_sent own }
-{
-    match own {
-        OwnCentral::EncryptUnsent | OwnCentral::EncryptSent => Some(OwnCentral::EncryptSent),
-        _ => None,
-    }
-}
-
-/// The indication that grants a request is sent.
-fn grant_sent(peer: PeerAtCentral) -> PeerAtCentral
-    ensures { result ≡ grant_sent peer }
-{
-    match peer {
-        PeerAtCentral::GrantUnsent => PeerAtCentral::GrantSent,
-        _ => peer,
-    }
-}
-
-/// LL_CONNECTION_PARAM_REQ is sent: the stage of the peripheral's own procedure after it, if it is
-/// of that.
-fn request_sent(own: OwnPeripheral) -> Option<OwnPeripheral>
-    ensures { result ≡ request_sent own }
-{
-    match own {
-        OwnPeripheral::RequestUnsent => Some(OwnPeripheral::RequestSent),
-        _ => None,
-    }
-}
-
-/// LL_PHY_REQ is sent by a central: the stage of its own procedure after it, if it is of that.
-fn phy_req_sent(own: OwnCentral) -> Option<OwnCentral>
-    ensures { result ≡ phy_req_sent own }
-{
-    match own {
-        OwnCentral::PhyUnsent => Some(OwnCentral::PhySent),
-        _ => None,
-    }
-}
-
-/// LL_PHY_UPDATE_IND is sent: the stage of the central's own procedure after it, if it is of that.
-fn phy_ind_sent(own: OwnCentral) -> Option<OwnCentral>
-    ensures { result ≡ phy_ind_sent own }
-{
-    match own {
-        OwnCentral::PhyAnswered => Some(OwnCentral::PhyIndicated),
-        _ => None,
-    }
-}
-
-/// The same of the peripheral's procedure.
-fn phy_ind_of_peer_sent(peer: PeerAtCentral) -> PeerAtCentral
-    ensures { result ≡ phy_ind_of_peer_sent peer }
-{
-    match peer {
-        PeerAtCentral::PhyIndUnsent => PeerAtCentral::PhyIndSent,
-        _ => peer,
-    }
-}
-
-/// LL_PHY_REQ is sent by a peripheral: the stage of its own procedure after it, if it is of that.
-fn phy_req_of_peripheral_sent(own: OwnPeripheral) -> Option<OwnPeripheral>
-    ensures { result ≡ phy_req_of_peripheral_sent own }
-{
-    match own {
-        OwnPeripheral::PhyUnsent => Some(OwnPeripheral::PhySent),
-        _ => None,
-    }
-}
-
-/// LL_PHY_RSP is sent.
-fn phy_rsp_sent(peer: PeerAtPeripheral) -> PeerAtPeripheral
-    ensures { result ≡ phy_rsp_sent peer }
-{
-    match peer {
-        PeerAtPeripheral::PhyRspUnsent => PeerAtPeripheral::PhyRspSent,
-        _ => peer,
-    }
-}
-
 /// The stage of an exchange after a PDU was sent, if it is of that exchange.
 fn exchange_sent(draft: &Draft, stage: Exchange) -> Option<Exchange>
     ensures { result ≡ exchange_sent draft.now stage }
@@ -165,75 +60,90 @@ fn exchange_sent(draft: &Draft, stage: Exchange) -> Option<Exchange>
     }
 }
 
-/// The same of an exchange that a central began.
-fn exchange_of_central_sent(draft: &Draft, own: OwnCentral) -> Option<OwnCentral>
-    ensures { result ≡ exchange_of_central_sent draft.now own }
+/// The stage of the central's own encryption after a PDU was sent, if it is of that.
+fn encryption_sent(draft: &Draft) -> Option<OwnCentral>
+    ensures { result ≡ encryption_sent draft.now }
 {
-    let OwnCentral::Exchange(stage) = own else {
-        return None;
-    };
-    match exchange_sent(draft, stage) {
-        Some(next) => Some(OwnCentral::Exchange(next)),
+    match draft {
+        Draft::Cipher(_) => Some(OwnCentral::EncryptSent),
+        _ => None,
+    }
+}
+
+/// The stage of a procedure that excludes others after a central sent a PDU, if it is of that.
+fn exclusive_sent_by_central(pdu: Option<Pdu>, stage: CentralStage) -> Option<CentralStage>
+    ensures { result ≡ exclusive_sent_by_central pdu stage }
+{
+    match pdu {
+        Some(pdu) => stage.sent(pdu),
+        None => None,
+    }
+}
+
+/// The same of one that a peripheral sent.
+fn exclusive_sent_by_peripheral(pdu: Option<Pdu>, stage: PeripheralStage) -> Option<PeripheralStage>
+    ensures { result ≡ exclusive_sent_by_peripheral pdu stage }
+{
+    match pdu {
+        Some(pdu) => stage.sent(pdu),
         None => None,
     }
 }
 
 /// The stage of the central's own procedure after a PDU was sent, if it is of that procedure.
 fn own_sent_by_central(draft: &Draft, own: OwnCentral) -> Option<OwnCentral>
-    ensures { result ≡ own_sent_by_central draft.now own }
+    ensures { result ≡ own_draft_sent_by_central draft.now own }
 {
-    match draft {
-        Draft::Update(_) => update_sent(own),
-        Draft::Map(_) => map_sent(own),
-        Draft::PhyReq => phy_req_sent(own),
-        Draft::PhyInd => phy_ind_sent(own),
-        Draft::Cipher(_) => encryption_sent(own),
-        _ => exchange_of_central_sent(draft, own),
-    }
-}
-
-/// The stage of an exchange that a peripheral began after a PDU was sent, if it is of that exchange.
-fn exchange_of_peripheral_sent(draft: &Draft, own: OwnPeripheral) -> Option<OwnPeripheral>
-    ensures { result ≡ exchange_of_peripheral_sent draft.now own }
-{
-    let OwnPeripheral::Exchange(stage) = own else {
-        return None;
-    };
-    match exchange_sent(draft, stage) {
-        Some(next) => Some(OwnPeripheral::Exchange(next)),
-        None => None,
+    match own {
+        OwnCentral::Exclusive(stage) => {
+            match exclusive_sent_by_central(pdu_of_draft(draft), stage) {
+                Some(next) => Some(OwnCentral::Exclusive(next)),
+                None => None,
+            }
+        }
+        OwnCentral::Exchange(stage) => match exchange_sent(draft, stage) {
+            Some(next) => Some(OwnCentral::Exchange(next)),
+            None => None,
+        },
+        OwnCentral::EncryptUnsent | OwnCentral::EncryptSent => encryption_sent(draft),
     }
 }
 
 /// The stage of the peripheral's own procedure after a PDU was sent, if it is of that procedure.
 fn own_sent_by_peripheral(draft: &Draft, own: OwnPeripheral) -> Option<OwnPeripheral>
-    ensures { result ≡ own_sent_by_peripheral draft.now own }
+    ensures { result ≡ own_draft_sent_by_peripheral draft.now own }
 {
-    match draft {
-        Draft::Request { .. } => request_sent(own),
-        Draft::PhyReq => phy_req_of_peripheral_sent(own),
-        _ => exchange_of_peripheral_sent(draft, own),
+    match own {
+        OwnPeripheral::Exclusive(stage) => {
+            match exclusive_sent_by_peripheral(pdu_of_draft(draft), stage) {
+                Some(next) => Some(OwnPeripheral::Exclusive(next)),
+                None => None,
+            }
+        }
+        OwnPeripheral::Exchange(stage) => match exchange_sent(draft, stage) {
+            Some(next) => Some(OwnPeripheral::Exchange(next)),
+            None => None,
+        },
     }
 }
 
 /// The stage of the peripheral's procedure after the central sent a PDU.
-fn peer_sent_by_central(draft: &Draft, peer: PeerAtCentral) -> PeerAtCentral
-    ensures { result ≡ peer_sent_by_central draft.now peer }
+fn peer_sent_by_central(pdu: Option<Pdu>, peer: PeerAtCentral) -> PeerAtCentral
+    ensures { result ≡ peer_draft_sent_by_central pdu peer }
 {
-    match draft {
-        Draft::Grant(_) => grant_sent(peer),
-        Draft::PhyInd => phy_ind_of_peer_sent(peer),
-        _ => peer,
+    match pdu {
+        Some(pdu) => peer.sent(pdu),
+        None => peer,
     }
 }
 
 /// The stage of the central's procedure after the peripheral sent a PDU.
-fn peer_sent_by_peripheral(draft: &Draft, peer: PeerAtPeripheral) -> PeerAtPeripheral
-    ensures { result ≡ peer_sent_by_peripheral draft.now peer }
+fn peer_sent_by_peripheral(pdu: Option<Pdu>, peer: PeerAtPeripheral) -> PeerAtPeripheral
+    ensures { result ≡ peer_draft_sent_by_peripheral pdu peer }
 {
-    match draft {
-        Draft::PhyRsp => phy_rsp_sent(peer),
-        _ => peer,
+    match pdu {
+        Some(pdu) => peer.sent(pdu),
+        None => peer,
     }
 }
 
@@ -260,7 +170,7 @@ fn central_after(draft: &Draft, event: EventNo, latency: u16, c: Central) -> Cen
 {
     Central {
         own: own_sent_by_central(draft, c.own).unwrap_or(c.own),
-        peer: peer_sent_by_central(draft, c.peer),
+        peer: peer_sent_by_central(pdu_of_draft(draft), c.peer),
         last_instant: last_instant_after(draft, event, latency, c.last_instant),
     }
 }
@@ -271,7 +181,7 @@ fn peripheral_after(draft: &Draft, p: Peripheral) -> Peripheral
 {
     Peripheral {
         own: own_sent_by_peripheral(draft, p.own).unwrap_or(p.own),
-        peer: peer_sent_by_peripheral(draft, p.peer),
+        peer: peer_sent_by_peripheral(pdu_of_draft(draft), p.peer),
         ..p
     }
 }

@@ -1,6 +1,7 @@
 //! How far the procedures of a link are at one end, by the role of the end.
 
 use ble_base::EventNo;
+use exclusive_stages::{CentralStage, PeerAtCentral, PeerAtPeripheral, PeripheralStage};
 
 /// The stage of a procedure that either end may begin and that excludes no other: features,
 /// version, length (Core 5.2, volume 6 part B, sections 5.1.4, 5.1.5 and 5.1.9). Its first PDU is
@@ -18,86 +19,25 @@ pub enum Exchange {
 /// The stage of the procedure that a central began.
 #[derive(Clone, Copy)]
 pub enum OwnCentral {
-    /// It began none.
-    Idle,
+    /// It began none, or one that excludes others: a connection update, a channel map update or a
+    /// PHY update.
+    Exclusive(CentralStage),
     /// An exchange of features, versions or lengths.
     Exchange(Exchange),
-    /// A connection update (Core 5.2, volume 6 part B, section 5.1.1): LL_CONNECTION_UPDATE_IND is
-    /// unsent.
-    UpdateUnsent,
-    /// It is sent, and its Instant is to come.
-    UpdateSent,
-    /// A channel map update (section 5.1.2): LL_CHANNEL_MAP_IND is unsent.
-    MapUnsent,
-    /// It is sent, and its Instant is to come.
-    MapSent,
-    /// A PHY update (section 5.1.10): LL_PHY_REQ is unsent.
-    PhyUnsent,
-    /// It is sent, and not answered.
-    PhySent,
-    /// LL_PHY_RSP was taken, and LL_PHY_UPDATE_IND is unsent.
-    PhyAnswered,
-    /// LL_PHY_UPDATE_IND is sent, and not acknowledged.
-    PhyIndicated,
-    /// An encryption start or a pause before one (section 5.1.3): none of its PDUs is sent.
+    /// An encryption start or a pause before one (Core 5.2, volume 6 part B, section 5.1.3): none of
+    /// its PDUs is sent.
     EncryptUnsent,
     /// Its first PDU is sent, and the link is not encrypted by it yet.
     EncryptSent,
 }
 
-/// The stage of a procedure of the peripheral that excludes others, at the central.
-#[derive(Clone, Copy)]
-pub enum PeerAtCentral {
-    /// There is none.
-    Absent,
-    /// A connection parameters request (Core 5.2, volume 6 part B, section 5.1.7): the host is to
-    /// answer it.
-    HostAsked,
-    /// The host granted it, and LL_CONNECTION_UPDATE_IND is unsent.
-    GrantUnsent,
-    /// LL_CONNECTION_UPDATE_IND is sent, and its Instant is to come.
-    GrantSent,
-    /// A PHY update (section 5.1.10): LL_PHY_UPDATE_IND is unsent.
-    PhyIndUnsent,
-    /// LL_PHY_UPDATE_IND is sent, and not acknowledged.
-    PhyIndSent,
-}
-
 /// The stage of the procedure that a peripheral began.
 #[derive(Clone, Copy)]
 pub enum OwnPeripheral {
-    /// It began none.
-    Idle,
+    /// It began none, or one that excludes others: a connection parameters request or a PHY update.
+    Exclusive(PeripheralStage),
     /// An exchange of features, versions or lengths.
     Exchange(Exchange),
-    /// A connection parameters request (Core 5.2, volume 6 part B, section 5.1.7):
-    /// LL_CONNECTION_PARAM_REQ is unsent.
-    RequestUnsent,
-    /// It is sent, and not acknowledged.
-    RequestSent,
-    /// It is acknowledged, and not answered.
-    RequestAcknowledged,
-    /// The central answered by LL_CONNECTION_UPDATE_IND, and its Instant is to come.
-    RequestGranted,
-    /// A PHY update (section 5.1.10): LL_PHY_REQ is unsent.
-    PhyUnsent,
-    /// It is sent, and not answered.
-    PhySent,
-}
-
-/// The stage of a procedure of the central that excludes others, at the peripheral.
-#[derive(Clone, Copy)]
-pub enum PeerAtPeripheral {
-    /// There is none.
-    Absent,
-    /// A connection update (Core 5.2, volume 6 part B, section 5.1.1), whose Instant is to come.
-    UpdateTaken,
-    /// A channel map update (section 5.1.2), whose Instant is to come.
-    MapTaken,
-    /// A PHY update (section 5.1.10): LL_PHY_RSP is unsent.
-    PhyRspUnsent,
-    /// LL_PHY_RSP is sent, and LL_PHY_UPDATE_IND is to come.
-    PhyRspSent,
 }
 
 /// The indication that a peripheral took and that does not hold yet.

@@ -7,8 +7,9 @@ use Rattle.data_pdu.specs.declared.ctrl.Ctrl.{Ctrl}
 use Rattle.data_pdu.specs.declared.ctrl.Ctrl.TheVariants.{UnknownRsp, FeatureRsp, RejectInd, RejectExtInd, LengthRsp, PhyRsp, PhyUpdateInd, EncRsp, StartEncReq, StartEncRsp, PauseEncRsp}
 use Rattle.data_pdu.specs.declared.ctrl.CtrlRead.TheVariants.{Known}
 use Rattle.procedures.specs.declared.outcome.Outcome.{Outcome}
-use Rattle.procedure_stages.specs.declared.stages.OwnPeripheral.TheVariants.{Idle as idle}
-use Rattle.procedure_stages.specs.declared.stages.PeerAtPeripheral.TheVariants.{Absent as absent}
+use Rattle.procedure_stages.specs.declared.stages.OwnPeripheral.TheVariants.{Exclusive as exclusive}
+use Rattle.exclusive_stages.specs.declared.stages.PeripheralStage.TheVariants.{Idle as idle}
+use Rattle.exclusive_stages.specs.declared.stages.PeerAtPeripheral.TheVariants.{Absent as absent}
 use Rattle.procedure_stages.specs.declared.stages.Progress.{Progress}
 use Rattle.procedure_stages.specs.declared.stages.Progress.TheVariants.{Central as central, Peripheral as peripheral}
 use Rattle.procedure_stages.specs.declared.steps.Effect.TheVariants.{PeerFeatures}
@@ -19,13 +20,15 @@ use Rattle.procedures.specs.Table.{TableFacts}
 use Rattle.procedure_stages.specs.Closing.{is_open}
 use Rattle.procedure_stages.specs.Queue.{waiting_in}
 use Rattle.procedures.specs.Outcomes.{unchanged, moved, with_effect, with_done, empty_step}
-use Rattle.procedure_stages.specs.Awaited.{awaits_phy_rsp, has_phy_of_central, awaits_phy_ind, awaits_features, awaits_lengths}
+use Rattle.procedure_stages.specs.Awaited.{awaits_features, awaits_lengths}
+use Rattle.exclusive_stages.specs.Awaited.{awaits_phy_rsp, has_phy_of_central, awaits_phy_ind}
 use Rattle.procedures.specs.Phy.{phy_answered}
 use Rattle.procedures.specs.Length.{with_lengths}
 use Rattle.procedure_stages.specs.Opcodes.{is_opcode, first_opcode, later_opcode}
 use Rattle.procedures.specs.Refusals.{refused}
 use Rattle.procedures.specs.Taking.{taken_by, lacks_room, facts_with, settled, took_step}
 use Rattle.procedures.specs.Laws.{is_unawaited}
+use Rattle.procedure_stages.specs.Exclusive.{central_stage, peripheral_stage}
 
 and_false : (a : Bool) → (a && false) ≡ false
 and_false true = refl
@@ -72,7 +75,7 @@ ignored f (central c) (RejectExtInd opcode code) h = if_not (is_opcode (first_op
 ignored f (peripheral p) (RejectExtInd opcode code) h = if_not (is_opcode (first_opcode (peripheral p)) opcode || is_opcode (later_opcode (peripheral p)) opcode) (refused (at f (peripheral p)) (record { 0 = code })) (unchanged (at f (peripheral p))) h
 ignored f (central c) (LengthRsp rx rx_time tx tx_time) h = if_not (awaits_lengths (own_exchange (central c))) (with_done Length (with_lengths (with_peer f.lengths rx tx) (moved (at f (central c)) (without_own (central c))))) (unchanged (at f (central c))) h
 ignored f (peripheral p) (LengthRsp rx rx_time tx tx_time) h = if_not (awaits_lengths (own_exchange (peripheral p))) (with_done Length (with_lengths (with_peer f.lengths rx tx) (moved (at f (peripheral p)) (without_own (peripheral p))))) (unchanged (at f (peripheral p))) h
-ignored f (central c) (PhyRsp tx rx) h = if_not (awaits_phy_rsp c.own) (phy_answered (at f (central c)) c) (unchanged (at f (central c))) h
+ignored f (central c) (PhyRsp tx rx) h = if_not (awaits_phy_rsp (central_stage c.own)) (phy_answered (at f (central c)) c) (unchanged (at f (central c))) h
 ignored f (peripheral p) (PhyRsp tx rx) h = refl
 ignored f (central c) (EncRsp skd_s iv_s) h = refl
 ignored f (central c) StartEncReq h = refl
@@ -81,8 +84,8 @@ ignored f (central c) PauseEncRsp h = refl
 ignored f (peripheral p) StartEncRsp h = refl
 ignored f (peripheral p) PauseEncRsp h = refl
 ignored f (peripheral p) (PhyUpdateInd to_peripheral to_central instant) h =
-    if_neither (has_phy_of_central p.peer) (awaits_phy_ind p.own) (moved (at f (peripheral p)) (peripheral (record p { peer = absent })))
-    (with_done Phy (moved (at f (peripheral p)) (peripheral (record p { own = idle })))) (unchanged (at f (peripheral p))) h
+    if_neither (has_phy_of_central p.peer) (awaits_phy_ind (peripheral_stage p.own)) (moved (at f (peripheral p)) (peripheral (record p { peer = absent })))
+    (with_done Phy (moved (at f (peripheral p)) (peripheral (record p { own = exclusive idle })))) (unchanged (at f (peripheral p))) h
 ignored f (central c) other h = absurd (cc)
 ignored f (peripheral p) other h = absurd (cc)
 

@@ -13,10 +13,12 @@ use Rattle.data_pdu.specs.declared.ctrl.CtrlRead.{CtrlRead}
 use Rattle.data_pdu.specs.declared.ctrl.CtrlRead.TheVariants.{Known, Unknown, Bare}
 use Rattle.instants.specs.declared.indications.Indication.TheVariants.{Update as update_indication, Map as map_indication}
 use Rattle.procedure_stages.specs.declared.opcodes.TheConstants.{CONNECTION_PARAM_REQ, PHY_REQ}
-use Rattle.procedure_stages.specs.declared.stages.OwnCentral.TheVariants.{Idle}
-use Rattle.procedure_stages.specs.declared.stages.OwnPeripheral.TheVariants.{Idle as idle}
-use Rattle.procedure_stages.specs.declared.stages.PeerAtCentral.TheVariants.{Absent, HostAsked, PhyIndUnsent}
-use Rattle.procedure_stages.specs.declared.stages.PeerAtPeripheral.TheVariants.{Absent as absent, MapTaken, PhyRspUnsent}
+use Rattle.procedure_stages.specs.declared.stages.OwnCentral.TheVariants.{Exclusive as exclusive}
+use Rattle.exclusive_stages.specs.declared.stages.CentralStage.TheVariants.{Idle}
+use Rattle.procedure_stages.specs.declared.stages.OwnPeripheral.TheVariants.{Exclusive as exclusive_p}
+use Rattle.exclusive_stages.specs.declared.stages.PeripheralStage.TheVariants.{Idle as idle}
+use Rattle.exclusive_stages.specs.declared.stages.PeerAtCentral.TheVariants.{Absent, HostAsked, PhyIndUnsent}
+use Rattle.exclusive_stages.specs.declared.stages.PeerAtPeripheral.TheVariants.{Absent as absent, MapTaken, PhyRspUnsent}
 use Rattle.procedure_stages.specs.declared.steps.Effect.TheVariants.{PeerFeatures, AskHost}
 use Rattle.procedure_stages.specs.Kinds.{kind_at_central, kind_at_peripheral, own_exchange, without_own, role_of}
 use Rattle.procedure_stages.specs.declared.steps.Step.{Step}
@@ -45,7 +47,8 @@ use Rattle.procedures.specs.Queue.{next_of}
 use Rattle.procedure_values.specs.Drafts.{waits_for_instant}
 use Rattle.procedures.specs.Outcomes.{unchanged, moved, moved_and_answered, rejected, with_effect, with_done}
 use Rattle.procedures.specs.Update.{follow, followed, granted, update_begun}
-use Rattle.procedure_stages.specs.Awaited.{reads_as_answer, peer_answered, central_answered, awaits_phy_rsp, has_phy_of_central, awaits_phy_ind, awaits_features, awaits_lengths, is_own_encryption}
+use Rattle.procedure_stages.specs.Awaited.{awaits_features, awaits_lengths, is_own_encryption}
+use Rattle.exclusive_stages.specs.Awaited.{reads_as_answer, peer_answered, central_answered, awaits_phy_rsp, has_phy_of_central, awaits_phy_ind}
 use Rattle.procedures.specs.Request.{collided, outlived, request_judged}
 use Rattle.procedure_values.specs.Values.{are_valid}
 use Rattle.procedures.specs.Phy.{phy_answered}
@@ -57,6 +60,7 @@ use Rattle.procedures.specs.Taking.{taken_by_either, taken_by_central, taken_by_
 use Rattle.procedures.specs.Beginning.{facts_begun, begin_at, place_to_begin, ask_at, with_first_draft}
 use Rattle.procedure_stages.specs.Begun.{version_draft, feature_draft}
 use Rattle.procedures.specs.Calls.{Call, asks, begins_one, takes, sends, is_acked, enters, host_answers, disconnects, is_given, after_call, sent_by, version_count, versions_sent}
+use Rattle.procedure_stages.specs.Exclusive.{central_stage, peripheral_stage}
 
 -- ---- a PDU of the peer is answered by LL_VERSION_IND only where that was not queued
 
@@ -113,17 +117,17 @@ single_central f c false PauseEncRsp = refl
 single_central f c true StartEncRsp = refl
 single_central f c false StartEncRsp =
     single_if f.version_used (is_own_encryption c.own)
-    (with_done Encrypt (moved f (central (record c { own = Idle })))) (unchanged f) refl refl
+    (with_done Encrypt (moved f (central (record c { own = exclusive Idle })))) (unchanged f) refl refl
 single_central f c quiet (ConnectionParamReq min max latency timeout periodicity reference offsets) =
-    single_collided f.version_used f (peer_answered c.own) CONNECTION_PARAM_REQ (collision (kind_at_central c.own) Request) (request_judged f c min max latency timeout)
+    single_collided f.version_used f (peer_answered (central_stage c.own)) CONNECTION_PARAM_REQ (collision (kind_at_central c.own) Request) (request_judged f c min max latency timeout)
     (single_if f.version_used (are_valid min max latency timeout)
     (with_effect (AskHost min max latency timeout) (moved f (central (record c { peer = HostAsked }))))
     (record (rejected f CONNECTION_PARAM_REQ (record { 0 = invalid_ll_parameters })) { progress = central (record c { peer = Absent }) }) refl refl)
 single_central f c quiet (PhyReq tx rx) =
-    single_collided f.version_used f (peer_answered c.own) PHY_REQ (collision (kind_at_central c.own) Phy)
+    single_collided f.version_used f (peer_answered (central_stage c.own)) PHY_REQ (collision (kind_at_central c.own) Phy)
     (moved_and_answered f (central (record c { peer = PhyIndUnsent })) PhyInd) refl
 single_central f c quiet (PhyRsp tx rx) =
-    single_if f.version_used (awaits_phy_rsp c.own) (phy_answered f c) (unchanged f) refl refl
+    single_if f.version_used (awaits_phy_rsp (central_stage c.own)) (phy_answered f c) (unchanged f) refl refl
 single_central f c quiet (TerminateInd code) = single_either f (TerminateInd code)
 single_central f c quiet (UnknownRsp opcode) = single_either f (UnknownRsp opcode)
 single_central f c quiet (FeatureRsp features) = single_either f (FeatureRsp features)
@@ -141,10 +145,10 @@ single_after_grant used false f code other h = h
 single_peripheral : (f : TableFacts) (p : Peripheral) (quiet : Bool) (ctrl : Ctrl) → IsSingle f.version_used (taken_by_peripheral f p quiet ctrl)
 single_peripheral f p quiet (ConnectionUpdateInd win_size win_offset interval latency timeout instant) =
     single_follow f.version_used f p.ahead update_ahead
-    (if reads_as_answer p.own then granted f p (update_indication win_offset interval latency timeout instant) else update_begun f p (update_indication win_offset interval latency timeout instant))
-    (single_if f.version_used (reads_as_answer p.own) (granted f p (update_indication win_offset interval latency timeout instant)) (update_begun f p (update_indication win_offset interval latency timeout instant)) refl refl)
+    (if reads_as_answer (peripheral_stage p.own) then granted f p (update_indication win_offset interval latency timeout instant) else update_begun f p (update_indication win_offset interval latency timeout instant))
+    (single_if f.version_used (reads_as_answer (peripheral_stage p.own)) (granted f p (update_indication win_offset interval latency timeout instant)) (update_begun f p (update_indication win_offset interval latency timeout instant)) refl refl)
 single_peripheral f p quiet (ChannelMapInd map instant) =
-    single_after_grant f.version_used (central_answered p.own) f (collision (kind_at_peripheral p.own) Map)
+    single_after_grant f.version_used (central_answered (peripheral_stage p.own)) f (collision (kind_at_peripheral p.own) Map)
     (follow f p.ahead map_ahead (followed f (record p { peer = MapTaken }) map_ahead (map_indication map instant)))
     (single_follow f.version_used f p.ahead map_ahead (followed f (record p { peer = MapTaken }) map_ahead (map_indication map instant)) refl)
 single_peripheral f p true PauseEncRsp = refl
@@ -152,11 +156,11 @@ single_peripheral f p false PauseEncRsp = refl
 single_peripheral f p true StartEncRsp = refl
 single_peripheral f p false StartEncRsp = refl
 single_peripheral f p quiet (PhyReq tx rx) =
-    single_after_grant f.version_used (central_answered p.own) f (collision (kind_at_peripheral p.own) Phy)
+    single_after_grant f.version_used (central_answered (peripheral_stage p.own)) f (collision (kind_at_peripheral p.own) Phy)
     (moved_and_answered f (peripheral (record p { peer = PhyRspUnsent })) phy_rsp) refl
-single_peripheral f p quiet (PhyUpdateInd to_peripheral to_central instant) = single_ind (has_phy_of_central p.peer) (awaits_phy_ind p.own)
+single_peripheral f p quiet (PhyUpdateInd to_peripheral to_central instant) = single_ind (has_phy_of_central p.peer) (awaits_phy_ind (peripheral_stage p.own))
   where
-    single_ind : (a b : Bool) → IsSingle f.version_used (if a then moved f (peripheral (record p { peer = absent })) else (if b then with_done Phy (moved f (peripheral (record p { own = idle }))) else unchanged f))
+    single_ind : (a b : Bool) → IsSingle f.version_used (if a then moved f (peripheral (record p { peer = absent })) else (if b then with_done Phy (moved f (peripheral (record p { own = exclusive_p idle }))) else unchanged f))
     single_ind true b = refl
     single_ind false true = refl
     single_ind false false = refl

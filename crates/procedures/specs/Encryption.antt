@@ -5,7 +5,8 @@ use Rattle.ble_base.specs.declared.procedure_kinds.Kind.TheVariants.{Encrypt}
 use Rattle.data_pdu.specs.declared.ctrl.Ctrl.{Ctrl}
 use Rattle.data_pdu.specs.declared.ctrl.Ctrl.TheVariants.{RejectExtInd}
 use Rattle.procedure_stages.specs.declared.stages.Central.{Central}
-use Rattle.procedure_stages.specs.declared.stages.OwnCentral.TheVariants.{Idle}
+use Rattle.procedure_stages.specs.declared.stages.OwnCentral.TheVariants.{Exclusive as exclusive}
+use Rattle.exclusive_stages.specs.declared.stages.CentralStage.TheVariants.{Idle}
 use Rattle.procedure_stages.specs.declared.stages.Progress.TheVariants.{Central as central, Peripheral as peripheral}
 use Rattle.procedure_stages.specs.declared.stages.Peripheral.{Peripheral}
 use Rattle.procedure_stages.specs.declared.stages.Progress.{Progress}
@@ -26,7 +27,7 @@ cipher_at_central f c quiet ctrl =
 -- LL_START_ENC_RSP is taken: the link is encrypted
 abbrev pub secured : TableFacts → Central → Outcome
 secured f c =
-    (if is_own_encryption c.own then with_done Encrypt (moved f (central (record c { own = Idle }))) else unchanged f)
+    (if is_own_encryption c.own then with_done Encrypt (moved f (central (record c { own = exclusive Idle }))) else unchanged f)
 
 abbrev pub start_rsp_at_central : TableFacts → Central → Bool → Ctrl → Outcome
 start_rsp_at_central f c quiet ctrl = (if quiet then unchanged f else with_effect (Cipher ctrl) (secured f c))

@@ -8,11 +8,13 @@ use Rattle.procedure_values.specs.declared.drafts.Outgoing.{Outgoing}
 use Rattle.procedure_values.specs.declared.drafts.Outgoing.TheVariants.{Other}
 use Rattle.procedure_stages.specs.declared.stages.Progress.{Progress}
 use Rattle.procedure_stages.specs.declared.stages.Progress.TheVariants.{Central, Peripheral}
-use Rattle.procedure_stages.specs.Awaited.{awaits_phy_rsp, awaits_phy_ind, has_phy_of_central, awaits_features, awaits_lengths}
+use Rattle.procedure_stages.specs.Awaited.{awaits_features, awaits_lengths}
+use Rattle.exclusive_stages.specs.Awaited.{awaits_phy_rsp, awaits_phy_ind, has_phy_of_central}
 use Rattle.procedure_stages.specs.Kinds.{own_exchange}
 use Rattle.procedure_stages.specs.Opcodes.{first_opcode, later_opcode, is_opcode}
 use Rattle.procedure_stages.specs.declared.steps.Step.{Step}
 use Rattle.procedures.specs.Outcomes.{empty_step}
+use Rattle.procedure_stages.specs.Exclusive.{central_stage, peripheral_stage}
 
 -- rejections and LL_TERMINATE_IND of a Disconnect: what goes before the end of a link
 abbrev pub GoesBeforeTheEnd : Outgoing → Type 0
@@ -21,14 +23,14 @@ GoesBeforeTheEnd other = ⊤
 
 -- whether a PDU that answers a procedure is awaited by none at an end, in phase Clear or Secure
 abbrev pub is_unawaited_by_role : Progress → Ctrl → Bool
-is_unawaited_by_role (Central c) (PhyRsp tx rx) = not (awaits_phy_rsp c.own)
+is_unawaited_by_role (Central c) (PhyRsp tx rx) = not (awaits_phy_rsp (central_stage c.own))
 is_unawaited_by_role (Central c) (EncRsp skd_s iv_s) = true
 is_unawaited_by_role (Central c) StartEncReq = true
 is_unawaited_by_role (Central c) StartEncRsp = true
 is_unawaited_by_role (Central c) PauseEncRsp = true
 is_unawaited_by_role (Peripheral p) (PhyRsp tx rx) = true
 is_unawaited_by_role (Peripheral p) (PhyUpdateInd to_peripheral to_central instant) =
-    not (has_phy_of_central p.peer || awaits_phy_ind p.own)
+    not (has_phy_of_central p.peer || awaits_phy_ind (peripheral_stage p.own))
 is_unawaited_by_role (Peripheral p) StartEncRsp = true
 is_unawaited_by_role (Peripheral p) PauseEncRsp = true
 is_unawaited_by_role progress other = false

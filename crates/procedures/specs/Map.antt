@@ -2,7 +2,7 @@
 use Rattle.ble_base.specs.declared.procedure_kinds.Kind.TheVariants.{Map as map_kind}
 use Rattle.instants.specs.declared.indications.Indication.{Indication}
 use Rattle.procedure_stages.specs.declared.stages.Ahead.TheVariants.{Map}
-use Rattle.procedure_stages.specs.declared.stages.PeerAtPeripheral.TheVariants.{MapTaken}
+use Rattle.exclusive_stages.specs.declared.stages.PeerAtPeripheral.TheVariants.{MapTaken}
 use Rattle.procedure_stages.specs.declared.stages.Peripheral.{Peripheral}
 use Rattle.procedures.specs.declared.outcome.Outcome.{Outcome}
 use Rattle.procedures.specs.Table.{TableFacts}

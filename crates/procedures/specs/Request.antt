@@ -7,17 +7,18 @@ use Rattle.ble_base.specs.ErrorCodes.{invalid_ll_parameters}
 use Rattle.ble_base.specs.declared.procedure_kinds.Kind.TheVariants.{Request}
 use Rattle.procedure_stages.specs.declared.stages.Central.{Central}
 use Rattle.procedure_stages.specs.declared.stages.Peripheral.{Peripheral}
-use Rattle.procedure_stages.specs.declared.stages.PeerAtCentral.TheVariants.{Absent, HostAsked}
+use Rattle.exclusive_stages.specs.declared.stages.PeerAtCentral.TheVariants.{Absent, HostAsked}
 use Rattle.procedure_stages.specs.declared.stages.Progress.TheVariants.{Central as central}
 use Rattle.procedure_stages.specs.Kinds.{kind_at_central, kind_at_peripheral}
 use Rattle.procedure_stages.specs.Collisions.{collision}
-use Rattle.procedure_stages.specs.Awaited.{peer_answered, central_answered}
+use Rattle.exclusive_stages.specs.Awaited.{peer_answered, central_answered}
 use Rattle.procedure_stages.specs.Opcodes.{connection_param_req_opcode}
 use Rattle.procedure_values.specs.Values.{are_valid}
 use Rattle.procedures.specs.declared.outcome.Outcome.{Outcome}
 use Rattle.procedure_stages.specs.declared.steps.Effect.TheVariants.{AskHost}
 use Rattle.procedures.specs.Table.{TableFacts}
 use Rattle.procedures.specs.Outcomes.{rejected, ended, moved, with_effect}
+use Rattle.procedure_stages.specs.Exclusive.{central_stage, peripheral_stage}
 
 -- ---- collisions, by which end takes the PDU
 
@@ -29,7 +30,7 @@ collided f answered opcode (Some code) other = (if answered then ended f code el
 
 abbrev pub against_central : TableFacts → Central → Kind → ℕ → Outcome → Outcome
 against_central f c kind opcode other =
-    collided f (peer_answered c.own) opcode (collision (kind_at_central c.own) kind) other
+    collided f (peer_answered (central_stage c.own)) opcode (collision (kind_at_central c.own) kind) other
 
 -- the first PDU of a procedure of the central reaches a peripheral: where its own procedure excludes that, the link
 -- ends if the central has sent a PDU of it, else it takes up the central's and awaits the rejection of its own
@@ -39,7 +40,7 @@ outlived f (Some code) other = ended f code
 
 abbrev pub after_grant : TableFacts → Peripheral → Kind → Outcome → Outcome
 after_grant f p kind other =
-    (if central_answered p.own then outlived f (collision (kind_at_peripheral p.own) kind) other else other)
+    (if central_answered (peripheral_stage p.own) then outlived f (collision (kind_at_peripheral p.own) kind) other else other)
 
 -- ---- the request at the central
 

@@ -7,13 +7,15 @@ use Rattle.procedure_stages.specs.declared.stages.Ahead.{Ahead}
 use Rattle.procedure_stages.specs.declared.stages.Ahead.TheVariants.{Update, Map, Nothing}
 use Rattle.procedure_stages.specs.declared.stages.Peripheral.{Peripheral}
 use Rattle.procedure_stages.specs.declared.stages.Progress.TheVariants.{Peripheral as peripheral}
-use Rattle.procedure_stages.specs.declared.stages.OwnPeripheral.TheVariants.{RequestGranted}
-use Rattle.procedure_stages.specs.declared.stages.PeerAtPeripheral.TheVariants.{UpdateTaken}
-use Rattle.procedure_stages.specs.Awaited.{reads_as_answer}
+use Rattle.procedure_stages.specs.declared.stages.OwnPeripheral.TheVariants.{Exclusive as exclusive}
+use Rattle.exclusive_stages.specs.declared.stages.PeripheralStage.TheVariants.{RequestGranted}
+use Rattle.exclusive_stages.specs.declared.stages.PeerAtPeripheral.TheVariants.{UpdateTaken}
+use Rattle.exclusive_stages.specs.Awaited.{reads_as_answer}
 use Rattle.procedures.specs.declared.outcome.Outcome.{Outcome}
 use Rattle.procedure_stages.specs.declared.steps.Effect.TheVariants.{Indicated}
 use Rattle.procedures.specs.Table.{TableFacts}
 use Rattle.procedures.specs.Outcomes.{moved, with_effect, ended}
+use Rattle.procedure_stages.specs.Exclusive.{peripheral_stage}
 
 -- the error of an indication that is taken while another waits: both may be of one kind or not (our choice)
 abbrev pub ahead_code : Ahead → Ahead → ErrCode
@@ -34,7 +36,7 @@ follow f Map new outcome = ended f (ahead_code Map new)
 -- the answer to a request is taken: the time of the request begins anew
 abbrev pub granted : TableFacts → Peripheral → Indication → Outcome
 granted f p indication =
-    record (followed f (record p { own = RequestGranted }) Update indication) { restarts = true }
+    record (followed f (record p { own = exclusive RequestGranted }) Update indication) { restarts = true }
 
 -- an update of the central begins: a procedure of the peripheral awaits its rejection
 abbrev pub update_begun : TableFacts → Peripheral → Indication → Outcome
@@ -43,4 +45,4 @@ update_begun f p indication = followed f (record p { peer = UpdateTaken }) Updat
 -- LL_CONNECTION_UPDATE_IND is taken at a peripheral
 abbrev pub update_taken : TableFacts → Peripheral → Indication → Outcome
 update_taken f p indication =
-    follow f p.ahead Update (if reads_as_answer p.own then granted f p indication else update_begun f p indication)
+    follow f p.ahead Update (if reads_as_answer (peripheral_stage p.own) then granted f p indication else update_begun f p indication)

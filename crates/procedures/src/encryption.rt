@@ -10,6 +10,7 @@ use crate::outcome::{Outcome, moved, unchanged};
 use crate::table::ProcTable;
 use ble_base::Kind;
 use data_pdu::Ctrl;
+use exclusive_stages::CentralStage;
 use procedure_stages::awaited::is_own_encryption;
 use procedure_stages::{Central, Effect, OwnCentral, Peripheral, Progress};
 
@@ -32,7 +33,7 @@ fn secured(table: &ProcTable, c: Central) -> Outcome
 {
     if is_own_encryption(c.own) {
         let over = Central {
-            own: OwnCentral::Idle,
+            own: OwnCentral::Exclusive(CentralStage::Idle),
             ..c
         };
         moved(table, Progress::Central(over)).with_done(Kind::Encrypt)

@@ -15,9 +15,10 @@ use crate::encryption::progress_given;
 use crate::table::ProcTable;
 use ble_base::{ErrCode, Kind, SlotNo};
 use data_pdu::Ctrl;
+use exclusive_stages::PeerAtCentral;
+use procedure_stages::Closing;
 use procedure_stages::kinds::is_timed;
 use procedure_stages::opcodes::CONNECTION_PARAM_REQ;
-use procedure_stages::{Closing, PeerAtCentral};
 use procedure_values::{Ask, CipherPdu, Draft, NewParams, Rejection};
 
 /// The time in which the peer has to answer, 40 s (Core 5.2, volume 6 part B, section 5.2), in

@@ -14,6 +14,7 @@ ghost use Rattle.procedure_values.specs.declared.drafts.Outgoing.{Outgoing};
 ghost use Rattle.procedure_stages.specs.declared.stages.Central.{Central};
 ghost use Rattle.procedure_stages.specs.declared.stages.Peripheral.{Peripheral};
 ghost use Rattle.procedure_values.specs.Asks.{kind_of_ask};
+ghost use Rattle.procedure_stages.specs.Exclusive.{central_stage, peripheral_stage};
 ghost use Rattle.procedure_stages.specs.Kinds.{own_kind};
 ghost use Rattle.procedure_stages.specs.Kinds.{kind_at_central, kind_at_peripheral};
 ghost use Rattle.procedure_stages.specs.Collisions.{collision};
@@ -24,8 +25,8 @@ ghost use Rattle.procedures.specs.Queue.{next_of};
 ghost use Rattle.procedure_stages.specs.Queue.{without_next};
 ghost use Rattle.procedures.specs.Outcomes.{empty_step, rejected};
 ghost use Rattle.procedures.specs.Request.{against_central, after_grant};
-ghost use Rattle.procedure_stages.specs.Awaited.{peer_answered};
-ghost use Rattle.procedure_stages.specs.Awaited.{central_answered};
+ghost use Rattle.exclusive_stages.specs.Awaited.{peer_answered};
+ghost use Rattle.exclusive_stages.specs.Awaited.{central_answered};
 ghost use Rattle.procedure_stages.specs.Opcodes.{first_opcode};
 ghost use Rattle.procedures.specs.Taking.{took_step};
 ghost use Rattle.procedures.specs.Beginning.{may_begin, begin_step, is_ready};
@@ -111,10 +112,10 @@ pub fn unknown_rsp_refuses()
 pub fn central_goes_on()
     ensures central { (f : TableFacts) (c : Central) (kind : Kind) (opcode : ℕ) (code : ErrCode)
         (other : Outcome)
-        → collision (kind_at_central c.own) kind ≡ Some code → peer_answered c.own ≡ false
+        → collision (kind_at_central c.own) kind ≡ Some code → peer_answered (central_stage c.own) ≡ false
         → against_central f c kind opcode other ≡ rejected f opcode code }
     ensures peripheral { (f : TableFacts) (p : Peripheral) (kind : Kind) (other : Outcome)
-        → central_answered p.own ≡ false → after_grant f p kind other ≡ other }
+        → central_answered (peripheral_stage p.own) ≡ false → after_grant f p kind other ≡ other }
 {}
 
 /// The time of an own procedure is over exactly 32,000 slots after its last PDU was first sent or

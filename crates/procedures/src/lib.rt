@@ -29,9 +29,10 @@ pub use crate::laws::{
 };
 pub use crate::outcome::Outcome;
 pub use crate::table::ProcTable;
+pub use exclusive_stages::{CentralStage, PeerAtCentral, PeerAtPeripheral, PeripheralStage};
 pub use procedure_stages::{
-    Ahead, Central, Closing, Effect, Exchange, OwnCentral, OwnPeripheral, PeerAtCentral,
-    PeerAtPeripheral, Peripheral, Progress, Reply, Step,
+    Ahead, Central, Closing, Effect, Exchange, OwnCentral, OwnPeripheral, Peripheral, Progress,
+    Reply, Step,
 };
 pub use procedure_values::{
     Ask, CipherPdu, Draft, Lengths, NewParams, Outgoing, PayloadMax, Rejection,

@@ -7,8 +7,9 @@ use crate::request::after_grant;
 use crate::table::ProcTable;
 use crate::update::{follow, followed};
 use ble_base::Kind;
+use exclusive_stages::PeerAtPeripheral;
 use instants::Indication;
-use procedure_stages::{Ahead, PeerAtPeripheral, Peripheral};
+use procedure_stages::{Ahead, Peripheral};
 
 /// LL_CHANNEL_MAP_IND is taken at a peripheral.
 pub(crate) fn map_taken(table: &ProcTable, p: Peripheral, indication: Indication) -> Outcome

@@ -8,11 +8,9 @@ use crate::outcome::{Outcome, moved, moved_and_answered, unchanged};
 use crate::request::{after_grant, against_central};
 use crate::table::ProcTable;
 use ble_base::Kind;
-use procedure_stages::awaited::{awaits_phy_ind, awaits_phy_rsp, has_phy_of_central};
+use exclusive_stages::{CentralStage, PeerAtCentral, PeerAtPeripheral, PeripheralStage};
 use procedure_stages::opcodes::PHY_REQ;
-use procedure_stages::{
-    Central, OwnCentral, OwnPeripheral, PeerAtCentral, PeerAtPeripheral, Peripheral, Progress,
-};
+use procedure_stages::{Central, OwnCentral, OwnPeripheral, Peripheral, Progress};
 use procedure_values::Draft;
 
 /// LL_PHY_REQ is taken at a central.
@@ -32,7 +30,7 @@ fn phy_answered(table: &ProcTable, c: Central) -> Outcome
     ensures { result ≡ phy_answered table.now c }
 {
     let answered = Central {
-        own: OwnCentral::PhyAnswered,
+        own: OwnCentral::Exclusive(CentralStage::PhyAnswered),
         ..c
     };
     Outcome {
@@ -45,7 +43,7 @@ fn phy_answered(table: &ProcTable, c: Central) -> Outcome
 pub(crate) fn phy_rsp_taken(table: &ProcTable, c: Central) -> Outcome
     ensures { result ≡ phy_rsp_taken table.now c }
 {
-    if awaits_phy_rsp(c.own) {
+    if c.own.stage().awaits_phy_rsp() {
         phy_answered(table, c)
     } else {
         unchanged(table)
@@ -68,15 +66,15 @@ pub(crate) fn phy_req_at_peripheral(table: &ProcTable, p: Peripheral) -> Outcome
 pub(crate) fn phy_ind_taken(table: &ProcTable, p: Peripheral) -> Outcome
     ensures { result ≡ phy_ind_taken table.now p }
 {
-    if has_phy_of_central(p.peer) {
+    if p.peer.is_phy() {
         let over = Peripheral {
             peer: PeerAtPeripheral::Absent,
             ..p
         };
         moved(table, Progress::Peripheral(over))
-    } else if awaits_phy_ind(p.own) {
+    } else if p.own.stage().awaits_phy_ind() {
         let over = Peripheral {
-            own: OwnPeripheral::Idle,
+            own: OwnPeripheral::Exclusive(PeripheralStage::Idle),
             ..p
         };
         moved(table, Progress::Peripheral(over)).with_done(Kind::Phy)

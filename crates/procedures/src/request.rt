@@ -7,10 +7,10 @@ ghost use Rattle.procedures.specs.Request.{request_judged, request_taken};
 use crate::outcome::{Outcome, ended, moved, rejected};
 use crate::table::ProcTable;
 use ble_base::{ErrCode, Kind};
-use procedure_stages::awaited::{central_answered, peer_answered};
+use exclusive_stages::PeerAtCentral;
 use procedure_stages::collisions::collision;
 use procedure_stages::opcodes::CONNECTION_PARAM_REQ;
-use procedure_stages::{Central, Effect, PeerAtCentral, Peripheral, Progress};
+use procedure_stages::{Central, Effect, Peripheral, Progress};
 use procedure_values::values::are_valid;
 
 /// The outcome of the first PDU of the peripheral, unless it collides with the central's own
@@ -44,7 +44,7 @@ pub(crate) fn against_central(
 {
     collided(
         table,
-        peer_answered(c.own),
+        c.own.stage().is_answered(),
         opcode,
         collision(c.own.kind(), kind),
         other,
@@ -66,7 +66,7 @@ fn outlived(table: &ProcTable, code: Option<ErrCode>, other: Outcome) -> Outcome
 pub(crate) fn after_grant(table: &ProcTable, p: Peripheral, kind: Kind, other: Outcome) -> Outcome
     ensures { result ≡ after_grant table.now p kind other }
 {
-    if central_answered(p.own) {
+    if p.own.stage().is_answered() {
         outlived(table, collision(p.own.kind(), kind), other)
     } else {
         other

@@ -7,9 +7,9 @@ ghost use Rattle.procedures.specs.Update.{update_taken};
 use crate::outcome::{Outcome, ended, moved};
 use crate::table::ProcTable;
 use ble_base::ErrCode;
+use exclusive_stages::{PeerAtPeripheral, PeripheralStage};
 use instants::Indication;
-use procedure_stages::awaited::reads_as_answer;
-use procedure_stages::{Ahead, Effect, OwnPeripheral, PeerAtPeripheral, Peripheral, Progress};
+use procedure_stages::{Ahead, Effect, OwnPeripheral, Peripheral, Progress};
 
 /// The error of an indication of this kind that is taken while another waits.
 fn ahead_code(waiting: Ahead, new: Ahead) -> ErrCode
@@ -52,7 +52,7 @@ fn granted(table: &ProcTable, p: Peripheral, indication: Indication) -> Outcome
     ensures { result ≡ granted table.now p indication }
 {
     let granted = Peripheral {
-        own: OwnPeripheral::RequestGranted,
+        own: OwnPeripheral::Exclusive(PeripheralStage::RequestGranted),
         ..p
     };
     Outcome {
@@ -76,7 +76,7 @@ fn update_begun(table: &ProcTable, p: Peripheral, indication: Indication) -> Out
 pub(crate) fn update_taken(table: &ProcTable, p: Peripheral, indication: Indication) -> Outcome
     ensures { result ≡ update_taken table.now p indication }
 {
-    let outcome = if reads_as_answer(p.own) {
+    let outcome = if p.own.stage().reads_as_answer() {
         granted(table, p, indication)
     } else {
         update_begun(table, p, indication)

@@ -9,9 +9,11 @@ use Rattle.procedure_values.specs.declared.asks.Ask.TheVariants.{Update as ask_u
 use Rattle.procedure_values.specs.declared.drafts.Draft.{Draft}
 use Rattle.procedure_values.specs.declared.drafts.Draft.TheVariants.{VersionInd}
 use Rattle.procedure_stages.specs.declared.stages.OwnCentral.{OwnCentral}
-use Rattle.procedure_stages.specs.declared.stages.OwnCentral.TheVariants.{Idle}
+use Rattle.procedure_stages.specs.declared.stages.OwnCentral.TheVariants.{Exclusive as exclusive}
+use Rattle.exclusive_stages.specs.declared.stages.CentralStage.TheVariants.{Idle}
 use Rattle.procedure_stages.specs.declared.stages.OwnPeripheral.{OwnPeripheral}
-use Rattle.procedure_stages.specs.declared.stages.OwnPeripheral.TheVariants.{Idle as idle}
+use Rattle.procedure_stages.specs.declared.stages.OwnPeripheral.TheVariants.{Exclusive as exclusive_p}
+use Rattle.exclusive_stages.specs.declared.stages.PeripheralStage.TheVariants.{Idle as idle}
 use Rattle.procedure_stages.specs.declared.stages.Central.{Central}
 use Rattle.procedure_stages.specs.declared.stages.Peripheral.{Peripheral}
 use Rattle.procedure_stages.specs.declared.stages.Progress.{Progress}
@@ -35,12 +37,14 @@ pub no_room : (p : Progress) → own_kind p ≡ None → own_room p ≡ 0
 no_room (central c) none = by c.own none
   where
     by : (own : OwnCentral) → kind_at_central own ≡ None → room_at_central own ≡ 0
-    by Idle none = refl
+    by (exclusive Idle) none = refl
+    by (exclusive other) none = absurd (cc)
     by other none = absurd (cc)
 no_room (peripheral p) none = by p.own none
   where
     by : (own : OwnPeripheral) → kind_at_peripheral own ≡ None → room_at_peripheral own ≡ 0
-    by idle none = refl
+    by (exclusive_p idle) none = refl
+    by (exclusive_p other) none = absurd (cc)
     by other none = absurd (cc)
 
 abbrev pub at : TableFacts → Progress → Closing → Bool → TableFacts

@@ -20,10 +20,12 @@ use Rattle.procedure_stages.specs.declared.stages.Ahead.{Ahead}
 use Rattle.procedure_stages.specs.declared.stages.Ahead.TheVariants.{Nothing as nothing_ahead, Update as update_ahead, Map as map_ahead}
 use Rattle.procedure_stages.specs.declared.stages.Exchange.TheVariants.{FeaturesUnsent, VersionUnsent, LengthUnsent}
 use Rattle.procedure_stages.specs.declared.stages.OwnCentral.{OwnCentral}
-use Rattle.procedure_stages.specs.declared.stages.OwnCentral.TheVariants.{Idle, Exchange as exchange, UpdateUnsent, UpdateSent, MapUnsent, MapSent, PhyUnsent, PhySent, PhyAnswered, PhyIndicated, EncryptUnsent, EncryptSent}
-use Rattle.procedure_stages.specs.declared.stages.OwnPeripheral.TheVariants.{Idle as idle}
-use Rattle.procedure_stages.specs.declared.stages.PeerAtCentral.TheVariants.{Absent, HostAsked, PhyIndUnsent}
-use Rattle.procedure_stages.specs.declared.stages.PeerAtPeripheral.TheVariants.{Absent as absent, MapTaken, PhyRspUnsent}
+use Rattle.procedure_stages.specs.declared.stages.OwnCentral.TheVariants.{Exclusive as exclusive, Exchange as exchange, EncryptUnsent, EncryptSent}
+use Rattle.exclusive_stages.specs.declared.stages.CentralStage.TheVariants.{Idle, UpdateUnsent, UpdateSent, MapUnsent, MapSent, PhyUnsent, PhySent, PhyAnswered}
+use Rattle.procedure_stages.specs.declared.stages.OwnPeripheral.TheVariants.{Exclusive as exclusive_p}
+use Rattle.exclusive_stages.specs.declared.stages.PeripheralStage.TheVariants.{Idle as idle}
+use Rattle.exclusive_stages.specs.declared.stages.PeerAtCentral.TheVariants.{Absent, HostAsked, PhyIndUnsent}
+use Rattle.exclusive_stages.specs.declared.stages.PeerAtPeripheral.TheVariants.{Absent as absent, MapTaken, PhyRspUnsent}
 use Rattle.procedure_stages.specs.declared.stages.Central.{Central}
 use Rattle.procedure_stages.specs.declared.stages.Peripheral.{Peripheral}
 use Rattle.procedure_stages.specs.declared.stages.Progress.{Progress}
@@ -40,12 +42,14 @@ use Rattle.procedures.specs.Queue.{next_of}
 use Rattle.procedure_stages.specs.Queue.{waiting_in}
 use Rattle.procedures.specs.Outcomes.{unchanged, moved, moved_and_answered, rejected, with_effect, with_done}
 use Rattle.procedures.specs.Update.{follow, followed, granted, update_begun}
-use Rattle.procedure_stages.specs.Awaited.{reads_as_answer, peer_answered, central_answered, awaits_phy_rsp, has_phy_of_central, awaits_phy_ind, awaits_features, awaits_lengths, is_own_encryption, is_version}
+use Rattle.procedure_stages.specs.Awaited.{awaits_features, awaits_lengths, is_own_encryption, is_version}
+use Rattle.exclusive_stages.specs.Awaited.{reads_as_answer, peer_answered, central_answered, awaits_phy_rsp, has_phy_of_central, awaits_phy_ind}
 use Rattle.procedures.specs.Request.{collided, outlived, request_judged}
 use Rattle.procedure_values.specs.Values.{are_valid}
 use Rattle.procedures.specs.Phy.{phy_answered}
-use Rattle.procedure_stages.specs.Acked.{phy_ind_acknowledged, central_acked, peripheral_acked, progress_acked}
-use Rattle.procedure_values.specs.Drafts.{is_phy_ind, is_request}
+use Rattle.procedure_stages.specs.Acked.{central_acked, peripheral_acked, progress_acked}
+use Rattle.exclusive_stages.specs.Acked.{own_acked_at_central}
+use Rattle.exclusive_stages.specs.declared.pdus.Pdu.{Pdu}
 use Rattle.procedures.specs.Length.{with_lengths}
 use Rattle.procedure_stages.specs.Opcodes.{first_opcode, is_opcode, later_opcode, opcode_at_central, enc_req_opcode, connection_param_req_opcode, phy_req_opcode}
 use Rattle.procedures.specs.Refusals.{refused_if}
@@ -53,11 +57,13 @@ use Rattle.procedures.specs.Version.{version_taken}
 use Rattle.procedures.specs.Taking.{facts_with, lacks_room, no_room, outcome_of, settled, taken_by_central, taken_by_peripheral}
 use Rattle.procedures.specs.Beginning.{ask_at, begin_at, begin_step, place_to_begin}
 use Rattle.procedure_stages.specs.Begun.{progress_begun}
-use Rattle.procedure_stages.specs.Sent.{own_sent_by_central, progress_after_sending}
-use Rattle.procedure_stages.specs.Held.{own_held_at_central, progress_held}
+use Rattle.procedure_stages.specs.Sent.{own_draft_sent_by_central, progress_after_sending}
+use Rattle.procedure_stages.specs.Held.{progress_held}
+use Rattle.exclusive_stages.specs.Held.{own_held_at_central}
 use Rattle.procedures.specs.Calls.{Call, asks, begins_one, takes, sends, is_acked, enters, host_answers, disconnects, is_given, after_call}
 use Rattle.table_laws.specs.Encrypting.{BeginsAtPeripheral, EndsAtCentral, EndsAtPeripheral, MayBeginBy, MayEndBy, has_encryption}
 use Rattle.table_laws.proofs.Begun.{begins_of}
+use Rattle.procedure_stages.specs.Exclusive.{central_stage, peripheral_stage, on_central_stage, pdu_of_outgoing}
 
 -- an encryption may begin or end by a PDU, or by a call, as its progress goes from one to another
 pub record Goes (before after : Bool) (Begins Ends : Type 0) : Type 0 where
@@ -112,17 +118,18 @@ module _ (f : TableFacts) (c : Central) where
   version_apart (exchange stage) h = refl
   version_apart other h = absurd (cc)
 
-  phy_apart : (own : OwnCentral) → awaits_phy_rsp own ≡ true → is_own_encryption own ≡ false
-  phy_apart PhySent h = refl
+  phy_apart : (own : OwnCentral) → awaits_phy_rsp (central_stage own) ≡ true → is_own_encryption own ≡ false
+  phy_apart (exclusive PhySent) h = refl
+  phy_apart (exclusive other) h = absurd (cc)
   phy_apart other h = absurd (cc)
 
-  version_by : (E : Type 0) (b : Bool) (o : Outcome) → o.progress ≡ (if b then central (record c { own = Idle }) else central c) → (b ≡ true → is_own_encryption c.own ≡ false)
+  version_by : (E : Type 0) (b : Bool) (o : Outcome) → o.progress ≡ (if b then central (record c { own = exclusive Idle }) else central c) → (b ≡ true → is_own_encryption c.own ≡ false)
       → OfCtrl c.own E o
   version_by E true o is apart = same _ _ _ _ (rw (is, apart refl) refl)
   version_by E false o is apart = same _ _ _ _ (rw is refl)
 
   secured_by : (b : Bool)
-      → OfCtrl c.own (false ≡ false) (with_effect (cipher_effect StartEncRsp) (if b then with_done Encrypt (moved at_c (central (record c { own = Idle }))) else unchanged at_c))
+      → OfCtrl c.own (false ≡ false) (with_effect (cipher_effect StartEncRsp) (if b then with_done Encrypt (moved at_c (central (record c { own = exclusive Idle }))) else unchanged at_c))
   secured_by true = record { begins = λ before. λ after. absurd (cc); ends = λ before. λ after. refl }
   secured_by false = same _ _ _ _ refl
 
@@ -141,16 +148,16 @@ module _ (f : TableFacts) (c : Central) where
   at_central true StartEncRsp = same _ _ _ _ refl
   at_central false StartEncRsp = secured_by (is_own_encryption c.own)
   at_central quiet (ConnectionParamReq min max latency timeout periodicity reference offsets) =
-      collided_c _ (peer_answered c.own) connection_param_req_opcode (collision (kind_at_central c.own) Request) (request_judged at_c c min max latency timeout)
+      collided_c _ (peer_answered (central_stage c.own)) connection_param_req_opcode (collision (kind_at_central c.own) Request) (request_judged at_c c min max latency timeout)
       (if_c _ (are_valid min max latency timeout)
       (with_effect (AskHost min max latency timeout) (moved at_c (central (record c { peer = HostAsked }))))
       (record (rejected at_c connection_param_req_opcode (record { 0 = invalid_ll_parameters })) { progress = central (record c { peer = Absent }) })
       (λ h. same _ _ _ _ refl) (same _ _ _ _ refl))
   at_central quiet (phy_req_pdu tx rx) =
-      collided_c _ (peer_answered c.own) phy_req_opcode (collision (kind_at_central c.own) Phy)
+      collided_c _ (peer_answered (central_stage c.own)) phy_req_opcode (collision (kind_at_central c.own) Phy)
       (moved_and_answered at_c (central (record c { peer = PhyIndUnsent })) PhyInd) (same _ _ _ _ refl)
   at_central quiet (phy_rsp_pdu tx rx) =
-      if_c _ (awaits_phy_rsp c.own) (phy_answered at_c c) (unchanged at_c) (λ h. same _ _ _ _ (rw (phy_apart c.own h) refl)) (same _ _ _ _ refl)
+      if_c _ (awaits_phy_rsp (central_stage c.own)) (phy_answered at_c c) (unchanged at_c) (λ h. same _ _ _ _ (rw (phy_apart c.own h) refl)) (same _ _ _ _ refl)
   at_central quiet (unknown_pdu opcode) =
       refused_c _ (is_opcode (opcode_at_central c.own) opcode) (record { 0 = unsupported_remote_feature }) (refuses_encryption c.own opcode)
   at_central quiet (feature_pdu features) =
@@ -199,12 +206,12 @@ module _ (f : TableFacts) (p : Peripheral) where
   refused_p B E true code = same _ _ _ _ refl
   refused_p B E false code = same _ _ _ _ refl
 
-  version_p : (B E : Type 0) (b : Bool) (o : Outcome) → o.progress ≡ (if b then peripheral (record p { own = idle }) else peripheral p) → OfCtrlHere B E o
+  version_p : (B E : Type 0) (b : Bool) (o : Outcome) → o.progress ≡ (if b then peripheral (record p { own = exclusive_p idle }) else peripheral p) → OfCtrlHere B E o
   version_p B E true o is = same _ _ _ _ (rw is refl)
   version_p B E false o is = same _ _ _ _ (rw is refl)
 
   ind_p : (B E : Type 0) (a b : Bool)
-      → OfCtrlHere B E (if a then moved at_p (peripheral (record p { peer = absent })) else (if b then with_done Phy (moved at_p (peripheral (record p { own = idle }))) else unchanged at_p))
+      → OfCtrlHere B E (if a then moved at_p (peripheral (record p { peer = absent })) else (if b then with_done Phy (moved at_p (peripheral (record p { own = exclusive_p idle }))) else unchanged at_p))
   ind_p B E true b = same _ _ _ _ refl
   ind_p B E false true = same _ _ _ _ refl
   ind_p B E false false = same _ _ _ _ refl
@@ -212,10 +219,10 @@ module _ (f : TableFacts) (p : Peripheral) where
   at_peripheral : (quiet : Bool) (ctrl : Ctrl) → OfCtrlHere (BeginsAtPeripheral ctrl) (EndsAtPeripheral ctrl quiet) (taken_by_peripheral at_p p quiet ctrl)
   at_peripheral quiet (ConnectionUpdateInd win_size win_offset interval latency timeout instant) =
       follow_p _ _ p.ahead update_ahead
-      (if reads_as_answer p.own then granted at_p p (update_indication win_offset interval latency timeout instant) else update_begun at_p p (update_indication win_offset interval latency timeout instant))
-      (if_p _ _ (reads_as_answer p.own) (granted at_p p (update_indication win_offset interval latency timeout instant)) (update_begun at_p p (update_indication win_offset interval latency timeout instant)) (same _ _ _ _ refl) (same _ _ _ _ refl))
+      (if reads_as_answer (peripheral_stage p.own) then granted at_p p (update_indication win_offset interval latency timeout instant) else update_begun at_p p (update_indication win_offset interval latency timeout instant))
+      (if_p _ _ (reads_as_answer (peripheral_stage p.own)) (granted at_p p (update_indication win_offset interval latency timeout instant)) (update_begun at_p p (update_indication win_offset interval latency timeout instant)) (same _ _ _ _ refl) (same _ _ _ _ refl))
   at_peripheral quiet (ChannelMapInd map instant) =
-      after_grant_p _ _ (central_answered p.own) (collision (kind_at_peripheral p.own) map_kind)
+      after_grant_p _ _ (central_answered (peripheral_stage p.own)) (collision (kind_at_peripheral p.own) map_kind)
       (follow at_p p.ahead map_ahead (followed at_p (record p { peer = MapTaken }) map_ahead (map_indication map instant)))
       (follow_p _ _ p.ahead map_ahead (followed at_p (record p { peer = MapTaken }) map_ahead (map_indication map instant)) (same _ _ _ _ refl))
   at_peripheral quiet (EncReq rand ediv skd_m iv_m) = record { begins = λ before. λ after. _; ends = λ before. λ after. absurd (cc) }
@@ -225,9 +232,9 @@ module _ (f : TableFacts) (p : Peripheral) where
   at_peripheral true StartEncRsp = same _ _ _ _ refl
   at_peripheral false StartEncRsp = record { begins = λ before. λ after. absurd (cc); ends = λ before. λ after. refl }
   at_peripheral quiet (phy_req_pdu tx rx) =
-      after_grant_p _ _ (central_answered p.own) (collision (kind_at_peripheral p.own) Phy)
+      after_grant_p _ _ (central_answered (peripheral_stage p.own)) (collision (kind_at_peripheral p.own) Phy)
       (moved_and_answered at_p (peripheral (record p { peer = PhyRspUnsent })) PhyRsp) (same _ _ _ _ refl)
-  at_peripheral quiet (PhyUpdateInd to_peripheral to_central instant) = ind_p _ _ (has_phy_of_central p.peer) (awaits_phy_ind p.own)
+  at_peripheral quiet (PhyUpdateInd to_peripheral to_central instant) = ind_p _ _ (has_phy_of_central p.peer) (awaits_phy_ind (peripheral_stage p.own))
   at_peripheral quiet (unknown_pdu opcode) = refused_p _ _ (is_opcode (first_opcode (peripheral p)) opcode) (record { 0 = unsupported_remote_feature })
   at_peripheral quiet (feature_pdu features) =
       if_p _ _ (awaits_features (own_exchange (peripheral p)))
@@ -262,7 +269,8 @@ settled_by false true f g x y z call h = same _ _ _ _ refl
 settled_by false false f g x y z call h = h
 
 none_apart : (own : OwnCentral) → kind_at_central own ≡ None → is_own_encryption own ≡ false
-none_apart Idle h = refl
+none_apart (exclusive Idle) h = refl
+none_apart (exclusive other) h = absurd (cc)
 none_apart other h = absurd (cc)
 
 began_by : (p : Progress) (ask : Ask) (used : Bool) (slot : ℕ) (quiet : Bool) → own_kind p ≡ None → quiet ≡ true → OfCall p (progress_begun ask used p) (begins_one slot quiet)
@@ -278,14 +286,18 @@ begin_by f slot quiet (Some place) (Some ask) p a =
     began_by f.progress ask f.version_used slot quiet may.none may.is_quiet
 
 -- an encryption goes on as its PDUs are sent
-sent_own : (draft : Draft) (own : OwnCentral) → is_own_encryption (unwrap_or (own_sent_by_central draft own) own) ≡ is_own_encryption own
-sent_own (Update params) UpdateUnsent = refl
+sent_own : (draft : Draft) (own : OwnCentral) → is_own_encryption (unwrap_or (own_draft_sent_by_central draft own) own) ≡ is_own_encryption own
+sent_own (Update params) (exclusive UpdateUnsent) = refl
+sent_own (Update params) (exclusive other) = refl
 sent_own (Update params) other = refl
-sent_own (Map map) MapUnsent = refl
+sent_own (Map map) (exclusive MapUnsent) = refl
+sent_own (Map map) (exclusive other) = refl
 sent_own (Map map) other = refl
-sent_own PhyReq PhyUnsent = refl
+sent_own PhyReq (exclusive PhyUnsent) = refl
+sent_own PhyReq (exclusive other) = refl
 sent_own PhyReq other = refl
-sent_own PhyInd PhyAnswered = refl
+sent_own PhyInd (exclusive PhyAnswered) = refl
+sent_own PhyInd (exclusive other) = refl
 sent_own PhyInd other = refl
 sent_own (Cipher ctrl) EncryptUnsent = refl
 sent_own (Cipher ctrl) EncryptSent = refl
@@ -323,27 +335,30 @@ sent_same (Rejection rejection) event skips p = refl
 sent_same (Disconnect code) event skips p = refl
 
 acked_same : (out : Outgoing) (p : Progress) → has_encryption (progress_acked out p) ≡ has_encryption p
-acked_same out (central c) = by (is_phy_ind out) c.own
+acked_same out (central c) = by (pdu_of_outgoing out) c.own
   where
-    own_by : (own : OwnCentral) → is_own_encryption (phy_ind_acknowledged own) ≡ is_own_encryption own
-    own_by PhyIndicated = refl
-    own_by other = refl
+    own_by : (pdu : Pdu) (own : OwnCentral) → is_own_encryption (on_central_stage (own_acked_at_central pdu) own) ≡ is_own_encryption own
+    own_by pdu (exclusive stage) = refl
+    own_by pdu (exchange stage) = refl
+    own_by pdu EncryptUnsent = refl
+    own_by pdu EncryptSent = refl
 
-    by : (b : Bool) (own : OwnCentral) → is_own_encryption (central_acked b (record c { own = own })).own ≡ is_own_encryption own
-    by true own = own_by own
-    by false own = refl
-acked_same out (peripheral p) = by (is_request out)
+    by : (pdu : Option Pdu) (own : OwnCentral) → is_own_encryption (central_acked pdu (record c { own = own })).own ≡ is_own_encryption own
+    by (Some pdu) own = own_by pdu own
+    by None own = refl
+acked_same out (peripheral p) = by (pdu_of_outgoing out)
   where
-    by : (b : Bool) → (peripheral_acked b p).encrypting ≡ p.encrypting
-    by true = refl
-    by false = refl
+    by : (pdu : Option Pdu) → (peripheral_acked pdu p).encrypting ≡ p.encrypting
+    by (Some pdu) = refl
+    by None = refl
 
 held_same : (p : Progress) → has_encryption (progress_held p) ≡ has_encryption p
 held_same (central c) = by c.own
   where
-    by : (own : OwnCentral) → is_own_encryption (own_held_at_central own) ≡ is_own_encryption own
-    by UpdateSent = refl
-    by MapSent = refl
+    by : (own : OwnCentral) → is_own_encryption (on_central_stage own_held_at_central own) ≡ is_own_encryption own
+    by (exclusive UpdateSent) = refl
+    by (exclusive MapSent) = refl
+    by (exclusive other) = refl
     by other = refl
 held_same (peripheral p) = refl
 
@@ -419,7 +434,7 @@ confirmed f (peripheral p) slot =
 confirmed f (central c) slot = by (is_own_encryption c.own) refl
   where
     o : Bool → Outcome
-    o b = with_effect (cipher_effect StartEncRsp) (if b then with_done Encrypt (moved (at_c f c) (central (record c { own = Idle }))) else unchanged (at_c f c))
+    o b = with_effect (cipher_effect StartEncRsp) (if b then with_done Encrypt (moved (at_c f c) (central (record c { own = exclusive Idle }))) else unchanged (at_c f c))
 
     by : (b : Bool) → is_own_encryption c.own ≡ b → has_encryption (settled (at_c f c) slot (o b)).0.progress ≡ false
     by true is =

@@ -9,9 +9,10 @@ use Rattle.procedure_values.specs.declared.asks.Ask.TheVariants.{Update as ask_u
 use Rattle.procedure_values.specs.declared.drafts.Draft.TheVariants.{Grant, Cipher}
 use Rattle.procedure_stages.specs.declared.stages.Exchange.TheVariants.{FeaturesUnsent, FeaturesSent, VersionUnsent, VersionSent, LengthUnsent, LengthSent}
 use Rattle.procedure_stages.specs.declared.stages.OwnCentral.{OwnCentral}
-use Rattle.procedure_stages.specs.declared.stages.OwnCentral.TheVariants.{Exchange as exchange, EncryptUnsent, EncryptSent}
-use Rattle.procedure_stages.specs.declared.stages.PeerAtCentral.{PeerAtCentral}
-use Rattle.procedure_stages.specs.declared.stages.PeerAtCentral.TheVariants.{HostAsked}
+use Rattle.exclusive_stages.specs.declared.stages.CentralStage.TheVariants.{Idle, UpdateUnsent, UpdateSent, MapUnsent, MapSent, PhyUnsent, PhySent, PhyAnswered, PhyIndicated}
+use Rattle.procedure_stages.specs.declared.stages.OwnCentral.TheVariants.{Exclusive as exclusive, Exchange as exchange, EncryptUnsent, EncryptSent}
+use Rattle.exclusive_stages.specs.declared.stages.PeerAtCentral.{PeerAtCentral}
+use Rattle.exclusive_stages.specs.declared.stages.PeerAtCentral.TheVariants.{HostAsked}
 use Rattle.procedure_stages.specs.declared.stages.Central.{Central}
 use Rattle.procedure_stages.specs.declared.stages.Peripheral.{Peripheral}
 use Rattle.procedure_stages.specs.declared.stages.Progress.{Progress}
@@ -21,7 +22,8 @@ use Rattle.procedure_stages.specs.declared.closing.Closing.TheVariants.{Open, Cl
 use Rattle.procedure_stages.specs.Kinds.{kind_at_central}
 use Rattle.procedures.specs.Table.{TableFacts}
 use Rattle.procedure_stages.specs.Closing.{is_open}
-use Rattle.procedure_stages.specs.InProgress.{is_host_asked, is_host_asked_at_central}
+use Rattle.procedure_stages.specs.InProgress.{is_host_asked}
+use Rattle.exclusive_stages.specs.Kinds.{is_host_asked_at_central}
 use Rattle.procedure_stages.specs.Queue.{waiting_in, with_draft}
 use Rattle.procedures.specs.Encryption.{is_rejection, progress_given}
 use Rattle.procedures.specs.Going.{closing_given, host_answer_step, owe_step, terminate_step}
@@ -159,7 +161,15 @@ module _ (f : TableFacts) (key : Bool) where
   encryption_room (exchange VersionSent) h = absurd (cc)
   encryption_room (exchange LengthUnsent) h = absurd (cc)
   encryption_room (exchange LengthSent) h = absurd (cc)
-  encryption_room other h = absurd (cc)
+  encryption_room (exclusive Idle) h = absurd (cc)
+  encryption_room (exclusive UpdateUnsent) h = absurd (cc)
+  encryption_room (exclusive UpdateSent) h = absurd (cc)
+  encryption_room (exclusive MapUnsent) h = absurd (cc)
+  encryption_room (exclusive MapSent) h = absurd (cc)
+  encryption_room (exclusive PhyUnsent) h = absurd (cc)
+  encryption_room (exclusive PhySent) h = absurd (cc)
+  encryption_room (exclusive PhyAnswered) h = absurd (cc)
+  encryption_room (exclusive PhyIndicated) h = absurd (cc)
 
   given_c : (c : Central) (ctrl : Ctrl) → MayGive (central c) (at f (central c) Open f.version_used) key ctrl → Kept (at f (central c) Open f.version_used) key
       → Kept (owe_step (at f (central c) Open f.version_used) ctrl) (key_after_given key ctrl)

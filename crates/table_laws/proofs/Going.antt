@@ -1,5 +1,5 @@
 -- A PDU is sent or acknowledged, or an event entered.
-use Rattle.std.proofs.Common.{◌≡◌, ℕ, ◌+◌, ◌≤◌, Bool, true, false, not, ◌&&◌, None, unwrap_or, refl, arith}
+use Rattle.std.proofs.Common.{◌≡◌, ℕ, ◌+◌, ◌≤◌, Bool, true, false, not, ◌&&◌, None, unwrap_or, refl, arith, Option, Some}
 use Rattle.data_pdu.specs.declared.ctrl.Ctrl.{Ctrl}
 use Rattle.data_pdu.specs.declared.ctrl.Ctrl.TheVariants.{TerminateInd, EncReq, PauseEncReq}
 use Rattle.procedure_values.specs.declared.drafts.Draft.{Draft}
@@ -8,12 +8,14 @@ use Rattle.procedure_values.specs.declared.drafts.Outgoing.{Outgoing}
 use Rattle.procedure_values.specs.declared.drafts.Outgoing.TheVariants.{Nothing, Rejection, Disconnect, Other}
 use Rattle.procedure_stages.specs.declared.stages.Exchange.TheVariants.{FeaturesUnsent, FeaturesSent, VersionUnsent, VersionSent, LengthUnsent, LengthSent}
 use Rattle.procedure_stages.specs.declared.stages.OwnCentral.{OwnCentral}
-use Rattle.procedure_stages.specs.declared.stages.OwnCentral.TheVariants.{Exchange as exchange, UpdateSent, MapSent, PhyAnswered, PhyIndicated, EncryptUnsent, EncryptSent}
+use Rattle.procedure_stages.specs.declared.stages.OwnCentral.TheVariants.{Exclusive as exclusive, Exchange as exchange, EncryptUnsent, EncryptSent}
+use Rattle.exclusive_stages.specs.declared.stages.CentralStage.TheVariants.{UpdateSent, MapSent, PhyAnswered, PhyIndicated}
 use Rattle.procedure_stages.specs.declared.stages.OwnPeripheral.{OwnPeripheral}
-use Rattle.procedure_stages.specs.declared.stages.OwnPeripheral.TheVariants.{Exchange as exchange_p, RequestSent, RequestGranted}
-use Rattle.procedure_stages.specs.declared.stages.PeerAtCentral.{PeerAtCentral}
-use Rattle.procedure_stages.specs.declared.stages.PeerAtCentral.TheVariants.{Absent, GrantUnsent, GrantSent, PhyIndUnsent, PhyIndSent}
-use Rattle.procedure_stages.specs.declared.stages.PeerAtPeripheral.TheVariants.{Absent as absent}
+use Rattle.procedure_stages.specs.declared.stages.OwnPeripheral.TheVariants.{Exclusive as exclusive_p, Exchange as exchange_p}
+use Rattle.exclusive_stages.specs.declared.stages.PeripheralStage.TheVariants.{RequestSent, RequestGranted}
+use Rattle.exclusive_stages.specs.declared.stages.PeerAtCentral.{PeerAtCentral}
+use Rattle.exclusive_stages.specs.declared.stages.PeerAtCentral.TheVariants.{Absent, GrantUnsent, GrantSent, PhyIndUnsent, PhyIndSent}
+use Rattle.exclusive_stages.specs.declared.stages.PeerAtPeripheral.TheVariants.{Absent as absent}
 use Rattle.procedure_stages.specs.declared.stages.Ahead.TheVariants.{Nothing as nothing_ahead}
 use Rattle.procedure_stages.specs.declared.stages.Central.{Central}
 use Rattle.procedure_stages.specs.declared.stages.Peripheral.{Peripheral}
@@ -21,23 +23,27 @@ use Rattle.procedure_stages.specs.declared.stages.Progress.{Progress}
 use Rattle.procedure_stages.specs.declared.stages.Progress.TheVariants.{Central as central, Peripheral as peripheral}
 use Rattle.procedures.specs.Table.{TableFacts}
 use Rattle.procedure_stages.specs.Closing.{is_open}
-use Rattle.procedure_stages.specs.InProgress.{is_host_asked_at_central}
+use Rattle.exclusive_stages.specs.Kinds.{is_host_asked_at_central}
 use Rattle.procedures.specs.Queue.{next_of}
-use Rattle.procedure_stages.specs.Acked.{phy_ind_acknowledged, phy_ind_of_peer_acknowledged, request_acknowledged, central_acked, peripheral_acked, progress_acked}
-use Rattle.procedure_values.specs.Drafts.{is_phy_ind, is_request}
+use Rattle.procedure_stages.specs.Acked.{central_acked, peripheral_acked, progress_acked}
+use Rattle.exclusive_stages.specs.Acked.{own_acked_at_central, own_acked_at_peripheral, peer_acked_at_central}
+use Rattle.exclusive_stages.specs.declared.pdus.Pdu.{Pdu}
+use Rattle.exclusive_stages.specs.declared.pdus.Pdu.TheVariants.{PhyInd as PhyIndPdu, ParamReq}
 use Rattle.procedures.specs.Sending.{facts_sent}
-use Rattle.procedure_stages.specs.Sent.{own_sent_by_central, own_sent_by_peripheral, peer_sent_by_central, progress_after_sending}
-use Rattle.procedure_stages.specs.Held.{own_held_at_central, own_held_at_peripheral, peer_held_at_central, progress_held}
+use Rattle.procedure_stages.specs.Sent.{own_draft_sent_by_central, own_draft_sent_by_peripheral, peer_draft_sent_by_central, progress_after_sending}
+use Rattle.procedure_stages.specs.Held.{progress_held}
+use Rattle.exclusive_stages.specs.Held.{own_held_at_central, own_held_at_peripheral, peer_held_at_central}
 use Rattle.table_laws.specs.Waiting.{asked, is_asked, is_encryption_request, is_own_request, is_terminate_ind, count_if}
 use Rattle.table_laws.proofs.Numbers.{Counts, end_sent, next_goes, own_sent, same, sent, version_sent}
 use Rattle.table_laws.proofs.Outcomes.{own_room, room_at_central, room_at_peripheral}
 use Rattle.table_laws.proofs.Kept.{Kept, kept_by, one_room}
+use Rattle.procedure_stages.specs.Exclusive.{on_central_stage, on_peripheral_stage, pdu_of_draft, pdu_of_outgoing}
 
 -- ---- a PDU is sent
 
 module _ (f : TableFacts) (event skips : ℕ) where
   -- the request of the own procedure leaves the queue as its stage goes on
-  room_c : (draft : Draft) (own : OwnCentral) → room_at_central own ≤ room_at_central (unwrap_or (own_sent_by_central draft own) own) + count_if (is_own_request draft)
+  room_c : (draft : Draft) (own : OwnCentral) → room_at_central own ≤ room_at_central (unwrap_or (own_draft_sent_by_central draft own) own) + count_if (is_own_request draft)
   room_c (Update params) own = let h = one_room (central (record { own = own; peer = Absent; last_instant = None })) in omega (arith, h)
   room_c (Map map) own = let h = one_room (central (record { own = own; peer = Absent; last_instant = None })) in omega (arith, h)
   room_c (Request min max latency timeout) own = let h = one_room (central (record { own = own; peer = Absent; last_instant = None })) in omega (arith, h)
@@ -45,7 +51,8 @@ module _ (f : TableFacts) (event skips : ℕ) where
   room_c FeatureReq own = let h = one_room (central (record { own = own; peer = Absent; last_instant = None })) in omega (arith, h)
   room_c PeripheralFeatureReq own = let h = one_room (central (record { own = own; peer = Absent; last_instant = None })) in omega (arith, h)
   room_c (LengthReq rx tx) own = let h = one_room (central (record { own = own; peer = Absent; last_instant = None })) in omega (arith, h)
-  room_c PhyInd PhyAnswered = omega arith
+  room_c PhyInd (exclusive PhyAnswered) = omega arith
+  room_c PhyInd (exclusive other) = omega arith
   room_c PhyInd other = omega arith
   room_c (Cipher ctrl) EncryptUnsent = omega arith
   room_c (Cipher ctrl) EncryptSent = omega arith
@@ -68,13 +75,13 @@ module _ (f : TableFacts) (event skips : ℕ) where
   room_c (UnknownRsp opcode) (exchange stage) = omega arith
   room_c (UnknownRsp opcode) other = omega arith
 
-  room_p : (draft : Draft) (own : OwnPeripheral) → room_at_peripheral own ≤ room_at_peripheral (unwrap_or (own_sent_by_peripheral draft own) own) + count_if (is_own_request draft)
+  room_p : (draft : Draft) (own : OwnPeripheral) → room_at_peripheral own ≤ room_at_peripheral (unwrap_or (own_draft_sent_by_peripheral draft own) own) + count_if (is_own_request draft)
   room_p draft own = by (is_own_request draft) refl
     where
       most : room_at_peripheral own ≤ 1
       most = one_room (peripheral (record { own = own; peer = absent; ahead = nothing_ahead; encrypting = false }))
 
-      other_draft : (draft : Draft) (own : OwnPeripheral) → is_own_request draft ≡ false → room_at_peripheral own ≤ room_at_peripheral (unwrap_or (own_sent_by_peripheral draft own) own)
+      other_draft : (draft : Draft) (own : OwnPeripheral) → is_own_request draft ≡ false → room_at_peripheral own ≤ room_at_peripheral (unwrap_or (own_draft_sent_by_peripheral draft own) own)
       other_draft (Update params) own h = absurd (cc)
       other_draft (Map map) own h = absurd (cc)
       other_draft (Request min max latency timeout) own h = absurd (cc)
@@ -104,7 +111,7 @@ module _ (f : TableFacts) (event skips : ℕ) where
       other_draft (UnknownRsp opcode) (exchange_p stage) h = omega arith
       other_draft (UnknownRsp opcode) other h = omega arith
 
-      by : (b : Bool) → is_own_request draft ≡ b → room_at_peripheral own ≤ room_at_peripheral (unwrap_or (own_sent_by_peripheral draft own) own) + count_if (is_own_request draft)
+      by : (b : Bool) → is_own_request draft ≡ b → room_at_peripheral own ≤ room_at_peripheral (unwrap_or (own_draft_sent_by_peripheral draft own) own) + count_if (is_own_request draft)
       by true is = let one : count_if (is_own_request draft) ≡ 1 = rw is refl in omega (arith, most, one)
       by false is = let h = other_draft draft own is in omega (arith, h)
 
@@ -118,7 +125,7 @@ module _ (f : TableFacts) (event skips : ℕ) where
   asked_sent : (outgoing : Outgoing) (p : Progress) (key : Bool) → is_asked (progress_after_sending outgoing event skips p) key ≡ is_asked p key
   asked_sent (Other draft) (central c) key = by draft c.peer
     where
-      by : (draft : Draft) (peer : PeerAtCentral) → is_host_asked_at_central (peer_sent_by_central draft peer) ≡ is_host_asked_at_central peer
+      by : (draft : Draft) (peer : PeerAtCentral) → is_host_asked_at_central (peer_draft_sent_by_central (pdu_of_draft draft) peer) ≡ is_host_asked_at_central peer
       by (Grant params) GrantUnsent = refl
       by (Grant params) other = refl
       by PhyInd PhyIndUnsent = refl
@@ -188,49 +195,58 @@ moves f g key kept queue used closing room less = by (is_open f.closing) refl
         asked_by true = less
         asked_by false = omega arith
 
-acked_room : (b : Bool) (c : Central) → room_at_central c.own ≤ room_at_central (central_acked b c).own
-acked_room false c = omega arith
-acked_room true c = by c.own
+acked_room : (pdu : Option Pdu) (c : Central) → room_at_central c.own ≤ room_at_central (central_acked pdu c).own
+acked_room None c = omega arith
+acked_room (Some pdu) c = by pdu c.own
   where
-    by : (own : OwnCentral) → room_at_central own ≤ room_at_central (phy_ind_acknowledged own)
-    by PhyIndicated = omega arith
-    by other = omega arith
+    by : (pdu : Pdu) (own : OwnCentral) → room_at_central own ≤ room_at_central (on_central_stage (own_acked_at_central pdu) own)
+    by PhyIndPdu (exclusive PhyIndicated) = omega arith
+    by PhyIndPdu (exclusive other) = omega arith
+    by pdu (exclusive other) = omega arith
+    by pdu (exchange stage) = omega arith
+    by pdu EncryptUnsent = omega arith
+    by pdu EncryptSent = omega arith
 
-acked_asked : (b : Bool) (c : Central) → count_if (is_host_asked_at_central (central_acked b c).peer) ≤ count_if (is_host_asked_at_central c.peer)
-acked_asked false c = omega arith
-acked_asked true c = by c.peer
+acked_asked : (pdu : Option Pdu) (c : Central) → count_if (is_host_asked_at_central (central_acked pdu c).peer) ≤ count_if (is_host_asked_at_central c.peer)
+acked_asked None c = omega arith
+acked_asked (Some pdu) c = by pdu c.peer
   where
-    by : (peer : PeerAtCentral) → count_if (is_host_asked_at_central (phy_ind_of_peer_acknowledged peer)) ≤ count_if (is_host_asked_at_central peer)
-    by PhyIndSent = omega arith
-    by other = omega arith
+    by : (pdu : Pdu) (peer : PeerAtCentral) → count_if (is_host_asked_at_central (peer_acked_at_central pdu peer)) ≤ count_if (is_host_asked_at_central peer)
+    by PhyIndPdu PhyIndSent = omega arith
+    by PhyIndPdu other = omega arith
+    by pdu other = omega arith
 
-acked_room_p : (b : Bool) (p : Peripheral) → room_at_peripheral p.own ≤ room_at_peripheral (peripheral_acked b p).own
-acked_room_p false p = omega arith
-acked_room_p true p = by p.own
+acked_room_p : (pdu : Option Pdu) (p : Peripheral) → room_at_peripheral p.own ≤ room_at_peripheral (peripheral_acked pdu p).own
+acked_room_p None p = omega arith
+acked_room_p (Some pdu) p = by pdu p.own
   where
-    by : (own : OwnPeripheral) → room_at_peripheral own ≤ room_at_peripheral (request_acknowledged own)
-    by RequestSent = omega arith
-    by other = omega arith
+    by : (pdu : Pdu) (own : OwnPeripheral) → room_at_peripheral own ≤ room_at_peripheral (on_peripheral_stage (own_acked_at_peripheral pdu) own)
+    by ParamReq (exclusive_p RequestSent) = omega arith
+    by ParamReq (exclusive_p other) = omega arith
+    by pdu (exclusive_p other) = omega arith
+    by pdu (exchange_p stage) = omega arith
 
 pub acked_less : (out : Outgoing) (p : Progress) → own_room p ≤ own_room (progress_acked out p)
-acked_less out (central c) = acked_room (is_phy_ind out) c
-acked_less out (peripheral p) = acked_room_p (is_request out) p
+acked_less out (central c) = acked_room (pdu_of_outgoing out) c
+acked_less out (peripheral p) = acked_room_p (pdu_of_outgoing out) p
 
 pub acked_asks : (out : Outgoing) (p : Progress) (key : Bool) → count_if (is_asked (progress_acked out p) key) ≤ count_if (is_asked p key)
-acked_asks out (central c) key = acked_asked (is_phy_ind out) c
+acked_asks out (central c) key = acked_asked (pdu_of_outgoing out) c
 acked_asks out (peripheral p) key = omega arith
 
 pub held_less : (p : Progress) → own_room p ≤ own_room (progress_held p)
 held_less (central c) = by c.own
   where
-    by : (own : OwnCentral) → room_at_central own ≤ room_at_central (own_held_at_central own)
-    by UpdateSent = omega arith
-    by MapSent = omega arith
+    by : (own : OwnCentral) → room_at_central own ≤ room_at_central (on_central_stage own_held_at_central own)
+    by (exclusive UpdateSent) = omega arith
+    by (exclusive MapSent) = omega arith
+    by (exclusive other) = omega arith
     by other = omega arith
 held_less (peripheral p) = by p.own
   where
-    by : (own : OwnPeripheral) → room_at_peripheral own ≤ room_at_peripheral (own_held_at_peripheral own)
-    by RequestGranted = omega arith
+    by : (own : OwnPeripheral) → room_at_peripheral own ≤ room_at_peripheral (on_peripheral_stage own_held_at_peripheral own)
+    by (exclusive_p RequestGranted) = omega arith
+    by (exclusive_p other) = omega arith
     by other = omega arith
 
 pub held_asks : (p : Progress) (key : Bool) → count_if (is_asked (progress_held p) key) ≤ count_if (is_asked p key)

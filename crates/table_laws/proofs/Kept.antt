@@ -2,9 +2,11 @@
 use Rattle.std.proofs.Common.{ℕ, ◌+◌, ◌≤◌, Bool, true, false, not, arith}
 use Rattle.procedure_stages.specs.declared.stages.Exchange.TheVariants.{FeaturesUnsent, LengthUnsent}
 use Rattle.procedure_stages.specs.declared.stages.OwnCentral.{OwnCentral}
-use Rattle.procedure_stages.specs.declared.stages.OwnCentral.TheVariants.{Exchange as exchange, UpdateUnsent, MapUnsent, PhyUnsent, EncryptUnsent, EncryptSent}
+use Rattle.procedure_stages.specs.declared.stages.OwnCentral.TheVariants.{Exclusive as exclusive, Exchange as exchange, EncryptUnsent, EncryptSent}
+use Rattle.exclusive_stages.specs.declared.stages.CentralStage.TheVariants.{UpdateUnsent, MapUnsent, PhyUnsent}
 use Rattle.procedure_stages.specs.declared.stages.OwnPeripheral.{OwnPeripheral}
-use Rattle.procedure_stages.specs.declared.stages.OwnPeripheral.TheVariants.{Exchange as exchange_p, RequestUnsent, PhyUnsent as phy_unsent}
+use Rattle.procedure_stages.specs.declared.stages.OwnPeripheral.TheVariants.{Exclusive as exclusive_p, Exchange as exchange_p}
+use Rattle.exclusive_stages.specs.declared.stages.PeripheralStage.TheVariants.{RequestUnsent, PhyUnsent as phy_unsent}
 use Rattle.procedure_stages.specs.declared.stages.Progress.{Progress}
 use Rattle.procedure_stages.specs.declared.stages.Progress.TheVariants.{Central as central, Peripheral as peripheral}
 use Rattle.procedures.specs.Table.{TableFacts}
@@ -71,18 +73,18 @@ one_room (central c) = by c.own
     by (exchange FeaturesUnsent) = omega arith
     by (exchange LengthUnsent) = omega arith
     by (exchange other) = omega arith
-    by UpdateUnsent = omega arith
-    by MapUnsent = omega arith
-    by PhyUnsent = omega arith
+    by (exclusive UpdateUnsent) = omega arith
+    by (exclusive MapUnsent) = omega arith
+    by (exclusive PhyUnsent) = omega arith
     by EncryptUnsent = omega arith
     by EncryptSent = omega arith
-    by other = omega arith
+    by (exclusive other) = omega arith
 one_room (peripheral p) = by p.own
   where
     by : (own : OwnPeripheral) → room_at_peripheral own ≤ 1
     by (exchange_p FeaturesUnsent) = omega arith
     by (exchange_p LengthUnsent) = omega arith
     by (exchange_p other) = omega arith
-    by RequestUnsent = omega arith
-    by phy_unsent = omega arith
-    by other = omega arith
+    by (exclusive_p RequestUnsent) = omega arith
+    by (exclusive_p phy_unsent) = omega arith
+    by (exclusive_p other) = omega arith

@@ -19,11 +19,12 @@ use Rattle.procedure_stages.specs.declared.reply.Reply.{Reply}
 use Rattle.procedure_stages.specs.declared.reply.Reply.TheVariants.{Nothing as no_reply, Reject, Answer}
 use Rattle.procedure_stages.specs.declared.stages.Exchange.TheVariants.{FeaturesUnsent, FeaturesSent, VersionUnsent, VersionSent, LengthUnsent, LengthSent}
 use Rattle.procedure_stages.specs.declared.stages.OwnCentral.{OwnCentral}
-use Rattle.procedure_stages.specs.declared.stages.OwnCentral.TheVariants.{Idle, Exchange as exchange, UpdateUnsent, UpdateSent, MapUnsent, MapSent, PhyUnsent, PhyAnswered, PhyIndicated, EncryptUnsent, EncryptSent}
-use Rattle.procedure_stages.specs.declared.stages.PeerAtCentral.{PeerAtCentral}
-use Rattle.procedure_stages.specs.declared.stages.PeerAtCentral.TheVariants.{Absent, HostAsked, GrantUnsent, GrantSent, PhyIndUnsent, PhyIndSent}
-use Rattle.procedure_stages.specs.declared.stages.PeerAtPeripheral.{PeerAtPeripheral}
-use Rattle.procedure_stages.specs.declared.stages.PeerAtPeripheral.TheVariants.{Absent as absent, UpdateTaken, MapTaken, PhyRspUnsent, PhyRspSent}
+use Rattle.procedure_stages.specs.declared.stages.OwnCentral.TheVariants.{Exclusive as exclusive, Exchange as exchange, EncryptUnsent, EncryptSent}
+use Rattle.exclusive_stages.specs.declared.stages.CentralStage.TheVariants.{Idle, UpdateUnsent, UpdateSent, MapUnsent, MapSent, PhyUnsent, PhyAnswered, PhyIndicated}
+use Rattle.exclusive_stages.specs.declared.stages.PeerAtCentral.{PeerAtCentral}
+use Rattle.exclusive_stages.specs.declared.stages.PeerAtCentral.TheVariants.{Absent, HostAsked, GrantUnsent, GrantSent, PhyIndUnsent, PhyIndSent}
+use Rattle.exclusive_stages.specs.declared.stages.PeerAtPeripheral.{PeerAtPeripheral}
+use Rattle.exclusive_stages.specs.declared.stages.PeerAtPeripheral.TheVariants.{Absent as absent, UpdateTaken, MapTaken, PhyRspUnsent, PhyRspSent}
 use Rattle.procedure_stages.specs.declared.stages.Central.{Central}
 use Rattle.procedure_stages.specs.declared.stages.Peripheral.{Peripheral}
 use Rattle.procedure_stages.specs.declared.stages.Progress.{Progress}
@@ -36,18 +37,23 @@ use Rattle.procedure_stages.specs.Collisions.{is_exclusive, is_encrypt, peer_let
 use Rattle.procedure_stages.specs.Queue.{QueueFacts, is_past_instant, next_by, next_disconnect, next_draft, with_draft, with_reply, without_next}
 use Rattle.procedures.specs.Table.{TableFacts, first_facts}
 use Rattle.procedure_stages.specs.Closing.{is_disconnecting, is_open}
-use Rattle.procedure_stages.specs.InProgress.{has_peer, has_peer_at_central, has_peer_at_peripheral, is_encrypting, is_host_asked, is_host_asked_at_central}
-use Rattle.procedure_values.specs.Drafts.{waits_for_instant, is_phy_ind, is_request}
+use Rattle.procedure_stages.specs.InProgress.{has_peer, is_encrypting, is_host_asked}
+use Rattle.exclusive_stages.specs.Kinds.{has_peer_at_central, has_peer_at_peripheral, is_host_asked_at_central}
+use Rattle.procedure_values.specs.Drafts.{waits_for_instant}
 use Rattle.procedures.specs.Queue.{next_of}
-use Rattle.procedure_stages.specs.Awaited.{has_phy_of_central}
-use Rattle.procedure_stages.specs.Acked.{phy_ind_acknowledged, phy_ind_of_peer_acknowledged, central_acked, peripheral_acked, progress_acked}
+use Rattle.exclusive_stages.specs.Awaited.{has_phy_of_central}
+use Rattle.procedure_stages.specs.Acked.{central_acked, peripheral_acked, progress_acked}
+use Rattle.exclusive_stages.specs.Acked.{own_acked_at_central, peer_acked_at_central}
+use Rattle.exclusive_stages.specs.declared.pdus.Pdu.{Pdu}
+use Rattle.exclusive_stages.specs.declared.pdus.Pdu.TheVariants.{PhyInd as PhyIndPdu}
 use Rattle.procedures.specs.Encryption.{is_rejection}
 use Rattle.procedures.specs.Taking.{facts_with, lacks_room, outcome_of, took_step}
 use Rattle.procedures.specs.Beginning.{ask_at, begin_at, facts_begun, place_to_begin}
 use Rattle.procedures.specs.Sending.{facts_sent}
-use Rattle.procedure_stages.specs.Sent.{own_sent_by_central, peer_sent_by_central, peer_sent_by_peripheral, progress_after_sending}
+use Rattle.procedure_stages.specs.Sent.{own_draft_sent_by_central, peer_draft_sent_by_central, peer_draft_sent_by_peripheral, progress_after_sending}
 use Rattle.procedures.specs.Going.{host_answer_step}
-use Rattle.procedure_stages.specs.Held.{own_held_at_central, peer_held_at_central, peer_held_at_peripheral, progress_held}
+use Rattle.procedure_stages.specs.Held.{progress_held}
+use Rattle.exclusive_stages.specs.Held.{own_held_at_central, peer_held_at_central, peer_held_at_peripheral}
 use Rattle.procedures.specs.Calls.{Call, asks, begins_one, takes, sends, is_acked, enters, host_answers, disconnects, is_given, after_call, after_calls}
 use Rattle.table_laws.specs.Waiting.{number_of, count_if}
 use Rattle.table_laws.specs.Pasts.{May, MayAll, key_after_call}
@@ -56,6 +62,7 @@ use Rattle.table_laws.proofs.Numbers.{number-push}
 use Rattle.table_laws.proofs.Begun.{begins_of}
 use Rattle.table_laws.proofs.Roles.{role_after}
 use Rattle.table_laws.proofs.OneProcedure.{AloneHere, Fits, IsAlone, MayTake, TookOne, excludes, is_indication, of_reply, room_of_own, room_of_peer, took_one}
+use Rattle.procedure_stages.specs.Exclusive.{on_central_stage, pdu_of_draft, pdu_of_outgoing}
 
 pub record One (f : TableFacts) : Type 0 where
   pub alone : IsAlone f.progress
@@ -117,8 +124,9 @@ takes_one f read slot quiet one may =
 
 -- ---- a procedure begins
 
-none_is : (own : OwnCentral) → kind_at_central own ≡ None → own ≡ Idle
-none_is Idle h = refl
+none_is : (own : OwnCentral) → kind_at_central own ≡ None → own ≡ (exclusive Idle)
+none_is (exclusive Idle) h = refl
+none_is (exclusive other) h = absurd (cc)
 none_is other h = absurd (cc)
 
 absent_is : (peer : PeerAtCentral) → has_peer_at_central peer ≡ false → peer ≡ Absent
@@ -138,7 +146,7 @@ module _ (f : TableFacts) (slot : ℕ) (wanted : List Ask) where
   abbrev at : Progress → Bool → TableFacts
   at progress used = record f { progress = progress; version_used = used }
 
-  excluding : (c : Central) (used : Bool) (ask : Ask) (draft : Draft) (own : OwnCentral) (g : TableFacts) → One (at (central c) used) → c.own ≡ Idle → c.peer ≡ Absent
+  excluding : (c : Central) (used : Bool) (ask : Ask) (draft : Draft) (own : OwnCentral) (g : TableFacts) → One (at (central c) used) → c.own ≡ (exclusive Idle) → c.peer ≡ Absent
       → g.progress ≡ central (record c { own = own }) → g.queue ≡ with_draft f.closing draft f.queue → count_if (is_of_exclusive draft) ≤ room_of_own own → One g
   excluding c used ask draft own g one none gone progress queue room =
       record {
@@ -150,7 +158,7 @@ module _ (f : TableFacts) (slot : ℕ) (wanted : List Ask) where
             omega (arith, more, fit, empty, room));
       }
 
-  exchanging : (c : Central) (used : Bool) (draft : Draft) (own : OwnCentral) (g : TableFacts) → One (at (central c) used) → c.own ≡ Idle → excludes own ≡ false
+  exchanging : (c : Central) (used : Bool) (draft : Draft) (own : OwnCentral) (g : TableFacts) → One (at (central c) used) → c.own ≡ (exclusive Idle) → excludes own ≡ false
       → g.progress ≡ central (record c { own = own }) → g.queue ≡ with_draft f.closing draft f.queue → is_of_exclusive draft ≡ false → One g
   exchanging c used draft own g one none apart progress queue is =
       record {
@@ -163,14 +171,14 @@ module _ (f : TableFacts) (slot : ℕ) (wanted : List Ask) where
             omega (arith, more, fit, empty, no_more));
       }
 
-  began_c : (c : Central) (used : Bool) (ask : Ask) → One (at (central c) used) → c.own ≡ Idle → begins central_role (kind_of_ask ask) ≡ true
+  began_c : (c : Central) (used : Bool) (ask : Ask) → One (at (central c) used) → c.own ≡ (exclusive Idle) → begins central_role (kind_of_ask ask) ≡ true
       → peer_lets (central c) (kind_of_ask ask) ≡ true → One (facts_begun (at (central c) used) slot ask wanted)
   began_c c used (ask_update interval latency timeout) one none may lets =
-      excluding c used (ask_update interval latency timeout) _ UpdateUnsent _ one none (absent_is c.peer (lets_exclusive (has_peer_at_central c.peer) false lets)) refl refl (omega arith)
+      excluding c used (ask_update interval latency timeout) _ (exclusive UpdateUnsent) _ one none (absent_is c.peer (lets_exclusive (has_peer_at_central c.peer) false lets)) refl refl (omega arith)
   began_c c used (ask_map map) one none may lets =
-      excluding c used (ask_map map) _ MapUnsent _ one none (absent_is c.peer (lets_exclusive (has_peer_at_central c.peer) false lets)) refl refl (omega arith)
+      excluding c used (ask_map map) _ (exclusive MapUnsent) _ one none (absent_is c.peer (lets_exclusive (has_peer_at_central c.peer) false lets)) refl refl (omega arith)
   began_c c used ask_phy one none may lets =
-      excluding c used ask_phy _ PhyUnsent _ one none (absent_is c.peer (lets_exclusive (has_peer_at_central c.peer) false lets)) refl refl (omega arith)
+      excluding c used ask_phy _ (exclusive PhyUnsent) _ one none (absent_is c.peer (lets_exclusive (has_peer_at_central c.peer) false lets)) refl refl (omega arith)
   began_c c used ask_features one none may lets = exchanging c used _ (exchange FeaturesUnsent) _ one none refl refl refl refl
   began_c c used (ask_length tx) one none may lets = exchanging c used _ (exchange LengthUnsent) _ one none refl refl refl refl
   began_c c false ask_version one none may lets = exchanging c false VersionInd (exchange VersionUnsent) _ one none refl refl refl refl
@@ -237,17 +245,21 @@ next_out f event quiet =
 
 module _ (event skips : ℕ) where
   -- a stage goes on as its PDU is sent, and its kind stays
-  same_kind : (draft : Draft) (own : OwnCentral) → excludes (unwrap_or (own_sent_by_central draft own) own) ≡ excludes own
+  same_kind : (draft : Draft) (own : OwnCentral) → excludes (unwrap_or (own_draft_sent_by_central draft own) own) ≡ excludes own
   same_kind draft own = by draft own
     where
-      by : (draft : Draft) (own : OwnCentral) → excludes (unwrap_or (own_sent_by_central draft own) own) ≡ excludes own
-      by (Update params) UpdateUnsent = refl
+      by : (draft : Draft) (own : OwnCentral) → excludes (unwrap_or (own_draft_sent_by_central draft own) own) ≡ excludes own
+      by (Update params) (exclusive UpdateUnsent) = refl
+      by (Update params) (exclusive other) = refl
       by (Update params) other = refl
-      by (Map map) MapUnsent = refl
+      by (Map map) (exclusive MapUnsent) = refl
+      by (Map map) (exclusive other) = refl
       by (Map map) other = refl
-      by PhyReq PhyUnsent = refl
+      by PhyReq (exclusive PhyUnsent) = refl
+      by PhyReq (exclusive other) = refl
       by PhyReq other = refl
-      by PhyInd PhyAnswered = refl
+      by PhyInd (exclusive PhyAnswered) = refl
+      by PhyInd (exclusive other) = refl
       by PhyInd other = refl
       by (Cipher ctrl) EncryptUnsent = refl
       by (Cipher ctrl) EncryptSent = refl
@@ -277,16 +289,17 @@ module _ (event skips : ℕ) where
       by (UnknownRsp opcode) (exchange stage) = refl
       by (UnknownRsp opcode) other = refl
 
-  still_absent : (draft : Draft) → peer_sent_by_central draft Absent ≡ Absent
+  still_absent : (draft : Draft) → peer_draft_sent_by_central (pdu_of_draft draft) Absent ≡ Absent
   still_absent (Grant params) = refl
   still_absent PhyInd = refl
   still_absent other = refl
 
   most_own : (own : OwnCentral) → room_of_own own ≤ 1
-  most_own UpdateUnsent = omega arith
-  most_own MapUnsent = omega arith
-  most_own PhyUnsent = omega arith
-  most_own PhyAnswered = omega arith
+  most_own (exclusive UpdateUnsent) = omega arith
+  most_own (exclusive MapUnsent) = omega arith
+  most_own (exclusive PhyUnsent) = omega arith
+  most_own (exclusive PhyAnswered) = omega arith
+  most_own (exclusive other) = omega arith
   most_own other = omega arith
 
   most_peer : (peer : PeerAtCentral) → room_of_peer peer ≤ 1
@@ -295,7 +308,7 @@ module _ (event skips : ℕ) where
   most_peer other = omega arith
 
   -- other PDUs leave the room as it was
-  same_own : (draft : Draft) (own : OwnCentral) → is_of_exclusive draft ≡ false → room_of_own (unwrap_or (own_sent_by_central draft own) own) ≡ room_of_own own
+  same_own : (draft : Draft) (own : OwnCentral) → is_of_exclusive draft ≡ false → room_of_own (unwrap_or (own_draft_sent_by_central draft own) own) ≡ room_of_own own
   same_own (Update params) own h = absurd (cc)
   same_own (Map map) own h = absurd (cc)
   same_own (Grant params) own h = absurd (cc)
@@ -327,15 +340,16 @@ module _ (event skips : ℕ) where
   same_own (UnknownRsp opcode) (exchange stage) h = refl
   same_own (UnknownRsp opcode) other h = refl
 
-  same_peer : (draft : Draft) (peer : PeerAtCentral) → is_of_exclusive draft ≡ false → room_of_peer (peer_sent_by_central draft peer) ≡ room_of_peer peer
+  same_peer : (draft : Draft) (peer : PeerAtCentral) → is_of_exclusive draft ≡ false → room_of_peer (peer_draft_sent_by_central (pdu_of_draft draft) peer) ≡ room_of_peer peer
   same_peer (Grant params) peer h = absurd (cc)
   same_peer PhyInd peer h = absurd (cc)
   same_peer other peer h = refl
 
   -- an end whose own procedure is none of these has no room for it
   apart_room : (own : OwnCentral) → excludes own ≡ false → room_of_own own ≡ 0
-  apart_room Idle h = refl
+  apart_room (exclusive Idle) h = refl
   apart_room (exchange stage) h = refl
+  apart_room (exclusive other) h = absurd (cc)
   apart_room other h = absurd (cc)
 
   -- of the two procedures one is there, so that at most one stage goes on
@@ -354,12 +368,12 @@ module _ (event skips : ℕ) where
 
   rooms_sent : (draft : Draft) (c : Central) → (excludes c.own ≡ true → c.peer ≡ Absent)
       → room_of_own c.own + room_of_peer c.peer
-      ≤ room_of_own (unwrap_or (own_sent_by_central draft c.own) c.own) + room_of_peer (peer_sent_by_central draft c.peer) + count_if (is_of_exclusive draft)
+      ≤ room_of_own (unwrap_or (own_draft_sent_by_central draft c.own) c.own) + room_of_peer (peer_draft_sent_by_central (pdu_of_draft draft) c.peer) + count_if (is_of_exclusive draft)
   rooms_sent draft c alone = by (is_of_exclusive draft) refl
     where
       by : (b : Bool) → is_of_exclusive draft ≡ b
           → room_of_own c.own + room_of_peer c.peer
-          ≤ room_of_own (unwrap_or (own_sent_by_central draft c.own) c.own) + room_of_peer (peer_sent_by_central draft c.peer) + count_if (is_of_exclusive draft)
+          ≤ room_of_own (unwrap_or (own_draft_sent_by_central draft c.own) c.own) + room_of_peer (peer_draft_sent_by_central (pdu_of_draft draft) c.peer) + count_if (is_of_exclusive draft)
       by true is =
           let less = least c alone in
           let counts : count_if (is_of_exclusive draft) ≡ 1 = rw is refl in
@@ -369,12 +383,12 @@ module _ (event skips : ℕ) where
           let peer = same_peer draft c.peer is in
           omega (arith, own, peer)
 
-  phy_stays : (draft : Draft) (peer : PeerAtPeripheral) → has_phy_of_central (peer_sent_by_peripheral draft peer) ≡ has_phy_of_central peer
+  phy_stays : (draft : Draft) (peer : PeerAtPeripheral) → has_phy_of_central (peer_draft_sent_by_peripheral (pdu_of_draft draft) peer) ≡ has_phy_of_central peer
   phy_stays PhyRsp PhyRspUnsent = refl
   phy_stays PhyRsp other = refl
   phy_stays other peer = refl
 
-  indication_stays : (draft : Draft) (peer : PeerAtPeripheral) → is_indication (peer_sent_by_peripheral draft peer) ≡ is_indication peer
+  indication_stays : (draft : Draft) (peer : PeerAtPeripheral) → is_indication (peer_draft_sent_by_peripheral (pdu_of_draft draft) peer) ≡ is_indication peer
   indication_stays PhyRsp PhyRspUnsent = refl
   indication_stays PhyRsp other = refl
   indication_stays other peer = refl
@@ -410,39 +424,52 @@ module _ (event skips : ℕ) where
 
 -- ---- the other calls
 
-acked_central : (b : Bool) (c : Central) → (excludes c.own ≡ true → c.peer ≡ Absent)
-    → (excludes (central_acked b c).own ≡ true → (central_acked b c).peer ≡ Absent)
-acked_central false c alone = alone
-acked_central true c alone = λ excluded. rw (alone (own_by c.own excluded)) refl
+acked_central : (pdu : Option Pdu) (c : Central) → (excludes c.own ≡ true → c.peer ≡ Absent)
+    → (excludes (central_acked pdu c).own ≡ true → (central_acked pdu c).peer ≡ Absent)
+acked_central None c alone = alone
+acked_central (Some pdu) c alone = λ excluded. rw (alone (own_by pdu c.own excluded)) (peer_by pdu)
   where
-    own_by : (own : OwnCentral) → excludes (phy_ind_acknowledged own) ≡ true → excludes own ≡ true
-    own_by PhyIndicated h = refl
-    own_by Idle h = absurd (cc)
-    own_by (exchange stage) h = absurd (cc)
-    own_by other h = refl
+    own_by : (pdu : Pdu) (own : OwnCentral) → excludes (on_central_stage (own_acked_at_central pdu) own) ≡ true → excludes own ≡ true
+    own_by PhyIndPdu (exclusive PhyIndicated) h = refl
+    own_by pdu (exclusive PhyIndicated) h = refl
+    own_by PhyIndPdu (exclusive Idle) h = absurd (cc)
+    own_by pdu (exclusive Idle) h = absurd (cc)
+    own_by pdu (exclusive other) h = refl
+    own_by pdu (exchange stage) h = absurd (cc)
+    own_by pdu EncryptUnsent h = refl
+    own_by pdu EncryptSent h = refl
 
-acked_rooms : (b : Bool) (c : Central) → room_of_own c.own + room_of_peer c.peer ≤ room_of_own (central_acked b c).own + room_of_peer (central_acked b c).peer
-acked_rooms false c = omega arith
-acked_rooms true c = let h1 = own_by c.own in let h2 = peer_by c.peer in omega (arith, h1, h2)
+    peer_by : (pdu : Pdu) → peer_acked_at_central pdu Absent ≡ Absent
+    peer_by PhyIndPdu = refl
+    peer_by other = refl
+
+acked_rooms : (pdu : Option Pdu) (c : Central) → room_of_own c.own + room_of_peer c.peer ≤ room_of_own (central_acked pdu c).own + room_of_peer (central_acked pdu c).peer
+acked_rooms None c = omega arith
+acked_rooms (Some pdu) c = let h1 = own_by pdu c.own in let h2 = peer_by pdu c.peer in omega (arith, h1, h2)
   where
-    own_by : (own : OwnCentral) → room_of_own own ≤ room_of_own (phy_ind_acknowledged own)
-    own_by PhyIndicated = omega arith
-    own_by other = omega arith
+    own_by : (pdu : Pdu) (own : OwnCentral) → room_of_own own ≤ room_of_own (on_central_stage (own_acked_at_central pdu) own)
+    own_by PhyIndPdu (exclusive PhyIndicated) = omega arith
+    own_by PhyIndPdu (exclusive other) = omega arith
+    own_by pdu (exclusive other) = omega arith
+    own_by pdu (exchange stage) = omega arith
+    own_by pdu EncryptUnsent = omega arith
+    own_by pdu EncryptSent = omega arith
 
-    peer_by : (peer : PeerAtCentral) → room_of_peer peer ≤ room_of_peer (phy_ind_of_peer_acknowledged peer)
-    peer_by PhyIndSent = omega arith
-    peer_by other = omega arith
+    peer_by : (pdu : Pdu) (peer : PeerAtCentral) → room_of_peer peer ≤ room_of_peer (peer_acked_at_central pdu peer)
+    peer_by PhyIndPdu PhyIndSent = omega arith
+    peer_by PhyIndPdu other = omega arith
+    peer_by pdu other = omega arith
 
-acked_peripheral : (b : Bool) (p : Peripheral) → AloneHere p → AloneHere (peripheral_acked b p)
-acked_peripheral true p alone = record { phy = alone.phy; waits = alone.waits }
-acked_peripheral false p alone = alone
+acked_peripheral : (pdu : Option Pdu) (p : Peripheral) → AloneHere p → AloneHere (peripheral_acked pdu p)
+acked_peripheral (Some pdu) p alone = record { phy = alone.phy; waits = alone.waits }
+acked_peripheral None p alone = alone
 
 acked_at : (out : Outgoing) (p : Progress) (waits : ℕ) → IsAlone p → Fits p waits → IsAlone (progress_acked out p) × Fits (progress_acked out p) waits
 acked_at out (central c) waits alone fit =
     let less : waits ≤ room_of_own c.own + room_of_peer c.peer = fit in
-    let rooms = acked_rooms (is_phy_ind out) c in
-    (acked_central (is_phy_ind out) c alone, omega (arith, less, rooms))
-acked_at out (peripheral p) waits alone fit = (acked_peripheral (is_request out) p alone, _)
+    let rooms = acked_rooms (pdu_of_outgoing out) c in
+    (acked_central (pdu_of_outgoing out) c alone, omega (arith, less, rooms))
+acked_at out (peripheral p) waits alone fit = (acked_peripheral (pdu_of_outgoing out) p alone, _)
 
 held_at : (p : Progress) (waits : ℕ) → IsAlone p → Fits p waits → IsAlone (progress_held p) × Fits (progress_held p) waits
 held_at (central c) waits alone fit =
@@ -451,16 +478,18 @@ held_at (central c) waits alone fit =
     let h2 = peer_by c.peer in
     ((λ excluded. rw (alone (own_by c.own excluded)) refl), omega (arith, less, h1, h2))
   where
-    own_by : (own : OwnCentral) → excludes (own_held_at_central own) ≡ true → excludes own ≡ true
-    own_by UpdateSent h = refl
-    own_by MapSent h = refl
-    own_by Idle h = absurd (cc)
+    own_by : (own : OwnCentral) → excludes (on_central_stage own_held_at_central own) ≡ true → excludes own ≡ true
+    own_by (exclusive UpdateSent) h = refl
+    own_by (exclusive MapSent) h = refl
+    own_by (exclusive Idle) h = absurd (cc)
     own_by (exchange stage) h = absurd (cc)
+    own_by (exclusive other) h = refl
     own_by other h = refl
 
-    room_by : (own : OwnCentral) → room_of_own own ≤ room_of_own (own_held_at_central own)
-    room_by UpdateSent = omega arith
-    room_by MapSent = omega arith
+    room_by : (own : OwnCentral) → room_of_own own ≤ room_of_own (on_central_stage own_held_at_central own)
+    room_by (exclusive UpdateSent) = omega arith
+    room_by (exclusive MapSent) = omega arith
+    room_by (exclusive other) = omega arith
     room_by other = omega arith
 
     peer_by : (peer : PeerAtCentral) → room_of_peer peer ≤ room_of_peer (peer_held_at_central peer)
@@ -573,13 +602,14 @@ none_by (central c) waits is fit none gone =
 none_by (peripheral p) waits is fit none gone = absurd (cc)
 
 exclusive_own : (own : OwnCentral) (kind : Kind) → kind_at_central own ≡ Some kind → (is_exclusive kind || is_encrypt kind) ≡ true → excludes own ≡ true
-exclusive_own Idle kind is h = absurd (cc)
+exclusive_own (exclusive Idle) kind is h = absurd (cc)
 exclusive_own (exchange FeaturesUnsent) kind is h = absurd (cc)
 exclusive_own (exchange FeaturesSent) kind is h = absurd (cc)
 exclusive_own (exchange VersionUnsent) kind is h = absurd (cc)
 exclusive_own (exchange VersionSent) kind is h = absurd (cc)
 exclusive_own (exchange LengthUnsent) kind is h = absurd (cc)
 exclusive_own (exchange LengthSent) kind is h = absurd (cc)
+exclusive_own (exclusive other) kind is h = refl
 exclusive_own other kind is h = refl
 
 alone_by : (p : Progress) (kind : Kind) → role_of p ≡ central_role → IsAlone p → own_kind p ≡ Some kind → (is_exclusive kind || is_encrypt kind) ≡ true → has_peer p ≡ false

@@ -18,13 +18,15 @@ use Rattle.procedure_stages.specs.declared.stages.Ahead.{Ahead}
 use Rattle.procedure_stages.specs.declared.stages.Ahead.TheVariants.{Nothing as nothing_ahead, Update as update_ahead, Map as map_ahead}
 use Rattle.procedure_stages.specs.declared.stages.Exchange.TheVariants.{FeaturesUnsent, FeaturesSent, VersionUnsent, VersionSent, LengthUnsent, LengthSent}
 use Rattle.procedure_stages.specs.declared.stages.OwnCentral.{OwnCentral}
-use Rattle.procedure_stages.specs.declared.stages.OwnCentral.TheVariants.{Idle, Exchange as exchange, UpdateUnsent, UpdateSent, MapUnsent, MapSent, PhyUnsent, PhySent, PhyAnswered, PhyIndicated, EncryptUnsent, EncryptSent}
+use Rattle.procedure_stages.specs.declared.stages.OwnCentral.TheVariants.{Exclusive as exclusive, Exchange as exchange, EncryptUnsent, EncryptSent}
+use Rattle.exclusive_stages.specs.declared.stages.CentralStage.TheVariants.{Idle, UpdateUnsent, UpdateSent, MapUnsent, MapSent, PhyUnsent, PhySent, PhyAnswered, PhyIndicated}
 use Rattle.procedure_stages.specs.declared.stages.OwnPeripheral.{OwnPeripheral}
-use Rattle.procedure_stages.specs.declared.stages.OwnPeripheral.TheVariants.{Idle as idle}
-use Rattle.procedure_stages.specs.declared.stages.PeerAtCentral.{PeerAtCentral}
-use Rattle.procedure_stages.specs.declared.stages.PeerAtCentral.TheVariants.{Absent, HostAsked, GrantUnsent, PhyIndUnsent}
-use Rattle.procedure_stages.specs.declared.stages.PeerAtPeripheral.{PeerAtPeripheral}
-use Rattle.procedure_stages.specs.declared.stages.PeerAtPeripheral.TheVariants.{Absent as absent, UpdateTaken, MapTaken, PhyRspUnsent}
+use Rattle.procedure_stages.specs.declared.stages.OwnPeripheral.TheVariants.{Exclusive as exclusive_p}
+use Rattle.exclusive_stages.specs.declared.stages.PeripheralStage.TheVariants.{Idle as idle}
+use Rattle.exclusive_stages.specs.declared.stages.PeerAtCentral.{PeerAtCentral}
+use Rattle.exclusive_stages.specs.declared.stages.PeerAtCentral.TheVariants.{Absent, HostAsked, GrantUnsent, PhyIndUnsent}
+use Rattle.exclusive_stages.specs.declared.stages.PeerAtPeripheral.{PeerAtPeripheral}
+use Rattle.exclusive_stages.specs.declared.stages.PeerAtPeripheral.TheVariants.{Absent as absent, UpdateTaken, MapTaken, PhyRspUnsent}
 use Rattle.procedure_stages.specs.declared.stages.Central.{Central}
 use Rattle.procedure_stages.specs.declared.stages.Peripheral.{Peripheral}
 use Rattle.procedure_stages.specs.declared.stages.Progress.{Progress}
@@ -36,7 +38,8 @@ use Rattle.procedure_values.specs.Limits.{with_peer}
 use Rattle.procedures.specs.Table.{TableFacts}
 use Rattle.procedures.specs.Outcomes.{unchanged, moved, moved_and_answered, rejected, with_effect, with_done}
 use Rattle.procedures.specs.Update.{follow, followed, granted, update_begun}
-use Rattle.procedure_stages.specs.Awaited.{reads_as_answer, peer_answered, central_answered, awaits_phy_rsp, has_phy_of_central, awaits_phy_ind, awaits_features, awaits_lengths, is_own_encryption, is_version}
+use Rattle.procedure_stages.specs.Awaited.{awaits_features, awaits_lengths, is_own_encryption, is_version}
+use Rattle.exclusive_stages.specs.Awaited.{reads_as_answer, peer_answered, central_answered, awaits_phy_rsp, has_phy_of_central, awaits_phy_ind}
 use Rattle.procedures.specs.Request.{outlived, request_judged, request_taken}
 use Rattle.procedure_values.specs.Values.{are_valid}
 use Rattle.procedures.specs.Phy.{phy_answered, phy_req_at_central}
@@ -48,14 +51,16 @@ use Rattle.procedures.specs.Taking.{outcome_of, taken_by, taken_by_central, take
 use Rattle.table_laws.specs.Waiting.{count_if}
 use Rattle.table_laws.specs.Exclusive.{PeerMayBegin, MayComeTo, MayComeToCentral, MayComeToPeripheral, has_indication, is_of_exclusive}
 use Rattle.table_laws.proofs.Outcomes.{named, named_either}
+use Rattle.procedure_stages.specs.Exclusive.{central_stage, peripheral_stage}
 
 -- ---- the stages in which a PDU of such a procedure waits at a central
 
 abbrev pub room_of_own : OwnCentral → ℕ
-room_of_own UpdateUnsent = 1
-room_of_own MapUnsent = 1
-room_of_own PhyUnsent = 1
-room_of_own PhyAnswered = 1
+room_of_own (exclusive UpdateUnsent) = 1
+room_of_own (exclusive MapUnsent) = 1
+room_of_own (exclusive PhyUnsent) = 1
+room_of_own (exclusive PhyAnswered) = 1
+room_of_own (exclusive other) = 0
 room_of_own other = 0
 
 abbrev pub room_of_peer : PeerAtCentral → ℕ
@@ -69,8 +74,9 @@ room (peripheral p) = 0
 
 -- an own procedure beside which there is none of the peripheral
 abbrev pub excludes : OwnCentral → Bool
-excludes Idle = false
+excludes (exclusive Idle) = false
 excludes (exchange stage) = false
+excludes (exclusive other) = true
 excludes other = true
 
 abbrev pub is_indication : PeerAtPeripheral → Bool
@@ -101,12 +107,13 @@ pub record TookOne (progress : Progress) (o : Outcome) : Type 0 where
 
 -- ---- at a central
 
-refused_room : (own : OwnCentral) → is_some (opcode_at_central own) ≡ true → peer_answered own ≡ false → room_of_own own ≡ 0
+refused_room : (own : OwnCentral) → is_some (opcode_at_central own) ≡ true → peer_answered (central_stage own) ≡ false → room_of_own own ≡ 0
 refused_room (exchange stage) h unanswered = refl
-refused_room UpdateUnsent h unanswered = absurd (cc)
-refused_room MapUnsent h unanswered = absurd (cc)
-refused_room PhyUnsent h unanswered = absurd (cc)
-refused_room PhyAnswered h unanswered = absurd (cc)
+refused_room (exclusive UpdateUnsent) h unanswered = absurd (cc)
+refused_room (exclusive MapUnsent) h unanswered = absurd (cc)
+refused_room (exclusive PhyUnsent) h unanswered = absurd (cc)
+refused_room (exclusive PhyAnswered) h unanswered = absurd (cc)
+refused_room (exclusive other) h unanswered = refl
 refused_room other h unanswered = refl
 
 module _ (f : TableFacts) (c : Central) where
@@ -123,7 +130,7 @@ module _ (f : TableFacts) (c : Central) where
         alone = λ h. rw is h;
       }
 
-  idled : (o : Outcome) → o.progress ≡ central (record c { own = Idle }) → of_reply o.reply ≡ 0 → room_of_own c.own ≡ 0 → IsTook o
+  idled : (o : Outcome) → o.progress ≡ central (record c { own = exclusive Idle }) → of_reply o.reply ≡ 0 → room_of_own c.own ≡ 0 → IsTook o
   idled o is none empty =
       record {
         fits = λ waits. λ h. rw is (let less : waits ≤ room_of_own c.own + room_of_peer c.peer = h in omega (arith, less, none, empty));
@@ -134,7 +141,7 @@ module _ (f : TableFacts) (c : Central) where
   took_if true x y hx hy = hx refl
   took_if false x y hx hy = hy
 
-  refusal_c : (is_one : Bool) (code : ErrCode) → peer_answered c.own ≡ false → (is_one ≡ true → is_some (opcode_at_central c.own) ≡ true) → IsTook (refused_if is_one at_c code)
+  refusal_c : (is_one : Bool) (code : ErrCode) → peer_answered (central_stage c.own) ≡ false → (is_one ≡ true → is_some (opcode_at_central c.own) ≡ true) → IsTook (refused_if is_one at_c code)
   refusal_c true code unanswered h = idled _ refl refl (refused_room c.own (h refl) unanswered)
   refusal_c false code unanswered h = same_c _ refl refl
 
@@ -155,7 +162,7 @@ module _ (f : TableFacts) (c : Central) where
   encryption_room EncryptSent h = refl
   encryption_room other h = absurd (cc)
 
-  version_by : (b : Bool) (o : Outcome) → o.progress ≡ (if b then central (record c { own = Idle }) else central c) → of_reply o.reply ≡ 0
+  version_by : (b : Bool) (o : Outcome) → o.progress ≡ (if b then central (record c { own = exclusive Idle }) else central c) → of_reply o.reply ≡ 0
       → (b ≡ true → room_of_own c.own ≡ 0) → IsTook o
   version_by true o is none empty = idled o is none (empty refl)
   version_by false o is none empty = same_c o is none
@@ -165,21 +172,22 @@ module _ (f : TableFacts) (c : Central) where
   version_none false = refl
 
   secured_by : (ctrl : Ctrl) (b : Bool) → (b ≡ true → room_of_own c.own ≡ 0)
-      → IsTook (with_effect (cipher_effect ctrl) (if b then with_done Encrypt (moved at_c (central (record c { own = Idle }))) else unchanged at_c))
+      → IsTook (with_effect (cipher_effect ctrl) (if b then with_done Encrypt (moved at_c (central (record c { own = exclusive Idle }))) else unchanged at_c))
   secured_by ctrl true empty = idled _ refl refl (empty refl)
   secured_by ctrl false empty = same_c _ refl refl
 
-  answered_c : awaits_phy_rsp c.own ≡ true → IsTook (phy_answered at_c c)
+  answered_c : awaits_phy_rsp (central_stage c.own) ≡ true → IsTook (phy_answered at_c c)
   answered_c is = by c.own refl is
     where
-      by : (own : OwnCentral) → c.own ≡ own → awaits_phy_rsp own ≡ true → IsTook (phy_answered at_c c)
-      by PhySent own h =
+      by : (own : OwnCentral) → c.own ≡ own → awaits_phy_rsp (central_stage own) ≡ true → IsTook (phy_answered at_c c)
+      by (exclusive PhySent) own h =
           let empty : room_of_own c.own ≡ 0 = rw own refl in
           let excluded : excludes c.own ≡ true = rw own refl in
           record {
             fits = λ waits. λ fit. let less : waits ≤ room_of_own c.own + room_of_peer c.peer = fit in omega (arith, less, empty);
             alone = λ alone. λ is_excluded. alone excluded;
           }
+      by (exclusive other) own h = absurd (cc)
       by other own h = absurd (cc)
 
   -- the peripheral begins one: there was none of it
@@ -205,7 +213,7 @@ module _ (f : TableFacts) (c : Central) where
 
   request_c : (own : OwnCentral) (min max latency timeout : ℕ) → PeerMayBegin (with_own own)
       → TookOne (central (with_own own)) (request_taken (at_c f (with_own own)) (with_own own) min max latency timeout)
-  request_c Idle min max latency timeout may = judged_c f (with_own Idle) min max latency timeout may refl
+  request_c (exclusive Idle) min max latency timeout may = judged_c f (with_own (exclusive Idle)) min max latency timeout may refl
   request_c (exchange FeaturesUnsent) min max latency timeout may = judged_c f (with_own (exchange FeaturesUnsent)) min max latency timeout may refl
   request_c (exchange FeaturesSent) min max latency timeout may = judged_c f (with_own (exchange FeaturesSent)) min max latency timeout may refl
   request_c (exchange VersionUnsent) min max latency timeout may = judged_c f (with_own (exchange VersionUnsent)) min max latency timeout may refl
@@ -214,17 +222,17 @@ module _ (f : TableFacts) (c : Central) where
   request_c (exchange LengthSent) min max latency timeout may = judged_c f (with_own (exchange LengthSent)) min max latency timeout may refl
   request_c EncryptUnsent min max latency timeout may = absurd (let quiet = may.quiet in cc)
   request_c EncryptSent min max latency timeout may = absurd (let quiet = may.quiet in cc)
-  request_c UpdateUnsent min max latency timeout may = same_c f (with_own UpdateUnsent) _ refl refl
-  request_c UpdateSent min max latency timeout may = same_c f (with_own UpdateSent) _ refl refl
-  request_c MapUnsent min max latency timeout may = same_c f (with_own MapUnsent) _ refl refl
-  request_c MapSent min max latency timeout may = same_c f (with_own MapSent) _ refl refl
-  request_c PhyUnsent min max latency timeout may = same_c f (with_own PhyUnsent) _ refl refl
-  request_c PhySent min max latency timeout may = same_c f (with_own PhySent) _ refl refl
-  request_c PhyAnswered min max latency timeout may = same_c f (with_own PhyAnswered) _ refl refl
-  request_c PhyIndicated min max latency timeout may = same_c f (with_own PhyIndicated) _ refl refl
+  request_c (exclusive UpdateUnsent) min max latency timeout may = same_c f (with_own (exclusive UpdateUnsent)) _ refl refl
+  request_c (exclusive UpdateSent) min max latency timeout may = same_c f (with_own (exclusive UpdateSent)) _ refl refl
+  request_c (exclusive MapUnsent) min max latency timeout may = same_c f (with_own (exclusive MapUnsent)) _ refl refl
+  request_c (exclusive MapSent) min max latency timeout may = same_c f (with_own (exclusive MapSent)) _ refl refl
+  request_c (exclusive PhyUnsent) min max latency timeout may = same_c f (with_own (exclusive PhyUnsent)) _ refl refl
+  request_c (exclusive PhySent) min max latency timeout may = same_c f (with_own (exclusive PhySent)) _ refl refl
+  request_c (exclusive PhyAnswered) min max latency timeout may = same_c f (with_own (exclusive PhyAnswered)) _ refl refl
+  request_c (exclusive PhyIndicated) min max latency timeout may = same_c f (with_own (exclusive PhyIndicated)) _ refl refl
 
   phy_c : (own : OwnCentral) → PeerMayBegin (with_own own) → TookOne (central (with_own own)) (phy_req_at_central (at_c f (with_own own)) (with_own own))
-  phy_c Idle may = begun_c f (with_own Idle) _ PhyIndUnsent refl may refl refl
+  phy_c (exclusive Idle) may = begun_c f (with_own (exclusive Idle)) _ PhyIndUnsent refl may refl refl
   phy_c (exchange FeaturesUnsent) may = begun_c f (with_own (exchange FeaturesUnsent)) _ PhyIndUnsent refl may refl refl
   phy_c (exchange FeaturesSent) may = begun_c f (with_own (exchange FeaturesSent)) _ PhyIndUnsent refl may refl refl
   phy_c (exchange VersionUnsent) may = begun_c f (with_own (exchange VersionUnsent)) _ PhyIndUnsent refl may refl refl
@@ -233,14 +241,14 @@ module _ (f : TableFacts) (c : Central) where
   phy_c (exchange LengthSent) may = begun_c f (with_own (exchange LengthSent)) _ PhyIndUnsent refl may refl refl
   phy_c EncryptUnsent may = absurd (let quiet = may.quiet in cc)
   phy_c EncryptSent may = absurd (let quiet = may.quiet in cc)
-  phy_c UpdateUnsent may = same_c f (with_own UpdateUnsent) _ refl refl
-  phy_c UpdateSent may = same_c f (with_own UpdateSent) _ refl refl
-  phy_c MapUnsent may = same_c f (with_own MapUnsent) _ refl refl
-  phy_c MapSent may = same_c f (with_own MapSent) _ refl refl
-  phy_c PhyUnsent may = same_c f (with_own PhyUnsent) _ refl refl
-  phy_c PhySent may = same_c f (with_own PhySent) _ refl refl
-  phy_c PhyAnswered may = same_c f (with_own PhyAnswered) _ refl refl
-  phy_c PhyIndicated may = same_c f (with_own PhyIndicated) _ refl refl
+  phy_c (exclusive UpdateUnsent) may = same_c f (with_own (exclusive UpdateUnsent)) _ refl refl
+  phy_c (exclusive UpdateSent) may = same_c f (with_own (exclusive UpdateSent)) _ refl refl
+  phy_c (exclusive MapUnsent) may = same_c f (with_own (exclusive MapUnsent)) _ refl refl
+  phy_c (exclusive MapSent) may = same_c f (with_own (exclusive MapSent)) _ refl refl
+  phy_c (exclusive PhyUnsent) may = same_c f (with_own (exclusive PhyUnsent)) _ refl refl
+  phy_c (exclusive PhySent) may = same_c f (with_own (exclusive PhySent)) _ refl refl
+  phy_c (exclusive PhyAnswered) may = same_c f (with_own (exclusive PhyAnswered)) _ refl refl
+  phy_c (exclusive PhyIndicated) may = same_c f (with_own (exclusive PhyIndicated)) _ refl refl
 
   at_central : (quiet : Bool) (ctrl : Ctrl) → MayComeToCentral c ctrl → TookOne (central c) (taken_by_central (at_c f c) c quiet ctrl)
   at_central true (EncRsp skd_s iv_s) may = same_c f c _ refl refl
@@ -254,7 +262,7 @@ module _ (f : TableFacts) (c : Central) where
   at_central quiet (ConnectionParamReq min max latency timeout periodicity reference offsets) may = request_c c.own min max latency timeout may
   at_central quiet (phy_req_pdu tx rx) may = phy_c c.own may
   at_central quiet (phy_rsp_pdu tx rx) may =
-      took_if f c (awaits_phy_rsp c.own) (phy_answered (at_c f c) c) (unchanged (at_c f c)) (answered_c f c) (same_c f c _ refl refl)
+      took_if f c (awaits_phy_rsp (central_stage c.own)) (phy_answered (at_c f c) c) (unchanged (at_c f c)) (answered_c f c) (same_c f c _ refl refl)
   at_central quiet (unknown_pdu opcode) may =
       refusal_c f c (is_opcode (opcode_at_central c.own) opcode) (record { 0 = unsupported_remote_feature }) may (named (opcode_at_central c.own) opcode)
   at_central quiet (feature_pdu features) may =
@@ -311,31 +319,31 @@ module _ (f : TableFacts) (p : Peripheral) where
   after_grant_p false code other h = h
 
   refusal_p : (is_one : Bool) (code : ErrCode) → IsTookHere (refused_if is_one at_p code)
-  refusal_p true code = same_p _ idle refl
+  refusal_p true code = same_p _ (exclusive_p idle) refl
   refusal_p false code = same_p _ p.own refl
 
-  version_p : (b : Bool) (o : Outcome) → o.progress ≡ (if b then peripheral (record p { own = idle }) else peripheral p) → IsTookHere o
-  version_p true o is = same_p o idle is
+  version_p : (b : Bool) (o : Outcome) → o.progress ≡ (if b then peripheral (record p { own = exclusive_p idle }) else peripheral p) → IsTookHere o
+  version_p true o is = same_p o (exclusive_p idle) is
   version_p false o is = same_p o p.own is
 
-  update_p : (indication : Indication) → IsTookHere (follow at_p p.ahead update_ahead (if reads_as_answer p.own then granted at_p p indication else update_begun at_p p indication))
+  update_p : (indication : Indication) → IsTookHere (follow at_p p.ahead update_ahead (if reads_as_answer (peripheral_stage p.own) then granted at_p p indication else update_begun at_p p indication))
   update_p indication =
-      follow_p p.ahead update_ahead (if reads_as_answer p.own then granted at_p p indication else update_begun at_p p indication)
-      (if_p (reads_as_answer p.own) (granted at_p p indication) (update_begun at_p p indication)
+      follow_p p.ahead update_ahead (if reads_as_answer (peripheral_stage p.own) then granted at_p p indication else update_begun at_p p indication)
+      (if_p (reads_as_answer (peripheral_stage p.own)) (granted at_p p indication) (update_begun at_p p indication)
       (became_p _ _ refl (λ alone. record { phy = alone.phy; waits = λ h. refl }))
       (became_p _ _ refl (λ alone. record { phy = λ h. refl; waits = λ h. refl })))
 
   ind_p : (a b : Bool)
-      → IsTookHere (if a then moved at_p (peripheral (record p { peer = absent })) else (if b then with_done Phy (moved at_p (peripheral (record p { own = idle }))) else unchanged at_p))
+      → IsTookHere (if a then moved at_p (peripheral (record p { peer = absent })) else (if b then with_done Phy (moved at_p (peripheral (record p { own = exclusive_p idle }))) else unchanged at_p))
   ind_p true b = became_p _ _ refl (λ alone. record { phy = λ h. refl; waits = λ h. absurd (cc) })
-  ind_p false true = same_p _ idle refl
+  ind_p false true = same_p _ (exclusive_p idle) refl
   ind_p false false = same_p _ p.own refl
 
   at_peripheral : (quiet : Bool) (ctrl : Ctrl) → MayComeToPeripheral p ctrl → IsTookHere (taken_by_peripheral at_p p quiet ctrl)
   at_peripheral quiet (ConnectionUpdateInd win_size win_offset interval latency timeout instant) may =
       update_p (update_indication win_offset interval latency timeout instant)
   at_peripheral quiet (ChannelMapInd map instant) may =
-      after_grant_p (central_answered p.own) (collision (kind_at_peripheral p.own) map_kind)
+      after_grant_p (central_answered (peripheral_stage p.own)) (collision (kind_at_peripheral p.own) map_kind)
       (follow at_p p.ahead map_ahead (followed at_p (record p { peer = MapTaken }) map_ahead (map_indication map instant)))
       (follow_p p.ahead map_ahead (followed at_p (record p { peer = MapTaken }) map_ahead (map_indication map instant))
       (became_p _ _ refl (λ alone. record { phy = λ h. refl; waits = λ h. refl })))
@@ -346,15 +354,15 @@ module _ (f : TableFacts) (p : Peripheral) where
   at_peripheral true StartEncRsp may = same_p _ p.own refl
   at_peripheral false StartEncRsp may = became_p _ _ refl (λ alone. record { phy = λ h. absurd (cc); waits = alone.waits })
   at_peripheral quiet (phy_req_pdu tx rx) may =
-      after_grant_p (central_answered p.own) (collision (kind_at_peripheral p.own) Phy)
+      after_grant_p (central_answered (peripheral_stage p.own)) (collision (kind_at_peripheral p.own) Phy)
       (moved_and_answered at_p (peripheral (record p { peer = PhyRspUnsent })) PhyRsp)
       (became_p _ _ refl (λ alone. record { phy = λ h. absurd (cc); waits = λ h. absurd (cc) }))
-  at_peripheral quiet (PhyUpdateInd to_peripheral to_central instant) may = ind_p (has_phy_of_central p.peer) (awaits_phy_ind p.own)
+  at_peripheral quiet (PhyUpdateInd to_peripheral to_central instant) may = ind_p (has_phy_of_central p.peer) (awaits_phy_ind (peripheral_stage p.own))
   at_peripheral quiet (unknown_pdu opcode) may = refusal_p (is_opcode (first_opcode (peripheral p)) opcode) (record { 0 = unsupported_remote_feature })
   at_peripheral quiet (feature_pdu features) may =
       if_p (awaits_features (own_exchange (peripheral p)))
       (with_done Features (with_effect (PeerFeatures features) (moved at_p (without_own (peripheral p))))) (unchanged at_p)
-      (same_p _ idle refl) (same_p _ p.own refl)
+      (same_p _ (exclusive_p idle) refl) (same_p _ p.own refl)
   at_peripheral quiet (version_pdu version company sub) may = version_p (is_version (own_exchange (peripheral p))) _ refl
   at_peripheral quiet (RejectInd code) may = refusal_p (is_some (first_opcode (peripheral p))) (record { 0 = code })
   at_peripheral quiet (RejectExtInd opcode code) may =
@@ -362,7 +370,7 @@ module _ (f : TableFacts) (p : Peripheral) where
   at_peripheral quiet (length_pdu rx rx_time tx tx_time) may =
       if_p (awaits_lengths (own_exchange (peripheral p)))
       (with_done Length (with_lengths (with_peer f.lengths rx tx) (moved at_p (without_own (peripheral p))))) (unchanged at_p)
-      (same_p _ idle refl) (same_p _ p.own refl)
+      (same_p _ (exclusive_p idle) refl) (same_p _ p.own refl)
   at_peripheral quiet other may = same_p _ p.own refl
 
 -- ---- at either end

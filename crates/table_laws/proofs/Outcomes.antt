@@ -21,11 +21,13 @@ use Rattle.procedure_stages.specs.declared.stages.Ahead.TheVariants.{Nothing as 
 use Rattle.procedure_stages.specs.declared.stages.Exchange.{Exchange}
 use Rattle.procedure_stages.specs.declared.stages.Exchange.TheVariants.{FeaturesUnsent, FeaturesSent, VersionUnsent, VersionSent, LengthUnsent, LengthSent}
 use Rattle.procedure_stages.specs.declared.stages.OwnCentral.{OwnCentral}
-use Rattle.procedure_stages.specs.declared.stages.OwnCentral.TheVariants.{Idle, Exchange as exchange, UpdateUnsent, MapUnsent, PhyUnsent, PhySent, EncryptUnsent, EncryptSent}
+use Rattle.procedure_stages.specs.declared.stages.OwnCentral.TheVariants.{Exclusive as exclusive, Exchange as exchange, EncryptUnsent, EncryptSent}
+use Rattle.exclusive_stages.specs.declared.stages.CentralStage.TheVariants.{Idle, UpdateUnsent, MapUnsent, PhyUnsent, PhySent}
 use Rattle.procedure_stages.specs.declared.stages.OwnPeripheral.{OwnPeripheral}
-use Rattle.procedure_stages.specs.declared.stages.OwnPeripheral.TheVariants.{Idle as idle, Exchange as exchange_p, RequestUnsent, RequestAcknowledged, RequestGranted, PhyUnsent as phy_unsent, PhySent as phy_sent}
-use Rattle.procedure_stages.specs.declared.stages.PeerAtCentral.TheVariants.{Absent, HostAsked, PhyIndUnsent}
-use Rattle.procedure_stages.specs.declared.stages.PeerAtPeripheral.TheVariants.{Absent as absent, MapTaken, PhyRspUnsent}
+use Rattle.procedure_stages.specs.declared.stages.OwnPeripheral.TheVariants.{Exclusive as exclusive_p, Exchange as exchange_p}
+use Rattle.exclusive_stages.specs.declared.stages.PeripheralStage.TheVariants.{Idle as idle, RequestUnsent, RequestAcknowledged, RequestGranted, PhyUnsent as phy_unsent, PhySent as phy_sent}
+use Rattle.exclusive_stages.specs.declared.stages.PeerAtCentral.TheVariants.{Absent, HostAsked, PhyIndUnsent}
+use Rattle.exclusive_stages.specs.declared.stages.PeerAtPeripheral.TheVariants.{Absent as absent, MapTaken, PhyRspUnsent}
 use Rattle.procedure_stages.specs.declared.stages.Central.{Central}
 use Rattle.procedure_stages.specs.declared.stages.Peripheral.{Peripheral}
 use Rattle.procedure_stages.specs.declared.stages.Progress.{Progress}
@@ -37,7 +39,8 @@ use Rattle.procedure_values.specs.Limits.{with_peer}
 use Rattle.procedures.specs.Table.{TableFacts}
 use Rattle.procedures.specs.Outcomes.{unchanged, moved, moved_and_answered, rejected, with_effect, with_done}
 use Rattle.procedures.specs.Update.{follow, followed, granted, update_begun}
-use Rattle.procedure_stages.specs.Awaited.{reads_as_answer, peer_answered, central_answered, awaits_phy_rsp, has_phy_of_central, awaits_phy_ind, awaits_features, awaits_lengths, is_own_encryption, is_version}
+use Rattle.procedure_stages.specs.Awaited.{awaits_features, awaits_lengths, is_own_encryption, is_version}
+use Rattle.exclusive_stages.specs.Awaited.{reads_as_answer, peer_answered, central_answered, awaits_phy_rsp, has_phy_of_central, awaits_phy_ind}
 use Rattle.procedures.specs.Request.{collided, outlived, request_judged}
 use Rattle.procedure_values.specs.Values.{are_valid}
 use Rattle.procedures.specs.Phy.{phy_answered}
@@ -48,6 +51,7 @@ use Rattle.procedures.specs.Version.{version_reply}
 use Rattle.procedure_stages.specs.Steps.{asks_host}
 use Rattle.procedures.specs.Taking.{outcome_of, taken_by, taken_by_central, taken_by_either, taken_by_peripheral}
 use Rattle.table_laws.specs.Waiting.{is_asked, count_if}
+use Rattle.procedure_stages.specs.Exclusive.{central_stage, peripheral_stage}
 
 -- ---- the request of the own procedure may wait: its stage is the first, or it is an encryption
 
@@ -58,18 +62,18 @@ room_of_exchange other = 0
 
 abbrev pub room_at_central : OwnCentral → ℕ
 room_at_central (exchange stage) = room_of_exchange stage
-room_at_central UpdateUnsent = 1
-room_at_central MapUnsent = 1
-room_at_central PhyUnsent = 1
+room_at_central (exclusive UpdateUnsent) = 1
+room_at_central (exclusive MapUnsent) = 1
+room_at_central (exclusive PhyUnsent) = 1
 room_at_central EncryptUnsent = 1
 room_at_central EncryptSent = 1
-room_at_central other = 0
+room_at_central (exclusive other) = 0
 
 abbrev pub room_at_peripheral : OwnPeripheral → ℕ
 room_at_peripheral (exchange_p stage) = room_of_exchange stage
-room_at_peripheral RequestUnsent = 1
-room_at_peripheral phy_unsent = 1
-room_at_peripheral other = 0
+room_at_peripheral (exclusive_p RequestUnsent) = 1
+room_at_peripheral (exclusive_p phy_unsent) = 1
+room_at_peripheral (exclusive_p other) = 0
 
 abbrev pub own_room : Progress → ℕ
 own_room (central c) = room_at_central c.own
@@ -124,9 +128,10 @@ refused_central (exchange LengthUnsent) h = absurd (cc)
 refused_central (exchange FeaturesSent) h = omega arith
 refused_central (exchange VersionSent) h = omega arith
 refused_central (exchange LengthSent) h = omega arith
-refused_central UpdateUnsent h = absurd (cc)
-refused_central MapUnsent h = absurd (cc)
-refused_central PhyUnsent h = absurd (cc)
+refused_central (exclusive UpdateUnsent) h = absurd (cc)
+refused_central (exclusive MapUnsent) h = absurd (cc)
+refused_central (exclusive PhyUnsent) h = absurd (cc)
+refused_central (exclusive other) h = omega arith
 refused_central other h = omega arith
 
 refused_peripheral : (own : OwnPeripheral) → is_some (opcode_at_peripheral own) ≡ true → room_at_peripheral own ≤ 0
@@ -136,9 +141,9 @@ refused_peripheral (exchange_p LengthUnsent) h = absurd (cc)
 refused_peripheral (exchange_p FeaturesSent) h = omega arith
 refused_peripheral (exchange_p VersionSent) h = omega arith
 refused_peripheral (exchange_p LengthSent) h = omega arith
-refused_peripheral RequestUnsent h = absurd (cc)
-refused_peripheral phy_unsent h = absurd (cc)
-refused_peripheral other h = omega arith
+refused_peripheral (exclusive_p RequestUnsent) h = absurd (cc)
+refused_peripheral (exclusive_p phy_unsent) h = absurd (cc)
+refused_peripheral (exclusive_p other) h = omega arith
 
 pub named : (own : Option ℕ) (opcode : ℕ) → is_opcode own opcode ≡ true → is_some own ≡ true
 named None opcode h = absurd (cc)
@@ -155,11 +160,12 @@ named_either (central c) opcode h = by c.own h
     by (exchange FeaturesSent) h = refl
     by (exchange VersionSent) h = refl
     by (exchange LengthSent) h = refl
-    by Idle h = absurd (cc)
-    by UpdateUnsent h = absurd (cc)
-    by MapUnsent h = absurd (cc)
-    by PhyUnsent h = absurd (cc)
+    by (exclusive Idle) h = absurd (cc)
+    by (exclusive UpdateUnsent) h = absurd (cc)
+    by (exclusive MapUnsent) h = absurd (cc)
+    by (exclusive PhyUnsent) h = absurd (cc)
     by EncryptUnsent h = absurd (cc)
+    by (exclusive other) h = refl
     by other h = refl
 named_either (peripheral p) opcode h = by (opcode_at_peripheral p.own) h
   where
@@ -292,14 +298,15 @@ module _ (f : TableFacts) (c : Central) where
   encryption_over other h = absurd (cc)
 
   secured_by : (ctrl : Ctrl) (b : Bool) → (b ≡ true → room_at_central c.own ≤ count_if (is_own_encryption c.own))
-      → IsTook (with_effect (Cipher ctrl) (if b then with_done Encrypt (moved at_c (central (record c { own = Idle }))) else unchanged at_c))
+      → IsTook (with_effect (Cipher ctrl) (if b then with_done Encrypt (moved at_c (central (record c { own = exclusive Idle }))) else unchanged at_c))
   secured_by ctrl true over =
       let h = over refl in
       record { reply = refl; asks = λ key. omega arith; keeps = omega (arith, h); role = refl }
   secured_by ctrl false over = same_c _ refl refl
 
-  phy_over : (own : OwnCentral) → awaits_phy_rsp own ≡ true → room_at_central own ≤ count_if (is_own_encryption own)
-  phy_over PhySent h = omega arith
+  phy_over : (own : OwnCentral) → awaits_phy_rsp (central_stage own) ≡ true → room_at_central own ≤ count_if (is_own_encryption own)
+  phy_over (exclusive PhySent) h = omega arith
+  phy_over (exclusive other) h = absurd (cc)
   phy_over other h = absurd (cc)
 
   judged_c : (min max latency timeout : ℕ) → IsTook (request_judged at_c c min max latency timeout)
@@ -320,14 +327,14 @@ module _ (f : TableFacts) (c : Central) where
   at_central true StartEncRsp = same_c _ refl refl
   at_central false StartEncRsp = secured_by StartEncRsp (is_own_encryption c.own) (encryption_over c.own)
   at_central quiet (ConnectionParamReq min max latency timeout periodicity reference offsets) =
-      collided_c (peer_answered c.own) connection_param_req_opcode (collision (kind_at_central c.own) Request)
+      collided_c (peer_answered (central_stage c.own)) connection_param_req_opcode (collision (kind_at_central c.own) Request)
       (request_judged at_c c min max latency timeout) refl (judged_c min max latency timeout)
   at_central quiet (PhyReq tx rx) =
-      collided_c (peer_answered c.own) phy_req_opcode (collision (kind_at_central c.own) Phy)
+      collided_c (peer_answered (central_stage c.own)) phy_req_opcode (collision (kind_at_central c.own) Phy)
       (moved_and_answered at_c (central (record c { peer = PhyIndUnsent })) PhyInd) refl
       (record { reply = refl; asks = λ key. omega arith; keeps = omega arith; role = refl })
   at_central quiet (PhyRsp tx rx) =
-      took_if (central c) f.version_used (awaits_phy_rsp c.own) (phy_answered at_c c) (unchanged at_c)
+      took_if (central c) f.version_used (awaits_phy_rsp (central_stage c.own)) (phy_answered at_c c) (unchanged at_c)
       (λ h. let less = phy_over c.own h in record { reply = refl; asks = λ key. omega arith; keeps = omega (arith, less); role = refl })
       (same_c _ refl refl)
   at_central quiet (TerminateInd code) = either at_c (TerminateInd code)
@@ -364,24 +371,26 @@ module _ (f : TableFacts) (p : Peripheral) where
   after_grant_p true code other h = outlived_p code other h
   after_grant_p false code other h = h
 
-  answer_over : (own : OwnPeripheral) → reads_as_answer own ≡ true → room_at_peripheral own ≤ 0
-  answer_over RequestAcknowledged h = omega arith
-  answer_over RequestGranted h = omega arith
+  answer_over : (own : OwnPeripheral) → reads_as_answer (peripheral_stage own) ≡ true → room_at_peripheral own ≤ 0
+  answer_over (exclusive_p RequestAcknowledged) h = omega arith
+  answer_over (exclusive_p RequestGranted) h = omega arith
+  answer_over (exclusive_p other) h = absurd (cc)
   answer_over other h = absurd (cc)
 
-  phy_sent_over : (own : OwnPeripheral) → awaits_phy_ind own ≡ true → room_at_peripheral own ≤ 0
-  phy_sent_over phy_sent h = omega arith
+  phy_sent_over : (own : OwnPeripheral) → awaits_phy_ind (peripheral_stage own) ≡ true → room_at_peripheral own ≤ 0
+  phy_sent_over (exclusive_p phy_sent) h = omega arith
+  phy_sent_over (exclusive_p other) h = absurd (cc)
   phy_sent_over other h = absurd (cc)
 
-  update_p : (indication : Indication) → IsTookHere (follow at_p p.ahead update_ahead (if reads_as_answer p.own then granted at_p p indication else update_begun at_p p indication))
+  update_p : (indication : Indication) → IsTookHere (follow at_p p.ahead update_ahead (if reads_as_answer (peripheral_stage p.own) then granted at_p p indication else update_begun at_p p indication))
   update_p indication =
-      follow_p p.ahead update_ahead (if reads_as_answer p.own then granted at_p p indication else update_begun at_p p indication)
-      (took_if (peripheral p) f.version_used (reads_as_answer p.own) (granted at_p p indication) (update_begun at_p p indication)
+      follow_p p.ahead update_ahead (if reads_as_answer (peripheral_stage p.own) then granted at_p p indication else update_begun at_p p indication)
+      (took_if (peripheral p) f.version_used (reads_as_answer (peripheral_stage p.own)) (granted at_p p indication) (update_begun at_p p indication)
       (λ h. let less = answer_over p.own h in record { reply = refl; asks = λ key. omega arith; keeps = omega (arith, less); role = refl })
       (record { reply = refl; asks = λ key. omega arith; keeps = omega arith; role = refl }))
 
   ind_p : (a b : Bool) → (b ≡ true → room_at_peripheral p.own ≤ 0)
-      → IsTookHere (if a then moved at_p (peripheral (record p { peer = absent })) else (if b then with_done Phy (moved at_p (peripheral (record p { own = idle }))) else unchanged at_p))
+      → IsTookHere (if a then moved at_p (peripheral (record p { peer = absent })) else (if b then with_done Phy (moved at_p (peripheral (record p { own = exclusive_p idle }))) else unchanged at_p))
   ind_p true b over = record { reply = refl; asks = λ key. omega arith; keeps = omega arith; role = refl }
   ind_p false true over = let less = over refl in record { reply = refl; asks = λ key. omega arith; keeps = omega (arith, less); role = refl }
   ind_p false false over = same_p _ refl refl
@@ -390,7 +399,7 @@ module _ (f : TableFacts) (p : Peripheral) where
   at_peripheral quiet (ConnectionUpdateInd win_size win_offset interval latency timeout instant) =
       update_p (update_indication win_offset interval latency timeout instant)
   at_peripheral quiet (ChannelMapInd map instant) =
-      after_grant_p (central_answered p.own) (collision (kind_at_peripheral p.own) Map)
+      after_grant_p (central_answered (peripheral_stage p.own)) (collision (kind_at_peripheral p.own) Map)
       (follow at_p p.ahead map_ahead (followed at_p (record p { peer = MapTaken }) map_ahead (map_indication map instant)))
       (follow_p p.ahead map_ahead (followed at_p (record p { peer = MapTaken }) map_ahead (map_indication map instant))
       (record { reply = refl; asks = λ key. omega arith; keeps = omega arith; role = refl }))
@@ -401,11 +410,11 @@ module _ (f : TableFacts) (p : Peripheral) where
   at_peripheral true StartEncRsp = same_p _ refl refl
   at_peripheral false StartEncRsp = record { reply = refl; asks = λ key. omega arith; keeps = omega arith; role = refl }
   at_peripheral quiet (PhyReq tx rx) =
-      after_grant_p (central_answered p.own) (collision (kind_at_peripheral p.own) Phy)
+      after_grant_p (central_answered (peripheral_stage p.own)) (collision (kind_at_peripheral p.own) Phy)
       (moved_and_answered at_p (peripheral (record p { peer = PhyRspUnsent })) phy_rsp)
       (record { reply = refl; asks = λ key. omega arith; keeps = omega arith; role = refl })
   at_peripheral quiet (PhyUpdateInd to_peripheral to_central instant) =
-      ind_p (has_phy_of_central p.peer) (awaits_phy_ind p.own) (phy_sent_over p.own)
+      ind_p (has_phy_of_central p.peer) (awaits_phy_ind (peripheral_stage p.own)) (phy_sent_over p.own)
   at_peripheral quiet (TerminateInd code) = either at_p (TerminateInd code)
   at_peripheral quiet (UnknownRsp opcode) = either at_p (UnknownRsp opcode)
   at_peripheral quiet (FeatureRsp features) = either at_p (FeatureRsp features)

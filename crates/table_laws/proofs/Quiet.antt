@@ -24,8 +24,8 @@ use Rattle.procedure_stages.specs.Closing.{is_open}
 use Rattle.procedure_stages.specs.Kinds.{begins, kind_at_central, own_kind, role_of, without_own}
 use Rattle.procedure_values.specs.Asks.{kind_of_ask}
 use Rattle.procedure_stages.specs.Queue.{QueueFacts, with_reply, without_next}
-use Rattle.procedure_stages.specs.declared.stages.PeerAtCentral.{PeerAtCentral}
-use Rattle.procedure_stages.specs.declared.stages.PeerAtCentral.TheVariants.{Absent}
+use Rattle.exclusive_stages.specs.declared.stages.PeerAtCentral.{PeerAtCentral}
+use Rattle.exclusive_stages.specs.declared.stages.PeerAtCentral.TheVariants.{Absent}
 use Rattle.procedure_stages.specs.declared.steps.Effect.TheVariants.{Cipher as CipherEffect}
 use Rattle.procedures.specs.Encryption.{cipher_at_central, start_rsp_at_central}
 use Rattle.procedures.specs.Outcomes.{moved, unchanged, with_done, with_effect}
@@ -33,7 +33,8 @@ use Rattle.procedures.specs.Refusals.{refused_if}
 use Rattle.procedures.specs.declared.outcome.Outcome.{Outcome}
 use Rattle.procedure_stages.specs.declared.stages.Central.{Central}
 use Rattle.procedure_stages.specs.declared.stages.OwnCentral.{OwnCentral}
-use Rattle.procedure_stages.specs.declared.stages.OwnCentral.TheVariants.{EncryptSent, EncryptUnsent, Exchange as exchange, Idle}
+use Rattle.procedure_stages.specs.declared.stages.OwnCentral.TheVariants.{Exclusive as exclusive, EncryptSent, EncryptUnsent, Exchange as exchange}
+use Rattle.exclusive_stages.specs.declared.stages.CentralStage.TheVariants.{Idle}
 use Rattle.procedure_stages.specs.declared.stages.Progress.{Progress}
 use Rattle.procedure_stages.specs.declared.stages.Progress.TheVariants.{Central as central, Peripheral as peripheral}
 use Rattle.procedure_stages.specs.declared.steps.Step.{Step}
@@ -44,11 +45,15 @@ use Rattle.procedures.specs.Calls.{Call, after_call, after_calls, asks, begins_o
 use Rattle.procedures.specs.Going.{host_answer_step, owe_step}
 use Rattle.procedures.specs.Queue.{next_of}
 use Rattle.procedures.specs.Table.{TableFacts, first_facts}
-use Rattle.procedure_stages.specs.Acked.{central_acked, phy_ind_of_peer_acknowledged, progress_acked}
-use Rattle.procedure_stages.specs.Held.{peer_held_at_central, progress_held}
-use Rattle.procedure_stages.specs.InProgress.{has_peer, has_peer_at_central, is_host_asked, is_host_asked_at_central}
-use Rattle.procedure_stages.specs.Sent.{peer_sent_by_central, progress_after_sending}
-use Rattle.procedure_values.specs.Drafts.{is_phy_ind}
+use Rattle.procedure_stages.specs.Acked.{central_acked, progress_acked}
+use Rattle.exclusive_stages.specs.Acked.{peer_acked_at_central}
+use Rattle.exclusive_stages.specs.declared.pdus.Pdu.{Pdu}
+use Rattle.exclusive_stages.specs.declared.pdus.Pdu.TheVariants.{PhyInd as PhyIndPdu}
+use Rattle.procedure_stages.specs.Held.{progress_held}
+use Rattle.exclusive_stages.specs.Held.{peer_held_at_central}
+use Rattle.procedure_stages.specs.InProgress.{has_peer, is_host_asked}
+use Rattle.exclusive_stages.specs.Kinds.{has_peer_at_central, is_host_asked_at_central}
+use Rattle.procedure_stages.specs.Sent.{peer_draft_sent_by_central, progress_after_sending}
 use Rattle.procedures.specs.Encryption.{progress_given}
 use Rattle.procedures.specs.Taking.{facts_with, lacks_room, outcome_of, taken_by, taken_by_central, took_step}
 use Rattle.table_laws.specs.Exclusive.{AllKeepRules}
@@ -64,6 +69,7 @@ use Rattle.table_laws.proofs.Encrypting.{begins_by}
 use Rattle.table_laws.proofs.Kept.{Kept}
 use Rattle.table_laws.proofs.Numbers.{number-push}
 use Rattle.table_laws.proofs.Outcomes.{is_answer, is_reply, took}
+use Rattle.procedure_stages.specs.Exclusive.{pdu_of_draft, pdu_of_outgoing}
 
 -- ---- drafts that pass a test, in a queue that changes
 
@@ -553,7 +559,7 @@ module _ (f : TableFacts) (c : Central) (is : f.progress ≡ central c) (absent 
   cipher_none false ctrl = record { reply = refl; peer = subst (λ (p : Progress). HasNoPeer p) (sym is) absent }
 
   secured_none : (ctrl : Ctrl) (b : Bool)
-      → IsUnanswered (with_effect (CipherEffect ctrl) (if b then with_done Encrypt (moved f (central (record c { own = Idle }))) else unchanged f))
+      → IsUnanswered (with_effect (CipherEffect ctrl) (if b then with_done Encrypt (moved f (central (record c { own = exclusive Idle }))) else unchanged f))
   secured_none ctrl true = record { reply = refl; peer = absent }
   secured_none ctrl false = record { reply = refl; peer = subst (λ (p : Progress). HasNoPeer p) (sym is) absent }
 
@@ -610,24 +616,28 @@ takes_meanwhile f read slot quiet none may =
     (record { others = reply_meanwhile f.closing o.reply f.queue un.reply; peer = un.peer })
 
 -- the procedures of the peripheral, where there are none
-sent_peer : (d : Draft) → peer_sent_by_central d Absent ≡ Absent
+sent_peer : (d : Draft) → peer_draft_sent_by_central (pdu_of_draft d) Absent ≡ Absent
 sent_peer (Grant params) = refl
 sent_peer PhyInd = refl
 sent_peer d = refl
 
 sent_none : (out : Outgoing) (event skips : ℕ) (p : Progress) → HasNoPeer p → HasNoPeer (progress_after_sending out event skips p)
-sent_none (Other d) event skips (central c) none = ap (peer_sent_by_central d) none ∙ sent_peer d
+sent_none (Other d) event skips (central c) none = ap (peer_draft_sent_by_central (pdu_of_draft d)) none ∙ sent_peer d
 sent_none (Other d) event skips (peripheral p) none = none
 sent_none Nothing event skips p none = none
 sent_none (Rejection rejection) event skips p none = none
 sent_none (Disconnect code) event skips p none = none
 
 acked_none : (out : Outgoing) (p : Progress) → HasNoPeer p → HasNoPeer (progress_acked out p)
-acked_none out (central c) none = by (is_phy_ind out)
+acked_none out (central c) none = by (pdu_of_outgoing out)
   where
-    by : (b : Bool) → HasNoPeer (central (central_acked b c))
-    by true = ap phy_ind_of_peer_acknowledged none
-    by false = none
+    absent_stays : (pdu : Pdu) → peer_acked_at_central pdu Absent ≡ Absent
+    absent_stays PhyIndPdu = refl
+    absent_stays pdu = refl
+
+    by : (pdu : Option Pdu) → HasNoPeer (central (central_acked pdu c))
+    by (Some pdu) = ap (peer_acked_at_central pdu) none ∙ absent_stays pdu
+    by None = none
 acked_none out (peripheral p) none = absurd none
 
 held_none : (p : Progress) → HasNoPeer p → HasNoPeer (progress_held p)

@@ -10,9 +10,11 @@ use Rattle.procedure_stages.specs.declared.reply.Reply.{Reply}
 use Rattle.procedure_stages.specs.declared.reply.Reply.TheVariants.{Nothing as no_reply, Reject, Answer}
 use Rattle.procedure_stages.specs.declared.stages.Exchange.TheVariants.{FeaturesUnsent, FeaturesSent, VersionUnsent, VersionSent, LengthUnsent, LengthSent}
 use Rattle.procedure_stages.specs.declared.stages.OwnCentral.{OwnCentral}
-use Rattle.procedure_stages.specs.declared.stages.OwnCentral.TheVariants.{Exchange as exchange, EncryptUnsent, EncryptSent}
+use Rattle.exclusive_stages.specs.declared.stages.CentralStage.TheVariants.{Idle, UpdateUnsent, UpdateSent, MapUnsent, MapSent, PhyUnsent, PhySent, PhyAnswered, PhyIndicated}
+use Rattle.exclusive_stages.specs.declared.stages.PeripheralStage.TheVariants.{Idle as idle, RequestUnsent, RequestSent, RequestAcknowledged, RequestGranted, PhyUnsent as phy_unsent, PhySent as phy_sent}
+use Rattle.procedure_stages.specs.declared.stages.OwnCentral.TheVariants.{Exclusive as exclusive, Exchange as exchange, EncryptUnsent, EncryptSent}
 use Rattle.procedure_stages.specs.declared.stages.OwnPeripheral.{OwnPeripheral}
-use Rattle.procedure_stages.specs.declared.stages.OwnPeripheral.TheVariants.{Exchange as exchange_p}
+use Rattle.procedure_stages.specs.declared.stages.OwnPeripheral.TheVariants.{Exclusive as exclusive_p, Exchange as exchange_p}
 use Rattle.procedure_stages.specs.declared.stages.Progress.{Progress}
 use Rattle.procedure_stages.specs.declared.stages.Progress.TheVariants.{Central as central, Peripheral as peripheral}
 use Rattle.procedure_stages.specs.declared.steps.Effect.{Effect}
@@ -94,7 +96,15 @@ keeps_room p p' waits less keeps may = by (encrypts p) refl
         central_by (exchange VersionSent) h = absurd (cc)
         central_by (exchange LengthUnsent) h = absurd (cc)
         central_by (exchange LengthSent) h = absurd (cc)
-        central_by other h = absurd (cc)
+        central_by (exclusive Idle) h = absurd (cc)
+        central_by (exclusive UpdateUnsent) h = absurd (cc)
+        central_by (exclusive UpdateSent) h = absurd (cc)
+        central_by (exclusive MapUnsent) h = absurd (cc)
+        central_by (exclusive MapSent) h = absurd (cc)
+        central_by (exclusive PhyUnsent) h = absurd (cc)
+        central_by (exclusive PhySent) h = absurd (cc)
+        central_by (exclusive PhyAnswered) h = absurd (cc)
+        central_by (exclusive PhyIndicated) h = absurd (cc)
     encrypt_room (peripheral q) h = peripheral_by q.own h
       where
         peripheral_by : (own : OwnPeripheral) → kind_at_peripheral own ≡ Some Encrypt → room_at_peripheral own ≡ 1
@@ -104,7 +114,13 @@ keeps_room p p' waits less keeps may = by (encrypts p) refl
         peripheral_by (exchange_p VersionSent) h = absurd (cc)
         peripheral_by (exchange_p LengthUnsent) h = absurd (cc)
         peripheral_by (exchange_p LengthSent) h = absurd (cc)
-        peripheral_by other h = absurd (cc)
+        peripheral_by (exclusive_p idle) h = absurd (cc)
+        peripheral_by (exclusive_p RequestUnsent) h = absurd (cc)
+        peripheral_by (exclusive_p RequestSent) h = absurd (cc)
+        peripheral_by (exclusive_p RequestAcknowledged) h = absurd (cc)
+        peripheral_by (exclusive_p RequestGranted) h = absurd (cc)
+        peripheral_by (exclusive_p phy_unsent) h = absurd (cc)
+        peripheral_by (exclusive_p phy_sent) h = absurd (cc)
 
     at_most : waits ≤ 1
     at_most = let one = one_room p in omega (arith, less, one)

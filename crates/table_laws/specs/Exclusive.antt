@@ -8,14 +8,16 @@ use Rattle.procedure_values.specs.declared.drafts.Draft.TheVariants.{Update, Gra
 use Rattle.procedure_stages.specs.declared.stages.Ahead.{Ahead}
 use Rattle.procedure_stages.specs.declared.stages.Ahead.TheVariants.{Nothing}
 use Rattle.procedure_stages.specs.declared.stages.Central.{Central}
-use Rattle.procedure_stages.specs.declared.stages.PeerAtCentral.TheVariants.{Absent}
+use Rattle.exclusive_stages.specs.declared.stages.PeerAtCentral.TheVariants.{Absent}
 use Rattle.procedure_stages.specs.declared.stages.Peripheral.{Peripheral}
 use Rattle.procedure_stages.specs.declared.stages.Progress.{Progress}
 use Rattle.procedure_stages.specs.declared.stages.Progress.TheVariants.{Central as central, Peripheral as peripheral}
 use Rattle.procedures.specs.Table.{TableFacts}
-use Rattle.procedure_stages.specs.Awaited.{has_phy_of_central, peer_answered, is_own_encryption}
+use Rattle.procedure_stages.specs.Awaited.{is_own_encryption}
+use Rattle.exclusive_stages.specs.Awaited.{has_phy_of_central, peer_answered}
 use Rattle.procedures.specs.Calls.{Call, takes, after_call}
 use Rattle.table_laws.specs.Waiting.{number_of}
+use Rattle.procedure_stages.specs.Exclusive.{central_stage}
 
 -- ---- the PDUs of a central in these procedures
 
@@ -48,7 +50,7 @@ pub record PeerMayBegin (c : Central) : Type 0 where
 
 -- it refuses no procedure of which it has sent a PDU
 abbrev pub PeerMayRefuse : Central → Type 0
-PeerMayRefuse c = peer_answered c.own ≡ false
+PeerMayRefuse c = peer_answered (central_stage c.own) ≡ false
 
 abbrev pub MayComeToCentral : Central → Ctrl → Type 0
 MayComeToCentral c (ConnectionParamReq min max latency timeout periodicity reference offsets) = PeerMayBegin c

@@ -9,7 +9,7 @@ use Rattle.procedure_stages.specs.declared.stages.Progress.{Progress}
 use Rattle.procedure_stages.specs.declared.stages.Progress.TheVariants.{Central, Peripheral}
 use Rattle.procedures.specs.Table.{TableFacts}
 use Rattle.procedure_stages.specs.Closing.{is_open}
-use Rattle.procedure_stages.specs.InProgress.{is_host_asked_at_central}
+use Rattle.exclusive_stages.specs.Kinds.{is_host_asked_at_central}
 use Rattle.procedure_stages.specs.Queue.{count_of_disconnect}
 
 abbrev pub count_if : Bool → ℕ

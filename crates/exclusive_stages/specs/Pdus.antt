@@ -1,11 +1,18 @@
 -- The procedures that exclude each other, and their PDUs (Core 5.2, volume 6 part B, section 5.3).
 use Rattle.std.specs.Prelude.{Bool, true, false, Option, Some, None}
-use Rattle.collisions.specs.declared.pdus.Exclusive.{Exclusive}
-use Rattle.collisions.specs.declared.pdus.Exclusive.TheVariants.{Update, Request, Map, Phy}
-use Rattle.collisions.specs.declared.pdus.Reason.{Reason}
-use Rattle.collisions.specs.declared.pdus.Reason.TheVariants.{SameKind, OtherKind}
-use Rattle.collisions.specs.declared.pdus.Pdu.{Pdu}
-use Rattle.collisions.specs.declared.pdus.Pdu.TheVariants.{UpdateInd, GrantInd, MapInd, PhyReq, ParamReq, RejectParam, RejectPhy}
+use Rattle.exclusive_stages.specs.declared.pdus.Exclusive.{Exclusive}
+use Rattle.exclusive_stages.specs.declared.pdus.Exclusive.TheVariants.{Update, Request, Map, Phy}
+use Rattle.exclusive_stages.specs.declared.pdus.Reason.{Reason}
+use Rattle.exclusive_stages.specs.declared.pdus.Reason.TheVariants.{SameKind, OtherKind}
+use Rattle.exclusive_stages.specs.declared.pdus.Pdu.{Pdu}
+use Rattle.exclusive_stages.specs.declared.pdus.Pdu.TheVariants.{UpdateInd, GrantInd, MapInd, PhyReq, ParamReq, RejectParam, RejectPhy}
+
+abbrev pub is_kind : Option Exclusive → Exclusive → Bool
+is_kind (Some Update) Update = true
+is_kind (Some Request) Request = true
+is_kind (Some Map) Map = true
+is_kind (Some Phy) Phy = true
+is_kind kind other = false
 
 -- the error of a collision: 23 where the kinds are the same, else 2A (section 5.3)
 abbrev pub reason_of : Exclusive → Exclusive → Reason

@@ -1,7 +1,7 @@
 //! The procedures that exclude each other, and their PDUs.
 ghost use Rattle.std.specs.Prelude.{◌≡◌};
-ghost use Rattle.collisions.specs.Pdus.{reason_of, rejection_of, first_pdu_of, first_kind};
-ghost use Rattle.collisions.specs.Pdus.{is_timed, is_held_back, is_request};
+ghost use Rattle.exclusive_stages.specs.Pdus.{reason_of, rejection_of, first_pdu_of, first_kind};
+ghost use Rattle.exclusive_stages.specs.Pdus.{is_timed, is_held_back, is_request, is_kind};
 
 /// The procedures of which at most one may be in progress at a time: each is incompatible with each
 /// of them (Core 5.2, volume 6 part B, section 5.3).
@@ -55,22 +55,37 @@ pub enum Pdu {
     Refusal,
 }
 
-/// The error of a collision of two kinds.
-pub(crate) fn collision_reason(own: Exclusive, other: Exclusive) -> Reason
-    ensures { result ≡ reason_of own other }
-{
-    match (own, other) {
-        (Exclusive::Update, Exclusive::Update)
-        | (Exclusive::Request, Exclusive::Request)
-        | (Exclusive::Map, Exclusive::Map)
-        | (Exclusive::Phy, Exclusive::Phy) => Reason::SameKind,
-        _ => Reason::OtherKind,
+impl Exclusive {
+    /// Whether there is such a procedure and it is of this kind.
+    pub fn is_of(self, kind: Option<Exclusive>) -> bool
+        ensures { result ≡ is_kind kind self }
+    {
+        matches!(
+            (kind, self),
+            (Some(Exclusive::Update), Exclusive::Update)
+                | (Some(Exclusive::Request), Exclusive::Request)
+                | (Some(Exclusive::Map), Exclusive::Map)
+                | (Some(Exclusive::Phy), Exclusive::Phy)
+        )
+    }
+
+    /// The error of a collision of a procedure of this kind with another.
+    pub fn collision(self, other: Exclusive) -> Reason
+        ensures { result ≡ reason_of self other }
+    {
+        match (self, other) {
+            (Exclusive::Update, Exclusive::Update)
+            | (Exclusive::Request, Exclusive::Request)
+            | (Exclusive::Map, Exclusive::Map)
+            | (Exclusive::Phy, Exclusive::Phy) => Reason::SameKind,
+            _ => Reason::OtherKind,
+        }
     }
 }
 
 impl Pdu {
     /// The rejection of a procedure of the peripheral.
-    pub(crate) fn rejection(kind: Exclusive, reason: Reason) -> Pdu
+    pub fn rejection(kind: Exclusive, reason: Reason) -> Pdu
         ensures { result ≡ rejection_of kind reason }
     {
         match kind {
@@ -80,7 +95,7 @@ impl Pdu {
     }
 
     /// The first PDU of a procedure.
-    pub(crate) fn first(kind: Exclusive) -> Pdu
+    pub fn first(kind: Exclusive) -> Pdu
         ensures { result ≡ first_pdu_of kind }
     {
         match kind {
@@ -92,7 +107,7 @@ impl Pdu {
     }
 
     /// The procedure of the peripheral that this PDU begins.
-    pub(crate) fn begins(self) -> Option<Exclusive>
+    pub fn begins(self) -> Option<Exclusive>
         ensures { result ≡ first_kind self }
     {
         match self {
@@ -103,21 +118,21 @@ impl Pdu {
     }
 
     /// Whether it has an instant.
-    pub(crate) fn is_timed(self) -> bool
+    pub fn is_timed(self) -> bool
         ensures { result ≡ is_timed self }
     {
         matches!(self, Pdu::UpdateInd | Pdu::GrantInd | Pdu::MapInd)
     }
 
     /// Whether a central sends it only after the instant of its last indication.
-    pub(crate) fn is_held_back(self) -> bool
+    pub fn is_held_back(self) -> bool
         ensures { result ≡ is_held_back self }
     {
         self.is_timed() || matches!(self, Pdu::PhyReq)
     }
 
     /// Whether it is LL_CONNECTION_PARAM_REQ.
-    pub(crate) fn is_request(self) -> bool
+    pub fn is_request(self) -> bool
         ensures { result ≡ is_request self }
     {
         matches!(self, Pdu::ParamReq)

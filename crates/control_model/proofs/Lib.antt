@@ -1,0 +1,8 @@
+-- The lemmas of this crate.
+pub mod Calls
+pub mod Central
+pub mod Indicating
+pub mod Moving
+pub mod Outcomes
+pub mod Sending
+pub mod Waiting

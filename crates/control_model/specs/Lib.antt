@@ -1,0 +1,4 @@
+-- The definitions of this crate.
+pub mod Control
+pub mod Waits
+pub mod Worked
