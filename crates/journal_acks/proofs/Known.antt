@@ -25,12 +25,11 @@ use Rattle.run_laws.proofs.TwoEnds.{all_agree}
 use Rattle.run_laws.proofs.TwoStations.{are_two as of_both}
 use Rattle.journal_links.specs.Begun.{LinkBegun, links_begun, with_number}
 use Rattle.journal_links.specs.Opened.{central_side}
-use Rattle.journal_links.proofs.Numbered.{other_of}
 use Rattle.journal_packets.specs.Belonging.{first_number}
 use Rattle.journal_packets.proofs.AccessOrder.{AreNth, first_is, sent_ordered}
 use Rattle.journal_links.proofs.LineNotes.{lines_of_end}
 use Rattle.journal_links.proofs.LinkLines.{fresh}
-use Rattle.journal_links.proofs.OfTwo.{are_distinct, of_two_stations, two_apart}
+use Rattle.journal_links.proofs.OfTwo.{are_distinct, of_two_stations, other_of, two_apart}
 use Rattle.journal_packets.proofs.SentLinks.{IsOfTwo, begun_are_sent, link_begun, links_sent, sent_at}
 use Rattle.journal_packets.proofs.SoFar.{IsBelongingSoFar, belonging_kept, sends_on_its_link}
 use Rattle.journal_acks.proofs.Counting.{AreKnown, IsBegun}
@@ -45,11 +44,11 @@ module _ (history : List Event) (number station : ℕ) (end : EndSetup) (two : E
   place = (links_of has.has.before).begun
 
   abbrev link : LinkBegun
-  link = link_begun sent.sender (turns_begun has.has.before) sent.fields
+  link = link_begun sent.sender has.has.before sent.ch_sel sent.fields
 
-  at_place : slice_get (links_sent 0 history) place ≡ Some link
+  at_place : slice_get (links_sent [] history) place ≡ Some link
   at_place =
-      ap (λ (h : List Event). slice_get (links_sent 0 h) place) has.has.is_at
+      ap (λ (h : List Event). slice_get (links_sent [] h) place) has.has.is_at
       ∙ sent_at has.has.before has.has.after sent.sender sent.channel sent.octets sent.hearings sent.from sent.to sent.ch_sel sent.fields has.has.on_channel has.has.says
 
   next_number : number ≡ suc place
@@ -77,8 +76,8 @@ module _ (history : List Event) (number station : ℕ) (end : EndSetup) (two : E
   fits_first nth apart given taken octets one begins =
       ap (λ s. first_number s octets 1 (links_begun (journal_of history))) (sym (sender_side end.link.role one has.has.is_at_end))
       ∙ ap (first_number (side_of sent.sender) octets 1) (begun_are_sent history two)
-      ∙ first_is nth apart (side_of sent.sender) (setup_at given sent.sender).cursor (connects_sent sent.sender []) 1 place octets (links_sent 0 history) link
-      (sent_ordered given sent.sender sender_one 0 [] history two taken) at_place (side_same sent.sender) (begins ∙ ap (λ f. access_octets f.access) (sym has.has.fields_are))
+      ∙ first_is nth apart (side_of sent.sender) (setup_at given sent.sender).cursor (connects_sent sent.sender []) 1 place octets (links_sent [] history) link
+      (sent_ordered given sent.sender sender_one [] history two taken) at_place (side_same sent.sender) (begins ∙ ap (λ f. access_octets f.access) (sym has.has.fields_are))
       ∙ ap Some (let is = has.number_is in omega (arith, is))
 
 pub known_of : IsUnderstood → AreTaken → AreNth → AreApart → (given : Given) → given.stations ≡ 0 ∷ 1 ∷ [] → HaveAddresses given → AreKnown given (IsBelongingSoFar given)

@@ -1,27 +1,25 @@
 -- Each line of an end that enters an event is in the turn of the anchor of the event, on its channel.
-use Rattle.std.proofs.Common.{◌≡◌, ℕ, suc, ◌+◌, ◌*◌, ◌||◌, Bool, true, false, List, [], ◌∷◌, ◌++◌, length, map, Some, refl, sym, ap, subst, ◌∙◌, append_assoc, arith}
+use Rattle.std.proofs.Common.{◌≡◌, ℕ, zero, suc, ◌+◌, ◌*◌, Bool, true, List, [], ◌∷◌, ◌++◌, length, map, Some, refl, sym, ap, subst, ◌∙◌, arith}
 use Rattle.std.specs.Prelude.{if◌then◌else◌}
 use Rattle.std.specs.List.{Contains}
-use Rattle.std.proofs.lemmas.List.Elements.{Contains-append_left, Contains-append_right, Contains-push}
-use Rattle.std.proofs.lemmas.List.Folds.{list_any-append}
-use Rattle.ble_base.specs.declared.notes.Note.{Note}
-use Rattle.ble_base.specs.declared.notes.Note.TheVariants.{Up as UpNote, Enter as EnterNote}
 use Rattle.ble_base.specs.declared.roles.Side.{Side}
 use Rattle.chan_select.specs.Channel.{channel_of}
 use Rattle.chan_select.specs.declared.selection.Algorithm.TheVariants.{One, Two}
+use Rattle.instants.specs.declared.indications.Params.{Params}
+use Rattle.instants.specs.Parameters.{anchor_in as anchor_by}
 use Rattle.journal.specs.declared.entries.Entry.{Entry}
 use Rattle.journal.specs.declared.entries.Entry.TheVariants.{Enter}
 use Rattle.link_model.specs.Events.{anchor_of, channel_after}
-use Rattle.link_model.specs.Setup.{Setup}
+use Rattle.link_model.specs.Setup.{Setup, first_params}
 use Rattle.controller_model.specs.Entering.{begins_turn}
 use Rattle.controller_model.specs.Side.{notes_after}
 use Rattle.controller_model.specs.Step.{Step, HostOctet, TurnBegins, PacketHeard, NothingHeard, TurnEnds}
 use Rattle.controller_model.proofs.Entries.{enters_as_turns_begin, enters_at_anchors}
 use Rattle.radio_replay.specs.Script.{Script}
 use Rattle.run_model.specs.Due.{IsCallDue, IsDue}
-use Rattle.run_model.specs.History.{Event, TurnBegan, HostFed, Called, Noted, Transmitted, past_of, turns_begun}
-use Rattle.run_model.specs.Journal.{entries_of, entry_of, journal_from, journal_of, side_of}
-use Rattle.run_model.specs.Links.{Links, links_of}
+use Rattle.run_model.specs.History.{Called, Noted, past_of, turns_begun}
+use Rattle.run_model.specs.Journal.{journal_from, journal_of}
+use Rattle.run_model.specs.Links.{links_of}
 use Rattle.run_model.specs.NoteLines.{enter_line}
 use Rattle.run_model.specs.OnAir.{ends_phase}
 use Rattle.run_model.specs.Pair.{given_of}
@@ -67,20 +65,38 @@ channel_two end event two =
     ap (channel_after end) (one_more event)
     ∙ ap (λ b. channel_of (if b then Two end.link.fields.access else One end.link.fields.hop) event end.link.fields.map) two
 
-module _ {journal : List Entry} {number station : ℕ} {end : Setup} (of : IsLinkOf journal number station end) where
-  same_anchor : (event : ℕ) → anchor_of end event ≡ anchor_in of.link event
-  same_anchor event = sym (λ i. of.slot_is i + 2 + (of.fields_are i).win_offset + event * (of.fields_are i).interval)
+next_anchor : (slot interval event : ℕ) → slot + event * interval + interval + 0 ≡ slot + suc event * interval
+next_anchor slot interval event = omega arith
 
-  same_channel : (event : ℕ) → end.link.two ≡ true → channel_after end (event + 1) ≡ channel_in of.link event
+first_anchor : (slot interval : ℕ) → slot ≡ slot + 0 * interval
+first_anchor slot interval = omega arith
+
+-- with no change, each next event is an interval later
+pub plain_anchor : (slot : ℕ) (first : Params) (event : ℕ) → anchor_by slot first [] event ≡ slot + event * first.interval
+plain_anchor slot first zero = first_anchor slot first.interval
+plain_anchor slot first (suc event) =
+    ap (λ n. n + first.interval + 0) (plain_anchor slot first event) ∙ next_anchor slot first.interval event
+
+pub plain_anchors : (link : LinkBegun) (event : ℕ) → anchor_in link [] event ≡ link.slot + 2 + link.fields.win_offset + event * link.fields.interval
+plain_anchors link event = plain_anchor (link.slot + 2 + link.fields.win_offset) (first_params link.fields) event
+
+module _ {journal : List Entry} {number station : ℕ} {end : Setup} (of : IsLinkOf journal number station end) where
+  same_anchor : (event : ℕ) → anchor_of end event ≡ anchor_in of.link [] event
+  same_anchor event =
+      sym (plain_anchors of.link event ∙ (λ i. of.slot_is i + 2 + (of.fields_are i).win_offset + event * (of.fields_are i).interval))
+
+  same_channel : (event : ℕ) → end.link.two ≡ true → channel_after end (event + 1) ≡ channel_in of.link [] event
   same_channel event two =
-      channel_two end event two ∙ sym (λ i. channel_of (Two (of.fields_are i).access) event (of.fields_are i).map)
+      channel_two end event two
+      ∙ sym (ap (λ b. channel_of (if b then Two of.link.fields.access else One of.link.fields.hop) event of.link.fields.map) of.offers_two
+      ∙ (λ i. channel_of (Two (of.fields_are i).access) event (of.fields_are i).map))
 
   still_link : (front more : List Entry) → front ≡ journal ++ more → link_numbered number front ≡ Some of.link
   still_link front more is = ap (link_numbered number) is ∙ number_stays number journal more of.link of.is_link
 
-  entered_in_time : (front : List Entry) (slot event channel : ℕ) → link_numbered number front ≡ Some of.link → length (turns_of front) ≡ slot + 1
-      → slot ≡ anchor_of end event → channel ≡ channel_after end (event + 1) → end.link.two ≡ true → IsEnteredInTime front number event channel
-  entered_in_time front slot event channel is_link turns at_anchor on_channel two = record {
+  entered_in_time : (front : List Entry) (side : Side) (slot event channel : ℕ) → link_numbered number front ≡ Some of.link → length (turns_of front) ≡ slot + 1
+      → slot ≡ anchor_of end event → channel ≡ channel_after end (event + 1) → end.link.two ≡ true → IsEnteredInTime front side number event channel
+  entered_in_time front side slot event channel is_link turns at_anchor on_channel two = record {
     link = of.link;
     is_link = is_link;
     in_turn = turns ∙ ap (λ n. n + 1) (at_anchor ∙ same_anchor event);
@@ -94,7 +110,7 @@ module _ (understood : IsUnderstood) (taken : AreTaken) (a b : List ℕ) (script
   given = given_of a b script
 
   pub enter_in_time : (front rest : List Entry) (side : Side) (number event channel : ℕ)
-      → journal_of (history_of (run_of given)) ≡ front ++ Enter side number event channel ∷ rest → IsEnteredInTime front number event channel
+      → journal_of (history_of (run_of given)) ≡ front ++ Enter side number event channel ∷ rest → IsEnteredInTime front side number event channel
   enter_in_time front rest side number event channel is =
       let line = enter_line side number event channel in
       let call = line_in_call given front rest (Enter side number event channel) line refl is in
@@ -112,7 +128,7 @@ module _ (understood : IsUnderstood) (taken : AreTaken) (a b : List ℕ) (script
       let in_it = each_at (OfStations given) (history_of (run_of given)) base call.after called (run_of_stations given) call.called in
       let numbered = numbered_at understood taken given base call.after called distinct addresses call.called refl station handle entered.link entered.is_open in
       let known = (links_of base).link_of station handle in
-      let of = link_of_number a b script base (called ∷ call.after) known station entered.link.setup call.called in_it numbered in
+      let of = link_of_number understood a b script six six_too base (called ∷ call.after) known station entered.link.setup call.called in_it numbered in
       let two = link_two understood given base (called ∷ call.after) station handle entered.link distinct addresses in_it call.called entered.is_open in
       let due = subst (IsCallDue given base station) turn.is
       (each_at (IsDue given) (history_of (run_of given)) base call.after called (run_due given).each call.called) in
@@ -120,8 +136,8 @@ module _ (understood : IsUnderstood) (taken : AreTaken) (a b : List ℕ) (script
       let front_more = call.front_is ∙ ap journal_of call.before_is ∙ journal_more base noted in
       let turns = ap (λ entries. length (turns_of entries)) call.front_is ∙ turns_are call.before ∙ ap turns_begun call.before_is
       ∙ turns_called station call.step call.earlier base in
-      subst (λ n. IsEnteredInTime front n event channel) (number_then given front line call (ap ends_phase turn.is))
-      (entered_in_time {end = entered.link.setup} of front turn.slot event channel (still_link {end = entered.link.setup} of front (journal_from (links_of base) noted) front_more)
+      subst (λ n. IsEnteredInTime front side n event channel) (number_then given front line call (ap ends_phase turn.is))
+      (entered_in_time {end = entered.link.setup} of front side turn.slot event channel (still_link {end = entered.link.setup} of front (journal_from (links_of base) noted) front_more)
       (turns ∙ due.slot_is) entered.at_anchor entered.on_its_channel two)
 
 -- ---- both lines
@@ -132,11 +148,11 @@ one_link number journal front later rest last one other is is_too here there =
     let same : Some one ≡ Some other =
     sym (number_stays number front rest one here) ∙ ap (link_numbered number) (sym is ∙ is_too) ∙ number_stays number later last other there in cc
 
-pub in_one_turn : (number event channel too : ℕ) (journal front later rest last : List Entry) → journal ≡ front ++ rest → journal ≡ later ++ last
-    → IsEnteredInTime front number event channel → IsEnteredInTime later number event too
+pub in_one_turn : (side far : Side) (number event channel too : ℕ) (journal front later rest last : List Entry) → journal ≡ front ++ rest → journal ≡ later ++ last
+    → IsEnteredInTime front side number event channel → IsEnteredInTime later far number event too
     → (length (turns_of front) ≡ length (turns_of later)) × (channel ≡ too)
-in_one_turn number event channel too journal front later rest last is is_too one other =
+in_one_turn side far number event channel too journal front later rest last is is_too one other =
     let same = one_link number journal front later rest last one.link other.link is is_too one.is_link other.is_link in (
-      one.in_turn ∙ ap (λ link. anchor_in link event + 1) same ∙ sym other.in_turn,
-      one.on_channel ∙ ap (λ link. channel_in link event) same ∙ sym other.on_channel,
+      one.in_turn ∙ ap (λ link. anchor_in link [] event + 1) same ∙ sym other.in_turn,
+      one.on_channel ∙ ap (λ link. channel_in link [] event) same ∙ sym other.on_channel,
     )

@@ -1,5 +1,6 @@
 -- The lemmas of this crate.
 pub mod LinksBegun
+pub mod Offers
 pub mod Numbered
 pub mod EnterLines
 pub mod OpenedLines

@@ -1,24 +1,28 @@
 -- The links of a journal with more entries, and how many there are.
 use Rattle.std.proofs.Common.{◌≡◌, ℕ, zero, suc, ◌+◌, ◌-◌, ◌&&◌, Bool, true, false, Option, Some, None, List, [], ◌∷◌, ◌++◌, length, refl, sym, ap, subst, ◌∙◌, append-nil, append_assoc, length-append, arith}
 use Rattle.std.specs.Prelude.{fold, slice_get, if◌then◌else◌}
+use Rattle.ble_base.specs.Side.{other_side}
 use Rattle.ble_base.specs.declared.notes.Note.{Note}
 use Rattle.ble_base.specs.declared.notes.Note.TheVariants.{Up, Opened}
 use Rattle.ble_base.specs.declared.roles.Side.{Side}
+use Rattle.ble_base.specs.declared.verdicts.Verdict.{Verdict}
 use Rattle.adv_pdu.specs.declared.pdu.AdvPdu.{AdvPdu}
 use Rattle.adv_pdu.specs.declared.pdu.AdvPdu.TheVariants.{Connect}
 use Rattle.journal.specs.declared.entries.Entry.{Entry}
+use Rattle.journal.specs.declared.entries.Entry.TheVariants.{Air}
+use Rattle.journal.specs.declared.entries.Mark.{Mark}
 use Rattle.controller_model.specs.Packets.{pdu_heard}
 use Rattle.radio_replay.specs.Script.{Script}
 use Rattle.run_model.specs.Due.{Each}
 use Rattle.run_model.specs.History.{Event, TurnBegan, HostFed, Called, Noted, Transmitted}
-use Rattle.run_model.specs.Journal.{entry_of, journal_from, journal_of, side_of}
+use Rattle.run_model.specs.Journal.{entry_of, journal_from, journal_of, mark_of, side_of}
 use Rattle.run_model.specs.Links.{Links, begins_link, first_links, is_advertising, is_connect_ind, links_after, links_noted, links_of, with_link}
 use Rattle.run_model.specs.Pair.{given_of}
-use Rattle.run_model.specs.Readers.{pair_openings_in, turns_of}
+use Rattle.run_model.specs.Readers.{turns_of}
 use Rattle.run_model.specs.Run.{Given, history_of, run_of}
 use Rattle.run_model.proofs.Fates.{FatesBefore, HasOneOther, pair_other, run_fated}
 use Rattle.run_model.proofs.Journals.{each_front}
-use Rattle.journal_links.specs.Begun.{LinkBegun, begun_by, begun_in, link_numbered, links_begun, links_from, with_number}
+use Rattle.journal_links.specs.Begun.{LinkBegun, begun_by, begun_in, is_offered, link_numbered, links_begun, links_from, offers_in, with_number}
 
 -- ---- more entries
 
@@ -28,21 +32,17 @@ add_zero n = omega arith
 zero_add : (n : ℕ) → 0 + n ≡ n
 zero_add n = omega arith
 
-three : (a b c : ℕ) → a + b + c ≡ a + (b + c)
-three a b c = omega arith
+links_append : (before front rest : List Entry) → links_from before (front ++ rest) ≡ links_from before front ++ links_from (before ++ front) rest
+links_append before [] rest = ap (λ xs. links_from xs rest) (sym (append-nil before))
+links_append before (entry ∷ front) rest =
+    let next = before ++ entry ∷ [] in
+    ap (λ links. begun_in before entry ++ links) (links_append next front rest)
+    ∙ sym (append_assoc (begun_in before entry) (links_from next front) (links_from (next ++ front) rest))
+    ∙ ap (λ xs. (begun_in before entry ++ links_from next front) ++ links_from xs rest) (append_assoc before (entry ∷ []) front)
 
-links_append : (turns : ℕ) (front rest : List Entry) → links_from turns (front ++ rest) ≡ links_from turns front ++ links_from (turns + length (turns_of front)) rest
-links_append turns [] rest = ap (λ n. links_from n rest) (add_zero turns)
-links_append turns (entry ∷ front) rest =
-    let openings = pair_openings_in entry in
-    ap (λ links. begun_in turns entry ++ links) (links_append (turns + length openings) front rest)
-    ∙ sym (append_assoc (begun_in turns entry) (links_from (turns + length openings) front) (links_from (turns + length openings + length (turns_of front)) rest))
-    ∙ ap (λ n. (begun_in turns entry ++ links_from (turns + length openings) front) ++ links_from n rest)
-    (three turns (length openings) (length (turns_of front)) ∙ ap (λ n. turns + n) (sym (length-append openings (turns_of front))))
-
-pub links_more : (front rest : List Entry) → links_begun (front ++ rest) ≡ links_begun front ++ links_from (length (turns_of front)) rest
+pub links_more : (front rest : List Entry) → links_begun (front ++ rest) ≡ links_begun front ++ links_from front rest
 unfolding links_begun
-links_more front rest = links_append 0 front rest ∙ ap (λ n. links_from 0 front ++ links_from n rest) (zero_add (length (turns_of front)))
+links_more front rest = links_append [] front rest
 
 -- ---- the link with a number
 
@@ -58,7 +58,7 @@ number_more (suc number) links more link is = get_more links more number link is
 -- the link with a number stays so
 pub number_stays : (number : ℕ) (front rest : List Entry) (link : LinkBegun) → link_numbered number front ≡ Some link → link_numbered number (front ++ rest) ≡ Some link
 number_stays number front rest link is =
-    ap (with_number number) (links_more front rest) ∙ number_more number (links_begun front) (links_from (length (turns_of front)) rest) link is
+    ap (with_number number) (links_more front rest) ∙ number_more number (links_begun front) (links_from front rest) link is
 
 pub get_next : (links more : List LinkBegun) (link : LinkBegun) → slice_get (links ++ link ∷ more) (length links) ≡ Some link
 get_next [] more link = refl
@@ -72,24 +72,25 @@ number_next links more link (suc number) is =
 
 -- ---- how many links there are
 
-pdu_counts : (side : Side) (slot : ℕ) (pdu : Option AdvPdu) → length (begun_by side slot pdu) ≡ (if is_connect_ind pdu then 1 else 0)
-pdu_counts side slot None = refl
-pdu_counts side slot (Some (Connect from to ch_sel fields)) = refl
-pdu_counts side slot (Some other) = refl
+pdu_counts : (side : Side) (slot : ℕ) (offered : Bool) (pdu : Option AdvPdu) → length (begun_by side slot offered pdu) ≡ (if is_connect_ind pdu then 1 else 0)
+pdu_counts side slot offered None = refl
+pdu_counts side slot offered (Some (Connect from to ch_sel fields)) = refl
+pdu_counts side slot offered (Some other) = refl
 
-channel_counts : (side : Side) (slot : ℕ) (pdu : Option AdvPdu) (on : Bool)
-    → length (if on then begun_by side slot pdu else []) ≡ (if on && is_connect_ind pdu then 1 else 0)
-channel_counts side slot pdu true = pdu_counts side slot pdu
-channel_counts side slot pdu false = refl
+channel_counts : (side : Side) (slot : ℕ) (offered : Bool) (pdu : Option AdvPdu) (on : Bool)
+    → length (if on then begun_by side slot offered pdu else []) ≡ (if on && is_connect_ind pdu then 1 else 0)
+channel_counts side slot offered pdu true = pdu_counts side slot offered pdu
+channel_counts side slot offered pdu false = refl
 
-packet_counts : (side : Side) (slot channel : ℕ) (octets : List ℕ)
-    → length (if is_advertising channel then begun_by side slot (pdu_heard channel octets) else []) ≡ (if begins_link channel octets then 1 else 0)
+packet_counts : (front : List Entry) (side : Side) (channel : ℕ) (octets : List ℕ) (mark : Mark) (verdict : Verdict)
+    → length (begun_in front (Air side channel octets mark verdict)) ≡ (if begins_link channel octets then 1 else 0)
 unfolding begins_link
-packet_counts side slot channel octets = channel_counts side slot (pdu_heard channel octets) (is_advertising channel)
+packet_counts front side channel octets mark verdict =
+    channel_counts side (length (turns_of front) - 1) (is_offered (offers_in (other_side side) front)) (pdu_heard channel octets) (is_advertising channel)
 
-note_begins : (turns : ℕ) (side : Side) (link : ℕ → ℕ) (last : ℕ) (note : Note) → begun_in turns (entry_of side link last note) ≡ []
-note_begins turns side link last (Up packet) = refl
-note_begins turns side link last note = refl
+pub note_begins : (front : List Entry) (side : Side) (link : ℕ → ℕ) (last : ℕ) (note : Note) → begun_in front (entry_of side link last note) ≡ []
+note_begins front side link last (Up packet) = refl
+note_begins front side link last note = refl
 
 note_counts : (station : ℕ) (note : Note) (links : Links) → (links_noted station note links).begun ≡ links.begun
 note_counts station (Opened handle role own peer) links = refl
@@ -104,37 +105,39 @@ begun_if true links more = refl
 begun_if false links more = refl
 
 -- each packet has one hearing, and so one entry
-count_from : (given : Given) → HasOneOther given → (links : Links) (turns : ℕ) (before history : List Event) → Each (FatesBefore given) before history
-    → length (links_from turns (journal_from links history)) + links.begun ≡ (fold links_after links history).begun
-count_from given one links turns before [] each = zero_add links.begun
-count_from given one links turns before (TurnBegan slot radios ∷ history) each = count_from given one links (turns + 1) _ history each.1
-count_from given one links turns before (HostFed station octets ∷ history) each = count_from given one links (turns + 0) _ history each.1
-count_from given one links turns before (Called station step ∷ history) each = count_from given one links turns _ history each.1
-count_from given one links turns before (Noted station note ∷ history) each =
+count_from : (given : Given) → HasOneOther given → (links : Links) (front : List Entry) (before history : List Event) → Each (FatesBefore given) before history
+    → length (links_from front (journal_from links history)) + links.begun ≡ (fold links_after links history).begun
+count_from given one links front before [] each = zero_add links.begun
+count_from given one links front before (TurnBegan slot radios ∷ history) each = count_from given one links _ _ history each.1
+count_from given one links front before (HostFed station octets ∷ history) each = count_from given one links _ _ history each.1
+count_from given one links front before (Called station step ∷ history) each = count_from given one links front _ history each.1
+count_from given one links front before (Noted station note ∷ history) each =
     let entry = entry_of (side_of station) (links.link_of station) (links.last_of station) note in
     let next = links_noted station note links in
-    let after = turns + length (pair_openings_in entry) in
+    let after = front ++ entry ∷ [] in
     ap (λ more. length (more ++ links_from after (journal_from next history)) + links.begun)
-    (note_begins turns (side_of station) (links.link_of station) (links.last_of station) note)
+    (note_begins front (side_of station) (links.link_of station) (links.last_of station) note)
     ∙ ap (λ n. length (links_from after (journal_from next history)) + n) (sym (note_counts station note links))
     ∙ count_from given one next after _ history each.1
-count_from given one links turns before (Transmitted station channel octets [] ∷ history) each =
+count_from given one links front before (Transmitted station channel octets [] ∷ history) each =
     absurd (let h : 0 ≡ 1 = (each.0 one).1 in omega (arith, h))
-count_from given one links turns before (Transmitted station channel octets (hearing ∷ hearings) ∷ history) each =
+count_from given one links front before (Transmitted station channel octets (hearing ∷ hearings) ∷ history) each =
     let event = Transmitted station channel octets (hearing ∷ hearings) in
     let next = links_after links event in
-    let begun = if is_advertising channel then begun_by (side_of station) (turns - 1) (pdu_heard channel octets) else [] in
-    let rest = links_from (turns + 0) (journal_from next history) in
+    let entry = Air (side_of station) channel octets (mark_of hearing.fate) hearing.verdict in
+    let begun = begun_in front entry in
+    let after = front ++ entry ∷ [] in
+    let rest = links_from after (journal_from next history) in
     let begins = begins_link channel octets in
-    ap (λ n. n + links.begun) (length-append begun rest ∙ ap (λ n. n + length rest) (packet_counts (side_of station) (turns - 1) channel octets))
+    ap (λ n. n + links.begun) (length-append begun rest ∙ ap (λ n. n + length rest) (packet_counts front (side_of station) channel octets (mark_of hearing.fate) hearing.verdict))
     ∙ add_by begins (length rest) links.begun
     ∙ ap (λ n. length rest + n) (sym (begun_if begins links (with_link station (hearing ∷ hearings) links)))
-    ∙ count_from given one next (turns + 0) _ history each.1
+    ∙ count_from given one next after _ history each.1
 
 count_is : (given : Given) → HasOneOther given → (history : List Event) → Each (FatesBefore given) [] history
     → length (links_begun (journal_of history)) ≡ (links_of history).begun
 unfolding links_begun journal_of links_of
-count_is given one history each = add_zero _ ∙ count_from given one first_links 0 [] history each
+count_is given one history each = add_zero _ ∙ count_from given one first_links [] [] history each
 
 -- what is known of the packets up to a place of a run of a pair
 pub fated_before : (a b : List ℕ) (script : Script) (before rest : List Event) → history_of (run_of (given_of a b script)) ≡ before ++ rest

@@ -2,6 +2,7 @@
 use Rattle.std.proofs.Common.{◌≡◌, ◌≢◌, ℕ, ◌==◌, ◌⊎◌, inl, inr, true, false, [], ◌∷◌, refl, sym, ap, subst, ◌∙◌}
 use Rattle.std.specs.List.{IsDistinct}
 use Rattle.std.proofs.lemmas.Bool.{eqb-false}
+use Rattle.ble_base.specs.Side.{other_side}
 use Rattle.ble_base.specs.declared.roles.Side.TheVariants.{A, B}
 use Rattle.run_model.specs.Feeding.{AreDistinct}
 use Rattle.run_model.specs.Journal.{side_of}
@@ -26,3 +27,10 @@ two_apart given are station is = λ other is_too differs. by other differs (of_t
     by other differs (inl a) (inr b) = λ same. absurd (let h : A ≡ B = sym (ap side_of a) ∙ same ∙ ap side_of b in absurd cc)
     by other differs (inr a) (inl b) = λ same. absurd (let h : B ≡ A = sym (ap side_of a) ∙ same ∙ ap side_of b in absurd cc)
     by other differs (inr a) (inr b) = absurd (eqb-false station other differs (a ∙ sym b))
+
+-- two stations of a pair that are not one are of two sides
+pub other_of : (one other : ℕ) → (one ≡ 0) ⊎ (one ≡ 1) → (other ≡ 0) ⊎ (other ≡ 1) → one ≢ other → side_of one ≡ other_side (side_of other)
+other_of one other (inl first) (inl second) differs = absurd (differs (first ∙ sym second))
+other_of one other (inl first) (inr second) differs = ap side_of first ∙ ap (λ n. other_side (side_of n)) (sym second)
+other_of one other (inr first) (inl second) differs = ap side_of first ∙ ap (λ n. other_side (side_of n)) (sym second)
+other_of one other (inr first) (inr second) differs = absurd (differs (first ∙ sym second))

@@ -66,7 +66,7 @@ module _ (understood : IsUnderstood) (taken : AreTaken) (a b : List ℕ) (script
       let opening = opening_at understood taken given before after station handle role own peer (pair_distinct a b script)
       (pair_addresses a b script six six_too) at in
       let in_it = each_at (OfStations given) (history_of (run_of given)) before after event (run_of_stations given) at in
-      let of = link_of_number a b script before (event ∷ after) last station opening.end at in_it opening.has in record {
+      let of = link_of_number understood a b script six six_too before (event ∷ after) last station opening.end at in_it opening.has in record {
         link = of.link;
         is_link = ap (λ n. link_numbered n front) number_is ∙ ap (link_numbered last) front_is ∙ of.is_link;
         central_is = of.central_is ∙ ap (λ (one : Role). central_side one (side_of station)) opening.role_is ∙ ap (central_side role) (sym side_is);

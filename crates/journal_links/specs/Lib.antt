@@ -1,5 +1,6 @@
 -- The definitions of this crate.
 pub mod Begun
+pub mod Changes
 pub mod Entered
 pub mod LinkLines
 pub mod Opened

@@ -1,13 +1,16 @@
 //! Laws of the journal of each run of a pair about its lines of links. The bodies only call the
 //! laws that they rest on: the contracts are the laws.
-ghost use Rattle.std.specs.Prelude.{◌≡◌, ℕ, true, false, Some, List, [], ◌∷◌, ◌++◌, length};
+ghost use Rattle.std.specs.Prelude.{◌≡◌, ℕ, ◌+◌, ◌*◌, if◌then◌else◌, true, false, Some, List, [], ◌∷◌, ◌++◌, length};
 ghost use Rattle.std.specs.List.{Contains};
 ghost use Rattle.ble_base.specs.declared.roles.Role.{Role};
 ghost use Rattle.ble_base.specs.declared.roles.Side.{Side};
+ghost use Rattle.chan_select.specs.Channel.{channel_of};
+ghost use Rattle.chan_select.specs.declared.selection.Algorithm.TheVariants.{One, Two};
 ghost use Rattle.controller_model.specs.Since.{notes_opened_on, was_opened};
 ghost use Rattle.journal.specs.declared.entries.Entry.{Entry};
 ghost use Rattle.journal.specs.declared.entries.Entry.TheVariants.{Enter, Opened};
-ghost use Rattle.journal_links.specs.Entered.{IsEnteredInTime};
+ghost use Rattle.journal_links.specs.Begun.{LinkBegun};
+ghost use Rattle.journal_links.specs.Entered.{IsEnteredInTime, anchor_in, channel_in};
 ghost use Rattle.journal_links.specs.LinkLines.{AreLinesOf, IsOfItsNotes};
 ghost use Rattle.journal_links.specs.Opened.{IsOpenedInTime};
 ghost use Rattle.journal_links.specs.Procedures.{NoneNamesAProcedure};
@@ -23,19 +26,33 @@ ghost use Rattle.run_model.specs.Readers.{turns_of};
 ghost use Rattle.run_model.specs.Run.{Given, facts_at, history_of, run_of};
 
 /// Each line of an end that enters an event of a link is in the turn of the anchor of that
-/// event, and its channel is that of the event, by channel selection algorithm #2: both follow from
-/// the CONNECT_IND of the link alone (Core 5.2, volume 6 part B, sections 4.5.1, 4.5.3 and 4.5.8).
+/// event, and its channel is that of the event: both follow from the CONNECT_IND of the link, the
+/// advertisement that it answers and the changes of its parameters in force, of which there are none
+/// (Core 5.2, volume 6 part B, sections 4.5.1, 4.5.3 and 4.5.8).
 pub fn each_enter_line_is_at_its_anchor()
     ensures { (a b : List ℕ) (script : Script) (front rest : List Entry) (side : Side)
         (number event channel : ℕ)
         → length script.a.public ≡ 6 → length script.b.public ≡ 6
         → journal_of (history_of (run_of (given_of a b script)))
         ≡ front ++ Enter side number event channel ∷ rest
-        → IsEnteredInTime front number event channel }
+        → IsEnteredInTime front side number event channel }
 {
     controller_model::a_pdu_is_understood();
     advertise::laws::connections_are_taken();
 }
+
+/// Where no change of its parameters is in force, the events of a link are those of its
+/// CONNECT_IND: each next anchor comes an interval later, and the map is the one that it has (Core
+/// 5.2, volume 6 part B, sections 4.5.1, 4.5.3 and 4.5.8).
+pub fn without_changes_events_follow_the_connect_ind()
+    ensures anchor { (link : LinkBegun) (event : ℕ)
+        → anchor_in link [] event
+        ≡ link.slot + 2 + link.fields.win_offset + event * link.fields.interval }
+    ensures channel { (link : LinkBegun) (event : ℕ)
+        → channel_in link [] event
+        ≡ channel_of (if link.two then Two link.fields.access else One link.fields.hop) event
+        link.fields.map }
+{}
 
 /// Where two lines say that an event of one link is entered, they are in one turn and name one
 /// channel: so it is where both ends of the link enter it (Core 5.2, volume 6 part B, sections

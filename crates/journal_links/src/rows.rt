@@ -1,9 +1,17 @@
-//! A worked example, which the definitions compute.
+//! Worked examples, which the definitions compute.
 ghost use Rattle.std.specs.Prelude.{◌≡◌, [], ◌∷◌, Some, None};
 ghost use Rattle.journal_links.specs.Begun.{link_numbered, links_begun};
 ghost use Rattle.journal_links.specs.Entered.{anchor_in, channel_in};
-ghost use Rattle.journal_links.specs.Rows.{one_link};
-ghost use Rattle.run_model.specs.Rows.{one_event_journal};
+ghost use Rattle.journal_links.specs.Rows.{
+  answered_by,
+  connected_late,
+  hopping_link,
+  offered_once,
+  one_link,
+  unaccepted_packet,
+  unoffered_packet,
+};
+ghost use Rattle.run_model.specs.Rows.{connect_packet, connectable_packet, one_event_journal};
 
 /// A journal with one CONNECT_IND has one link. Its first event is two slots after that, and its
 /// next event an interval of 24 slots later, on the channels 25 and 20.
@@ -12,6 +20,19 @@ pub fn worked_links()
     ensures one { link_numbered 1 one_event_journal ≡ Some one_link }
     ensures none { link_numbered 0 one_event_journal ≡ None }
     ensures two { link_numbered 2 one_event_journal ≡ None }
-    ensures first { (anchor_in one_link 0 ≡ 2) × (channel_in one_link 0 ≡ 25) }
-    ensures second { (anchor_in one_link 1 ≡ 26) × (channel_in one_link 1 ≡ 20) }
+    ensures first { (anchor_in one_link [] 0 ≡ 2) × (channel_in one_link [] 0 ≡ 25) }
+    ensures second { (anchor_in one_link [] 1 ≡ 26) × (channel_in one_link [] 1 ≡ 20) }
+{}
+
+/// A link has channel selection algorithm #1 where one of the two packets does not offer #2, or the
+/// CONNECT_IND answers no advertisement of its turn; of several advertisements the last one counts.
+/// With a hop of 5 its first events are on the channels 5 and 10.
+pub fn worked_algorithms()
+    ensures both { links_begun (answered_by connectable_packet connect_packet) ≡ one_link ∷ [] }
+    ensures advertiser { links_begun (answered_by unoffered_packet connect_packet) ≡ hopping_link ∷ [] }
+    ensures initiator { links_begun (answered_by connectable_packet unaccepted_packet) ≡ hopping_link ∷ [] }
+    ensures late { links_begun connected_late ≡ record hopping_link { slot = 1 } ∷ [] }
+    ensures last { links_begun offered_once ≡ hopping_link ∷ [] }
+    ensures first { (anchor_in hopping_link [] 0 ≡ 2) × (channel_in hopping_link [] 0 ≡ 5) }
+    ensures second { (anchor_in hopping_link [] 1 ≡ 26) × (channel_in hopping_link [] 1 ≡ 10) }
 {}

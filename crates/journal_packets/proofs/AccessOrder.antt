@@ -18,7 +18,7 @@ use Rattle.scan_init.specs.Access.{IsNthAccess, access_at, nth_access}
 use Rattle.controller_model.specs.Heard.{access_found}
 use Rattle.controller_model.specs.Packets.{pdu_heard}
 use Rattle.run_model.specs.Due.{Each}
-use Rattle.run_model.specs.History.{Event, TurnBegan, HostFed, Called, Noted, Transmitted, turns_in}
+use Rattle.run_model.specs.History.{Event, TurnBegan, HostFed, Called, Noted, Transmitted, turns_begun}
 use Rattle.run_model.specs.Journal.{side_of}
 use Rattle.run_model.specs.Links.{begins_link, is_advertising, is_connect_ind}
 use Rattle.run_model.specs.Run.{Given, setup_at}
@@ -28,7 +28,7 @@ use Rattle.run_laws.proofs.DistinctAccess.{AreApart, found_at}
 use Rattle.journal_links.specs.Begun.{LinkBegun, begun_by}
 use Rattle.journal_packets.specs.Addresses.{AreInOrder}
 use Rattle.journal_packets.specs.Belonging.{first_number, fits, is_side}
-use Rattle.journal_packets.proofs.SentLinks.{IsOfTwo, link_in, links_sent}
+use Rattle.journal_packets.proofs.SentLinks.{IsOfTwo, is_answered, link_in, links_sent}
 
 -- ---- access addresses
 
@@ -135,50 +135,50 @@ same_test one other (inr is) (inl is_too) = subst (λ m. is_side (side_of m) (si
 same_test one other (inr is) (inr is_too) = subst (λ m. is_side (side_of m) (side_of other) ≡ (other == m)) (sym is) (subst (λ n. is_side (side_of 1) (side_of n) ≡ (n == 1)) (sym is_too) refl)
 
 -- a packet, by what is heard in it
-packet_ordered : (given : Given) (station sender count slot : ℕ) (rest : List LinkBegun) (same : Bool) → is_side (side_of sender) (side_of station) ≡ same
+packet_ordered : (given : Given) (station sender count slot : ℕ) (offered : Bool) (rest : List LinkBegun) (same : Bool) → is_side (side_of sender) (side_of station) ≡ same
     → (on : Bool) (found : Option AdvPdu)
     → ((from to : Address) (ch_sel : Bool) (fields : ConnectFields) → on ≡ true → found ≡ Some (Connect from to ch_sel fields) → same ≡ true
     → access_found (nth_access (setup_at given station).cursor count) ≡ Some fields.access)
     → AreInOrder (side_of station) (setup_at given station).cursor (count + (if same && (on && is_connect_ind found) then 1 else 0)) rest
-    → AreInOrder (side_of station) (setup_at given station).cursor count ((if on then begun_by (side_of sender) slot found else []) ++ rest)
-packet_ordered given station sender count slot rest true is true (Some (Connect from to ch_sel fields)) taken ordered =
+    → AreInOrder (side_of station) (setup_at given station).cursor count ((if on then begun_by (side_of sender) slot offered found else []) ++ rest)
+packet_ordered given station sender count slot offered rest true is true (Some (Connect from to ch_sel fields)) taken ordered =
     ((λ own. taken from to ch_sel fields refl refl refl), subst (λ b. AreInOrder (side_of station) (setup_at given station).cursor (count + (if b then 1 else 0)) rest) (sym is) ordered)
-packet_ordered given station sender count slot rest false is true (Some (Connect from to ch_sel fields)) taken ordered = (
+packet_ordered given station sender count slot offered rest false is true (Some (Connect from to ch_sel fields)) taken ordered = (
   (λ own. absurd (let h : true ≡ false = sym own ∙ is in absurd cc)),
   subst (λ b. AreInOrder (side_of station) (setup_at given station).cursor (count + (if b then 1 else 0)) rest) (sym is) ordered,
 )
-packet_ordered given station sender count slot rest true is true other taken ordered = subst (λ n. AreInOrder (side_of station) (setup_at given station).cursor n rest) (zero_more count) ordered
-packet_ordered given station sender count slot rest false is true other taken ordered = subst (λ n. AreInOrder (side_of station) (setup_at given station).cursor n rest) (zero_more count) ordered
-packet_ordered given station sender count slot rest true is false found taken ordered = subst (λ n. AreInOrder (side_of station) (setup_at given station).cursor n rest) (zero_more count) ordered
-packet_ordered given station sender count slot rest false is false found taken ordered = subst (λ n. AreInOrder (side_of station) (setup_at given station).cursor n rest) (zero_more count) ordered
+packet_ordered given station sender count slot offered rest true is true other taken ordered = subst (λ n. AreInOrder (side_of station) (setup_at given station).cursor n rest) (zero_more count) ordered
+packet_ordered given station sender count slot offered rest false is true other taken ordered = subst (λ n. AreInOrder (side_of station) (setup_at given station).cursor n rest) (zero_more count) ordered
+packet_ordered given station sender count slot offered rest true is false found taken ordered = subst (λ n. AreInOrder (side_of station) (setup_at given station).cursor n rest) (zero_more count) ordered
+packet_ordered given station sender count slot offered rest false is false found taken ordered = subst (λ n. AreInOrder (side_of station) (setup_at given station).cursor n rest) (zero_more count) ordered
 
 -- an event
-event_ordered : (given : Given) (station : ℕ) → (station ≡ 0) ⊎ (station ≡ 1) → (turns : ℕ) (before : List Event) (event : Event) (rest : List LinkBegun) → IsOfTwo before event
+event_ordered : (given : Given) (station : ℕ) → (station ≡ 0) ⊎ (station ≡ 1) → (before : List Event) (event : Event) (rest : List LinkBegun) → IsOfTwo before event
     → TakenInOrder given before event
     → AreInOrder (side_of station) (setup_at given station).cursor (connects_sent station before + connects_in station event) rest
-    → AreInOrder (side_of station) (setup_at given station).cursor (connects_sent station before) (link_in turns event ++ rest)
+    → AreInOrder (side_of station) (setup_at given station).cursor (connects_sent station before) (link_in before event ++ rest)
 unfolding begins_link
-event_ordered given station is turns before (Transmitted sender channel octets hearings) rest sent taken ordered =
-    packet_ordered given station sender (connects_sent station before) (turns - 1) rest (station == sender) (same_test sender station sent.is_one is)
+event_ordered given station is before (Transmitted sender channel octets hearings) rest sent taken ordered =
+    packet_ordered given station sender (connects_sent station before) (turns_begun before - 1) (is_answered sender before) rest (station == sender) (same_test sender station sent.is_one is)
     (is_advertising channel) (pdu_heard channel octets)
     (λ from to ch_sel fields on says same.
     let one = eqb-true station sender same in
     subst (λ n. access_found (nth_access (setup_at given n).cursor (connects_sent n before)) ≡ Some fields.access) (sym one) (taken from to ch_sel fields on says))
     ordered
-event_ordered given station is turns before (TurnBegan slot radios) rest sent taken ordered =
+event_ordered given station is before (TurnBegan slot radios) rest sent taken ordered =
     subst (λ n. AreInOrder (side_of station) (setup_at given station).cursor n rest) (zero_more (connects_sent station before)) ordered
-event_ordered given station is turns before (HostFed other octets) rest sent taken ordered =
+event_ordered given station is before (HostFed other octets) rest sent taken ordered =
     subst (λ n. AreInOrder (side_of station) (setup_at given station).cursor n rest) (zero_more (connects_sent station before)) ordered
-event_ordered given station is turns before (Called other step) rest sent taken ordered =
+event_ordered given station is before (Called other step) rest sent taken ordered =
     subst (λ n. AreInOrder (side_of station) (setup_at given station).cursor n rest) (zero_more (connects_sent station before)) ordered
-event_ordered given station is turns before (Noted other note) rest sent taken ordered =
+event_ordered given station is before (Noted other note) rest sent taken ordered =
     subst (λ n. AreInOrder (side_of station) (setup_at given station).cursor n rest) (zero_more (connects_sent station before)) ordered
 
-pub sent_ordered : (given : Given) (station : ℕ) → (station ≡ 0) ⊎ (station ≡ 1) → (turns : ℕ) (before events : List Event) → Each IsOfTwo before events
+pub sent_ordered : (given : Given) (station : ℕ) → (station ≡ 0) ⊎ (station ≡ 1) → (before events : List Event) → Each IsOfTwo before events
     → Each (TakenInOrder given) before events
-    → AreInOrder (side_of station) (setup_at given station).cursor (connects_sent station before) (links_sent turns events)
-sent_ordered given station is turns before [] sent taken = tt
-sent_ordered given station is turns before (event ∷ events) sent taken =
-    event_ordered given station is turns before event (links_sent (turns + turns_in event) events) sent.0 taken.0
-    (subst (λ n. AreInOrder (side_of station) (setup_at given station).cursor n (links_sent (turns + turns_in event) events)) (count_event station before event)
-    (sent_ordered given station is (turns + turns_in event) (before ++ event ∷ []) events sent.1 taken.1))
+    → AreInOrder (side_of station) (setup_at given station).cursor (connects_sent station before) (links_sent before events)
+sent_ordered given station is before [] sent taken = tt
+sent_ordered given station is before (event ∷ events) sent taken =
+    event_ordered given station is before event (links_sent (before ++ event ∷ []) events) sent.0 taken.0
+    (subst (λ n. AreInOrder (side_of station) (setup_at given station).cursor n (links_sent (before ++ event ∷ []) events)) (count_event station before event)
+    (sent_ordered given station is (before ++ event ∷ []) events sent.1 taken.1))

@@ -40,7 +40,7 @@ next_of : (given : Given) (station : ℕ) → (station ≡ 0) ⊎ (station ≡ 1
 next_of given station one are =
     let history = history_of (run_of given) in
     subst (AreInOrder (side_of station) (setup_at given station).cursor 0) (sym (begun_are_sent history are.two))
-    (subst (λ n. AreInOrder (side_of station) (setup_at given station).cursor n (links_sent 0 history)) (none_sent station) (sent_ordered given station one 0 [] history are.two are.taken))
+    (subst (λ n. AreInOrder (side_of station) (setup_at given station).cursor n (links_sent [] history)) (none_sent station) (sent_ordered given station one [] history are.two are.taken))
 
 pub addresses_next : IsUnderstood → AreTaken → (a b : List ℕ) (script : Script) → length script.a.public ≡ 6 → length script.b.public ≡ 6
     → AllAddressesAreNext script (journal_of (history_of (run_of (given_of a b script))))

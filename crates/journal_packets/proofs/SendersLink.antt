@@ -28,11 +28,10 @@ use Rattle.run_laws.proofs.OwnLinks.{at_central, at_peripheral, sent_begins}
 use Rattle.run_laws.proofs.SentPackets.{IsUseSent}
 use Rattle.run_laws.proofs.TurnPlaces.{Within}
 use Rattle.journal_links.specs.Begun.{links_begun}
-use Rattle.journal_links.proofs.Numbered.{other_of}
 use Rattle.journal_packets.specs.Belonging.{first_number, is_side, link_of_packet}
 use Rattle.journal_packets.specs.Senders.{IsOfSendersLink}
 use Rattle.journal_packets.proofs.AccessOrder.{AreNth, first_is, sent_ordered}
-use Rattle.journal_links.proofs.OfTwo.{of_two_stations}
+use Rattle.journal_links.proofs.OfTwo.{of_two_stations, other_of}
 use Rattle.journal_packets.proofs.AskedSoFar.{AreAsked, IsUnasked, OnlyAsked}
 use Rattle.journal_packets.proofs.Replies.{AsCentral, AsPeripheral, IsFirst, IsSender, IsSending, sender_is, sending_at}
 use Rattle.journal_packets.proofs.SentLinks.{IsOfTwo, begun_are_sent, link_begun, links_sent, sent_at}
@@ -55,14 +54,14 @@ link_is nth apart given history station number end octets sent taken has begins 
     let connect = from.sent in
     let sender = connect.sender in
     let place = (links_of from.before).begun in
-    let link = link_begun sender (turns_begun from.before) connect.fields in
-    let at : slice_get (links_sent 0 history) place ≡ Some link =
-    ap (λ (h : List Event). slice_get (links_sent 0 h) place) from.is_at
+    let link = link_begun sender from.before connect.ch_sel connect.fields in
+    let at : slice_get (links_sent [] history) place ≡ Some link =
+    ap (λ (h : List Event). slice_get (links_sent [] h) place) from.is_at
     ∙ sent_at from.before from.after sender connect.channel connect.octets connect.hearings connect.from connect.to connect.ch_sel connect.fields from.on_channel from.says in
     let more : 1 + place ≡ place + 1 = omega arith in
     ap (first_number (side_of sender) octets 1) (begun_are_sent history sent)
-    ∙ first_is nth apart (side_of sender) (setup_at given sender).cursor (connects_sent sender []) 1 place octets (links_sent 0 history) link
-    (sent_ordered given sender one 0 [] history sent taken) at (own_side (side_of sender)) (begins ∙ ap (λ f. access_octets f.access) (sym from.fields_are))
+    ∙ first_is nth apart (side_of sender) (setup_at given sender).cursor (connects_sent sender []) 1 place octets (links_sent [] history) link
+    (sent_ordered given sender one [] history sent taken) at (own_side (side_of sender)) (begins ∙ ap (λ f. access_octets f.access) (sym from.fields_are))
     ∙ ap Some (more ∙ sym has.number_is)
 
 -- the sender of its CONNECT_IND

@@ -40,9 +40,9 @@ use Rattle.run_laws.proofs.Hearings.{other_facts, use_sent_at}
 use Rattle.run_laws.proofs.SentPackets.{IsUseSent, Says}
 use Rattle.run_laws.proofs.TurnPlaces.{event_past}
 use Rattle.journal_links.specs.Begun.{LinkBegun, begun_by, begun_in, link_numbered, links_begun, with_number}
-use Rattle.journal_links.proofs.LinksBegun.{links_more}
+use Rattle.journal_links.proofs.LinksBegun.{links_more, note_begins}
 use Rattle.journal_packets.proofs.Asked.{journal_event}
-use Rattle.journal_packets.proofs.SentLinks.{begun_are_sent, number_sent}
+use Rattle.journal_packets.proofs.SentLinks.{begun_are_sent, is_answered, number_sent}
 use Rattle.journal_packets.proofs.SoFar.{IsBelongingSoFar, belonging_first, belonging_kept}
 use Rattle.journal_acks.proofs.Seen.{IsSeen, seen_last, seen_turn}
 use Rattle.journal_acks.proofs.TwoStations.{IsOfTwo, one_hearing, same_number, side_same}
@@ -80,18 +80,14 @@ links_event : (history : List Event) (event : Event) → links_of (history ++ ev
 unfolding links_of
 links_event history event = fold_event links_after first_links history event
 
-entry_begins_none : (turns : ℕ) (side : Side) (link_of : ℕ → ℕ) (last : ℕ) (note : Note) → begun_in turns (entry_of side link_of last note) ≡ []
-entry_begins_none turns side link_of last (Up packet) = refl
-entry_begins_none turns side link_of last note = refl
-
 no_entry : (front : List Entry) → links_begun (front ++ []) ≡ links_begun front
 no_entry front = ap links_begun (append-nil front)
 
-links_entry : (front : List Entry) (entry : Entry) → links_begun (front ++ entry ∷ []) ≡ links_begun front ++ begun_in (length (turns_of front)) entry
+links_entry : (front : List Entry) (entry : Entry) → links_begun (front ++ entry ∷ []) ≡ links_begun front ++ begun_in front entry
 links_entry front entry =
-    links_more front (entry ∷ []) ∙ ap (λ links. links_begun front ++ links) (append-nil (begun_in (length (turns_of front)) entry))
+    links_more front (entry ∷ []) ∙ ap (λ links. links_begun front ++ links) (append-nil (begun_in front entry))
 
-one_entry : (front : List Entry) (entry : Entry) → begun_in (length (turns_of front)) entry ≡ [] → links_begun (front ++ entry ∷ []) ≡ links_begun front
+one_entry : (front : List Entry) (entry : Entry) → begun_in front entry ≡ [] → links_begun (front ++ entry ∷ []) ≡ links_begun front
 one_entry front entry none =
     links_entry front entry ∙ ap (λ links. links_begun front ++ links) none ∙ append-nil (links_begun front)
 
@@ -103,7 +99,7 @@ quiet_noted : (history : List Event) (station : ℕ) (note : Note) → IsQuiet h
 quiet_noted history station note = record {
   links = ap links_begun (journal_event history (Noted station note))
       ∙ one_entry (journal_of history) (entry_of (side_of station) ((links_of history).link_of station) ((links_of history).last_of station) note)
-      (entry_begins_none (length (turns_of (journal_of history))) (side_of station) ((links_of history).link_of station) ((links_of history).last_of station) note);
+      (note_begins (journal_of history) (side_of station) ((links_of history).link_of station) ((links_of history).last_of station) note);
   opened = event_opened history (Noted station note);
   last = λ other. ap (λ (links : Links). links.last_of other) (links_event history (Noted station note)) ∙ same_last station note (links_of history) other;
 }
@@ -280,28 +276,28 @@ not_heard given fates sender channel octets history station on own wants true is
 not_heard given fates sender channel octets history station on own wants false is = refl
 
 -- the link of a CONNECT_IND, if a packet is one
-data Begins (turns station channel : ℕ) (octets : List ℕ) : Type 0 where
-  BeginsNone : begins_link channel octets ≡ false → (if is_advertising channel then begun_by (side_of station) (turns - 1) (pdu_heard channel octets) else []) ≡ []
-      → Begins turns station channel octets
+data Begins (turns station channel : ℕ) (offered : Bool) (octets : List ℕ) : Type 0 where
+  BeginsNone : begins_link channel octets ≡ false → (if is_advertising channel then begun_by (side_of station) (turns - 1) offered (pdu_heard channel octets) else []) ≡ []
+      → Begins turns station channel offered octets
   BeginsOne : (from to : Address) (ch_sel : Bool) (fields : ConnectFields) → is_advertising channel ≡ true → pdu_heard channel octets ≡ Some (Connect from to ch_sel fields)
       → begins_link channel octets ≡ true
-      → (if is_advertising channel then begun_by (side_of station) (turns - 1) (pdu_heard channel octets) else [])
-      ≡ record { central = side_of station; slot = turns - 1; fields = fields } ∷ [] → Begins turns station channel octets
+      → (if is_advertising channel then begun_by (side_of station) (turns - 1) offered (pdu_heard channel octets) else [])
+      ≡ record { central = side_of station; slot = turns - 1; fields = fields; two = ch_sel && offered } ∷ [] → Begins turns station channel offered octets
 
-begins : (turns station channel : ℕ) (octets : List ℕ) → Begins turns station channel octets
+begins : (turns station channel : ℕ) (offered : Bool) (octets : List ℕ) → Begins turns station channel offered octets
 unfolding begins_link
-begins turns station channel octets = by (is_advertising channel) (pdu_heard channel octets) refl refl
+begins turns station channel offered octets = by (is_advertising channel) (pdu_heard channel octets) refl refl
   where
-    by : (on : Bool) (found : Option AdvPdu) → is_advertising channel ≡ on → pdu_heard channel octets ≡ found → Begins turns station channel octets
+    by : (on : Bool) (found : Option AdvPdu) → is_advertising channel ≡ on → pdu_heard channel octets ≡ found → Begins turns station channel offered octets
     by false found off is = BeginsNone (ap (λ b. b && is_connect_ind (pdu_heard channel octets)) off)
-        (ap (λ b. if b then begun_by (side_of station) (turns - 1) (pdu_heard channel octets) else []) off)
+        (ap (λ b. if b then begun_by (side_of station) (turns - 1) offered (pdu_heard channel octets) else []) off)
     by true None on is = BeginsNone (ap (λ b. b && is_connect_ind (pdu_heard channel octets)) on ∙ ap is_connect_ind is)
-        (ap (λ b. if b then begun_by (side_of station) (turns - 1) (pdu_heard channel octets) else []) on ∙ ap (begun_by (side_of station) (turns - 1)) is)
+        (ap (λ b. if b then begun_by (side_of station) (turns - 1) offered (pdu_heard channel octets) else []) on ∙ ap (begun_by (side_of station) (turns - 1) offered) is)
     by true (Some (Connect from to ch_sel fields)) on is =
         BeginsOne from to ch_sel fields on is (ap (λ b. b && is_connect_ind (pdu_heard channel octets)) on ∙ ap is_connect_ind is)
-        (ap (λ b. if b then begun_by (side_of station) (turns - 1) (pdu_heard channel octets) else []) on ∙ ap (begun_by (side_of station) (turns - 1)) is)
+        (ap (λ b. if b then begun_by (side_of station) (turns - 1) offered (pdu_heard channel octets) else []) on ∙ ap (begun_by (side_of station) (turns - 1) offered) is)
     by true (Some other) on is = BeginsNone (ap (λ b. b && is_connect_ind (pdu_heard channel octets)) on ∙ ap is_connect_ind is)
-        (ap (λ b. if b then begun_by (side_of station) (turns - 1) (pdu_heard channel octets) else []) on ∙ ap (begun_by (side_of station) (turns - 1)) is)
+        (ap (λ b. if b then begun_by (side_of station) (turns - 1) offered (pdu_heard channel octets) else []) on ∙ ap (begun_by (side_of station) (turns - 1) offered) is)
 
 -- who sends a CONNECT_IND makes its link
 record MakesLink (facts : Facts) : Type 0 where
@@ -371,8 +367,12 @@ module _ (understood : IsUnderstood) (given : Given) (pair : IsOfTwo given) (six
     same_at : (other : ℕ) → facts_at given other after ≡ facts_at given other history
     same_at other = ap (facts_of (setup_at given other)) (event_past other history event refl)
 
+    -- the advertisement that a CONNECT_IND answers offers channel selection algorithm #2
+    abbrev offered : Bool
+    offered = is_answered station history
+
     links_now : links_begun (journal_of after)
-        ≡ links_begun (journal_of history) ++ (if is_advertising channel then begun_by (side_of station) (length (turns_of (journal_of history)) - 1) (pdu_heard channel octets) else [])
+        ≡ links_begun (journal_of history) ++ (if is_advertising channel then begun_by (side_of station) (length (turns_of (journal_of history)) - 1) offered (pdu_heard channel octets) else [])
     links_now =
         ap links_begun (journal_event history event
         ∙ ap (λ hears. journal_of history ++ entries_of (links_of history) (Transmitted station channel octets hears)) (one_hearing given pair fates station channel octets history in_it))
@@ -443,9 +443,9 @@ module _ (understood : IsUnderstood) (given : Given) (pair : IsOfTwo given) (six
         }
 
     packet_open : IsOpenOr given next after
-    packet_open number link is = by (begins (length (turns_of (journal_of history))) station channel octets)
+    packet_open number link is = by (begins (length (turns_of (journal_of history))) station channel offered octets)
       where
-        by : Begins (length (turns_of (journal_of history))) station channel octets
+        by : Begins (length (turns_of (journal_of history))) station channel offered octets
             → (is_opened_by link.central number (journal_of after) ≡ true) ⊎ IsWaiting given next after link.central number
         by (BeginsNone none empty) =
             old_link number link (ap (with_number number) (sym (links_now ∙ ap (λ xs. links_begun (journal_of history) ++ xs) empty ∙ append-nil (links_begun (journal_of history)))) ∙ is)

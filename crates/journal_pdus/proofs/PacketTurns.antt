@@ -35,6 +35,7 @@ use Rattle.run_laws.proofs.DistinctAccess.{AreApart}
 use Rattle.run_laws.proofs.Entering.{entering_in_run}
 use Rattle.run_laws.proofs.TurnPlaces.{Within, at_stage, turned}
 use Rattle.journal_links.specs.Entered.{anchor_in}
+use Rattle.journal_links.proofs.EnterLines.{plain_anchors}
 use Rattle.journal_links.proofs.OfTwo.{are_distinct}
 use Rattle.journal_packets.specs.Senders.{IsOfSendersLink}
 use Rattle.journal_packets.proofs.AccessOrder.{AreNth}
@@ -163,8 +164,9 @@ module _ (whole : IsHeardWhole) (understood : IsUnderstood) (taken : AreTaken) (
       let number = number_at station is.sent.handle before in
       let facts = facts_at given station before in
       let last = in_last facts.turn.slot facts.turn.begun own is.now (entering_in_run taken given before rest station is.sent.handle own distinct in_it at is.sent.is_open) is.in_slot in
-      let anchor : anchor_in is.begun.link last.event ≡ anchor_of own.setup last.event =
-      ap (λ (fields : ConnectFields). is.begun.link.slot + 2 + fields.win_offset + last.event * fields.interval) is.begun.fields
+      let anchor : anchor_in is.begun.link [] last.event ≡ anchor_of own.setup last.event =
+      plain_anchors is.begun.link last.event
+      ∙ ap (λ (fields : ConnectFields). is.begun.link.slot + 2 + fields.win_offset + last.event * fields.interval) is.begun.fields
       ∙ ap (λ n. n + 2 + own.setup.link.fields.win_offset + last.event * own.setup.link.fields.interval) is.begun.slot in
       let turns = turns_are before ∙ sym is.turns ∙ sym is.now in record {
         number = number;
@@ -173,7 +175,7 @@ module _ (whole : IsHeardWhole) (understood : IsUnderstood) (taken : AreTaken) (
         is_link = is.begun.is_link;
         event = last.event;
         entered = is.count ∙ last.last;
-        in_turn = in_turn_of facts.turn.slot (length (turns_of (journal_of before))) (anchor_of own.setup last.event) (anchor_in is.begun.link last.event) last.in_slot turns anchor;
+        in_turn = in_turn_of facts.turn.slot (length (turns_of (journal_of before))) (anchor_of own.setup last.event) (anchor_in is.begun.link [] last.event) last.in_slot turns anchor;
       }
 
   pub packets_in_events : AllAreInEvents (journal_of (history_of (run_of given)))

@@ -9,6 +9,7 @@ use Rattle.journal.specs.declared.entries.Mark.{Mark}
 use Rattle.run_model.specs.Links.{is_advertising}
 use Rattle.run_model.specs.Readers.{turns_of}
 use Rattle.journal_links.specs.Begun.{LinkBegun, link_numbered}
+use Rattle.journal_links.specs.Changes.{changes_of}
 use Rattle.journal_links.specs.Entered.{anchor_in}
 use Rattle.journal_packets.specs.Belonging.{link_of_packet}
 use Rattle.journal_acks.specs.EventOrder.{entered_on}
@@ -22,7 +23,8 @@ pub record IsInEvent (front : List Entry) (side : Side) (octets : List ℕ) : Ty
   pub is_link : link_numbered number front ≡ Some link
   pub event : ℕ
   pub entered : entered_on side number front ≡ event + 1
-  pub in_turn : (length (turns_of front) ≡ anchor_in link event + 1) ⊎ (length (turns_of front) ≡ anchor_in link event + 2)
+  pub in_turn : (length (turns_of front) ≡ anchor_in link (changes_of link side front) event + 1)
+      ⊎ (length (turns_of front) ≡ anchor_in link (changes_of link side front) event + 2)
 
 abbrev pub AllAreInEvents : List Entry → Type 0
 AllAreInEvents journal = (front rest : List Entry) (side : Side) (channel : ℕ) (octets : List ℕ) (fate : Mark)

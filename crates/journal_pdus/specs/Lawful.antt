@@ -32,7 +32,7 @@ AllAreOpened journal = (front rest : List Entry) (side : Side) (number handle : 
 -- each event is entered in the turn of its anchor, on its channel
 abbrev pub AllAreEntered : List Entry → Type 0
 AllAreEntered journal = (front rest : List Entry) (side : Side) (number event channel : ℕ)
-    → journal ≡ front ++ Enter side number event channel ∷ rest → IsEnteredInTime front number event channel
+    → journal ≡ front ++ Enter side number event channel ∷ rest → IsEnteredInTime front side number event channel
 
 -- each link that is shut has its reason
 abbrev pub AllHaveReasons : List Entry → Type 0

@@ -1,5 +1,5 @@
 -- What tells two values apart, and what lines of links must say of a link that is known.
-use Rattle.std.proofs.Common.{◌≡◌, ℕ, ◌+◌, true, false, nat_eq, List, length, Option, Some, None, is_some}
+use Rattle.std.proofs.Common.{◌≡◌, ℕ, ◌+◌, true, false, nat_eq, List, [], length, Option, Some, None, is_some}
 use Rattle.std.proofs.Common.{sym, ap, ◌∙◌, arith}
 use Rattle.ble_base.specs.declared.roles.Role.{Role}
 use Rattle.ble_base.specs.declared.roles.Side.{Side}
@@ -36,15 +36,15 @@ opened_as front side number role link known opened =
     }
 
 pub record IsEnteredAs (front : List Entry) (event channel : ℕ) (link : LinkBegun) : Type 0 where
-  pub turn : length (turns_of front) ≡ anchor_in link event + 1
-  pub on : channel ≡ channel_in link event
+  pub turn : length (turns_of front) ≡ anchor_in link [] event + 1
+  pub on : channel ≡ channel_in link [] event
 
-pub entered_as : (front : List Entry) (number event channel : ℕ) (link : LinkBegun)
-    → link_numbered number front ≡ Some link → IsEnteredInTime front number event channel
+pub entered_as : (front : List Entry) (side : Side) (number event channel : ℕ) (link : LinkBegun)
+    → link_numbered number front ≡ Some link → IsEnteredInTime front side number event channel
     → IsEnteredAs front event channel link
-entered_as front number event channel link known entered =
+entered_as front side number event channel link known entered =
     let same : entered.link ≡ link = some_is entered.link link (sym entered.is_link ∙ known) in
     record {
-      turn = entered.in_turn ∙ ap (λ (l : LinkBegun). anchor_in l event + 1) same;
-      on = entered.on_channel ∙ ap (λ (l : LinkBegun). channel_in l event) same;
+      turn = entered.in_turn ∙ ap (λ (l : LinkBegun). anchor_in l [] event + 1) same;
+      on = entered.on_channel ∙ ap (λ (l : LinkBegun). channel_in l [] event) same;
     }

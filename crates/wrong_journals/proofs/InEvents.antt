@@ -1,5 +1,5 @@
 -- What is to be refused in the turn of a packet whose link is known.
-use Rattle.std.proofs.Common.{◌≡◌, ℕ, ◌+◌, ◌⊎◌, List, length, Some, sym, ap, subst, ◌∙◌}
+use Rattle.std.proofs.Common.{◌≡◌, ℕ, ◌+◌, ◌⊎◌, List, [], length, Some, sym, ap, subst, ◌∙◌}
 use Rattle.ble_base.specs.declared.roles.Side.{Side}
 use Rattle.journal.specs.declared.entries.Entry.{Entry}
 use Rattle.run_model.specs.Readers.{turns_of}
@@ -13,7 +13,7 @@ use Rattle.wrong_journals.proofs.Packets.{some_is}
 pub record IsInEventAs (front : List Entry) (link : LinkBegun) (count : ℕ) : Type 0 where
   pub event : ℕ
   pub entered : count ≡ event + 1
-  pub in_turn : (length (turns_of front) ≡ anchor_in link event + 1) ⊎ (length (turns_of front) ≡ anchor_in link event + 2)
+  pub in_turn : (length (turns_of front) ≡ anchor_in link [] event + 1) ⊎ (length (turns_of front) ≡ anchor_in link [] event + 2)
 
 pub in_event_as : (front : List Entry) (side : Side) (octets : List ℕ) (number : ℕ) (link : LinkBegun) (count : ℕ)
     → link_of_packet front side octets ≡ Some number → link_numbered number front ≡ Some link → entered_on side number front ≡ count → IsInEvent front side octets
@@ -23,5 +23,5 @@ in_event_as front side octets number link count belongs is_link entered in_event
     let one : in_event.link ≡ link = some_is in_event.link link (sym in_event.is_link ∙ ap (λ n. link_numbered n front) same ∙ is_link) in record {
       event = in_event.event;
       entered = sym entered ∙ ap (λ n. entered_on side n front) (sym same) ∙ in_event.entered;
-      in_turn = subst (λ (l : LinkBegun). (length (turns_of front) ≡ anchor_in l in_event.event + 1) ⊎ (length (turns_of front) ≡ anchor_in l in_event.event + 2)) one in_event.in_turn;
+      in_turn = subst (λ (l : LinkBegun). (length (turns_of front) ≡ anchor_in l [] in_event.event + 1) ⊎ (length (turns_of front) ≡ anchor_in l [] in_event.event + 2)) one in_event.in_turn;
     }

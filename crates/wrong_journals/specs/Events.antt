@@ -5,7 +5,8 @@ use Rattle.ble_base.specs.declared.roles.Role.TheVariants.{Central}
 use Rattle.ble_base.specs.declared.roles.Side.TheVariants.{A, B}
 use Rattle.journal.specs.declared.entries.Entry.{Entry}
 use Rattle.journal.specs.declared.entries.Entry.TheVariants.{Applied, Began, Enter, Opened}
-use Rattle.run_model.specs.Rows.{one_connection_journal, turn_entry}
+use Rattle.run_model.specs.Rows.{connect_packet, one_connection_journal, turn_entry}
+use Rattle.journal_links.specs.Rows.{answered_by, unoffered_packet}
 
 -- the side that received the CONNECT_IND opens the link as its central
 abbrev pub roles_exchanged : List Entry
@@ -26,6 +27,17 @@ entered_late = one_connection_journal ++ turn_entry 1 ∷ turn_entry 2 ∷ turn_
 -- event 0 is entered on another channel
 abbrev pub entered_elsewhere : List Entry
 entered_elsewhere = one_connection_journal ++ turn_entry 1 ∷ turn_entry 2 ∷ Enter A 1 0 24 ∷ []
+
+-- event 0 is entered on the channel of algorithm #1, where both sides offer #2
+abbrev pub entered_by_hopping : List Entry
+entered_by_hopping = one_connection_journal ++ turn_entry 1 ∷ turn_entry 2 ∷ Enter A 1 0 5 ∷ []
+
+-- and on the channel of algorithm #2, where the advertiser does not offer it
+abbrev pub unoffered_connection : List Entry
+unoffered_connection = answered_by unoffered_packet connect_packet ++ turn_entry 1 ∷ turn_entry 2 ∷ []
+
+abbrev pub entered_unoffered : List Entry
+entered_unoffered = unoffered_connection ++ Enter A 1 0 25 ∷ []
 
 -- event 1 comes in the place of event 0
 abbrev pub entered_misnumbered : List Entry

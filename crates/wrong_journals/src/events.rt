@@ -3,18 +3,22 @@ ghost use Rattle.journal_acks.specs.EventOrder.{AllAreInOrder};
 ghost use Rattle.journal_links.specs.Procedures.{NoneNamesAProcedure};
 ghost use Rattle.journal_pdus.specs.Lawful.{AllAreEntered, AllAreOpened};
 ghost use Rattle.wrong_journals.specs.Events.{entered_by_other, entered_elsewhere, entered_late};
+ghost use Rattle.wrong_journals.specs.Events.{entered_by_hopping, entered_unoffered};
 ghost use Rattle.wrong_journals.specs.Events.{entered_misnumbered, entered_twice, left_out};
 ghost use Rattle.wrong_journals.specs.Events.{indication_applied, opened_from_nothing};
 ghost use Rattle.wrong_journals.specs.Events.{opened_late, procedure_begun, roles_exchanged};
 
 /// A link is opened in the turn of its CONNECT_IND, by the side that sent it as the central; and an
-/// event is entered in the turn of its anchor and on its channel. No line is of a control procedure.
+/// event is entered in the turn of its anchor and on its channel, by the algorithm that both sides
+/// offer. No line is of a control procedure.
 pub fn wrong_links_are_refused()
     ensures roles { AllAreOpened roles_exchanged → ⊥ }
     ensures late { AllAreOpened opened_late → ⊥ }
     ensures no_connect_ind { AllAreOpened opened_from_nothing → ⊥ }
     ensures another_turn { AllAreEntered entered_late → ⊥ }
     ensures another_channel { AllAreEntered entered_elsewhere → ⊥ }
+    ensures hopping { AllAreEntered entered_by_hopping → ⊥ }
+    ensures unoffered { AllAreEntered entered_unoffered → ⊥ }
     ensures another_event { AllAreEntered entered_misnumbered → ⊥ }
     ensures procedure { NoneNamesAProcedure procedure_begun → ⊥ }
     ensures indication { NoneNamesAProcedure indication_applied → ⊥ }

@@ -16,7 +16,7 @@ use Rattle.journal.specs.declared.entries.Entry.TheVariants.{Applied, Began}
 use Rattle.controller_model.specs.Packets.{pdu_heard}
 use Rattle.wire_fields.specs.Field.{little_endian}
 use Rattle.journal_links.specs.Begun.{links_begun}
-use Rattle.journal_links.specs.Rows.{one_link}
+use Rattle.journal_links.specs.Rows.{hopping_link, one_link}
 use Rattle.journal_packets.specs.Belonging.{is_answer, is_side, link_of_packet}
 use Rattle.journal_acks.specs.Carried.{channel_entered, sent_line_of}
 use Rattle.journal_acks.specs.Exchange.{exchange_of}
@@ -25,6 +25,7 @@ use Rattle.journal_pdus.specs.Announced.{announced_pdu}
 use Rattle.journal_pdus.specs.Pending.{pending_pdu}
 use Rattle.run_model.specs.Rows.{one_connection_journal, turn_entry}
 use Rattle.wrong_journals.proofs.Differing.{entered_as, numbers_differ, opened_as, truths_differ}
+use Rattle.wrong_journals.specs.Events.{unoffered_connection}
 use Rattle.wrong_journals.proofs.events.wrong_links_are_refused.Goals as goal
 
 pub returns-clause-roles : goal.returns-clause-roles
@@ -50,19 +51,30 @@ pub returns-clause-another_turn : goal.returns-clause-another_turn
 unfolding announced_pdu pending_pdu channel_entered lines_of frames exchange_of sent_line_of link_of_packet is_answer links_begun pdu_heard heard_in read_of kept_bits crc crc_octets crc_of_bits remainder mask_of next_mask whitening_bit whitening_of little_endian data_channels used_channels reversed_octet perm mam stage prn channel_of
 returns-clause-another_turn c lawful =
     let front = one_connection_journal ++ turn_entry 1 ∷ turn_entry 2 ∷ turn_entry 3 ∷ [] in
-    numbers_differ 4 3 refl (entered_as front 1 0 25 one_link refl (lawful front [] A 1 0 25 refl)).turn
+    numbers_differ 4 3 refl (entered_as front A 1 0 25 one_link refl (lawful front [] A 1 0 25 refl)).turn
 
 pub returns-clause-another_channel : goal.returns-clause-another_channel
 unfolding announced_pdu pending_pdu channel_entered lines_of frames exchange_of sent_line_of link_of_packet is_answer links_begun pdu_heard heard_in read_of kept_bits crc crc_octets crc_of_bits remainder mask_of next_mask whitening_bit whitening_of little_endian data_channels used_channels reversed_octet perm mam stage prn channel_of
 returns-clause-another_channel c lawful =
     let front = one_connection_journal ++ turn_entry 1 ∷ turn_entry 2 ∷ [] in
-    numbers_differ 24 25 refl (entered_as front 1 0 24 one_link refl (lawful front [] A 1 0 24 refl)).on
+    numbers_differ 24 25 refl (entered_as front A 1 0 24 one_link refl (lawful front [] A 1 0 24 refl)).on
+
+pub returns-clause-hopping : goal.returns-clause-hopping
+unfolding announced_pdu pending_pdu channel_entered lines_of frames exchange_of sent_line_of link_of_packet is_answer links_begun pdu_heard heard_in read_of kept_bits crc crc_octets crc_of_bits remainder mask_of next_mask whitening_bit whitening_of little_endian data_channels used_channels reversed_octet perm mam stage prn channel_of
+returns-clause-hopping c lawful =
+    let front = one_connection_journal ++ turn_entry 1 ∷ turn_entry 2 ∷ [] in
+    numbers_differ 5 25 refl (entered_as front A 1 0 5 one_link refl (lawful front [] A 1 0 5 refl)).on
+
+pub returns-clause-unoffered : goal.returns-clause-unoffered
+unfolding announced_pdu pending_pdu channel_entered lines_of frames exchange_of sent_line_of link_of_packet is_answer links_begun pdu_heard heard_in read_of kept_bits crc crc_octets crc_of_bits remainder mask_of next_mask whitening_bit whitening_of little_endian data_channels used_channels reversed_octet perm mam stage prn channel_of
+returns-clause-unoffered c lawful =
+    numbers_differ 25 5 refl (entered_as unoffered_connection A 1 0 25 hopping_link refl (lawful unoffered_connection [] A 1 0 25 refl)).on
 
 pub returns-clause-another_event : goal.returns-clause-another_event
 unfolding announced_pdu pending_pdu channel_entered lines_of frames exchange_of sent_line_of link_of_packet is_answer links_begun pdu_heard heard_in read_of kept_bits crc crc_octets crc_of_bits remainder mask_of next_mask whitening_bit whitening_of little_endian data_channels used_channels reversed_octet perm mam stage prn channel_of
 returns-clause-another_event c lawful =
     let front = one_connection_journal ++ turn_entry 1 ∷ turn_entry 2 ∷ [] in
-    numbers_differ 3 27 refl (entered_as front 1 1 25 one_link refl (lawful front [] A 1 1 25 refl)).turn
+    numbers_differ 3 27 refl (entered_as front A 1 1 25 one_link refl (lawful front [] A 1 1 25 refl)).turn
 
 pub returns-clause-procedure : goal.returns-clause-procedure
 returns-clause-procedure c lawful = lawful one_connection_journal [] (Began A 1 Version) refl

@@ -12,6 +12,7 @@ use Rattle.controller_model.specs.Packets.{pdu_heard}
 use Rattle.run_model.specs.Rows.{first_packet}
 use Rattle.wire_fields.specs.Field.{little_endian}
 use Rattle.journal_links.specs.Begun.{links_begun}
+use Rattle.journal_links.specs.Entered.{anchor_in}
 use Rattle.journal_links.specs.Rows.{one_link}
 use Rattle.journal_packets.specs.Belonging.{is_answer, link_of_packet}
 use Rattle.journal_acks.specs.EventOrder.{entered_on}
@@ -42,7 +43,7 @@ pub returns-clause-late : goal.returns-clause-late
 unfolding link_of_packet is_answer entered_on links_begun pdu_heard heard_in read_of kept_bits crc crc_octets crc_of_bits remainder mask_of next_mask whitening_bit whitening_of little_endian
 returns-clause-late c lawful =
     let is = in_event_as two_turns_after B first_packet 1 one_link 1 refl refl refl (lawful two_turns_after [] B 25 first_packet Pass Good refl refl) in
-    not_so is.event 5 (2 + is.event * 24) is.in_turn refl (ap (λ n. 2 + n * 24) (first_event is.event is.entered))
+    not_so is.event 5 (anchor_in one_link [] is.event) is.in_turn refl (ap (anchor_in one_link []) (first_event is.event is.entered))
 
 pub returns-clause-before : goal.returns-clause-before
 unfolding link_of_packet is_answer entered_on links_begun pdu_heard heard_in read_of kept_bits crc crc_octets crc_of_bits remainder mask_of next_mask whitening_bit whitening_of little_endian
