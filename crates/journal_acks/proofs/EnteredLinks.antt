@@ -1,112 +1,39 @@
 -- A controller sends and listens only on a link that has entered an event.
-use Rattle.std.proofs.Common.{◌≡◌, ℕ, ◌+◌, ◌<◌, ◌&&◌, Bool, true, false, Option, Some, None, List, [], ◌∷◌, ◌++◌, replicate, refl, sym, ap, subst, ◌∙◌, arith}
-use Rattle.std.specs.Prelude.{is_some, nat_lt, if◌then◌else◌}
-use Rattle.std.specs.List.{AllByRecursion}
+use Rattle.std.proofs.Common.{◌≡◌, ℕ, ◌+◌, ◌<◌, Bool, true, false, Option, Some, None, List, [], ◌∷◌, refl, sym, ap, subst, ◌∙◌, arith}
 use Rattle.std.specs.Option.{option_map}
-use Rattle.std.proofs.lemmas.Bool.{eqb-true}
 use Rattle.std.proofs.lemmas.List.Sums.{fold-append}
-use Rattle.ble_base.specs.declared.roles.Role.{Role}
-use Rattle.ble_base.specs.declared.roles.Role.TheVariants.{Central, Peripheral}
-use Rattle.advertise.specs.Advertising.{AdvertiserFacts, event_channel}
 use Rattle.link_model.specs.End.{facts_of as end_facts}
 use Rattle.link_model.specs.Events.{count_entry, entries_in}
 use Rattle.link_model.specs.Facts.{Facts as EndFacts}
 use Rattle.link_model.specs.Setup.{Setup as EndSetup}
 use Rattle.link_model.specs.Step.{Step as EndStep, EventEntered, PduFixed, PacketSent, PacketReceived}
 use Rattle.link_model.specs.Times.{has_second_exchange}
-use Rattle.open_links.specs.OpenLinks.{Links, OpenLink, facts_in, link_after, link_at, new_link}
-use Rattle.open_links.specs.Turns.{entered_if, is_anchor, link_entered, links_entered, want_if as want_link, wants_entering, wants_from, wants_if}
+use Rattle.open_links.specs.OpenLinks.{OpenLink, facts_in, link_after, link_at, new_link}
+use Rattle.open_links.specs.Turns.{entered_if, is_anchor, link_entered, links_entered, wants_entering, wants_if}
 use Rattle.open_links.proofs.Ends.{entered_setup}
 use Rattle.slot_plan.specs.Holding.{is_held_in, winner_of}
-use Rattle.slot_plan.specs.Winner.{first_activity, first_of, is_before}
 use Rattle.slot_plan.specs.declared.Activity.{Activity}
 use Rattle.slot_plan.specs.declared.Activity.TheVariants.{Link, Advertise, Scan, Initiate}
-use Rattle.slot_plan.specs.declared.Want.{Want}
-use Rattle.controller_model.specs.declared.doing.Doing.{Doing}
 use Rattle.controller_model.specs.declared.doing.Doing.TheVariants.{Rests}
 use Rattle.controller_model.specs.Step.{TurnBegins}
 use Rattle.controller_model.specs.Facts.{Setup, Facts, first_facts}
 use Rattle.controller_model.specs.Heard.{has_room}
 use Rattle.controller_model.specs.Links.{facts_ending}
-use Rattle.controller_model.specs.Radio.{advertiser_wants, advertises_at, advertises_on, doing_held, doing_won, exchange_begins, exchange_if, facts_entering, first_exchange, initiates_on, initiator_channel, plan_in, radio_served, scanner_channel, scans_on, second_exchange, served, slots_since, turn_begins, want_if, wants_in, winner_served}
+use Rattle.controller_model.specs.Radio.{doing_held, doing_won, exchange_if, facts_entering, first_exchange, initiator_channel, plan_in, radio_served, scanner_channel, second_exchange, served, slots_since, turn_begins, winner_served}
 use Rattle.controller_model.specs.Side.{facts_after}
 use Rattle.controller_model.proofs.Always.{ending_is}
-use Rattle.controller_model.proofs.LinkNotes.{AreIn, all_in, first_in, rest_in}
 use Rattle.run_model.specs.Run.{step_of}
 use Rattle.run_laws.proofs.Agreed.{step_facts}
-use Rattle.run_laws.proofs.LinkPasses.{is_on_link}
-use Rattle.run_laws.proofs.OpenSteps.{none_open, open_has}
 use Rattle.run_laws.proofs.TurnPlaces.{Between, IsTurned, Stage}
-use Rattle.journal_acks.proofs.LinkCalls.{HasPassed, IsNew, Stays, Takes, begins_under, fixed_if, off_listens, off_sends, passes_under}
+use Rattle.journal_acks.proofs.LinkCalls.{HasPassed, IsNew, Stays, Takes, begins_under, fixed_if, passes_under}
 use Rattle.journal_acks.proofs.LinkPhases.{IsPhased, phased_first, phased_kept}
 use Rattle.journal_acks.proofs.LinkUses.{listens_under, sends_under}
+use Rattle.journal_acks.proofs.RadioUses.{Listening, Sending, Uses, advertises_off, exchange_uses, first_of_both, initiates_off, no_link, off_uses, rests_uses, scans_off, winner_wants}
 use Rattle.journal_acks.proofs.UnderHandles.{WasAlike, end_under, map_under, octet_under, sent_if}
 
 -- it has entered an event
 abbrev pub HasEntered : OpenLink → Type 0
 HasEntered link = 0 < entries_in link.past
-
--- ---- what wins a slot wants it
-
--- a link that wants a slot enters its event in it
-abbrev IsEntering : ℕ → Links → Want → Type 0
-IsEntering slot whole want = (handle : ℕ) (link : OpenLink) → want.activity ≡ Link handle → link_at handle whole ≡ Some link → wants_entering slot link ≡ true
-
-entering_if : (wants : Bool) (slot first last_served : ℕ) (whole : Links) (link : OpenLink) → link_at first whole ≡ Some link → wants_entering slot link ≡ wants
-    → AllByRecursion (IsEntering slot whole) (want_link wants first last_served)
-entering_if true slot first last_served whole link at is = (
-  (λ handle other same found.
-      let one : Link first ≡ Link handle = same in
-      let equal : first ≡ handle = cc in
-      let links : Some link ≡ Some other = sym at ∙ ap (λ n. link_at n whole) equal ∙ found in
-      let alike : link ≡ other = cc in subst (λ (l : OpenLink). wants_entering slot l ≡ true) alike is),
-  tt,
-)
-entering_if false slot first last_served whole link at is = tt
-
-both_all : (P : Want → Type 0) (xs ys : List Want) → AllByRecursion P xs → AllByRecursion P ys → AllByRecursion P (xs ++ ys)
-both_all P [] ys all more = more
-both_all P (want ∷ xs) ys all more = (all.0, both_all P xs ys all.1 more)
-
-links_entering : (slot : ℕ) (whole : Links) (first : ℕ) (links : Links) → AreIn whole first links → AllByRecursion (IsEntering slot whole) (wants_from slot first links)
-links_entering slot whole first [] are = tt
-links_entering slot whole first (None ∷ links) are = links_entering slot whole (first + 1) links (rest_in whole first None links are)
-links_entering slot whole first (Some link ∷ links) are =
-    both_all (IsEntering slot whole) (want_link (wants_entering slot link) first link.last_served) (wants_from slot (first + 1) links)
-    (entering_if (wants_entering slot link) slot first link.last_served whole link (first_in whole first link links are) refl)
-    (links_entering slot whole (first + 1) links (rest_in whole first (Some link) links are))
-
-other_wants : (slot : ℕ) (whole : Links) (wants : Bool) (activity : Activity) → ((handle : ℕ) → activity ≡ Link handle → ⊥) → AllByRecursion (IsEntering slot whole) (want_if wants activity)
-other_wants slot whole true activity none = ((λ handle link same at. absurd (none handle same)), tt)
-other_wants slot whole false activity none = tt
-
-all_entering : (slot : ℕ) (facts : Facts) → AllByRecursion (IsEntering slot facts.links) (wants_in slot facts)
-all_entering slot facts =
-    let P = IsEntering slot facts.links in
-    both_all P _ _ (both_all P _ _ (both_all P _ _ (links_entering slot facts.links 0 facts.links (all_in facts.links))
-    (other_wants slot facts.links (advertiser_wants slot facts.advertising.on) Advertise (λ handle same. absurd cc)))
-    (other_wants slot facts.links (is_some (scanner_channel slot facts.scanning.on)) Scan (λ handle same. absurd cc)))
-    (other_wants slot facts.links (is_some (initiator_channel slot facts.initiator)) Initiate (λ handle same. absurd cc))
-
-earlier_has : (P : Want → Type 0) (want other : Want) (test : Bool) → P want → P other → P (if test then want else other)
-earlier_has P want other true has has_too = has
-earlier_has P want other false has has_too = has_too
-
-first_has : (P : Want → Type 0) (want : Want) (wants : List Want) → P want → AllByRecursion P wants → P (first_of want wants)
-first_has P want [] has all = has
-first_has P want (next ∷ wants) has all =
-    earlier_has P want (first_of next wants) (is_before want (first_of next wants)) has (first_has P next wants all.0 all.1)
-
-activity_wants : (slot handle : ℕ) (whole : Links) (link : OpenLink) (wants : List Want) → AllByRecursion (IsEntering slot whole) wants → first_activity wants ≡ Some (Link handle)
-    → link_at handle whole ≡ Some link → wants_entering slot link ≡ true
-activity_wants slot handle whole link [] all is at = absurd cc
-activity_wants slot handle whole link (want ∷ wants) all is at =
-    let same : (first_of want wants).activity ≡ Link handle = cc in first_has (IsEntering slot whole) want wants all.0 all.1 handle link same at
-
-winner_wants : (slot handle : ℕ) (facts : Facts) (link : OpenLink) (held : Bool) → (if held then None else first_activity (wants_in slot facts)) ≡ Some (Link handle)
-    → link_at handle facts.links ≡ Some link → wants_entering slot link ≡ true
-winner_wants slot handle facts link true is at = absurd cc
-winner_wants slot handle facts link false is at = activity_wants slot handle facts.links link (wants_in slot facts) (all_entering slot facts) is at
 
 -- ---- a link that enters its event
 
@@ -165,44 +92,6 @@ same_goes one other setup past going = λ on.
 
 -- ---- a turn begins
 
-data Uses (handle : ℕ) (doing : Doing) : Type 0 where
-  Sending : sends_under handle doing ≡ true → Uses handle doing
-  Listening : listens_under handle doing ≡ true → Uses handle doing
-
-off_uses : (handle : ℕ) (doing : Doing) (X : Type 0) → is_on_link doing ≡ false → Uses handle doing → X
-off_uses handle doing X off (Sending on) = absurd (let h : true ≡ false = sym on ∙ off_sends handle doing off in absurd cc)
-off_uses handle doing X off (Listening on) = absurd (let h : true ≡ false = sym on ∙ off_listens handle doing off in absurd cc)
-
-exchange_uses : (role : Role) (handle other : ℕ) → Uses handle (exchange_begins role other) → other ≡ handle
-exchange_uses Central handle other (Sending on) = eqb-true other handle on
-exchange_uses Central handle other (Listening on) = absurd cc
-exchange_uses Peripheral handle other (Sending on) = absurd cc
-exchange_uses Peripheral handle other (Listening on) = eqb-true other handle on
-
-on_off : (channel : Option ℕ) → is_on_link (advertises_on channel) ≡ false
-on_off None = refl
-on_off (Some channel) = refl
-
-if_off : (test : Bool) (channel : Option ℕ) → is_on_link (if test then advertises_on channel else Rests) ≡ false
-if_off true channel = on_off channel
-if_off false channel = refl
-
-advertises_off : (place : ℕ) (on : Option AdvertiserFacts) → is_on_link (advertises_at place on) ≡ false
-advertises_off place None = refl
-advertises_off place (Some on) = if_off (nat_lt place 3) (event_channel on.params.channels place)
-
-scans_off : (channel : Option ℕ) → is_on_link (scans_on channel) ≡ false
-scans_off None = refl
-scans_off (Some channel) = refl
-
-initiates_off : (channel : Option ℕ) → is_on_link (initiates_on channel) ≡ false
-initiates_off None = refl
-initiates_off (Some channel) = refl
-
-first_of_both : (one other : Bool) → (one && other) ≡ true → one ≡ true
-first_of_both true other is = refl
-first_of_both false other is = absurd cc
-
 -- the links before they enter their events, and one of them
 module _ (slot handle : ℕ) (begun : Facts) (link : OpenLink) (at : link_at handle begun.links ≡ Some link) where
   -- what it is then
@@ -260,9 +149,6 @@ pub record AreEntered (setup : Setup) (stage : Stage) (begun : ℕ) (facts : Fac
   pub going : (handle : ℕ) (link : OpenLink) → link_at handle facts.links ≡ Some link → IsGoing link
   pub sends : (handle : ℕ) (link : OpenLink) → link_at handle facts.links ≡ Some link → sends_under handle facts.turn.doing ≡ true → HasEntered link
   pub listens : (handle : ℕ) (link : OpenLink) → link_at handle facts.links ≡ Some link → listens_under handle facts.turn.doing ≡ true → HasEntered link
-
-rests_uses : (handle : ℕ) (doing : Doing) (X : Type 0) → doing ≡ Rests → Uses handle doing → X
-rests_uses handle doing X is uses = off_uses handle doing X (ap is_on_link is) uses
 
 -- what is kept as a turn begins
 begun_entered : (setup : Setup) (slot : ℕ) (on : Bool) (facts : Facts) → ((handle : ℕ) (link : OpenLink) → link_at handle facts.links ≡ Some link → IsGoing link)
@@ -336,9 +222,6 @@ entered_kept setup = record {
     listens = λ handle link at on. absurd cc;
   };
 }
-
-no_link : (setup : Setup) (handle : ℕ) (link : OpenLink) (X : Type 0) → link_at handle (first_facts setup).links ≡ Some link → X
-no_link setup handle link X at = absurd (open_has (λ one. ⊥) 0 handle (replicate setup.links None) link (none_open (λ one. ⊥) setup.links) at)
 
 pub entered_first : (setup : Setup) → AreEntered setup Between 0 (first_facts setup)
 entered_first setup = record {

@@ -7,7 +7,7 @@ use Rattle.ble_base.specs.declared.roles.Role.TheVariants.{Central, Peripheral}
 use Rattle.air_frame.specs.Packet.{access_octets}
 use Rattle.link_model.specs.Setup.{Setup as EndSetup}
 use Rattle.run_model.specs.Due.{Each}
-use Rattle.run_model.specs.History.{Event, Noted, Transmitted, turns_begun}
+use Rattle.run_model.specs.History.{Event, Noted, Transmitted}
 use Rattle.run_model.specs.Journal.{journal_of, side_of}
 use Rattle.run_model.specs.LinkEnds.{ConnectInd, HaveAddresses, IsAtEnd}
 use Rattle.run_model.specs.Links.{links_of}

@@ -20,6 +20,7 @@ pub mod EachCall
 pub mod Known
 pub mod Seen
 pub mod RunCounts
+pub mod RadioUses
 pub mod EnteredLinks
 pub mod EntryNotes
 pub mod EntryLines

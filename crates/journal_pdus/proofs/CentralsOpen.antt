@@ -5,7 +5,7 @@ use Rattle.std.proofs.lemmas.Bool.{eqb-true, false_from_ne_true, or_left, or_rig
 use Rattle.std.proofs.lemmas.List.Folds.{list_any-append}
 use Rattle.ble_base.specs.declared.addresses.Address.{Address}
 use Rattle.ble_base.specs.declared.notes.Note.{Note}
-use Rattle.ble_base.specs.declared.notes.Note.TheVariants.{Opened, Up}
+use Rattle.ble_base.specs.declared.notes.Note.TheVariants.{Opened}
 use Rattle.ble_base.specs.declared.roles.Side.{Side}
 use Rattle.adv_pdu.specs.declared.pdu.AdvPdu.{AdvPdu}
 use Rattle.adv_pdu.specs.declared.pdu.AdvPdu.TheVariants.{Connect}

@@ -30,7 +30,7 @@ use Rattle.run_model.specs.Run.{step_of}
 use Rattle.run_laws.proofs.TurnPlaces.{Between, IsTurned, Stage, Within}
 use Rattle.run_laws.proofs.TurnSteps.{begins_begun, begins_slot, octet_turn, phase_turn}
 use Rattle.journal_acks.proofs.EnteredLinks.{AreEntered, HasEntered, entered_first, entered_kept, entries_fixed, entries_received, entries_sent}
-use Rattle.journal_pdus.proofs.RadioUses.{Listening, Sending, Uses, advertises_off, exchange_uses, first_of_both, initiates_off, no_link, off_uses, rests_uses, scans_off, winner_wants}
+use Rattle.journal_acks.proofs.RadioUses.{Listening, Sending, Uses, advertises_off, exchange_uses, first_of_both, initiates_off, no_link, off_uses, rests_uses, scans_off, winner_wants}
 use Rattle.journal_acks.proofs.LinkCalls.{HasBegun, HasPassed, IsNew, Stays as StaysSo, Takes, begins_under, fixed_if, passes_under}
 use Rattle.journal_acks.proofs.LinkUses.{sends_under}
 use Rattle.journal_acks.proofs.UnderHandles.{end_under, map_under, octet_under, sent_if}

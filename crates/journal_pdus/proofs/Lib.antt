@@ -23,7 +23,6 @@ mod Law
 mod Awaited
 mod AnswersHeard
 mod CentralsOpen
-mod RadioUses
 mod HeldRadio
 mod EventSlots
 mod PacketTurns
