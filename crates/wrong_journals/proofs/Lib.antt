@@ -5,3 +5,5 @@ pub mod Turning
 pub mod Shutting
 pub mod InEvents
 pub mod Opening
+pub mod Unanswering
+pub mod Ordering

@@ -7,4 +7,7 @@ pub mod Hosts
 pub mod InEvent
 pub mod Resetting
 pub mod Shuts
+pub mod Orders
+pub mod Right
 pub mod Turns
+pub mod Unanswered

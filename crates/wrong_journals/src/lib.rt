@@ -7,10 +7,13 @@ mod events;
 mod exchanges;
 mod held;
 mod hosts;
+mod orders;
 mod resets;
+mod right;
 mod shuts;
 mod slots;
 mod turns;
+mod unanswered;
 
 pub use crate::answers::{missed_answers_are_refused, unopened_links_are_refused};
 pub use crate::events::{wrong_links_are_refused, wrong_orders_of_events_are_refused};
@@ -20,10 +23,13 @@ pub use crate::exchanges::{
 };
 pub use crate::held::{lines_of_no_link_are_refused, packets_of_no_link_are_refused};
 pub use crate::hosts::{wrong_credits_are_refused, wrong_data_is_refused};
+pub use crate::orders::wrong_orders_of_turns_are_refused;
 pub use crate::resets::links_left_by_a_reset_are_refused;
+pub use crate::right::right_journals_are_lawful;
 pub use crate::shuts::{links_that_stay_open_are_refused, wrong_reasons_are_refused};
 pub use crate::slots::packets_outside_events_are_refused;
 pub use crate::turns::{
     wrong_fates_are_refused, wrong_feeds_are_refused, wrong_radios_are_refused,
     wrong_stops_are_refused, wrong_turns_are_refused, wrong_verdicts_are_refused,
 };
+pub use crate::unanswered::wrong_answers_are_refused;

@@ -1,5 +1,5 @@
 -- A packet comes outside the event of its link.
-use Rattle.std.proofs.Common.{◌≡◌, ℕ, ◌+◌, ◌*◌, ◌⊎◌, inl, inr, [], refl, ap, arith}
+use Rattle.std.proofs.Common.{◌≡◌, ℕ, ◌+◌, ◌⊎◌, inl, inr, [], refl, ap, arith}
 use Rattle.ble_base.specs.declared.roles.Side.TheVariants.{B}
 use Rattle.ble_base.specs.declared.verdicts.Verdict.TheVariants.{Good}
 use Rattle.journal.specs.declared.entries.Mark.TheVariants.{Pass}

@@ -1,0 +1,27 @@
+-- Proof of `right::right_journals_are_lawful`.
+use Rattle.std.proofs.Common.{[], ◌∷◌, refl, subst}
+use Rattle.controller_model.specs.Rows.{advertising_octets, scanning_octets}
+use Rattle.journal_pdus.specs.Lawful.{IsLawful}
+use Rattle.radio_replay.specs.declared.fates.Fate.TheVariants.{Lost}
+use Rattle.run_model.specs.Rows.{connecting_octets, enabling_octets, reset}
+use Rattle.wrong_journals.specs.Right.{script_with, turn_with}
+use Rattle.wrong_journals.proofs.right.right_journals_are_lawful.Goals as goal
+
+pub returns : goal.returns
+returns c =
+    let lawful = c.each_journal_is_lawful.ensures.lawful in
+    let runs = c.worked_runs.ensures in
+    let links = c.worked_connection.ensures in
+    let script = script_with in
+    let resets = script_with (turn_with 0 0 [] ∷ turn_with 4 0 [] ∷ []) in
+    let advertises = script_with (turn_with 24 18 [] ∷ []) in
+    let loses = script_with (turn_with 24 18 (Lost ∷ []) ∷ []) in
+    let connects = script_with (turn_with 5 29 [] ∷ []) in
+    let enters = script_with (turn_with 5 29 [] ∷ turn_with 0 0 [] ∷ turn_with 0 0 [] ∷ []) in
+    record {
+      reset = subst (IsLawful reset [] resets) runs.reset (lawful reset [] resets refl refl);
+      advertisement = subst (IsLawful advertising_octets scanning_octets advertises) runs.advertisement (lawful advertising_octets scanning_octets advertises refl refl);
+      lost = subst (IsLawful advertising_octets scanning_octets loses) runs.lost (lawful advertising_octets scanning_octets loses refl refl);
+      opens = subst (IsLawful enabling_octets connecting_octets connects) links.opens (lawful enabling_octets connecting_octets connects refl refl);
+      event = subst (IsLawful enabling_octets connecting_octets enters) links.event (lawful enabling_octets connecting_octets enters refl refl);
+    }
