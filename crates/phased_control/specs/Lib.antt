@@ -1,0 +1,4 @@
+-- The definitions of this crate.
+pub mod Phased
+pub mod Taken
+pub mod Worked
