@@ -1,0 +1,4 @@
+-- The lemmas of this crate.
+mod AirDoings
+mod OnePhase
+mod RequestsHeard
