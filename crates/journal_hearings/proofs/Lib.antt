@@ -2,3 +2,4 @@
 mod AirDoings
 mod OnePhase
 mod RequestsHeard
+mod ConnectVerdicts

@@ -5,5 +5,5 @@
 mod hearings;
 mod rows;
 
-pub use crate::hearings::each_request_is_heard;
-pub use crate::rows::worked_requests;
+pub use crate::hearings::{each_request_is_heard, each_taken_link_is_heard};
+pub use crate::rows::{worked_requests, worked_verdicts};
