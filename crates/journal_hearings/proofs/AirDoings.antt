@@ -342,14 +342,20 @@ AwaitsNext channel (Advertises on) = on ≡ channel
 AwaitsNext channel (Requests on advertiser) = on ≡ channel
 AwaitsNext channel other = ⊥
 
+abbrev pub AwaitsNow : ℕ → Doing → Type 0
+AwaitsNow channel (AwaitsRequest on) = on ≡ channel
+AwaitsNow channel (AwaitsResponse on) = on ≡ channel
+AwaitsNow channel other = ⊥
+
 pub record IsAwaiting (facts : Facts) (channel : ℕ) : Type 0 where
+  pub awaits : AwaitsNow channel facts.turn.doing
   pub wants : facts.wanted ≡ Listens channel
   pub judges : (octets : List ℕ) → verdict_of facts octets ≡ verdict_advertising channel octets
 
 awaits_by : (facts : Facts) (channel : ℕ) (doing : Doing) → AwaitsNext channel doing → IsAwaiting (facts_passed (unheard doing facts)) channel
 unfolding verdict_of
-awaits_by facts channel (Advertises on) is = record { wants = ap Listens is; judges = λ octets. ap (λ n. verdict_advertising n octets) is }
-awaits_by facts channel (Requests on advertiser) is = record { wants = ap Listens is; judges = λ octets. ap (λ n. verdict_advertising n octets) is }
+awaits_by facts channel (Advertises on) is = record { awaits = is; wants = ap Listens is; judges = λ octets. ap (λ n. verdict_advertising n octets) is }
+awaits_by facts channel (Requests on advertiser) is = record { awaits = is; wants = ap Listens is; judges = λ octets. ap (λ n. verdict_advertising n octets) is }
 awaits_by facts channel other is = absurd is
 
 pub awaits_next : (setup : Setup) (facts : Facts) (channel : ℕ) → AwaitsNext channel facts.turn.doing → IsAwaiting (facts_after setup facts NothingHeard) channel

@@ -236,11 +236,11 @@ module _ (understood : IsUnderstood) (given : Given) (pair : IsOfTwo given) (six
 
   -- ---- before each packet
 
-  abbrev IsAwaited : List Event → ℕ → ℕ → List ℕ → Type 0
+  abbrev pub IsAwaited : List Event → ℕ → ℕ → List ℕ → Type 0
   IsAwaited history station channel octets =
       (pdu : AdvPdu) → is_advertising channel ≡ true → pdu_heard channel octets ≡ Some pdu → is_awaited pdu ≡ true → IsAwaiting (facts_at given (other_of station) history) channel
 
-  waits : (phases : ℕ) (done left : List ℕ) (station channel : ℕ) (octets : List ℕ) (history : List Event) → given.stations ≡ done ++ station ∷ left
+  pub waits : (phases : ℕ) (done left : List ℕ) (station channel : ℕ) (octets : List ℕ) (history : List Event) → given.stations ≡ done ++ station ∷ left
       → use_at given station history ≡ Sends channel octets → ArePassing given (AtPackets phases done (station ∷ left)) history → IsAwaited history station channel octets
   waits zero done left station channel octets history are wanted is pdu on found awaited =
       let facts = facts_at given station history in

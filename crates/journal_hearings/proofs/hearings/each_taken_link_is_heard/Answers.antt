@@ -1,5 +1,5 @@
 -- Proof of `hearings::each_taken_link_is_heard`.
-use Rattle.journal_hearings.proofs.ConnectVerdicts.{taken_links_heard}
+use Rattle.journal_hearings.proofs.ConnectLines.{taken_links_heard}
 use Rattle.journal_hearings.proofs.hearings.each_taken_link_is_heard.Goals as goal
 
 pub returns : goal.returns

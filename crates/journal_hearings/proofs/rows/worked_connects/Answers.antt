@@ -1,4 +1,4 @@
--- Proof of `rows::worked_verdicts`: the definitions compute.
+-- Proof of `rows::worked_connects`: the definitions compute.
 use Rattle.std.proofs.Common.{refl}
 use Rattle.adv_pdu.specs.Header.{kept_bits}
 use Rattle.adv_pdu.specs.Reading.{read_of}
@@ -6,10 +6,9 @@ use Rattle.air_frame.specs.Hearing.{heard_in}
 use Rattle.frame_bits.specs.Crc.{crc, crc_octets, crc_of_bits, remainder}
 use Rattle.frame_bits.specs.Whitening.{mask_of, next_mask, whitening_bit, whitening_of}
 use Rattle.controller_model.specs.Packets.{pdu_heard}
-use Rattle.run_model.specs.Links.{begins_link}
 use Rattle.wire_fields.specs.Field.{little_endian}
-use Rattle.journal_hearings.proofs.rows.worked_verdicts.Goals as goal
+use Rattle.journal_hearings.proofs.rows.worked_connects.Goals as goal
 
 pub returns : goal.returns
-unfolding begins_link pdu_heard heard_in read_of kept_bits crc crc_octets crc_of_bits remainder mask_of next_mask whitening_bit whitening_of little_endian
-returns c = record { good = refl; lost = refl; no_link = refl; zero = refl }
+unfolding pdu_heard heard_in read_of kept_bits crc crc_octets crc_of_bits remainder mask_of next_mask whitening_bit whitening_of little_endian
+returns c = record { connect = refl; good = refl; lost = refl; no_link = refl; zero = refl }
