@@ -1,0 +1,18 @@
+-- Proof of `rows::worked_openings`: the definitions compute.
+use Rattle.std.proofs.Common.{refl}
+use Rattle.adv_pdu.specs.Header.{kept_bits}
+use Rattle.adv_pdu.specs.Reading.{read_of}
+use Rattle.air_frame.specs.Hearing.{heard_in}
+use Rattle.ble_base.specs.ChannelMap.{data_channels, used_channels}
+use Rattle.frame_bits.specs.Crc.{crc, crc_octets, crc_of_bits, remainder}
+use Rattle.frame_bits.specs.Whitening.{mask_of, next_mask, whitening_bit, whitening_of}
+use Rattle.controller_model.specs.Packets.{pdu_heard}
+use Rattle.wire_fields.specs.Field.{little_endian}
+use Rattle.journal_data.specs.Lines.{lines_of}
+use Rattle.h4_frames.specs.Frames.{frames}
+use Rattle.hci_cmd.specs.Command.{command_of, layout_of, layouts}
+use Rattle.journal_hearings.proofs.rows.worked_openings.Goals as goal
+
+pub returns : goal.returns
+unfolding pdu_heard heard_in read_of kept_bits crc crc_octets crc_of_bits remainder mask_of next_mask whitening_bit whitening_of little_endian lines_of frames command_of layout_of layouts data_channels used_channels
+returns c = record { to_open = record { lets = refl; in_range = refl; new = refl }; taken = refl; central = refl; no_link = refl; linked = refl; peer = refl; crossed = refl; not_yet = refl }
