@@ -1,7 +1,11 @@
-//! What the hosts of a run receive, by the lines of its journal: answers to their commands. None of
-//! it names code.
+//! What the hosts of a run receive, by the lines of its journal: answers to their commands, and
+//! reports of complete packets. None of it names code.
 #![tactic(auto)]
 
 mod answers;
+mod credits;
 
 pub use crate::answers::each_command_is_answered;
+pub use crate::credits::{
+    credits_of_a_turn_are_in_the_order_of_handles, each_early_credit_is_of_one_packet,
+};

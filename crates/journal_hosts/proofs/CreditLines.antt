@@ -1,0 +1,257 @@
+-- The credits of a side in the turn that is under way, by the lines, and whether each note fits them.
+use Rattle.std.proofs.Common.{◌≡◌, ℕ, zero, suc, ◌+◌, ◌<◌, ◌≤◌, ◌&&◌, Bool, true, false, Option, Some, None, List, [], ◌∷◌, ◌++◌, length, map, refl, sym, ap, subst, ◌∙◌, arith}
+use Rattle.std.specs.Prelude.{⊤, fold, if◌then◌else◌}
+use Rattle.std.specs.List.{AllByRecursion}
+use Rattle.std.specs.Option.{option_map}
+use Rattle.std.proofs.lemmas.List.Sums.{fold-append}
+use Rattle.ble_base.specs.declared.notes.Note.{Note}
+use Rattle.ble_base.specs.declared.notes.Note.TheVariants.{Up as UpNote}
+use Rattle.ble_base.specs.declared.roles.Side.{Side}
+use Rattle.hci_evt.specs.Event.{written}
+use Rattle.hci_evt.specs.declared.event.Event.TheVariants.{CompletedPackets}
+use Rattle.host_view.specs.View.{View}
+use Rattle.journal.specs.declared.entries.Entry.{Entry}
+use Rattle.journal.specs.declared.entries.Entry.TheVariants.{Turn, Air, Up}
+use Rattle.open_links.specs.Data.{complete_in, completed_by, completed_from}
+use Rattle.open_links.specs.OpenLinks.{Links}
+use Rattle.controller_model.specs.Data.{event_completed}
+use Rattle.controller_model.specs.Events.{notes_of_events}
+use Rattle.controller_model.specs.Step.{Step}
+use Rattle.run_model.specs.Due.{Each}
+use Rattle.run_model.specs.History.{Event, TurnBegan, HostFed, Called, Noted, Transmitted}
+use Rattle.run_model.specs.Journal.{entries_of, entry_of, journal_from, journal_of, side_of}
+use Rattle.run_model.specs.Links.{Links as Numbers, links_after, links_of}
+use Rattle.run_model.proofs.Calls.{with_notes}
+use Rattle.run_model.proofs.Parts.{journal_event, journal_more}
+use Rattle.journal_packets.specs.Belonging.{is_side}
+use Rattle.journal_data.proofs.EachLine.{own_side}
+use Rattle.wire_fields.specs.Field.{little_endian}
+use Rattle.journal_hosts.specs.Credits.{credit_count, credit_handle, is_credit}
+use Rattle.journal_hosts.proofs.CreditNotes.{AreNoCredits, IsNoCredit, IsOfOne}
+
+-- ---- the handles of the credits after the first packet of a turn
+
+-- after an entry; there are none before that packet
+abbrev pub handles_after : Side → Option (List ℕ) → Entry → Option (List ℕ)
+handles_after side handles (Turn slot a_on b_on) = None
+handles_after side None (Air sender channel octets fate verdict) = Some []
+handles_after side (Some handles) (Air sender channel octets fate verdict) = Some handles
+handles_after side handles (Up other octets) =
+    if is_side other side && is_credit octets then option_map (λ some. some ++ credit_handle octets ∷ []) handles else handles
+handles_after side handles entry = handles
+
+abbrev pub handles_of : Side → List Entry → Option (List ℕ)
+handles_of side journal = fold (handles_after side) None journal
+
+abbrev pub handles_at : Side → List Event → Option (List ℕ)
+handles_at side history = handles_of side (journal_of history)
+
+-- the handles, and none where there are none yet
+abbrev pub some_handles : Option (List ℕ) → List ℕ
+some_handles None = []
+some_handles (Some handles) = handles
+
+-- ---- what an event adds
+
+pub handles_event : (side : Side) (history : List Event) (event : Event)
+    → handles_at side (history ++ event ∷ []) ≡ fold (handles_after side) (handles_at side history) (entries_of (links_of history) event)
+handles_event side history event =
+    ap (handles_of side) (journal_event history event) ∙ fold-append (handles_after side) None (journal_of history) (entries_of (links_of history) event)
+
+if_not : (own : Bool) (one other : Option (List ℕ)) (credit : Bool) → credit ≡ false → (if own && credit then one else other) ≡ other
+if_not true one other false is = refl
+if_not false one other false is = refl
+if_not own one other true is = absurd cc
+
+if_elsewhere : (own credit : Bool) (one other : Option (List ℕ)) → own ≡ false → (if own && credit then one else other) ≡ other
+if_elsewhere false credit one other is = refl
+if_elsewhere true credit one other is = absurd cc
+
+if_both : (own credit : Bool) (one other : Option (List ℕ)) → own ≡ true → credit ≡ true → (if own && credit then one else other) ≡ one
+if_both true true one other is also = refl
+if_both true false one other is also = absurd cc
+if_both false credit one other is also = absurd cc
+
+if_none : (test : Bool) (change : List ℕ → List ℕ) → (if test then option_map change None else None) ≡ None
+if_none true change = refl
+if_none false change = refl
+
+module _ (side : Side) where
+  -- a note that is no credit, of any side
+  quiet_entry : (own : Side) (link_of : ℕ → ℕ) (last : ℕ) (note : Note) (handles : Option (List ℕ)) → IsNoCredit note
+      → handles_after side handles (entry_of own link_of last note) ≡ handles
+  quiet_entry own link_of last (UpNote packet) handles none = if_not (is_side own side) _ handles (is_credit packet.items) none
+  quiet_entry own link_of last note handles none = refl
+
+  -- a note of the other side
+  other_entry : (own : Side) (link_of : ℕ → ℕ) (last : ℕ) (note : Note) (handles : Option (List ℕ)) → is_side own side ≡ false
+      → handles_after side handles (entry_of own link_of last note) ≡ handles
+  other_entry own link_of last (UpNote packet) handles apart = if_elsewhere (is_side own side) (is_credit packet.items) _ handles apart
+  other_entry own link_of last note handles apart = refl
+
+  -- a note before the first packet
+  early_entry : (own : Side) (link_of : ℕ → ℕ) (last : ℕ) (note : Note) → handles_after side None (entry_of own link_of last note) ≡ None
+  early_entry own link_of last (UpNote packet) = if_none (is_side own side && is_credit packet.items) (λ some. some ++ credit_handle packet.items ∷ [])
+  early_entry own link_of last note = refl
+
+  quiet_notes : (links : Numbers) (station : ℕ) (notes : List Note) (handles : Option (List ℕ)) → AreNoCredits notes
+      → fold (handles_after side) handles (journal_from links (map (Noted station) notes)) ≡ handles
+  quiet_notes links station [] handles none = refl
+  quiet_notes links station (note ∷ notes) handles none =
+      ap (λ some. fold (handles_after side) some (journal_from (links_after links (Noted station note)) (map (Noted station) notes)))
+      (quiet_entry (side_of station) (links.link_of station) (links.last_of station) note handles none.0)
+      ∙ quiet_notes (links_after links (Noted station note)) station notes handles none.1
+
+  other_notes : (links : Numbers) (station : ℕ) (notes : List Note) (handles : Option (List ℕ)) → is_side (side_of station) side ≡ false
+      → fold (handles_after side) handles (journal_from links (map (Noted station) notes)) ≡ handles
+  other_notes links station [] handles apart = refl
+  other_notes links station (note ∷ notes) handles apart =
+      ap (λ some. fold (handles_after side) some (journal_from (links_after links (Noted station note)) (map (Noted station) notes)))
+      (other_entry (side_of station) (links.link_of station) (links.last_of station) note handles apart)
+      ∙ other_notes (links_after links (Noted station note)) station notes handles apart
+
+  early_notes : (links : Numbers) (station : ℕ) (notes : List Note)
+      → fold (handles_after side) None (journal_from links (map (Noted station) notes)) ≡ None
+  early_notes links station [] = refl
+  early_notes links station (note ∷ notes) =
+      ap (λ some. fold (handles_after side) some (journal_from (links_after links (Noted station note)) (map (Noted station) notes)))
+      (early_entry (side_of station) (links.link_of station) (links.last_of station) note)
+      ∙ early_notes (links_after links (Noted station note)) station notes
+
+  called : (station : ℕ) (step : Step) (notes : List Note) (history : List Event)
+      → handles_at side (with_notes station step notes history)
+      ≡ fold (handles_after side) (handles_at side history) (journal_from (links_of history) (map (Noted station) notes))
+  called station step notes history =
+      ap (handles_of side) (journal_more history (Called station step ∷ map (Noted station) notes))
+      ∙ fold-append (handles_after side) None (journal_of history) (journal_from (links_of history) (map (Noted station) notes))
+
+  -- a call with no credit leaves them, and so does one on the other side; before the first packet there are none after it
+  pub quiet_called : (station : ℕ) (step : Step) (notes : List Note) (history : List Event) → AreNoCredits notes
+      → handles_at side (with_notes station step notes history) ≡ handles_at side history
+  quiet_called station step notes history none =
+      called station step notes history ∙ quiet_notes (links_of history) station notes (handles_at side history) none
+
+  pub other_called : (station : ℕ) (step : Step) (notes : List Note) (history : List Event) → is_side (side_of station) side ≡ false
+      → handles_at side (with_notes station step notes history) ≡ handles_at side history
+  other_called station step notes history apart =
+      called station step notes history ∙ other_notes (links_of history) station notes (handles_at side history) apart
+
+  pub early_called : (station : ℕ) (step : Step) (notes : List Note) (history : List Event) → handles_at side history ≡ None
+      → handles_at side (with_notes station step notes history) ≡ None
+  early_called station step notes history none =
+      called station step notes history
+      ∙ ap (λ some. fold (handles_after side) some (journal_from (links_of history) (map (Noted station) notes))) none
+      ∙ early_notes (links_of history) station notes
+
+  pub quiet_more : (station : ℕ) (notes : List Note) (history : List Event) → AreNoCredits notes
+      → handles_at side (history ++ map (Noted station) notes) ≡ handles_at side history
+  quiet_more station notes history none =
+      ap (handles_of side) (journal_more history (map (Noted station) notes))
+      ∙ fold-append (handles_after side) None (journal_of history) (journal_from (links_of history) (map (Noted station) notes))
+      ∙ quiet_notes (links_of history) station notes (handles_at side history) none
+
+-- ---- each credit fits
+
+noted_early : (side : Side) (station : ℕ) (history : List Event) (note : Note) → handles_at side history ≡ None → handles_at side (history ++ Noted station note ∷ []) ≡ None
+noted_early side station history note early =
+    let links = links_of history in
+    handles_event side history (Noted station note)
+    ∙ ap (λ handles. handles_after side handles (entry_of (side_of station) (links.link_of station) (links.last_of station) note)) early
+    ∙ early_entry side (side_of station) (links.link_of station) (links.last_of station) note
+
+handle_held : (handle count : ℕ) → handle < 65536 → credit_handle (written (CompletedPackets handle count)) ≡ handle
+unfolding little_endian
+handle_held handle count below = omega (arith, below)
+
+less_more : (first : ℕ) (handles : List ℕ) → AllByRecursion (λ handle. handle < first) handles → AllByRecursion (λ handle. handle < first + 1) handles
+less_more first [] less = tt
+less_more first (handle ∷ handles) less = (omega (arith, less.0), less_more first handles less.1)
+
+less_push : (first : ℕ) (handles : List ℕ) → AllByRecursion (λ handle. handle < first) handles → AllByRecursion (λ handle. handle < first + 1) (handles ++ first ∷ [])
+less_push first [] less = (omega arith, tt)
+less_push first (handle ∷ handles) less = (omega (arith, less.0), less_push first handles less.1)
+
+is_one : (handle count : ℕ) → is_credit (written (CompletedPackets handle count)) ≡ true
+unfolding little_endian
+is_one handle count = refl
+
+-- the note of a credit
+abbrev note_of : ℕ → ℕ → Note
+note_of handle count = UpNote (record { items = written (CompletedPackets handle count) })
+
+noted_credit : (station handle count : ℕ) (history : List Event) (handles : List ℕ) → handles_at (side_of station) history ≡ Some handles
+    → handles_at (side_of station) (history ++ Noted station (note_of handle count) ∷ []) ≡ Some (handles ++ credit_handle (written (CompletedPackets handle count)) ∷ [])
+noted_credit station handle count history handles are =
+    let octets = written (CompletedPackets handle count) in
+    handles_event (side_of station) history (Noted station (note_of handle count))
+    ∙ if_both (is_side (side_of station) (side_of station)) (is_credit octets) _ _ (own_side station) (is_one handle count)
+    ∙ ap (option_map (λ some. some ++ credit_handle octets ∷ [])) are
+
+-- before the first packet of the turn it is of one packet; after it, where handles fit into two octets, it is above all
+-- handles before it
+module _ (Few : Type 0) where
+  abbrev pub Fits : Option (List ℕ) → List ℕ → Type 0
+  Fits None octets = credit_count octets ≡ 1
+  Fits (Some handles) octets = Few → AllByRecursion (λ handle. handle < credit_handle octets) handles
+
+  abbrev FitsIfCredit : ℕ → List Event → Note → Type 0
+  FitsIfCredit station history (UpNote packet) = is_credit packet.items ≡ true → Fits (handles_at (side_of station) history) packet.items
+  FitsIfCredit station history note = ⊤
+
+  abbrev pub CreditsFit : List Event → Event → Type 0
+  CreditsFit history (Noted station note) = FitsIfCredit station history note
+  CreditsFit history (Called station step) = ⊤
+  CreditsFit history (TurnBegan slot radios) = ⊤
+  CreditsFit history (HostFed station octets) = ⊤
+  CreditsFit history (Transmitted station channel octets hearings) = ⊤
+
+  quiet_fits : (station : ℕ) (history : List Event) (note : Note) → IsNoCredit note → FitsIfCredit station history note
+  quiet_fits station history (UpNote packet) none = λ is. absurd (let h : false ≡ true = sym none ∙ is in absurd cc)
+  quiet_fits station history note none = tt
+
+  pub quiet_each : (station : ℕ) (notes : List Note) (history : List Event) → AreNoCredits notes → Each CreditsFit history (map (Noted station) notes)
+  quiet_each station [] history none = tt
+  quiet_each station (note ∷ notes) history none =
+      (quiet_fits station history note none.0, quiet_each station notes (history ++ Noted station note ∷ []) none.1)
+
+  early_fits : (station : ℕ) (history : List Event) (note : Note) → handles_at (side_of station) history ≡ None → IsOfOne note → FitsIfCredit station history note
+  early_fits station history (UpNote packet) early one = λ is. subst (λ handles. Fits handles packet.items) (sym early) (one is)
+  early_fits station history note early one = tt
+
+  pub early_each : (station : ℕ) (notes : List Note) (history : List Event) → handles_at (side_of station) history ≡ None → AllByRecursion IsOfOne notes
+      → Each CreditsFit history (map (Noted station) notes)
+  early_each station [] history early ones = tt
+  early_each station (note ∷ notes) history early ones = (
+    early_fits station history note early ones.0,
+    early_each station notes (history ++ Noted station note ∷ []) (noted_early (side_of station) station history note early) ones.1,
+  )
+
+  -- ---- the credits as a turn ends
+
+  module _ (station : ℕ) (view : View) where
+    abbrev pub Ascend : List Event → ℕ → Links → Type 0
+    Ascend history first links = Each CreditsFit history (map (Noted station) (notes_of_events view (map event_completed (completed_from first links))))
+
+    pub ascend : (first : ℕ) (links : Links) (history : List Event) (handles : List ℕ) → handles_at (side_of station) history ≡ Some handles
+        → (Few → AllByRecursion (λ handle. handle < first) handles) → (Few → first + length links ≤ 65536) → Ascend history first links
+    ascend first [] history handles are less room = tt
+    ascend first (None ∷ links) history handles are less room =
+        ascend (first + 1) links history handles are (λ few. less_more first handles (less few)) (λ few. let below = room few in omega (arith, below))
+    ascend first (Some link ∷ links) history handles are less room =
+        by (complete_in link)
+        (ascend (first + 1) links history handles are (λ few. less_more first handles (less few)) (λ few. let below = room few in omega (arith, below)))
+        (λ count. ascend (first + 1) links (history ++ Noted station (note_of first count) ∷ []) (handles ++ credit_handle (written (CompletedPackets first count)) ∷ [])
+        (noted_credit station first count history handles are)
+        (λ few. subst (λ n. AllByRecursion (λ handle. handle < first + 1) (handles ++ n ∷ []))
+        (sym (handle_held first count (let below = room few in omega (arith, below)))) (less_push first handles (less few)))
+        (λ few. let below = room few in omega (arith, below)))
+      where
+        by : (complete : ℕ) → Ascend history (first + 1) links → ((count : ℕ) → Ascend (history ++ Noted station (note_of first count) ∷ []) (first + 1) links)
+            → Each CreditsFit history (map (Noted station) (notes_of_events view (map event_completed (completed_by first complete ++ completed_from (first + 1) links))))
+        by zero none one = none
+        by (suc count) none one = (
+          (λ is. subst (λ some. Fits some (written (CompletedPackets first (suc count)))) (sym are)
+              (λ few. subst (λ n. AllByRecursion (λ handle. handle < n) handles)
+              (sym (handle_held first (suc count) (let below = room few in omega (arith, below)))) (less few))),
+          one (suc count),
+        )

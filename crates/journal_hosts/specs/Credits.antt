@@ -1,0 +1,33 @@
+-- When complete packets are reported to a host, and in which order (Core 5.2, volume 4 part E, section 7.7.19; when and
+-- in which order is our choice).
+use Rattle.std.specs.Prelude.{◌≡◌, ℕ, ◌<◌, Bool, true, List, [], ◌∷◌, ◌++◌}
+use Rattle.ble_base.specs.declared.roles.Side.{Side}
+use Rattle.host_view.specs.Noted.{two_octets}
+use Rattle.journal.specs.declared.entries.Entry.{Entry}
+use Rattle.journal.specs.declared.entries.Entry.TheVariants.{Up}
+use Rattle.controller_model.specs.Notes.{is_event}
+use Rattle.run_model.specs.Readers.{turn_packets, turns_of}
+
+-- a credit is a Number Of Completed Packets event, 13. It is of one handle, which is at the place 4, and the number of
+-- its packets is after that
+abbrev pub is_credit : List ℕ → Bool
+is_credit octets = is_event 0x13 octets
+
+abbrev pub credit_handle : List ℕ → ℕ
+credit_handle octets = two_octets 4 octets
+
+abbrev pub credit_count : List ℕ → ℕ
+credit_count octets = two_octets 6 octets
+
+-- before the first packet of a turn each credit is of one packet: that has no octets, and is complete as it comes
+abbrev pub AllCreditsAreOfOne : List Entry → Type 0
+AllCreditsAreOfOne journal = (front rest : List Entry) (side : Side) (octets : List ℕ)
+    → journal ≡ front ++ Up side octets ∷ rest → is_credit octets ≡ true → turn_packets front ≡ 0
+    → credit_count octets ≡ 1
+
+-- after the first packet of a turn the credits of a side, in that turn, are in the order of their handles, and no two
+-- have the same one
+abbrev pub AllCreditsAscend : List Entry → Type 0
+AllCreditsAscend journal = (front between rest : List Entry) (side : Side) (one other : List ℕ)
+    → journal ≡ front ++ Up side one ∷ (between ++ Up side other ∷ rest) → is_credit one ≡ true → is_credit other ≡ true
+    → 0 < turn_packets front → turns_of between ≡ [] → credit_handle one < credit_handle other
