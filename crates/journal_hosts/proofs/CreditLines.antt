@@ -23,6 +23,7 @@ use Rattle.run_model.specs.Journal.{entries_of, entry_of, journal_from, journal_
 use Rattle.run_model.specs.Links.{Links as Numbers, links_after, links_of}
 use Rattle.run_model.proofs.Calls.{with_notes}
 use Rattle.run_model.proofs.Parts.{journal_event, journal_more}
+use Rattle.run_laws.proofs.OpenSteps.{EachOpen}
 use Rattle.journal_packets.specs.Belonging.{is_side}
 use Rattle.journal_data.proofs.EachLine.{own_side}
 use Rattle.wire_fields.specs.Field.{little_endian}
@@ -187,15 +188,20 @@ noted_credit station handle count history handles are =
     ∙ if_both (is_side (side_of station) (side_of station)) (is_credit octets) _ _ (own_side station) (is_one handle count)
     ∙ ap (option_map (λ some. some ++ credit_handle octets ∷ [])) are
 
+count_held : (handle count : ℕ) → count ≤ 65535 → 0 < count → 0 < credit_count (written (CompletedPackets handle count))
+unfolding little_endian
+count_held handle count fits some = omega (arith, fits, some)
+
 -- before the first packet of the turn it is of one packet; after it, where handles fit into two octets, it is above all
--- handles before it
-module _ (Few : Type 0) where
+-- handles before it. Where counts fit too, it is of at least one packet
+module _ (Few Fit : Type 0) where
   abbrev pub Fits : Option (List ℕ) → List ℕ → Type 0
   Fits None octets = credit_count octets ≡ 1
   Fits (Some handles) octets = Few → AllByRecursion (λ handle. handle < credit_handle octets) handles
 
   abbrev FitsIfCredit : ℕ → List Event → Note → Type 0
-  FitsIfCredit station history (UpNote packet) = is_credit packet.items ≡ true → Fits (handles_at (side_of station) history) packet.items
+  FitsIfCredit station history (UpNote packet) =
+      is_credit packet.items ≡ true → Fits (handles_at (side_of station) history) packet.items × (Fit → 0 < credit_count packet.items)
   FitsIfCredit station history note = ⊤
 
   abbrev pub CreditsFit : List Event → Event → Type 0
@@ -215,7 +221,8 @@ module _ (Few : Type 0) where
       (quiet_fits station history note none.0, quiet_each station notes (history ++ Noted station note ∷ []) none.1)
 
   early_fits : (station : ℕ) (history : List Event) (note : Note) → handles_at (side_of station) history ≡ None → IsOfOne note → FitsIfCredit station history note
-  early_fits station history (UpNote packet) early one = λ is. subst (λ handles. Fits handles packet.items) (sym early) (one is)
+  early_fits station history (UpNote packet) early one = λ is.
+      let count = one is in (subst (λ handles. Fits handles packet.items) (sym early) count, (λ fit. omega (arith, count)))
   early_fits station history note early one = tt
 
   pub early_each : (station : ℕ) (notes : List Note) (history : List Event) → handles_at (side_of station) history ≡ None → AllByRecursion IsOfOne notes
@@ -233,25 +240,29 @@ module _ (Few : Type 0) where
     Ascend history first links = Each CreditsFit history (map (Noted station) (notes_of_events view (map event_completed (completed_from first links))))
 
     pub ascend : (first : ℕ) (links : Links) (history : List Event) (handles : List ℕ) → handles_at (side_of station) history ≡ Some handles
-        → (Few → AllByRecursion (λ handle. handle < first) handles) → (Few → first + length links ≤ 65536) → Ascend history first links
-    ascend first [] history handles are less room = tt
-    ascend first (None ∷ links) history handles are less room =
-        ascend (first + 1) links history handles are (λ few. less_more first handles (less few)) (λ few. let below = room few in omega (arith, below))
-    ascend first (Some link ∷ links) history handles are less room =
-        by (complete_in link)
-        (ascend (first + 1) links history handles are (λ few. less_more first handles (less few)) (λ few. let below = room few in omega (arith, below)))
+        → (Few → AllByRecursion (λ handle. handle < first) handles) → (Few → first + length links ≤ 65536)
+        → (Fit → EachOpen (λ link. complete_in link ≤ 65535) links) → Ascend history first links
+    ascend first [] history handles are less room fits = tt
+    ascend first (None ∷ links) history handles are less room fits =
+        ascend (first + 1) links history handles are (λ few. less_more first handles (less few)) (λ few. let below = room few in omega (arith, below)) (λ fit. (fits fit).1)
+    ascend first (Some link ∷ links) history handles are less room fits =
+        by (complete_in link) (λ fit. (fits fit).0)
+        (ascend (first + 1) links history handles are (λ few. less_more first handles (less few)) (λ few. let below = room few in omega (arith, below)) (λ fit. (fits fit).1))
         (λ count. ascend (first + 1) links (history ++ Noted station (note_of first count) ∷ []) (handles ++ credit_handle (written (CompletedPackets first count)) ∷ [])
         (noted_credit station first count history handles are)
         (λ few. subst (λ n. AllByRecursion (λ handle. handle < first + 1) (handles ++ n ∷ []))
         (sym (handle_held first count (let below = room few in omega (arith, below)))) (less_push first handles (less few)))
-        (λ few. let below = room few in omega (arith, below)))
+        (λ few. let below = room few in omega (arith, below)) (λ fit. (fits fit).1))
       where
-        by : (complete : ℕ) → Ascend history (first + 1) links → ((count : ℕ) → Ascend (history ++ Noted station (note_of first count) ∷ []) (first + 1) links)
+        by : (complete : ℕ) → (Fit → complete ≤ 65535) → Ascend history (first + 1) links → ((count : ℕ) → Ascend (history ++ Noted station (note_of first count) ∷ []) (first + 1) links)
             → Each CreditsFit history (map (Noted station) (notes_of_events view (map event_completed (completed_by first complete ++ completed_from (first + 1) links))))
-        by zero none one = none
-        by (suc count) none one = (
-          (λ is. subst (λ some. Fits some (written (CompletedPackets first (suc count)))) (sym are)
-              (λ few. subst (λ n. AllByRecursion (λ handle. handle < n) handles)
-              (sym (handle_held first (suc count) (let below = room few in omega (arith, below)))) (less few))),
+        by zero most none one = none
+        by (suc count) most none one = (
+          (λ is. (
+            subst (λ some. Fits some (written (CompletedPackets first (suc count)))) (sym are)
+                (λ few. subst (λ n. AllByRecursion (λ handle. handle < n) handles)
+                (sym (handle_held first (suc count) (let below = room few in omega (arith, below)))) (less few)),
+            (λ fit. count_held first (suc count) (most fit) (omega arith)),
+          )),
           one (suc count),
         )

@@ -1,5 +1,5 @@
 -- In every run of two stations the credits of a host are in their order.
-use Rattle.std.proofs.Common.{◌≡◌, ℕ, ◌<◌, ◌==◌, ◌&&◌, Bool, true, false, Option, Some, None, List, [], ◌∷◌, ◌++◌, map, refl, sym, ap, subst, ◌∙◌, append_assoc, arith}
+use Rattle.std.proofs.Common.{◌≡◌, ℕ, ◌<◌, ◌≤◌, ◌==◌, ◌&&◌, Bool, true, false, Option, Some, None, List, [], ◌∷◌, ◌++◌, map, refl, sym, ap, subst, ◌∙◌, append_assoc, arith}
 use Rattle.std.specs.Prelude.{⊤, fold, take, if◌then◌else◌}
 use Rattle.std.specs.List.{AllByRecursion}
 use Rattle.std.specs.Option.{option_map}
@@ -11,7 +11,8 @@ use Rattle.ble_base.specs.declared.roles.Side.{Side}
 use Rattle.ble_base.specs.declared.roles.Side.TheVariants.{A, B}
 use Rattle.journal.specs.declared.entries.Entry.{Entry}
 use Rattle.journal.specs.declared.entries.Entry.TheVariants.{Turn, Air, Up}
-use Rattle.open_links.specs.Data.{completed_from}
+use Rattle.open_links.specs.Data.{complete_in, completed_from}
+use Rattle.open_links.specs.OpenLinks.{Links}
 use Rattle.controller_model.specs.Data.{event_completed, note_received, notes_ended_turn}
 use Rattle.controller_model.specs.Events.{notes_of_events}
 use Rattle.controller_model.specs.Facts.{Facts}
@@ -20,7 +21,7 @@ use Rattle.controller_model.specs.Step.{Step, HostOctet, TurnBegins, TurnEnds}
 use Rattle.controller_model.proofs.Handles.{own_handles}
 use Rattle.run_model.specs.Due.{Each}
 use Rattle.run_model.specs.Feeding.{AreDistinct}
-use Rattle.run_model.specs.History.{Event, TurnBegan, HostFed, Called, Noted, Transmitted, Hearing, packet_received, past_of}
+use Rattle.run_model.specs.History.{Event, TurnBegan, HostFed, Called, Noted, Transmitted, Hearing, packet_received, past_of, turns_begun}
 use Rattle.run_model.specs.Journal.{air_entries, entry_of, journal_of, side_of}
 use Rattle.run_model.specs.Readers.{turn_packets, turn_packets_after, turns_of}
 use Rattle.run_model.specs.Run.{Given, after_call, after_feed, after_octets, facts_at, hearings_of, history_of, octets_left, run_of, setup_at, step_of}
@@ -28,10 +29,14 @@ use Rattle.run_model.proofs.NoteLines.{note_line}
 use Rattle.run_model.proofs.Places.{each_append, each_at, each_event}
 use Rattle.run_model.proofs.Stations.{among, in_more_other, in_more_same, is_in, not_before}
 use Rattle.run_model.proofs.Walk.{Place, NoTurn, AtFeeds, AtEnds, IsKept, IsStopped, IsWhole, ends_with, run_kept}
+use Rattle.run_laws.proofs.OpenSteps.{EachOpen, open_more}
+use Rattle.run_laws.proofs.TurnPlaces.{Standing, standing, stands_at}
 use Rattle.journal_packets.specs.Belonging.{is_side}
 use Rattle.journal_acks.proofs.TwoStations.{IsOfTwo, other_apart}
+use Rattle.journal_data.proofs.FedInRuns.{fed_standing}
+use Rattle.journal_data.proofs.FewComplete.{IsFew, few_always}
 use Rattle.journal_data.proofs.FewLinks.{HaveFewLinks}
-use Rattle.journal_hosts.specs.Credits.{AllCreditsAreOfOne, AllCreditsAscend, credit_handle, is_credit}
+use Rattle.journal_hosts.specs.Credits.{AllCreditsAreOfOne, AllCreditsAreOfSome, AllCreditsAscend, credit_count, credit_handle, is_credit}
 use Rattle.journal_hosts.proofs.Calm.{nothing_ended}
 use Rattle.journal_hosts.proofs.CreditLines.{CreditsFit, Fits, ascend, early_called, early_each, handles_after, handles_at, handles_event, handles_of, other_called, quiet_called, quiet_each, quiet_more, some_handles}
 use Rattle.journal_hosts.proofs.CreditNotes.{IsBeforeEnd, octet_one, pieces_none, turn_none}
@@ -81,6 +86,19 @@ some_now count (Some handles) counts more = record { some = handles; is = refl }
 
 -- ---- a turn ends
 
+-- the counts of complete packets fit into two octets
+pub record HaveFewBuffers (given : Given) : Type 0 where
+  pub buffers : (station : ℕ) → (setup_at given station).host_buffers ≤ 65535
+
+load_few : (most : ℕ) (links : Links) → EachOpen (IsFew most) links → EachOpen (λ link. complete_in link ≤ most) links
+load_few most links few = open_more (IsFew most) (λ link. complete_in link ≤ most) links (λ link one. let load = one.0 in omega (arith, load)) few
+
+few_complete : (given : Given) (station : ℕ) (history : List Event) (at : Standing) → standing (past_of station history) ≡ Some at → HaveFewBuffers given
+    → EachOpen (λ link. complete_in link ≤ 65535) (facts_at given station history).links
+few_complete given station history at stands few =
+    load_few 65535 (facts_at given station history).links
+    (few_always (setup_at given station) 65535 (past_of station history) (few.buffers station) (fed_standing (past_of station history) at stands).fed)
+
 map_append : (station : ℕ) (xs ys : List Note) → map (Noted station) (xs ++ ys) ≡ map (Noted station) xs ++ map (Noted station) ys
 map_append station [] ys = refl
 map_append station (x ∷ xs) ys = ap (λ all. Noted station x ∷ all) (map_append station xs ys)
@@ -95,23 +113,23 @@ module _ (given : Given) (station : ℕ) (history : List Event) where
   same_called : handles_at (side_of station) called_first ≡ handles_at (side_of station) history
   same_called = handles_event (side_of station) history (Called station TurnEnds)
 
-  ends_first : handles_at (side_of station) history ≡ Some [] → Each (CreditsFit (HaveFewLinks given)) called_first (map (Noted station) (notes_ended_turn facts))
-  ends_first none =
+  ends_first : (HaveFewBuffers given → EachOpen (λ link. complete_in link ≤ 65535) facts.links) → handles_at (side_of station) history ≡ Some [] → Each (CreditsFit (HaveFewLinks given) (HaveFewBuffers given)) called_first (map (Noted station) (notes_ended_turn facts))
+  ends_first fits none =
       let pieces = map note_received facts.received in
       let events = notes_of_events facts.view (map event_completed (completed_from 0 facts.links)) in
       let many = (own_handles (setup_at given station) (past_of station history)).many in
-      subst (Each (CreditsFit (HaveFewLinks given)) called_first) (sym (map_append station pieces events))
-      (each_append (CreditsFit (HaveFewLinks given)) called_first (map (Noted station) pieces) (map (Noted station) events)
-      (quiet_each (HaveFewLinks given) station pieces called_first (pieces_none facts.received))
-      (ascend (HaveFewLinks given) station facts.view 0 facts.links (called_first ++ map (Noted station) pieces) []
-      (quiet_more (side_of station) station pieces called_first (pieces_none facts.received) ∙ same_called ∙ none) (λ few. tt) (λ few. let most = few.links station in omega (arith, many, most))))
+      subst (Each (CreditsFit (HaveFewLinks given) (HaveFewBuffers given)) called_first) (sym (map_append station pieces events))
+      (each_append (CreditsFit (HaveFewLinks given) (HaveFewBuffers given)) called_first (map (Noted station) pieces) (map (Noted station) events)
+      (quiet_each (HaveFewLinks given) (HaveFewBuffers given) station pieces called_first (pieces_none facts.received))
+      (ascend (HaveFewLinks given) (HaveFewBuffers given) station facts.view 0 facts.links (called_first ++ map (Noted station) pieces) []
+      (quiet_more (side_of station) station pieces called_first (pieces_none facts.received) ∙ same_called ∙ none) (λ few. tt) (λ few. let most = few.links station in omega (arith, many, most)) fits))
 
-  end_each : (IsSilent history → notes_ended_turn facts ≡ []) → (handles : Option (List ℕ)) → handles_at (side_of station) history ≡ handles → some_handles handles ≡ []
-      → Each (CreditsFit (HaveFewLinks given)) called_first (map (Noted station) (notes_ended_turn facts))
-  end_each nothing None is none =
+  end_each : (HaveFewBuffers given → EachOpen (λ link. complete_in link ≤ 65535) facts.links) → (IsSilent history → notes_ended_turn facts ≡ []) → (handles : Option (List ℕ)) → handles_at (side_of station) history ≡ handles → some_handles handles ≡ []
+      → Each (CreditsFit (HaveFewLinks given) (HaveFewBuffers given)) called_first (map (Noted station) (notes_ended_turn facts))
+  end_each fits nothing None is none =
       let silent : IsSilent history = subst (Counts (turn_packets (journal_of history))) is (counts_of (side_of station) (journal_of history)) in
-      subst (λ notes. Each (CreditsFit (HaveFewLinks given)) called_first (map (Noted station) notes)) (sym (nothing silent)) tt
-  end_each nothing (Some handles) is none = ends_first (is ∙ ap Some none)
+      subst (λ notes. Each (CreditsFit (HaveFewLinks given) (HaveFewBuffers given)) called_first (map (Noted station) notes)) (sym (nothing silent)) tt
+  end_each fits nothing (Some handles) is none = ends_first fits (is ∙ ap Some none)
 
 -- ---- what holds at each place
 
@@ -124,11 +142,11 @@ HandlesAt given place history = (side : Side) → some_handles (handles_at side 
 
 record AreInOrder (given : Given) (place : Place) (history : List Event) : Type 0 where
   quiet : AreQuiet given place history
-  each : Each (CreditsFit (HaveFewLinks given)) [] history
+  each : Each (CreditsFit (HaveFewLinks given) (HaveFewBuffers given)) [] history
   within : HandlesAt given place history
 
 record AreEarly (given : Given) (history : List Event) : Type 0 where
-  each : Each (CreditsFit (HaveFewLinks given)) [] history
+  each : Each (CreditsFit (HaveFewLinks given) (HaveFewBuffers given)) [] history
   none : (side : Side) → handles_at side history ≡ None
 
 octet_early : (given : Given) (station octet : ℕ) (history : List Event) → AreEarly given history → AreEarly given (after_call given station (HostOctet octet) history)
@@ -136,9 +154,9 @@ octet_early given station octet history early =
     let setup = setup_at given station in
     let step = HostOctet octet in
     let notes = notes_after setup (facts_at given station history) step in record {
-      each = each_append (CreditsFit (HaveFewLinks given)) [] history (Called station step ∷ map (Noted station) notes) early.each (
+      each = each_append (CreditsFit (HaveFewLinks given) (HaveFewBuffers given)) [] history (Called station step ∷ map (Noted station) notes) early.each (
         tt,
-        early_each (HaveFewLinks given) station notes (history ++ Called station step ∷ [])
+        early_each (HaveFewLinks given) (HaveFewBuffers given) station notes (history ++ Called station step ∷ [])
             (handles_event (side_of station) history (Called station step) ∙ early.none (side_of station))
             (octet_one setup (facts_at given station history) octet),
       );
@@ -155,17 +173,17 @@ feed_early given station [] history early = early
 feed_early given station (octet ∷ octets) history early =
     let event = HostFed station (octet ∷ octets) in
     octets_early given station (octet ∷ octets) (history ++ event ∷ []) (record {
-      each = each_event (CreditsFit (HaveFewLinks given)) history event early.each tt;
+      each = each_event (CreditsFit (HaveFewLinks given) (HaveFewBuffers given)) history event early.each tt;
       none = λ side. handles_event side history event ∙ early.none side;
     })
 
 -- a call before the end of the turn
-turn_each : (given : Given) (station : ℕ) (step : Step) (history : List Event) → IsBeforeEnd step → Each (CreditsFit (HaveFewLinks given)) [] history
-    → Each (CreditsFit (HaveFewLinks given)) [] (after_call given station step history)
+turn_each : (given : Given) (station : ℕ) (step : Step) (history : List Event) → IsBeforeEnd step → Each (CreditsFit (HaveFewLinks given) (HaveFewBuffers given)) [] history
+    → Each (CreditsFit (HaveFewLinks given) (HaveFewBuffers given)) [] (after_call given station step history)
 turn_each given station step history is each =
     let notes = notes_after (setup_at given station) (facts_at given station history) step in
-    each_append (CreditsFit (HaveFewLinks given)) [] history (Called station step ∷ map (Noted station) notes) each
-    (tt, quiet_each (HaveFewLinks given) station notes (history ++ Called station step ∷ []) (turn_none (setup_at given station) (facts_at given station history) step is))
+    each_append (CreditsFit (HaveFewLinks given) (HaveFewBuffers given)) [] history (Called station step ∷ map (Noted station) notes) each
+    (tt, quiet_each (HaveFewLinks given) (HaveFewBuffers given) station notes (history ++ Called station step ∷ []) (turn_none (setup_at given station) (facts_at given station history) step is))
 
 turn_handles : (given : Given) (station : ℕ) (step : Step) (history : List Event) → IsBeforeEnd step → (side : Side)
     → handles_at side (after_call given station step history) ≡ handles_at side history
@@ -208,7 +226,7 @@ order_kept given are_two distinct = let kept = quiet_kept given are_two distinct
   on_turn = λ slot plan history begun at is.
       let event = TurnBegan slot (map plan.radio_of given.stations) in record {
         quiet = kept.on_turn slot plan history begun at is.quiet;
-        each = each_event (CreditsFit (HaveFewLinks given)) history event is.each tt;
+        each = each_event (CreditsFit (HaveFewLinks given) (HaveFewBuffers given)) history event is.each tt;
         within = λ side. handles_event side history event;
       };
   on_feed = λ plan done left station history are some now is.
@@ -232,7 +250,7 @@ order_kept given are_two distinct = let kept = quiet_kept given are_two distinct
       let hearings = hearings_of given plan.fates station channel octets history in
       let event = Transmitted station channel octets hearings in record {
         quiet = kept.on_packet phases plan done left station channel octets history are some due is.quiet;
-        each = each_event (CreditsFit (HaveFewLinks given)) history event is.each tt;
+        each = each_event (CreditsFit (HaveFewLinks given) (HaveFewBuffers given)) history event is.each tt;
         within = λ side. ap some_handles (handles_event side history event)
             ∙ air_handles side (side_of station) channel octets hearings (handles_at side history) ∙ is.within side;
       };
@@ -249,9 +267,9 @@ order_kept given are_two distinct = let kept = quiet_kept given are_two distinct
       let in_it = among given.stations done left station are in
       let facts = facts_at given station history in record {
         quiet = kept.on_end done left station history are some is.quiet;
-        each = each_append (CreditsFit (HaveFewLinks given)) [] history (Called station TurnEnds ∷ map (Noted station) (notes_ended_turn facts)) is.each (
+        each = each_append (CreditsFit (HaveFewLinks given) (HaveFewBuffers given)) [] history (Called station TurnEnds ∷ map (Noted station) (notes_ended_turn facts)) is.each (
           tt,
-          end_each given station history
+          end_each given station history (few_complete given station history (stands_at (AtEnds done (station ∷ left)) station (turns_begun history)) (is.quiet.stand station in_it))
               (λ silent. nothing_ended facts (ends_calm given distinct done left station history are is.quiet silent))
               (handles_at (side_of station) history) refl (is.within station in_it (not_before given.stations done left station distinct are)),
         );
@@ -260,9 +278,9 @@ order_kept given are_two distinct = let kept = quiet_kept given are_two distinct
   on_ended = λ history is. record { quiet = kept.on_ended history is.quiet; each = is.each; within = tt };
 }
 
-run_in_order : (given : Given) → IsOfTwo given → AreDistinct given.stations → Each (CreditsFit (HaveFewLinks given)) [] (history_of (run_of given))
+run_in_order : (given : Given) → IsOfTwo given → AreDistinct given.stations → Each (CreditsFit (HaveFewLinks given) (HaveFewBuffers given)) [] (history_of (run_of given))
 run_in_order given are_two distinct =
-    ends_with (run_of given) (IsWhole given (AreInOrder given)) (IsStopped given (AreInOrder given)) (Each (CreditsFit (HaveFewLinks given)) [])
+    ends_with (run_of given) (IsWhole given (AreInOrder given)) (IsStopped given (AreInOrder given)) (Each (CreditsFit (HaveFewLinks given) (HaveFewBuffers given)) [])
     (run_kept given (AreInOrder given) (order_kept given are_two distinct) (record { quiet = quiet_first given; each = tt; within = tt }))
     (λ history whole. whole.is.each) (λ history stop stopped. stopped.kept.each)
 
@@ -283,21 +301,27 @@ module _ (given : Given) (are_two : IsOfTwo given) (distinct : AreDistinct given
   abbrev journal : List Entry
   journal = journal_of (history_of (run_of given))
 
+  abbrev HasFitted : Side → List Entry → List ℕ → Type 0
+  HasFitted side front octets = Fits (HaveFewLinks given) (HaveFewBuffers given) (handles_of side front) octets × (HaveFewBuffers given → 0 < credit_count octets)
+
   each_fits : (front rest : List Entry) (side : Side) (octets : List ℕ) → journal ≡ front ++ Up side octets ∷ rest → is_credit octets ≡ true
-      → Fits (HaveFewLinks given) (handles_of side front) octets
+      → HasFitted side front octets
   each_fits front rest side octets is credit =
       let one = note_line given front rest (Up side octets) is refl in
       let up = noted_up one.station _ _ one.note side octets one.entry_is in
-      let fits = each_at (CreditsFit (HaveFewLinks given)) (history_of (run_of given)) one.before one.after (Noted one.station (UpNote up.packet)) (run_in_order given are_two distinct)
+      let fits = each_at (CreditsFit (HaveFewLinks given) (HaveFewBuffers given)) (history_of (run_of given)) one.before one.after (Noted one.station (UpNote up.packet)) (run_in_order given are_two distinct)
       (one.is_at ∙ ap (λ note. one.before ++ Noted one.station note ∷ one.after) up.is) in
-      subst (λ entries. Fits (HaveFewLinks given) (handles_of side entries) octets) (sym one.front_is)
-      (subst (λ s. Fits (HaveFewLinks given) (handles_at s one.before) octets) up.side_is
-      (subst (Fits (HaveFewLinks given) (handles_at (side_of one.station) one.before)) up.octets_are (fits (ap is_credit up.octets_are ∙ credit))))
+      subst (λ entries. HasFitted side entries octets) (sym one.front_is)
+      (subst (λ s. HasFitted s (journal_of one.before) octets) up.side_is
+      (subst (HasFitted (side_of one.station) (journal_of one.before)) up.octets_are (fits (ap is_credit up.octets_are ∙ credit))))
 
   pub are_of_one : AllCreditsAreOfOne journal
   are_of_one = λ front rest side octets is credit none.
-      subst (λ handles. Fits (HaveFewLinks given) handles octets) (none_yet (turn_packets front) (handles_of side front) (counts_of side front) none)
-      (each_fits front rest side octets is credit)
+      subst (λ handles. Fits (HaveFewLinks given) (HaveFewBuffers given) handles octets) (none_yet (turn_packets front) (handles_of side front) (counts_of side front) none)
+      (each_fits front rest side octets is credit).0
+
+  pub are_of_some : HaveFewBuffers given → AllCreditsAreOfSome journal
+  are_of_some few = λ front rest side octets is credit. (each_fits front rest side octets is credit).1 few
 
 -- ---- two credits of a turn
 
@@ -309,13 +333,13 @@ all_last : (P : ℕ → Type 0) (xs : List ℕ) (last : ℕ) → AllByRecursion 
 all_last P [] last all = all.0
 all_last P (x ∷ xs) last all = all_last P xs last all.1
 
-module _ (Few : Type 0) (few : Few) (side : Side) (octets : List ℕ) where
+module _ (Few Fit : Type 0) (few : Few) (side : Side) (octets : List ℕ) where
   abbrev IsLess : ℕ → Type 0
   IsLess handle = handle < credit_handle octets
 
   -- what is less than all that fits at the end of these lines of one turn
   less_then : (handle : ℕ) (between : List Entry) (handles : List ℕ) → turns_of between ≡ [] → (AllByRecursion IsLess handles → IsLess handle)
-      → Fits Few (fold (handles_after side) (Some handles) between) octets → IsLess handle
+      → Fits Few Fit (fold (handles_after side) (Some handles) between) octets → IsLess handle
   less_then handle [] handles no_turn less fits = less (fits few)
   less_then handle (Turn slot a_on b_on ∷ between) handles no_turn less fits = absurd cc
   less_then handle (Air sender channel sent fate verdict ∷ between) handles no_turn less fits = less_then handle between handles no_turn less fits
@@ -323,9 +347,9 @@ module _ (Few : Type 0) (few : Few) (side : Side) (octets : List ℕ) where
       by (is_side other side && is_credit packet) (less_then handle between handles no_turn less)
       (less_then handle between (handles ++ credit_handle packet ∷ []) no_turn (λ all. less (all_first IsLess handles (credit_handle packet) all))) fits
     where
-      by : (test : Bool) → (Fits Few (fold (handles_after side) (Some handles) between) octets → IsLess handle)
-          → (Fits Few (fold (handles_after side) (Some (handles ++ credit_handle packet ∷ [])) between) octets → IsLess handle)
-          → Fits Few (fold (handles_after side)
+      by : (test : Bool) → (Fits Few Fit (fold (handles_after side) (Some handles) between) octets → IsLess handle)
+          → (Fits Few Fit (fold (handles_after side) (Some (handles ++ credit_handle packet ∷ [])) between) octets → IsLess handle)
+          → Fits Few Fit (fold (handles_after side)
           (if test then option_map (λ some. some ++ credit_handle packet ∷ []) (Some handles) else Some handles) between) octets → IsLess handle
       by true without with_it fits = with_it fits
       by false without with_it fits = without fits
@@ -339,7 +363,7 @@ module _ (given : Given) (are_two : IsOfTwo given) (distinct : AreDistinct given
   pub ascends : AllCreditsAscend (journal_of (history_of (run_of given)))
   ascends = λ front between rest side one other is credit credit_too packets no_turn.
       let before = front ++ Up side one ∷ between in
-      let fits = each_fits given are_two distinct before rest side other (is ∙ sym (append_assoc front (Up side one ∷ between) (Up side other ∷ rest))) credit_too in
+      let fits = (each_fits given are_two distinct before rest side other (is ∙ sym (append_assoc front (Up side one ∷ between) (Up side other ∷ rest))) credit_too).0 in
       let handles = some_now (turn_packets front) (handles_of side front) (counts_of side front) packets in
       let now : handles_of side before ≡ fold (handles_after side) (Some (handles.some ++ credit_handle one ∷ [])) between =
       fold-append (handles_after side) None front (Up side one ∷ between)
@@ -348,6 +372,6 @@ module _ (given : Given) (are_two : IsOfTwo given) (distinct : AreDistinct given
       (if b && is_credit one then Some (handles.some ++ credit_handle one ∷ []) else Some handles.some) between) (own_is side)
       ∙ ap (λ b. fold (handles_after side)
       (if b then Some (handles.some ++ credit_handle one ∷ []) else Some handles.some) between) credit in
-      less_then (HaveFewLinks given) few side other (credit_handle one) between (handles.some ++ credit_handle one ∷ []) no_turn
+      less_then (HaveFewLinks given) (HaveFewBuffers given) few side other (credit_handle one) between (handles.some ++ credit_handle one ∷ []) no_turn
       (λ all. all_last (λ handle. handle < credit_handle other) handles.some (credit_handle one) all)
-      (subst (λ some. Fits (HaveFewLinks given) some other) now fits)
+      (subst (λ some. Fits (HaveFewLinks given) (HaveFewBuffers given) some other) now fits)

@@ -19,6 +19,11 @@ credit_handle octets = two_octets 4 octets
 abbrev pub credit_count : List ℕ → ℕ
 credit_count octets = two_octets 6 octets
 
+-- each credit is of at least one packet
+abbrev pub AllCreditsAreOfSome : List Entry → Type 0
+AllCreditsAreOfSome journal = (front rest : List Entry) (side : Side) (octets : List ℕ)
+    → journal ≡ front ++ Up side octets ∷ rest → is_credit octets ≡ true → 0 < credit_count octets
+
 -- before the first packet of a turn each credit is of one packet: that has no octets, and is complete as it comes
 abbrev pub AllCreditsAreOfOne : List Entry → Type 0
 AllCreditsAreOfOne journal = (front rest : List Entry) (side : Side) (octets : List ℕ)

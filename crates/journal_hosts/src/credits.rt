@@ -1,9 +1,18 @@
 //! When complete packets are reported to a host, and in which order. The bodies only call the laws
 //! that they rest on: the contracts are the laws.
 ghost use Rattle.std.specs.Prelude.{◌≡◌, ◌≤◌, ◌∷◌, [], ℕ};
-ghost use Rattle.journal_hosts.specs.Credits.{AllCreditsAreOfOne, AllCreditsAscend};
+ghost use Rattle.journal_hosts.specs.Credits.{AllCreditsAreOfOne, AllCreditsAreOfSome};
+ghost use Rattle.journal_hosts.specs.Credits.{AllCreditsAscend};
 ghost use Rattle.run_model.specs.Journal.{journal_of};
 ghost use Rattle.run_model.specs.Run.{Given, history_of, run_of, setup_at};
+
+/// In the journal of a run of two stations, with any number of links each, each Number Of Completed
+/// Packets event is of at least one packet (Core 5.2, volume 4 part E, section 7.7.19).
+pub fn each_credit_is_of_some_packets()
+    ensures { (given : Given) → given.stations ≡ 0 ∷ 1 ∷ []
+        → ((station : ℕ) → (setup_at given station).host_buffers ≤ 65535)
+        → AllCreditsAreOfSome (journal_of (history_of (run_of given))) }
+{}
 
 /// In the journal of a run of two stations, with any number of links each, each Number Of Completed
 /// Packets event before the first packet of a turn is of one packet (Core 5.2, volume 4 part E,
