@@ -1,11 +1,11 @@
 -- The credits of a side in the turn that is under way, by the lines, and whether each note fits them.
-use Rattle.std.proofs.Common.{◌≡◌, ℕ, zero, suc, ◌+◌, ◌<◌, ◌≤◌, ◌&&◌, Bool, true, false, Option, Some, None, List, [], ◌∷◌, ◌++◌, length, map, refl, sym, ap, subst, ◌∙◌, arith}
+use Rattle.std.proofs.Common.{◌≡◌, ℕ, zero, suc, ◌+◌, ◌<◌, ◌≤◌, ◌&&◌, Bool, true, false, Option, Some, None, List, [], ◌∷◌, ◌++◌, length, map, refl, sym, ap, subst, ◌∙◌, append-nil, append_assoc, arith}
 use Rattle.std.specs.Prelude.{⊤, fold, if◌then◌else◌}
 use Rattle.std.specs.List.{AllByRecursion}
 use Rattle.std.specs.Option.{option_map}
 use Rattle.std.proofs.lemmas.List.Sums.{fold-append}
 use Rattle.ble_base.specs.declared.notes.Note.{Note}
-use Rattle.ble_base.specs.declared.notes.Note.TheVariants.{Up as UpNote}
+use Rattle.ble_base.specs.declared.notes.Note.TheVariants.{Shut as ShutNote, Up as UpNote}
 use Rattle.ble_base.specs.declared.roles.Side.{Side}
 use Rattle.hci_evt.specs.Event.{written}
 use Rattle.hci_evt.specs.declared.event.Event.TheVariants.{CompletedPackets}
@@ -27,8 +27,8 @@ use Rattle.run_laws.proofs.OpenSteps.{EachOpen}
 use Rattle.journal_packets.specs.Belonging.{is_side}
 use Rattle.journal_data.proofs.EachLine.{own_side}
 use Rattle.wire_fields.specs.Field.{little_endian}
-use Rattle.journal_hosts.specs.Credits.{credit_count, credit_handle, is_credit}
-use Rattle.journal_hosts.proofs.CreditNotes.{AreNoCredits, IsNoCredit, IsOfOne}
+use Rattle.journal_hosts.specs.Credits.{credit_count, credit_handle, fed_after, is_being_fed, is_credit}
+use Rattle.journal_hosts.proofs.CreditNotes.{AreNoCredits, IsNoCredit, IsOfOctet}
 
 -- ---- the handles of the credits after the first packet of a turn
 
@@ -160,6 +160,45 @@ noted_early side station history note early =
     ∙ ap (λ handles. handles_after side handles (entry_of (side_of station) (links.link_of station) (links.last_of station) note)) early
     ∙ early_entry side (side_of station) (links.link_of station) (links.last_of station) note
 
+-- what the octets of a host bring as its side is being fed
+fed_event : (side : Side) (history : List Event) (event : Event)
+    → is_being_fed side (journal_of (history ++ event ∷ [])) ≡ fold (fed_after side) (is_being_fed side (journal_of history)) (entries_of (links_of history) event)
+unfolding is_being_fed
+fed_event side history event =
+    ap (is_being_fed side) (journal_event history event) ∙ fold-append (fed_after side) false (journal_of history) (entries_of (links_of history) event)
+
+both_true : (one other : Bool) → one ≡ true → other ≡ true → (one && other) ≡ true
+both_true true true is also = refl
+both_true true false is also = also
+both_true false other is also = absurd cc
+
+fed_entry : (side : Side) (link_of : ℕ → ℕ) (last : ℕ) (note : Note) (fed : Bool) → fed ≡ true → is_side side side ≡ true → IsOfOctet note
+    → fed_after side fed (entry_of side link_of last note) ≡ true
+fed_entry side link_of last (UpNote packet) fed is own of = both_true fed (is_side side side) is own
+fed_entry side link_of last (ShutNote handle reason) fed is own of = both_true fed (is_side side side) is own
+fed_entry side link_of last note fed is own of = absurd of
+
+pub fed_noted : (station : ℕ) (history : List Event) (note : Note) → is_being_fed (side_of station) (journal_of history) ≡ true → IsOfOctet note
+    → is_being_fed (side_of station) (journal_of (history ++ Noted station note ∷ [])) ≡ true
+fed_noted station history note is of =
+    let links = links_of history in
+    fed_event (side_of station) history (Noted station note)
+    ∙ fed_entry (side_of station) (links.link_of station) (links.last_of station) note (is_being_fed (side_of station) (journal_of history)) is (own_side station) of
+
+pub fed_called : (station : ℕ) (history : List Event) (step : Step) → is_being_fed (side_of station) (journal_of history) ≡ true
+    → is_being_fed (side_of station) (journal_of (history ++ Called station step ∷ [])) ≡ true
+fed_called station history step is = fed_event (side_of station) history (Called station step) ∙ is
+
+pub fed_by_host : (station : ℕ) (history : List Event) (octets : List ℕ) → is_being_fed (side_of station) (journal_of (history ++ HostFed station octets ∷ [])) ≡ true
+fed_by_host station history octets = fed_event (side_of station) history (HostFed station octets) ∙ own_side station
+
+pub fed_notes : (station : ℕ) (notes : List Note) (history : List Event) → is_being_fed (side_of station) (journal_of history) ≡ true → AllByRecursion IsOfOctet notes
+    → is_being_fed (side_of station) (journal_of (history ++ map (Noted station) notes)) ≡ true
+fed_notes station [] history is of = ap (λ all. is_being_fed (side_of station) (journal_of all)) (append-nil history) ∙ is
+fed_notes station (note ∷ notes) history is of =
+    ap (λ all. is_being_fed (side_of station) (journal_of all)) (sym (append_assoc history (Noted station note ∷ []) (map (Noted station) notes)))
+    ∙ fed_notes station notes (history ++ Noted station note ∷ []) (fed_noted station history note is of.0) of.1
+
 handle_held : (handle count : ℕ) → handle < 65536 → credit_handle (written (CompletedPackets handle count)) ≡ handle
 unfolding little_endian
 handle_held handle count below = omega (arith, below)
@@ -192,16 +231,22 @@ count_held : (handle count : ℕ) → count ≤ 65535 → 0 < count → 0 < cred
 unfolding little_endian
 count_held handle count fits some = omega (arith, fits, some)
 
--- before the first packet of the turn it is of one packet; after it, where handles fit into two octets, it is above all
--- handles before it. Where counts fit too, it is of at least one packet
 module _ (Few Fit : Type 0) where
+  -- before the first packet of the turn it is of one packet; after it, where handles fit into two octets, it is above all
+  -- handles before it
   abbrev pub Fits : Option (List ℕ) → List ℕ → Type 0
   Fits None octets = credit_count octets ≡ 1
   Fits (Some handles) octets = Few → AllByRecursion (λ handle. handle < credit_handle octets) handles
 
+  pub record HasPlace (side : Side) (front : List Entry) (octets : List ℕ) : Type 0 where
+    pub fits : Fits (handles_of side front) octets
+    -- before that packet it comes as its side is fed
+    pub fed : handles_of side front ≡ None → is_being_fed side front ≡ true
+    -- where counts fit into two octets, it is of at least one packet
+    pub some : Fit → 0 < credit_count octets
+
   abbrev FitsIfCredit : ℕ → List Event → Note → Type 0
-  FitsIfCredit station history (UpNote packet) =
-      is_credit packet.items ≡ true → Fits (handles_at (side_of station) history) packet.items × (Fit → 0 < credit_count packet.items)
+  FitsIfCredit station history (UpNote packet) = is_credit packet.items ≡ true → HasPlace (side_of station) (journal_of history) packet.items
   FitsIfCredit station history note = ⊤
 
   abbrev pub CreditsFit : List Event → Event → Type 0
@@ -220,17 +265,22 @@ module _ (Few Fit : Type 0) where
   quiet_each station (note ∷ notes) history none =
       (quiet_fits station history note none.0, quiet_each station notes (history ++ Noted station note ∷ []) none.1)
 
-  early_fits : (station : ℕ) (history : List Event) (note : Note) → handles_at (side_of station) history ≡ None → IsOfOne note → FitsIfCredit station history note
-  early_fits station history (UpNote packet) early one = λ is.
-      let count = one is in (subst (λ handles. Fits handles packet.items) (sym early) count, (λ fit. omega (arith, count)))
-  early_fits station history note early one = tt
+  early_fits : (station : ℕ) (history : List Event) (note : Note) → handles_at (side_of station) history ≡ None
+      → is_being_fed (side_of station) (journal_of history) ≡ true → IsOfOctet note → FitsIfCredit station history note
+  early_fits station history (UpNote packet) early fed one = λ is. let count = one is in record {
+    fits = subst (λ handles. Fits handles packet.items) (sym early) count;
+    fed = λ none. fed;
+    some = λ fit. omega (arith, count);
+  }
+  early_fits station history note early fed one = tt
 
-  pub early_each : (station : ℕ) (notes : List Note) (history : List Event) → handles_at (side_of station) history ≡ None → AllByRecursion IsOfOne notes
-      → Each CreditsFit history (map (Noted station) notes)
-  early_each station [] history early ones = tt
-  early_each station (note ∷ notes) history early ones = (
-    early_fits station history note early ones.0,
-    early_each station notes (history ++ Noted station note ∷ []) (noted_early (side_of station) station history note early) ones.1,
+  pub early_each : (station : ℕ) (notes : List Note) (history : List Event) → handles_at (side_of station) history ≡ None
+      → is_being_fed (side_of station) (journal_of history) ≡ true → AllByRecursion IsOfOctet notes → Each CreditsFit history (map (Noted station) notes)
+  early_each station [] history early fed ones = tt
+  early_each station (note ∷ notes) history early fed ones = (
+    early_fits station history note early fed ones.0,
+    early_each station notes (history ++ Noted station note ∷ []) (noted_early (side_of station) station history note early)
+        (fed_noted station history note fed ones.0) ones.1,
   )
 
   -- ---- the credits as a turn ends
@@ -258,11 +308,12 @@ module _ (Few Fit : Type 0) where
             → Each CreditsFit history (map (Noted station) (notes_of_events view (map event_completed (completed_by first complete ++ completed_from (first + 1) links))))
         by zero most none one = none
         by (suc count) most none one = (
-          (λ is. (
-            subst (λ some. Fits some (written (CompletedPackets first (suc count)))) (sym are)
+          (λ is. record {
+            fits = subst (λ some. Fits some (written (CompletedPackets first (suc count)))) (sym are)
                 (λ few. subst (λ n. AllByRecursion (λ handle. handle < n) handles)
-                (sym (handle_held first (suc count) (let below = room few in omega (arith, below)))) (less few)),
-            (λ fit. count_held first (suc count) (most fit) (omega arith)),
-          )),
+                (sym (handle_held first (suc count) (let below = room few in omega (arith, below)))) (less few));
+            fed = λ none. absurd (let h : None ≡ Some handles = sym none ∙ are in absurd cc);
+            some = λ fit. count_held first (suc count) (most fit) (omega arith);
+          }),
           one (suc count),
         )

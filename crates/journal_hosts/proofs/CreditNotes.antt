@@ -6,7 +6,7 @@ use Rattle.std.specs.List.{AllByRecursion}
 use Rattle.acl_banks.specs.declared.pieces.Piece.{Piece}
 use Rattle.adv_pdu.specs.declared.pdu.AdvPdu.{AdvPdu}
 use Rattle.ble_base.specs.declared.notes.Note.{Note}
-use Rattle.ble_base.specs.declared.notes.Note.TheVariants.{Up}
+use Rattle.ble_base.specs.declared.notes.Note.TheVariants.{Shut, Up}
 use Rattle.h4_frames.specs.declared.packet.HostPacket.TheVariants.{Command as HostCommand, Acl}
 use Rattle.h4_frames.specs.declared.packet.Fed.{Fed}
 use Rattle.h4_frames.specs.declared.packet.Fed.TheVariants.{More, Packet, LostSync}
@@ -57,10 +57,11 @@ abbrev pub IsNoCredit : Note → Type 0
 IsNoCredit (Up packet) = is_credit packet.items ≡ false
 IsNoCredit other = ⊤
 
--- a credit is of one packet
-abbrev pub IsOfOne : Note → Type 0
-IsOfOne (Up packet) = is_credit packet.items ≡ true → credit_count packet.items ≡ 1
-IsOfOne other = ⊤
+-- a packet to the host, which is of one packet if it is a credit, or a link that is shut
+abbrev pub IsOfOctet : Note → Type 0
+IsOfOctet (Up packet) = is_credit packet.items ≡ true → credit_count packet.items ≡ 1
+IsOfOctet (Shut handle reason) = ⊤
+IsOfOctet other = ⊥
 
 abbrev pub AreNoCredits : List Note → Type 0
 AreNoCredits notes = AllByRecursion IsNoCredit notes
@@ -71,14 +72,6 @@ all_append P (x ∷ xs) ys all also = (all.0, all_append P xs ys all.1 also)
 
 both : (xs ys : List Note) → AreNoCredits xs → AreNoCredits ys → AreNoCredits (xs ++ ys)
 both xs ys all also = all_append IsNoCredit xs ys all also
-
-one_no_credit : (note : Note) → IsNoCredit note → IsOfOne note
-one_no_credit (Up packet) none = λ is. absurd (let h : false ≡ true = sym none ∙ is in absurd cc)
-one_no_credit other none = tt
-
-no_credits_one : (notes : List Note) → AreNoCredits notes → AllByRecursion IsOfOne notes
-no_credits_one [] none = tt
-no_credits_one (note ∷ notes) none = (one_no_credit note none.0, no_credits_one notes none.1)
 
 -- ---- events
 
@@ -107,15 +100,25 @@ plain_is (EnhancedConnection status handle role peer_kind peer local other inter
 plain_is (ChannelSelection handle algorithm) is = refl
 plain_is other is = absurd is
 
+module _ (P : Note → Type 0) (each : (event : Event) → IsPlain event → P (Up (record { items = written event }))) where
+  plain_each : (view : View) (events : List Event) → AllByRecursion IsPlain events → AllByRecursion P (notes_of_events view events)
+  plain_each view [] are = tt
+  plain_each view (event ∷ events) are = by (passes view (mask_bit_of event)) (plain_each view events are.1)
+    where
+      by : (passed : Bool) → AllByRecursion P (notes_of_events view events)
+          → AllByRecursion P (map (λ one. Up (record { items = written one }))
+          (cond passed (event ∷ filter (λ one. passes view (mask_bit_of one)) events) (filter (λ one. passes view (mask_bit_of one)) events)))
+      by true rest = (each event are.0, rest)
+      by false rest = rest
+
 plain_notes : (view : View) (events : List Event) → AllByRecursion IsPlain events → AreNoCredits (notes_of_events view events)
-plain_notes view [] are = tt
-plain_notes view (event ∷ events) are = by (passes view (mask_bit_of event)) (plain_notes view events are.1)
-  where
-    by : (passed : Bool) → AreNoCredits (notes_of_events view events)
-        → AreNoCredits (map (λ one. Up (record { items = written one }))
-        (cond passed (event ∷ filter (λ one. passes view (mask_bit_of one)) events) (filter (λ one. passes view (mask_bit_of one)) events)))
-    by true rest = (plain_is event are.0, rest)
-    by false rest = rest
+plain_notes view events are = plain_each IsNoCredit plain_is view events are
+
+plain_one : (event : Event) → IsPlain event → IsOfOctet (Up (record { items = written event }))
+plain_one event is = λ credit. absurd (let h : false ≡ true = sym (plain_is event is) ∙ credit in absurd cc)
+
+plain_ones : (view : View) (events : List Event) → AllByRecursion IsPlain events → AllByRecursion IsOfOctet (notes_of_events view events)
+plain_ones view events are = plain_each IsOfOctet plain_one view events are
 
 -- ---- a turn begins
 
@@ -260,54 +263,55 @@ one_plain opcode [] none is = tt
 one_plain opcode (event ∷ []) none is = (answer_plain opcode event is, tt)
 one_plain opcode (event ∷ other ∷ events) none is = absurd is
 
-answers_none : (setup : Setup) (facts : Facts) (opcode : ℕ) (read : CmdRead) → AreNoCredits (notes_of_events facts.view (answer_to setup facts opcode read))
-answers_none setup facts opcode read =
-    plain_notes facts.view (answer_to setup facts opcode read)
+answer_ones : (setup : Setup) (facts : Facts) (opcode : ℕ) (read : CmdRead)
+    → AllByRecursion IsOfOctet (notes_of_events facts.view (answer_to setup facts opcode read))
+answer_ones setup facts opcode read =
+    plain_ones facts.view (answer_to setup facts opcode read)
     (one_plain opcode (answer_to setup facts opcode read) (HasNoAnswer facts read) (answered_once setup facts opcode read))
 
-shuts_none : (handles : List ℕ) → AreNoCredits (map (λ handle. note_shut handle 0) handles)
-shuts_none [] = tt
-shuts_none (handle ∷ handles) = (tt, shuts_none handles)
+shut_ones : (handles : List ℕ) → AllByRecursion IsOfOctet (map (λ handle. note_shut handle 0) handles)
+shut_ones [] = tt
+shut_ones (handle ∷ handles) = (tt, shut_ones handles)
 
-before_none : (facts : Facts) (command : Command) → AreNoCredits (notes_before facts command)
-before_none facts Reset = shuts_none (handles_from 0 facts.links)
-before_none facts other = tt
+before_ones : (facts : Facts) (command : Command) → AllByRecursion IsOfOctet (notes_before facts command)
+before_ones facts Reset = shut_ones (handles_from 0 facts.links)
+before_ones facts other = tt
 
 failed_plain : (enhanced : Bool) (status : ℕ) → IsPlain (connection_failed enhanced status)
 failed_plain true status = tt
 failed_plain false status = tt
 
-caused_none : (facts : Facts) (command : Command) → AreNoCredits (notes_of_events facts.view (events_caused facts command))
-caused_none facts LeCreateCancel =
-    plain_notes facts.view (connection_failed (wants_enhanced facts.view) 0x02 ∷ []) (failed_plain (wants_enhanced facts.view) 0x02, tt)
-caused_none facts other = tt
+caused_ones : (facts : Facts) (command : Command) → AllByRecursion IsOfOctet (notes_of_events facts.view (events_caused facts command))
+caused_ones facts LeCreateCancel =
+    plain_ones facts.view (connection_failed (wants_enhanced facts.view) 0x02 ∷ []) (failed_plain (wants_enhanced facts.view) 0x02, tt)
+caused_ones facts other = tt
 
-known_none : (accepted : Bool) (setup : Setup) (facts : Facts) (opcode : ℕ) (command : Command) → AreNoCredits (notes_known accepted setup facts opcode command)
-known_none false setup facts opcode command = answers_none setup facts opcode (Known command)
-known_none true setup facts opcode command =
+known_ones : (accepted : Bool) (setup : Setup) (facts : Facts) (opcode : ℕ) (command : Command)
+    → AllByRecursion IsOfOctet (notes_known accepted setup facts opcode command)
+known_ones false setup facts opcode command = answer_ones setup facts opcode (Known command)
+known_ones true setup facts opcode command =
     let answer = notes_of_events facts.view (answer_to setup facts opcode (Known command)) in
-    both (notes_before facts command ++ answer) _
-    (both (notes_before facts command) answer (before_none facts command) (answers_none setup facts opcode (Known command))) (caused_none facts command)
+    all_append IsOfOctet (notes_before facts command ++ answer) _
+    (all_append IsOfOctet (notes_before facts command) answer (before_ones facts command) (answer_ones setup facts opcode (Known command)))
+    (caused_ones facts command)
 
-command_none : (setup : Setup) (facts : Facts) (opcode : ℕ) (read : CmdRead) → AreNoCredits (notes_commanded setup facts opcode read)
-command_none setup facts opcode (Known command) = known_none (status_of facts.view command == 0) setup facts opcode command
-command_none setup facts opcode UnknownOpcode = answers_none setup facts opcode UnknownOpcode
-command_none setup facts opcode BadLength = answers_none setup facts opcode BadLength
+command_ones : (setup : Setup) (facts : Facts) (opcode : ℕ) (read : CmdRead) → AllByRecursion IsOfOctet (notes_commanded setup facts opcode read)
+command_ones setup facts opcode (Known command) = known_ones (status_of facts.view command == 0) setup facts opcode command
+command_ones setup facts opcode UnknownOpcode = answer_ones setup facts opcode UnknownOpcode
+command_ones setup facts opcode BadLength = answer_ones setup facts opcode BadLength
 
-offered_one : (view : View) (offer : Offer) (handle : ℕ) → AllByRecursion IsOfOne (notes_offered view offer handle)
+offered_ones : (view : View) (offer : Offer) (handle : ℕ) → AllByRecursion IsOfOctet (notes_offered view offer handle)
 unfolding little_endian
-offered_one view NoLink handle = tt
-offered_one view Empty handle = ((λ is. refl), tt)
-offered_one view Overflow handle = no_credits_one (notes_of_events view (BufferOverflow 1 ∷ [])) (plain_notes view (BufferOverflow 1 ∷ []) (tt, tt))
-offered_one view Kept handle = tt
+offered_ones view NoLink handle = tt
+offered_ones view Empty handle = ((λ is. refl), tt)
+offered_ones view Overflow handle = plain_ones view (BufferOverflow 1 ∷ []) (tt, tt)
+offered_ones view Kept handle = tt
 
-fed_one : (setup : Setup) (facts : Facts) (fed : Fed) → AllByRecursion IsOfOne (notes_fed setup facts fed)
-fed_one setup facts (Packet (HostCommand opcode body)) =
-    let read = command_of opcode body.items in
-    no_credits_one (notes_commanded setup facts opcode read) (command_none setup facts opcode read)
-fed_one setup facts (Packet (Acl handle start count body)) = offered_one facts.view (offer_of setup facts handle count) handle
-fed_one setup facts LostSync = no_credits_one (notes_of_events facts.view (HardwareError 0x01 ∷ [])) (plain_notes facts.view (HardwareError 0x01 ∷ []) (tt, tt))
-fed_one setup facts More = tt
+fed_ones : (setup : Setup) (facts : Facts) (fed : Fed) → AllByRecursion IsOfOctet (notes_fed setup facts fed)
+fed_ones setup facts (Packet (HostCommand opcode body)) = command_ones setup facts opcode (command_of opcode body.items)
+fed_ones setup facts (Packet (Acl handle start count body)) = offered_ones facts.view (offer_of setup facts handle count) handle
+fed_ones setup facts LostSync = plain_ones facts.view (HardwareError 0x01 ∷ []) (tt, tt)
+fed_ones setup facts More = tt
 
-pub octet_one : (setup : Setup) (facts : Facts) (octet : ℕ) → AllByRecursion IsOfOne (notes_after setup facts (HostOctet octet))
-octet_one setup facts octet = fed_one setup facts (result_of facts.octets octet)
+pub octet_ones : (setup : Setup) (facts : Facts) (octet : ℕ) → AllByRecursion IsOfOctet (notes_after setup facts (HostOctet octet))
+octet_ones setup facts octet = fed_ones setup facts (result_of facts.octets octet)

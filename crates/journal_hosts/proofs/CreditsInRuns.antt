@@ -36,10 +36,10 @@ use Rattle.journal_acks.proofs.TwoStations.{IsOfTwo, other_apart}
 use Rattle.journal_data.proofs.FedInRuns.{fed_standing}
 use Rattle.journal_data.proofs.FewComplete.{IsFew, few_always}
 use Rattle.journal_data.proofs.FewLinks.{HaveFewLinks}
-use Rattle.journal_hosts.specs.Credits.{AllCreditsAreOfOne, AllCreditsAreOfSome, AllCreditsAscend, credit_count, credit_handle, is_credit}
+use Rattle.journal_hosts.specs.Credits.{AllCreditsAreOfOne, AllCreditsAreOfSome, AllCreditsAscend, AllEarlyCreditsComeAtOnce, credit_handle, is_being_fed, is_credit}
 use Rattle.journal_hosts.proofs.Calm.{nothing_ended}
-use Rattle.journal_hosts.proofs.CreditLines.{CreditsFit, Fits, ascend, early_called, early_each, handles_after, handles_at, handles_event, handles_of, other_called, quiet_called, quiet_each, quiet_more, some_handles}
-use Rattle.journal_hosts.proofs.CreditNotes.{IsBeforeEnd, octet_one, pieces_none, turn_none}
+use Rattle.journal_hosts.proofs.CreditLines.{CreditsFit, Fits, HasPlace, fed_by_host, fed_called, fed_notes, ascend, early_called, early_each, handles_after, handles_at, handles_event, handles_of, other_called, quiet_called, quiet_each, quiet_more, some_handles}
+use Rattle.journal_hosts.proofs.CreditNotes.{IsBeforeEnd, octet_ones, pieces_none, turn_none}
 use Rattle.journal_hosts.proofs.QuietTurns.{AreQuiet, IsSilent, ends_calm, quiet_first, quiet_kept}
 
 -- ---- whether a packet was on the air in the turn
@@ -149,32 +149,48 @@ record AreEarly (given : Given) (history : List Event) : Type 0 where
   each : Each (CreditsFit (HaveFewLinks given) (HaveFewBuffers given)) [] history
   none : (side : Side) → handles_at side history ≡ None
 
-octet_early : (given : Given) (station octet : ℕ) (history : List Event) → AreEarly given history → AreEarly given (after_call given station (HostOctet octet) history)
-octet_early given station octet history early =
+-- and the station takes octets of its host
+record AreFeeding (given : Given) (station : ℕ) (history : List Event) : Type 0 where
+  early : AreEarly given history
+  fed : is_being_fed (side_of station) (journal_of history) ≡ true
+
+octet_early : (given : Given) (station octet : ℕ) (history : List Event) → AreFeeding given station history
+    → AreFeeding given station (after_call given station (HostOctet octet) history)
+octet_early given station octet history feeding =
     let setup = setup_at given station in
     let step = HostOctet octet in
-    let notes = notes_after setup (facts_at given station history) step in record {
-      each = each_append (CreditsFit (HaveFewLinks given) (HaveFewBuffers given)) [] history (Called station step ∷ map (Noted station) notes) early.each (
-        tt,
-        early_each (HaveFewLinks given) (HaveFewBuffers given) station notes (history ++ Called station step ∷ [])
-            (handles_event (side_of station) history (Called station step) ∙ early.none (side_of station))
-            (octet_one setup (facts_at given station history) octet),
-      );
-      none = λ side. early_called side station step notes history (early.none side);
+    let notes = notes_after setup (facts_at given station history) step in
+    let ones = octet_ones setup (facts_at given station history) octet in
+    let called = history ++ Called station step ∷ [] in
+    let fed = fed_called station history step feeding.fed in record {
+      early = record {
+        each = each_append (CreditsFit (HaveFewLinks given) (HaveFewBuffers given)) [] history (Called station step ∷ map (Noted station) notes) feeding.early.each (
+          tt,
+          early_each (HaveFewLinks given) (HaveFewBuffers given) station notes called
+              (handles_event (side_of station) history (Called station step) ∙ feeding.early.none (side_of station)) fed ones,
+        );
+        none = λ side. early_called side station step notes history (feeding.early.none side);
+      };
+      fed = ap (λ all. is_being_fed (side_of station) (journal_of all)) (sym (append_assoc history (Called station step ∷ []) (map (Noted station) notes)))
+          ∙ fed_notes station notes called fed ones;
     }
 
-octets_early : (given : Given) (station : ℕ) (octets : List ℕ) (history : List Event) → AreEarly given history → AreEarly given (after_octets given station octets history)
-octets_early given station [] history early = early
-octets_early given station (octet ∷ octets) history early =
-    octets_early given station octets (after_call given station (HostOctet octet) history) (octet_early given station octet history early)
+octets_early : (given : Given) (station : ℕ) (octets : List ℕ) (history : List Event) → AreFeeding given station history
+    → AreEarly given (after_octets given station octets history)
+octets_early given station [] history feeding = feeding.early
+octets_early given station (octet ∷ octets) history feeding =
+    octets_early given station octets (after_call given station (HostOctet octet) history) (octet_early given station octet history feeding)
 
 feed_early : (given : Given) (station : ℕ) (octets : List ℕ) (history : List Event) → AreEarly given history → AreEarly given (after_feed given station octets history)
 feed_early given station [] history early = early
 feed_early given station (octet ∷ octets) history early =
     let event = HostFed station (octet ∷ octets) in
     octets_early given station (octet ∷ octets) (history ++ event ∷ []) (record {
-      each = each_event (CreditsFit (HaveFewLinks given) (HaveFewBuffers given)) history event early.each tt;
-      none = λ side. handles_event side history event ∙ early.none side;
+      early = record {
+        each = each_event (CreditsFit (HaveFewLinks given) (HaveFewBuffers given)) history event early.each tt;
+        none = λ side. handles_event side history event ∙ early.none side;
+      };
+      fed = fed_by_host station history (octet ∷ octets);
     })
 
 -- a call before the end of the turn
@@ -301,27 +317,33 @@ module _ (given : Given) (are_two : IsOfTwo given) (distinct : AreDistinct given
   abbrev journal : List Entry
   journal = journal_of (history_of (run_of given))
 
-  abbrev HasFitted : Side → List Entry → List ℕ → Type 0
-  HasFitted side front octets = Fits (HaveFewLinks given) (HaveFewBuffers given) (handles_of side front) octets × (HaveFewBuffers given → 0 < credit_count octets)
+  abbrev HasOwnPlace : Side → List Entry → List ℕ → Type 0
+  HasOwnPlace side front octets = HasPlace (HaveFewLinks given) (HaveFewBuffers given) side front octets
 
-  each_fits : (front rest : List Entry) (side : Side) (octets : List ℕ) → journal ≡ front ++ Up side octets ∷ rest → is_credit octets ≡ true
-      → HasFitted side front octets
-  each_fits front rest side octets is credit =
+  each_placed : (front rest : List Entry) (side : Side) (octets : List ℕ) → journal ≡ front ++ Up side octets ∷ rest → is_credit octets ≡ true
+      → HasOwnPlace side front octets
+  each_placed front rest side octets is credit =
       let one = note_line given front rest (Up side octets) is refl in
       let up = noted_up one.station _ _ one.note side octets one.entry_is in
-      let fits = each_at (CreditsFit (HaveFewLinks given) (HaveFewBuffers given)) (history_of (run_of given)) one.before one.after (Noted one.station (UpNote up.packet)) (run_in_order given are_two distinct)
-      (one.is_at ∙ ap (λ note. one.before ++ Noted one.station note ∷ one.after) up.is) in
-      subst (λ entries. HasFitted side entries octets) (sym one.front_is)
-      (subst (λ s. HasFitted s (journal_of one.before) octets) up.side_is
-      (subst (HasFitted (side_of one.station) (journal_of one.before)) up.octets_are (fits (ap is_credit up.octets_are ∙ credit))))
+      let placed = each_at (CreditsFit (HaveFewLinks given) (HaveFewBuffers given)) (history_of (run_of given)) one.before one.after (Noted one.station (UpNote up.packet))
+      (run_in_order given are_two distinct) (one.is_at ∙ ap (λ note. one.before ++ Noted one.station note ∷ one.after) up.is) in
+      subst (λ entries. HasOwnPlace side entries octets) (sym one.front_is)
+      (subst (λ s. HasOwnPlace s (journal_of one.before) octets) up.side_is
+      (subst (HasOwnPlace (side_of one.station) (journal_of one.before)) up.octets_are (placed (ap is_credit up.octets_are ∙ credit))))
+
+  early_now : (front : List Entry) (side : Side) → turn_packets front ≡ 0 → handles_of side front ≡ None
+  early_now front side none = none_yet (turn_packets front) (handles_of side front) (counts_of side front) none
+
+  pub are_of_some : HaveFewBuffers given → AllCreditsAreOfSome journal
+  are_of_some few = λ front rest side octets is credit. (each_placed front rest side octets is credit).some few
 
   pub are_of_one : AllCreditsAreOfOne journal
   are_of_one = λ front rest side octets is credit none.
-      subst (λ handles. Fits (HaveFewLinks given) (HaveFewBuffers given) handles octets) (none_yet (turn_packets front) (handles_of side front) (counts_of side front) none)
-      (each_fits front rest side octets is credit).0
+      subst (λ handles. Fits (HaveFewLinks given) (HaveFewBuffers given) handles octets) (early_now front side none)
+      (each_placed front rest side octets is credit).fits
 
-  pub are_of_some : HaveFewBuffers given → AllCreditsAreOfSome journal
-  are_of_some few = λ front rest side octets is credit. (each_fits front rest side octets is credit).1 few
+  pub come_at_once : AllEarlyCreditsComeAtOnce journal
+  come_at_once = λ front rest side octets is credit none. (each_placed front rest side octets is credit).fed (early_now front side none)
 
 -- ---- two credits of a turn
 
@@ -363,7 +385,7 @@ module _ (given : Given) (are_two : IsOfTwo given) (distinct : AreDistinct given
   pub ascends : AllCreditsAscend (journal_of (history_of (run_of given)))
   ascends = λ front between rest side one other is credit credit_too packets no_turn.
       let before = front ++ Up side one ∷ between in
-      let fits = (each_fits given are_two distinct before rest side other (is ∙ sym (append_assoc front (Up side one ∷ between) (Up side other ∷ rest))) credit_too).0 in
+      let fits = (each_placed given are_two distinct before rest side other (is ∙ sym (append_assoc front (Up side one ∷ between) (Up side other ∷ rest))) credit_too).fits in
       let handles = some_now (turn_packets front) (handles_of side front) (counts_of side front) packets in
       let now : handles_of side before ≡ fold (handles_after side) (Some (handles.some ++ credit_handle one ∷ [])) between =
       fold-append (handles_after side) None front (Up side one ∷ between)

@@ -3,12 +3,16 @@ use Rattle.std.specs.Prelude.{ℕ, true, List, [], ◌∷◌, ◌++◌, Some}
 use Rattle.ble_base.specs.declared.roles.Side.TheVariants.{A, B}
 use Rattle.ble_base.specs.declared.verdicts.Verdict.TheVariants.{Missed}
 use Rattle.journal.specs.declared.entries.Entry.{Entry}
-use Rattle.journal.specs.declared.entries.Entry.TheVariants.{Air, Turn, Up}
+use Rattle.journal.specs.declared.entries.Entry.TheVariants.{Air, Fed, Turn, Up}
 use Rattle.journal.specs.declared.entries.Mark.TheVariants.{Pass}
 
 -- a credit of a handle and a number of packets below 256
 abbrev pub credit_of : ℕ → ℕ → List ℕ
 credit_of handle count = 0x04 ∷ 0x13 ∷ 0x05 ∷ 0x01 ∷ handle ∷ 0x00 ∷ count ∷ 0x00 ∷ []
+
+-- a packet of data for a handle below 256, with no octets
+abbrev pub empty_packet : ℕ → List ℕ
+empty_packet handle = 0x02 ∷ handle ∷ 0x00 ∷ 0x00 ∷ 0x00 ∷ []
 
 -- a turn in which a packet was on the air
 abbrev pub one_packet : List Entry
@@ -25,6 +29,11 @@ one_by_one = one_packet ++ Up A (credit_of 0 1) ∷ Up A (credit_of 0 1) ∷ []
 -- two packets without octets are credited at once
 abbrev pub two_together : List Entry
 two_together = Turn 0 true (Some true) ∷ Up A (credit_of 0 2) ∷ []
+
+-- a packet without octets is credited only after the other side was fed
+abbrev pub after_the_other : List Entry
+after_the_other =
+    Turn 0 true (Some true) ∷ Fed A (empty_packet 0) ∷ Fed B (empty_packet 0) ∷ Up A (credit_of 0 1) ∷ []
 
 -- no packet is credited
 abbrev pub of_nothing : List Entry

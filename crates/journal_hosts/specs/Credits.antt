@@ -1,12 +1,13 @@
 -- When complete packets are reported to a host, and in which order (Core 5.2, volume 4 part E, section 7.7.19; when and
 -- in which order is our choice).
-use Rattle.std.specs.Prelude.{◌≡◌, ℕ, ◌<◌, Bool, true, List, [], ◌∷◌, ◌++◌}
+use Rattle.std.specs.Prelude.{◌≡◌, ℕ, ◌<◌, ◌&&◌, Bool, true, false, List, [], ◌∷◌, ◌++◌, fold}
 use Rattle.ble_base.specs.declared.roles.Side.{Side}
 use Rattle.host_view.specs.Noted.{two_octets}
 use Rattle.journal.specs.declared.entries.Entry.{Entry}
-use Rattle.journal.specs.declared.entries.Entry.TheVariants.{Up}
+use Rattle.journal.specs.declared.entries.Entry.TheVariants.{Fed, Shut, Up}
 use Rattle.controller_model.specs.Notes.{is_event}
 use Rattle.run_model.specs.Readers.{turn_packets, turns_of}
+use Rattle.journal_packets.specs.Belonging.{is_side}
 
 -- a credit is a Number Of Completed Packets event, 13. It is of one handle, which is at the place 4, and the number of
 -- its packets is after that
@@ -29,6 +30,23 @@ abbrev pub AllCreditsAreOfOne : List Entry → Type 0
 AllCreditsAreOfOne journal = (front rest : List Entry) (side : Side) (octets : List ℕ)
     → journal ≡ front ++ Up side octets ∷ rest → is_credit octets ≡ true → turn_packets front ≡ 0
     → credit_count octets ≡ 1
+
+-- the lines since the octets that the host of a side sent last are all packets to that host and links of the side that
+-- are shut, after a line
+abbrev pub fed_after : Side → Bool → Entry → Bool
+fed_after side fed (Fed other octets) = is_side other side
+fed_after side fed (Up other octets) = fed && is_side other side
+fed_after side fed (Shut other link reason) = fed && is_side other side
+fed_after side fed entry = false
+
+unfoldable pub is_being_fed : Side → List Entry → Bool
+is_being_fed side front = fold (fed_after side) false front
+
+-- and it comes as its side takes octets of its host
+abbrev pub AllEarlyCreditsComeAtOnce : List Entry → Type 0
+AllEarlyCreditsComeAtOnce journal = (front rest : List Entry) (side : Side) (octets : List ℕ)
+    → journal ≡ front ++ Up side octets ∷ rest → is_credit octets ≡ true → turn_packets front ≡ 0
+    → is_being_fed side front ≡ true
 
 -- after the first packet of a turn the credits of a side, in that turn, are in the order of their handles, and no two
 -- have the same one

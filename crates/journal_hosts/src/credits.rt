@@ -2,7 +2,7 @@
 //! that they rest on: the contracts are the laws.
 ghost use Rattle.std.specs.Prelude.{◌≡◌, ◌≤◌, ◌∷◌, [], ℕ};
 ghost use Rattle.journal_hosts.specs.Credits.{AllCreditsAreOfOne, AllCreditsAreOfSome};
-ghost use Rattle.journal_hosts.specs.Credits.{AllCreditsAscend};
+ghost use Rattle.journal_hosts.specs.Credits.{AllCreditsAscend, AllEarlyCreditsComeAtOnce};
 ghost use Rattle.run_model.specs.Journal.{journal_of};
 ghost use Rattle.run_model.specs.Run.{Given, history_of, run_of, setup_at};
 
@@ -15,11 +15,15 @@ pub fn each_credit_is_of_some_packets()
 {}
 
 /// In the journal of a run of two stations, with any number of links each, each Number Of Completed
-/// Packets event before the first packet of a turn is of one packet (Core 5.2, volume 4 part E,
-/// section 7.7.19).
+/// Packets event before the first packet of a turn is of one packet, and comes as its side takes
+/// octets of its host: since the line of these octets there are only packets to that host and lines
+/// of links that the side shuts (Core 5.2, volume 4 part E, section 7.7.19; when it comes is our
+/// choice).
 pub fn each_early_credit_is_of_one_packet()
-    ensures { (given : Given) → given.stations ≡ 0 ∷ 1 ∷ []
+    ensures one { (given : Given) → given.stations ≡ 0 ∷ 1 ∷ []
         → AllCreditsAreOfOne (journal_of (history_of (run_of given))) }
+    ensures at_once { (given : Given) → given.stations ≡ 0 ∷ 1 ∷ []
+        → AllEarlyCreditsComeAtOnce (journal_of (history_of (run_of given))) }
 {}
 
 /// In the journal of a run of two stations, with any number of links each, the Number Of Completed

@@ -1,8 +1,9 @@
 -- Proof of `rows::wrong_credits_are_refused`.
-use Rattle.std.proofs.Common.{◌≡◌, ◌<◌, true, [], ◌∷◌, Some, refl, arith}
+use Rattle.std.proofs.Common.{◌≡◌, ◌<◌, true, false, [], ◌∷◌, Some, refl, arith}
 use Rattle.ble_base.specs.declared.roles.Side.TheVariants.{A, B}
-use Rattle.journal.specs.declared.entries.Entry.TheVariants.{Turn, Up}
-use Rattle.journal_hosts.specs.CreditRows.{credit_of, one_packet}
+use Rattle.journal.specs.declared.entries.Entry.TheVariants.{Fed, Turn, Up}
+use Rattle.journal_hosts.specs.CreditRows.{credit_of, empty_packet, one_packet}
+use Rattle.journal_hosts.specs.Credits.{is_being_fed}
 use Rattle.journal_hosts.proofs.rows.wrong_credits_are_refused.Goals as goal
 
 pub returns-clause-descending : goal.returns-clause-descending
@@ -16,6 +17,11 @@ returns-clause-one_by_one c lawful =
 pub returns-clause-together : goal.returns-clause-together
 returns-clause-together c lawful =
     let one : 2 ≡ 1 = lawful (Turn 0 true (Some true) ∷ []) [] A (credit_of 0 2) refl refl refl in omega (arith, one)
+
+pub returns-clause-late : goal.returns-clause-late
+unfolding is_being_fed
+returns-clause-late c lawful =
+    let fed : false ≡ true = lawful (Turn 0 true (Some true) ∷ Fed A (empty_packet 0) ∷ Fed B (empty_packet 0) ∷ []) [] A (credit_of 0 1) refl refl refl in absurd cc
 
 pub returns-clause-nothing : goal.returns-clause-nothing
 returns-clause-nothing c lawful =
