@@ -14,7 +14,8 @@ use Rattle.journal.specs.declared.entries.Entry.{Entry}
 use Rattle.journal.specs.declared.entries.Entry.TheVariants.{Turn, Air, Up}
 use Rattle.open_links.specs.Data.{complete_in, completed_by, completed_from}
 use Rattle.open_links.specs.OpenLinks.{Links}
-use Rattle.controller_model.specs.Data.{event_completed}
+use Rattle.acl_banks.specs.declared.pieces.Piece.{Piece}
+use Rattle.controller_model.specs.Data.{acl_packet, event_completed, note_received}
 use Rattle.controller_model.specs.Events.{notes_of_events}
 use Rattle.controller_model.specs.Step.{Step}
 use Rattle.run_model.specs.Due.{Each}
@@ -160,6 +161,12 @@ noted_early side station history note early =
     ∙ ap (λ handles. handles_after side handles (entry_of (side_of station) (links.link_of station) (links.last_of station) note)) early
     ∙ early_entry side (side_of station) (links.link_of station) (links.last_of station) note
 
+noted_quiet : (side : Side) (station : ℕ) (history : List Event) (note : Note) → IsNoCredit note → handles_at side (history ++ Noted station note ∷ []) ≡ handles_at side history
+noted_quiet side station history note none =
+    let links = links_of history in
+    handles_event side history (Noted station note)
+    ∙ quiet_entry side (side_of station) (links.link_of station) (links.last_of station) note (handles_at side history) none
+
 -- what the octets of a host bring as its side is being fed
 fed_event : (side : Side) (history : List Event) (event : Event)
     → is_being_fed side (journal_of (history ++ event ∷ [])) ≡ fold (fed_after side) (is_being_fed side (journal_of history)) (entries_of (links_of history) event)
@@ -231,6 +238,10 @@ count_held : (handle count : ℕ) → count ≤ 65535 → 0 < count → 0 < cred
 unfolding little_endian
 count_held handle count fits some = omega (arith, fits, some)
 
+-- no side has a credit after that packet yet
+abbrev pub HaveNone : List Event → Type 0
+HaveNone history = (side : Side) → some_handles (handles_at side history) ≡ []
+
 module _ (Few Fit : Type 0) where
   -- before the first packet of the turn it is of one packet; after it, where handles fit into two octets, it is above all
   -- handles before it
@@ -245,45 +256,73 @@ module _ (Few Fit : Type 0) where
     -- where counts fit into two octets, it is of at least one packet
     pub some : Fit → 0 < credit_count octets
 
-  abbrev FitsIfCredit : ℕ → List Event → Note → Type 0
-  FitsIfCredit station history (UpNote packet) = is_credit packet.items ≡ true → HasPlace (side_of station) (journal_of history) packet.items
-  FitsIfCredit station history note = ⊤
+  -- a packet to the host that is no credit comes before all credits of its side after that packet
+  pub record IsFit (station : ℕ) (history : List Event) (octets : List ℕ) : Type 0 where
+    pub credit : is_credit octets ≡ true → HasPlace (side_of station) (journal_of history) octets
+    pub other : is_credit octets ≡ false → some_handles (handles_at (side_of station) history) ≡ []
+
+  -- and what is no packet to a host before those of both sides
+  abbrev pub FitsNote : ℕ → List Event → Note → Type 0
+  FitsNote station history (UpNote packet) = IsFit station history packet.items
+  FitsNote station history note = HaveNone history
 
   abbrev pub CreditsFit : List Event → Event → Type 0
-  CreditsFit history (Noted station note) = FitsIfCredit station history note
+  CreditsFit history (Noted station note) = FitsNote station history note
   CreditsFit history (Called station step) = ⊤
   CreditsFit history (TurnBegan slot radios) = ⊤
-  CreditsFit history (HostFed station octets) = ⊤
-  CreditsFit history (Transmitted station channel octets hearings) = ⊤
+  CreditsFit history (HostFed station octets) = HaveNone history
+  CreditsFit history (Transmitted station channel octets hearings) = HaveNone history
 
-  quiet_fits : (station : ℕ) (history : List Event) (note : Note) → IsNoCredit note → FitsIfCredit station history note
-  quiet_fits station history (UpNote packet) none = λ is. absurd (let h : false ≡ true = sym none ∙ is in absurd cc)
-  quiet_fits station history note none = tt
-
-  pub quiet_each : (station : ℕ) (notes : List Note) (history : List Event) → AreNoCredits notes → Each CreditsFit history (map (Noted station) notes)
-  quiet_each station [] history none = tt
-  quiet_each station (note ∷ notes) history none =
-      (quiet_fits station history note none.0, quiet_each station notes (history ++ Noted station note ∷ []) none.1)
-
-  early_fits : (station : ℕ) (history : List Event) (note : Note) → handles_at (side_of station) history ≡ None
-      → is_being_fed (side_of station) (journal_of history) ≡ true → IsOfOctet note → FitsIfCredit station history note
-  early_fits station history (UpNote packet) early fed one = λ is. let count = one is in record {
-    fits = subst (λ handles. Fits handles packet.items) (sym early) count;
-    fed = λ none. fed;
-    some = λ fit. omega (arith, count);
+  no_credit : (station : ℕ) (history : List Event) (octets : List ℕ) → is_credit octets ≡ false → some_handles (handles_at (side_of station) history) ≡ []
+      → IsFit station history octets
+  no_credit station history octets none first = record {
+    credit = λ is. absurd (let h : false ≡ true = sym none ∙ is in absurd cc);
+    other = λ is. first;
   }
-  early_fits station history note early fed one = tt
 
-  pub early_each : (station : ℕ) (notes : List Note) (history : List Event) → handles_at (side_of station) history ≡ None
+  quiet_fits : (station : ℕ) (history : List Event) (note : Note) → IsNoCredit note → HaveNone history → FitsNote station history note
+  quiet_fits station history (UpNote packet) none first = no_credit station history packet.items none (first (side_of station))
+  quiet_fits station history note none first = first
+
+  pub quiet_each : (station : ℕ) (notes : List Note) (history : List Event) → AreNoCredits notes → HaveNone history → Each CreditsFit history (map (Noted station) notes)
+  quiet_each station [] history none first = tt
+  quiet_each station (note ∷ notes) history none first = (
+    quiet_fits station history note none.0 first,
+    quiet_each station notes (history ++ Noted station note ∷ []) none.1 (λ side. ap some_handles (noted_quiet side station history note none.0) ∙ first side),
+  )
+
+  early_fits : (station : ℕ) (history : List Event) (note : Note) → ((side : Side) → handles_at side history ≡ None)
+      → is_being_fed (side_of station) (journal_of history) ≡ true → IsOfOctet note → FitsNote station history note
+  early_fits station history (UpNote packet) early fed one = record {
+    credit = λ is. let count = one is in record {
+      fits = subst (λ handles. Fits handles packet.items) (sym (early (side_of station))) count;
+      fed = λ none. fed;
+      some = λ fit. omega (arith, count);
+    };
+    other = λ is. ap some_handles (early (side_of station));
+  }
+  early_fits station history note early fed one = λ side. ap some_handles (early side)
+
+  pub early_each : (station : ℕ) (notes : List Note) (history : List Event) → ((side : Side) → handles_at side history ≡ None)
       → is_being_fed (side_of station) (journal_of history) ≡ true → AllByRecursion IsOfOctet notes → Each CreditsFit history (map (Noted station) notes)
   early_each station [] history early fed ones = tt
   early_each station (note ∷ notes) history early fed ones = (
     early_fits station history note early fed ones.0,
-    early_each station notes (history ++ Noted station note ∷ []) (noted_early (side_of station) station history note early)
+    early_each station notes (history ++ Noted station note ∷ []) (λ side. noted_early side station history note (early side))
         (fed_noted station history note fed ones.0) ones.1,
   )
 
   -- ---- the credits as a turn ends
+
+  -- the data that its host receives first
+  pub pieces_each : (station : ℕ) (pieces : List (ℕ × Piece)) (history : List Event) → some_handles (handles_at (side_of station) history) ≡ []
+      → Each CreditsFit history (map (Noted station) (map note_received pieces))
+  pieces_each station [] history first = tt
+  pieces_each station (piece ∷ pieces) history first = (
+    no_credit station history (acl_packet piece) refl first,
+    pieces_each station pieces (history ++ Noted station (note_received piece) ∷ [])
+        (ap some_handles (noted_quiet (side_of station) station history (note_received piece) refl) ∙ first),
+  )
 
   module _ (station : ℕ) (view : View) where
     abbrev pub Ascend : List Event → ℕ → Links → Type 0
@@ -308,12 +347,15 @@ module _ (Few Fit : Type 0) where
             → Each CreditsFit history (map (Noted station) (notes_of_events view (map event_completed (completed_by first complete ++ completed_from (first + 1) links))))
         by zero most none one = none
         by (suc count) most none one = (
-          (λ is. record {
-            fits = subst (λ some. Fits some (written (CompletedPackets first (suc count)))) (sym are)
-                (λ few. subst (λ n. AllByRecursion (λ handle. handle < n) handles)
-                (sym (handle_held first (suc count) (let below = room few in omega (arith, below)))) (less few));
-            fed = λ none. absurd (let h : None ≡ Some handles = sym none ∙ are in absurd cc);
-            some = λ fit. count_held first (suc count) (most fit) (omega arith);
-          }),
+          record {
+            credit = λ is. record {
+              fits = subst (λ some. Fits some (written (CompletedPackets first (suc count)))) (sym are)
+                  (λ few. subst (λ n. AllByRecursion (λ handle. handle < n) handles)
+                  (sym (handle_held first (suc count) (let below = room few in omega (arith, below)))) (less few));
+              fed = λ none. absurd (let h : None ≡ Some handles = sym none ∙ are in absurd cc);
+              some = λ fit. count_held first (suc count) (most fit) (omega arith);
+            };
+            other = λ is. absurd (let h : false ≡ true = sym is ∙ is_one first (suc count) in absurd cc);
+          },
           one (suc count),
         )

@@ -22,9 +22,11 @@ use Rattle.controller_model.proofs.Handles.{own_handles}
 use Rattle.run_model.specs.Due.{Each}
 use Rattle.run_model.specs.Feeding.{AreDistinct}
 use Rattle.run_model.specs.History.{Event, TurnBegan, HostFed, Called, Noted, Transmitted, Hearing, packet_received, past_of, turns_begun}
-use Rattle.run_model.specs.Journal.{air_entries, entry_of, journal_of, side_of}
+use Rattle.run_model.specs.Journal.{air_entries, entries_of, entry_of, journal_of, radio_in, side_of}
+use Rattle.run_model.specs.Links.{Links as Numbers, links_of}
 use Rattle.run_model.specs.Readers.{turn_packets, turn_packets_after, turns_of}
 use Rattle.run_model.specs.Run.{Given, after_call, after_feed, after_octets, facts_at, hearings_of, history_of, octets_left, run_of, setup_at, step_of}
+use Rattle.run_model.proofs.EntryEvents.{is_of_event}
 use Rattle.run_model.proofs.NoteLines.{note_line}
 use Rattle.run_model.proofs.Places.{each_append, each_at, each_event}
 use Rattle.run_model.proofs.Stations.{among, in_more_other, in_more_same, is_in, not_before}
@@ -36,9 +38,9 @@ use Rattle.journal_acks.proofs.TwoStations.{IsOfTwo, other_apart}
 use Rattle.journal_data.proofs.FedInRuns.{fed_standing}
 use Rattle.journal_data.proofs.FewComplete.{IsFew, few_always}
 use Rattle.journal_data.proofs.FewLinks.{HaveFewLinks}
-use Rattle.journal_hosts.specs.Credits.{AllCreditsAreOfOne, AllCreditsAreOfSome, AllCreditsAscend, AllEarlyCreditsComeAtOnce, credit_handle, is_being_fed, is_credit}
+use Rattle.journal_hosts.specs.Credits.{AllCreditsAreOfOne, AllCreditsAreOfSome, AllCreditsAscend, AllEarlyCreditsComeAtOnce, AllLateCreditsComeLast, MayFollowCredit, credit_handle, is_being_fed, is_credit}
 use Rattle.journal_hosts.proofs.Calm.{nothing_ended}
-use Rattle.journal_hosts.proofs.CreditLines.{CreditsFit, Fits, HasPlace, fed_by_host, fed_called, fed_notes, ascend, early_called, early_each, handles_after, handles_at, handles_event, handles_of, other_called, quiet_called, quiet_each, quiet_more, some_handles}
+use Rattle.journal_hosts.proofs.CreditLines.{CreditsFit, Fits, FitsNote, HasPlace, HaveNone, pieces_each, fed_by_host, fed_called, fed_notes, ascend, early_called, early_each, handles_after, handles_at, handles_event, handles_of, other_called, quiet_called, quiet_each, quiet_more, some_handles}
 use Rattle.journal_hosts.proofs.CreditNotes.{IsBeforeEnd, octet_ones, pieces_none, turn_none}
 use Rattle.journal_hosts.proofs.QuietTurns.{AreQuiet, IsSilent, ends_calm, quiet_first, quiet_kept}
 
@@ -90,6 +92,10 @@ some_now count (Some handles) counts more = record { some = handles; is = refl }
 pub record HaveFewBuffers (given : Given) : Type 0 where
   pub buffers : (station : ℕ) → (setup_at given station).host_buffers ≤ 65535
 
+-- each credit of a run fits
+abbrev AllFit : Given → List Event → Event → Type 0
+AllFit given history event = CreditsFit (HaveFewLinks given) (HaveFewBuffers given) history event
+
 load_few : (most : ℕ) (links : Links) → EachOpen (IsFew most) links → EachOpen (λ link. complete_in link ≤ most) links
 load_few most links few = open_more (IsFew most) (λ link. complete_in link ≤ most) links (λ link one. let load = one.0 in omega (arith, load)) few
 
@@ -113,22 +119,22 @@ module _ (given : Given) (station : ℕ) (history : List Event) where
   same_called : handles_at (side_of station) called_first ≡ handles_at (side_of station) history
   same_called = handles_event (side_of station) history (Called station TurnEnds)
 
-  ends_first : (HaveFewBuffers given → EachOpen (λ link. complete_in link ≤ 65535) facts.links) → handles_at (side_of station) history ≡ Some [] → Each (CreditsFit (HaveFewLinks given) (HaveFewBuffers given)) called_first (map (Noted station) (notes_ended_turn facts))
+  ends_first : (HaveFewBuffers given → EachOpen (λ link. complete_in link ≤ 65535) facts.links) → handles_at (side_of station) history ≡ Some [] → Each (AllFit given) called_first (map (Noted station) (notes_ended_turn facts))
   ends_first fits none =
       let pieces = map note_received facts.received in
       let events = notes_of_events facts.view (map event_completed (completed_from 0 facts.links)) in
       let many = (own_handles (setup_at given station) (past_of station history)).many in
-      subst (Each (CreditsFit (HaveFewLinks given) (HaveFewBuffers given)) called_first) (sym (map_append station pieces events))
-      (each_append (CreditsFit (HaveFewLinks given) (HaveFewBuffers given)) called_first (map (Noted station) pieces) (map (Noted station) events)
-      (quiet_each (HaveFewLinks given) (HaveFewBuffers given) station pieces called_first (pieces_none facts.received))
+      subst (Each (AllFit given) called_first) (sym (map_append station pieces events))
+      (each_append (AllFit given) called_first (map (Noted station) pieces) (map (Noted station) events)
+      (pieces_each (HaveFewLinks given) (HaveFewBuffers given) station facts.received called_first (ap some_handles (same_called ∙ none)))
       (ascend (HaveFewLinks given) (HaveFewBuffers given) station facts.view 0 facts.links (called_first ++ map (Noted station) pieces) []
       (quiet_more (side_of station) station pieces called_first (pieces_none facts.received) ∙ same_called ∙ none) (λ few. tt) (λ few. let most = few.links station in omega (arith, many, most)) fits))
 
   end_each : (HaveFewBuffers given → EachOpen (λ link. complete_in link ≤ 65535) facts.links) → (IsSilent history → notes_ended_turn facts ≡ []) → (handles : Option (List ℕ)) → handles_at (side_of station) history ≡ handles → some_handles handles ≡ []
-      → Each (CreditsFit (HaveFewLinks given) (HaveFewBuffers given)) called_first (map (Noted station) (notes_ended_turn facts))
+      → Each (AllFit given) called_first (map (Noted station) (notes_ended_turn facts))
   end_each fits nothing None is none =
       let silent : IsSilent history = subst (Counts (turn_packets (journal_of history))) is (counts_of (side_of station) (journal_of history)) in
-      subst (λ notes. Each (CreditsFit (HaveFewLinks given) (HaveFewBuffers given)) called_first (map (Noted station) notes)) (sym (nothing silent)) tt
+      subst (λ notes. Each (AllFit given) called_first (map (Noted station) notes)) (sym (nothing silent)) tt
   end_each fits nothing (Some handles) is none = ends_first fits (is ∙ ap Some none)
 
 -- ---- what holds at each place
@@ -142,11 +148,11 @@ HandlesAt given place history = (side : Side) → some_handles (handles_at side 
 
 record AreInOrder (given : Given) (place : Place) (history : List Event) : Type 0 where
   quiet : AreQuiet given place history
-  each : Each (CreditsFit (HaveFewLinks given) (HaveFewBuffers given)) [] history
+  each : Each (AllFit given) [] history
   within : HandlesAt given place history
 
 record AreEarly (given : Given) (history : List Event) : Type 0 where
-  each : Each (CreditsFit (HaveFewLinks given) (HaveFewBuffers given)) [] history
+  each : Each (AllFit given) [] history
   none : (side : Side) → handles_at side history ≡ None
 
 -- and the station takes octets of its host
@@ -164,10 +170,10 @@ octet_early given station octet history feeding =
     let called = history ++ Called station step ∷ [] in
     let fed = fed_called station history step feeding.fed in record {
       early = record {
-        each = each_append (CreditsFit (HaveFewLinks given) (HaveFewBuffers given)) [] history (Called station step ∷ map (Noted station) notes) feeding.early.each (
+        each = each_append (AllFit given) [] history (Called station step ∷ map (Noted station) notes) feeding.early.each (
           tt,
           early_each (HaveFewLinks given) (HaveFewBuffers given) station notes called
-              (handles_event (side_of station) history (Called station step) ∙ feeding.early.none (side_of station)) fed ones,
+              (λ side. handles_event side history (Called station step) ∙ feeding.early.none side) fed ones,
         );
         none = λ side. early_called side station step notes history (feeding.early.none side);
       };
@@ -187,19 +193,24 @@ feed_early given station (octet ∷ octets) history early =
     let event = HostFed station (octet ∷ octets) in
     octets_early given station (octet ∷ octets) (history ++ event ∷ []) (record {
       early = record {
-        each = each_event (CreditsFit (HaveFewLinks given) (HaveFewBuffers given)) history event early.each tt;
+        each = each_event (AllFit given) history event early.each (λ side. ap some_handles (early.none side));
         none = λ side. handles_event side history event ∙ early.none side;
       };
       fed = fed_by_host station history (octet ∷ octets);
     })
 
 -- a call before the end of the turn
-turn_each : (given : Given) (station : ℕ) (step : Step) (history : List Event) → IsBeforeEnd step → Each (CreditsFit (HaveFewLinks given) (HaveFewBuffers given)) [] history
-    → Each (CreditsFit (HaveFewLinks given) (HaveFewBuffers given)) [] (after_call given station step history)
-turn_each given station step history is each =
+turn_each : (given : Given) (station : ℕ) (step : Step) (history : List Event) → IsBeforeEnd step → HaveNone history
+    → Each (AllFit given) [] history
+    → Each (AllFit given) [] (after_call given station step history)
+turn_each given station step history is none each =
     let notes = notes_after (setup_at given station) (facts_at given station history) step in
-    each_append (CreditsFit (HaveFewLinks given) (HaveFewBuffers given)) [] history (Called station step ∷ map (Noted station) notes) each
-    (tt, quiet_each (HaveFewLinks given) (HaveFewBuffers given) station notes (history ++ Called station step ∷ []) (turn_none (setup_at given station) (facts_at given station history) step is))
+    each_append (AllFit given) [] history (Called station step ∷ map (Noted station) notes) each (
+      tt,
+      quiet_each (HaveFewLinks given) (HaveFewBuffers given) station notes (history ++ Called station step ∷ [])
+          (turn_none (setup_at given station) (facts_at given station history) step is)
+          (λ side. ap some_handles (handles_event side history (Called station step)) ∙ none side),
+    )
 
 turn_handles : (given : Given) (station : ℕ) (step : Step) (history : List Event) → IsBeforeEnd step → (side : Side)
     → handles_at side (after_call given station step history) ≡ handles_at side history
@@ -242,7 +253,7 @@ order_kept given are_two distinct = let kept = quiet_kept given are_two distinct
   on_turn = λ slot plan history begun at is.
       let event = TurnBegan slot (map plan.radio_of given.stations) in record {
         quiet = kept.on_turn slot plan history begun at is.quiet;
-        each = each_event (CreditsFit (HaveFewLinks given) (HaveFewBuffers given)) history event is.each tt;
+        each = each_event (AllFit given) history event is.each tt;
         within = λ side. handles_event side history event;
       };
   on_feed = λ plan done left station history are some now is.
@@ -255,7 +266,7 @@ order_kept given are_two distinct = let kept = quiet_kept given are_two distinct
   on_begin = λ slot plan done left station history are due is.
       let step = TurnBegins slot (plan.radio_of station) in record {
         quiet = kept.on_begin slot plan done left station history are due is.quiet;
-        each = turn_each given station step history tt is.each;
+        each = turn_each given station step history tt is.within is.each;
         within = λ side. ap some_handles (turn_handles given station step history tt side) ∙ is.within side;
       };
   on_begun = λ history is. record { quiet = kept.on_begun history is.quiet; each = is.each; within = is.within };
@@ -266,7 +277,7 @@ order_kept given are_two distinct = let kept = quiet_kept given are_two distinct
       let hearings = hearings_of given plan.fates station channel octets history in
       let event = Transmitted station channel octets hearings in record {
         quiet = kept.on_packet phases plan done left station channel octets history are some due is.quiet;
-        each = each_event (CreditsFit (HaveFewLinks given) (HaveFewBuffers given)) history event is.each tt;
+        each = each_event (AllFit given) history event is.each is.within;
         within = λ side. ap some_handles (handles_event side history event)
             ∙ air_handles side (side_of station) channel octets hearings (handles_at side history) ∙ is.within side;
       };
@@ -274,7 +285,7 @@ order_kept given are_two distinct = let kept = quiet_kept given are_two distinct
   on_hearing = λ phases done left station history are some is.
       let received = packet_received station history in record {
         quiet = kept.on_hearing phases done left station history are some is.quiet;
-        each = turn_each given station (step_of received) history (heard_before received) is.each;
+        each = turn_each given station (step_of received) history (heard_before received) is.within is.each;
         within = λ side. ap some_handles (turn_handles given station (step_of received) history (heard_before received) side) ∙ is.within side;
       };
   on_heard = λ phases history is. record { quiet = kept.on_heard phases history is.quiet; each = is.each; within = is.within };
@@ -283,7 +294,7 @@ order_kept given are_two distinct = let kept = quiet_kept given are_two distinct
       let in_it = among given.stations done left station are in
       let facts = facts_at given station history in record {
         quiet = kept.on_end done left station history are some is.quiet;
-        each = each_append (CreditsFit (HaveFewLinks given) (HaveFewBuffers given)) [] history (Called station TurnEnds ∷ map (Noted station) (notes_ended_turn facts)) is.each (
+        each = each_append (AllFit given) [] history (Called station TurnEnds ∷ map (Noted station) (notes_ended_turn facts)) is.each (
           tt,
           end_each given station history (few_complete given station history (stands_at (AtEnds done (station ∷ left)) station (turns_begun history)) (is.quiet.stand station in_it))
               (λ silent. nothing_ended facts (ends_calm given distinct done left station history are is.quiet silent))
@@ -294,9 +305,9 @@ order_kept given are_two distinct = let kept = quiet_kept given are_two distinct
   on_ended = λ history is. record { quiet = kept.on_ended history is.quiet; each = is.each; within = tt };
 }
 
-run_in_order : (given : Given) → IsOfTwo given → AreDistinct given.stations → Each (CreditsFit (HaveFewLinks given) (HaveFewBuffers given)) [] (history_of (run_of given))
+run_in_order : (given : Given) → IsOfTwo given → AreDistinct given.stations → Each (AllFit given) [] (history_of (run_of given))
 run_in_order given are_two distinct =
-    ends_with (run_of given) (IsWhole given (AreInOrder given)) (IsStopped given (AreInOrder given)) (Each (CreditsFit (HaveFewLinks given) (HaveFewBuffers given)) [])
+    ends_with (run_of given) (IsWhole given (AreInOrder given)) (IsStopped given (AreInOrder given)) (Each (AllFit given) [])
     (run_kept given (AreInOrder given) (order_kept given are_two distinct) (record { quiet = quiet_first given; each = tt; within = tt }))
     (λ history whole. whole.is.each) (λ history stop stopped. stopped.kept.each)
 
@@ -325,11 +336,11 @@ module _ (given : Given) (are_two : IsOfTwo given) (distinct : AreDistinct given
   each_placed front rest side octets is credit =
       let one = note_line given front rest (Up side octets) is refl in
       let up = noted_up one.station _ _ one.note side octets one.entry_is in
-      let placed = each_at (CreditsFit (HaveFewLinks given) (HaveFewBuffers given)) (history_of (run_of given)) one.before one.after (Noted one.station (UpNote up.packet))
+      let placed = each_at (AllFit given) (history_of (run_of given)) one.before one.after (Noted one.station (UpNote up.packet))
       (run_in_order given are_two distinct) (one.is_at ∙ ap (λ note. one.before ++ Noted one.station note ∷ one.after) up.is) in
       subst (λ entries. HasOwnPlace side entries octets) (sym one.front_is)
       (subst (λ s. HasOwnPlace s (journal_of one.before) octets) up.side_is
-      (subst (HasOwnPlace (side_of one.station) (journal_of one.before)) up.octets_are (placed (ap is_credit up.octets_are ∙ credit))))
+      (subst (HasOwnPlace (side_of one.station) (journal_of one.before)) up.octets_are (placed.credit (ap is_credit up.octets_are ∙ credit))))
 
   early_now : (front : List Entry) (side : Side) → turn_packets front ≡ 0 → handles_of side front ≡ None
   early_now front side none = none_yet (turn_packets front) (handles_of side front) (counts_of side front) none
@@ -355,45 +366,96 @@ all_last : (P : ℕ → Type 0) (xs : List ℕ) (last : ℕ) → AllByRecursion 
 all_last P [] last all = all.0
 all_last P (x ∷ xs) last all = all_last P xs last all.1
 
-module _ (Few Fit : Type 0) (few : Few) (side : Side) (octets : List ℕ) where
-  abbrev IsLess : ℕ → Type 0
-  IsLess handle = handle < credit_handle octets
-
-  -- what is less than all that fits at the end of these lines of one turn
-  less_then : (handle : ℕ) (between : List Entry) (handles : List ℕ) → turns_of between ≡ [] → (AllByRecursion IsLess handles → IsLess handle)
-      → Fits Few Fit (fold (handles_after side) (Some handles) between) octets → IsLess handle
-  less_then handle [] handles no_turn less fits = less (fits few)
-  less_then handle (Turn slot a_on b_on ∷ between) handles no_turn less fits = absurd cc
-  less_then handle (Air sender channel sent fate verdict ∷ between) handles no_turn less fits = less_then handle between handles no_turn less fits
-  less_then handle (Up other packet ∷ between) handles no_turn less fits =
-      by (is_side other side && is_credit packet) (less_then handle between handles no_turn less)
-      (less_then handle between (handles ++ credit_handle packet ∷ []) no_turn (λ all. less (all_first IsLess handles (credit_handle packet) all))) fits
-    where
-      by : (test : Bool) → (Fits Few Fit (fold (handles_after side) (Some handles) between) octets → IsLess handle)
-          → (Fits Few Fit (fold (handles_after side) (Some (handles ++ credit_handle packet ∷ [])) between) octets → IsLess handle)
-          → Fits Few Fit (fold (handles_after side)
-          (if test then option_map (λ some. some ++ credit_handle packet ∷ []) (Some handles) else Some handles) between) octets → IsLess handle
-      by true without with_it fits = with_it fits
-      by false without with_it fits = without fits
-  less_then handle (entry ∷ between) handles no_turn less fits = less_then handle between handles no_turn less fits
+-- what holds of all handles after these lines of one turn holds of each before them
+held_then : (side : Side) (P : ℕ → Type 0) (handle : ℕ) (between : List Entry) (handles : List ℕ) → turns_of between ≡ [] → (AllByRecursion P handles → P handle)
+    → AllByRecursion P (some_handles (fold (handles_after side) (Some handles) between)) → P handle
+held_then side P handle [] handles no_turn held all = held all
+held_then side P handle (Turn slot a_on b_on ∷ between) handles no_turn held all = absurd cc
+held_then side P handle (Air sender channel sent fate verdict ∷ between) handles no_turn held all = held_then side P handle between handles no_turn held all
+held_then side P handle (Up other packet ∷ between) handles no_turn held all =
+    by (is_side other side && is_credit packet) (held_then side P handle between handles no_turn held)
+    (held_then side P handle between (handles ++ credit_handle packet ∷ []) no_turn (λ more. held (all_first P handles (credit_handle packet) more))) all
+  where
+    by : (test : Bool) → (AllByRecursion P (some_handles (fold (handles_after side) (Some handles) between)) → P handle)
+        → (AllByRecursion P (some_handles (fold (handles_after side) (Some (handles ++ credit_handle packet ∷ [])) between)) → P handle)
+        → AllByRecursion P (some_handles (fold (handles_after side)
+        (if test then option_map (λ some. some ++ credit_handle packet ∷ []) (Some handles) else Some handles) between)) → P handle
+    by true without with_it all = with_it all
+    by false without with_it all = without all
+held_then side P handle (entry ∷ between) handles no_turn held all = held_then side P handle between handles no_turn held all
 
 own_is : (side : Side) → is_side side side ≡ true
 own_is A = refl
 own_is B = refl
 
-module _ (given : Given) (are_two : IsOfTwo given) (distinct : AreDistinct given.stations) (few : HaveFewLinks given) where
-  pub ascends : AllCreditsAscend (journal_of (history_of (run_of given)))
-  ascends = λ front between rest side one other is credit credit_too packets no_turn.
+-- the handles after a credit that comes after the first packet of a turn, and these lines
+record HasHandle (side : Side) (front : List Entry) (octets : List ℕ) (between : List Entry) : Type 0 where
+  some : List ℕ
+  is : handles_of side (front ++ Up side octets ∷ between) ≡ fold (handles_after side) (Some (some ++ credit_handle octets ∷ [])) between
+
+has_handle : (side : Side) (front : List Entry) (octets : List ℕ) (between : List Entry) → is_credit octets ≡ true → 0 < turn_packets front
+    → HasHandle side front octets between
+has_handle side front octets between credit packets =
+    let handles = some_now (turn_packets front) (handles_of side front) (counts_of side front) packets in record {
+      some = handles.some;
+      is = fold-append (handles_after side) None front (Up side octets ∷ between)
+          ∙ ap (λ some. fold (handles_after side) some (Up side octets ∷ between)) handles.is
+          ∙ ap (λ b. fold (handles_after side)
+          (if b && is_credit octets then Some (handles.some ++ credit_handle octets ∷ []) else Some handles.some) between) (own_is side)
+          ∙ ap (λ b. fold (handles_after side)
+          (if b then Some (handles.some ++ credit_handle octets ∷ []) else Some handles.some) between) credit;
+    }
+
+-- the handle of the credit is among them
+held_by : (P : ℕ → Type 0) (side : Side) (front : List Entry) (octets : List ℕ) (between : List Entry) → is_credit octets ≡ true → 0 < turn_packets front → turns_of between ≡ []
+    → AllByRecursion P (some_handles (handles_of side (front ++ Up side octets ∷ between))) → P (credit_handle octets)
+held_by P side front octets between credit packets no_turn all =
+    let has = has_handle side front octets between credit packets in
+    held_then side P (credit_handle octets) between (has.some ++ credit_handle octets ∷ []) no_turn (all_last P has.some (credit_handle octets))
+    (subst (λ handles. AllByRecursion P (some_handles handles)) has.is all)
+
+fits_all : (Few Fit : Type 0) → Few → (handles : Option (List ℕ)) (octets : List ℕ) → Fits Few Fit handles octets
+    → AllByRecursion (λ handle. handle < credit_handle octets) (some_handles handles)
+fits_all Few Fit few None octets fits = tt
+fits_all Few Fit few (Some handles) octets fits = fits few
+
+-- ---- what comes after a credit in its turn
+
+module _ (Few Fit : Type 0) (side : Side) (before : List Event) (some : some_handles (handles_at side before) ≡ [] → ⊥) where
+  note_follows : (station : ℕ) (link_of : ℕ → ℕ) (last : ℕ) (note : Note) → FitsNote Few Fit station before note
+      → MayFollowCredit side (entry_of (side_of station) link_of last note)
+  note_follows station link_of last (UpNote packet) fit = λ own. by (is_credit packet.items) refl own
+    where
+      by : (credit : Bool) → is_credit packet.items ≡ credit → side_of station ≡ side → credit ≡ true
+      by true is own = refl
+      by false is own = absurd (some (ap (λ s. some_handles (handles_at s before)) (sym own) ∙ fit.other is))
+  note_follows station link_of last note fit = absurd (some (fit side))
+
+  event_follows : (links : Numbers) (event : Event) (entry : Entry) → CreditsFit Few Fit before event → entries_of links event ≡ entry ∷ [] → MayFollowCredit side entry
+  event_follows links (TurnBegan slot radios) entry fit is =
+      let same : Turn slot (radio_in 0 radios) (Some (radio_in 1 radios)) ≡ entry = cc in subst (MayFollowCredit side) same tt
+  event_follows links (HostFed station octets) entry fit is = absurd (some (fit side))
+  event_follows links (Called station step) entry fit is = absurd cc
+  event_follows links (Noted station note) entry fit is =
+      let same : entry_of (side_of station) (links.link_of station) (links.last_of station) note ≡ entry = cc in
+      subst (MayFollowCredit side) same (note_follows station (links.link_of station) (links.last_of station) note fit)
+  event_follows links (Transmitted station channel octets hearings) entry fit is = absurd (some (fit side))
+
+module _ (given : Given) (are_two : IsOfTwo given) (distinct : AreDistinct given.stations) where
+  pub come_last : AllLateCreditsComeLast (journal_of (history_of (run_of given)))
+  come_last = λ front between rest side octets entry is credit packets no_turn.
+      let before = front ++ Up side octets ∷ between in
+      let history = history_of (run_of given) in
+      let one = is_of_event history before rest entry (is ∙ sym (append_assoc front (Up side octets ∷ between) (entry ∷ rest))) in
+      let fit = each_at (AllFit given) history one.before one.after one.event (run_in_order given are_two distinct) one.is_at in
+      event_follows (HaveFewLinks given) (HaveFewBuffers given) side one.before
+      (λ none. held_by (λ handle. ⊥) side front octets between credit packets no_turn
+      (subst (λ handles. AllByRecursion (λ handle. ⊥) handles) (sym (ap (λ entries. some_handles (handles_of side entries)) one.front_is ∙ none)) tt))
+      (links_of one.before) one.event entry fit one.entry_is
+
+  pub ascends : HaveFewLinks given → AllCreditsAscend (journal_of (history_of (run_of given)))
+  ascends few = λ front between rest side one other is credit credit_too packets no_turn.
       let before = front ++ Up side one ∷ between in
       let fits = (each_placed given are_two distinct before rest side other (is ∙ sym (append_assoc front (Up side one ∷ between) (Up side other ∷ rest))) credit_too).fits in
-      let handles = some_now (turn_packets front) (handles_of side front) (counts_of side front) packets in
-      let now : handles_of side before ≡ fold (handles_after side) (Some (handles.some ++ credit_handle one ∷ [])) between =
-      fold-append (handles_after side) None front (Up side one ∷ between)
-      ∙ ap (λ some. fold (handles_after side) some (Up side one ∷ between)) handles.is
-      ∙ ap (λ b. fold (handles_after side)
-      (if b && is_credit one then Some (handles.some ++ credit_handle one ∷ []) else Some handles.some) between) (own_is side)
-      ∙ ap (λ b. fold (handles_after side)
-      (if b then Some (handles.some ++ credit_handle one ∷ []) else Some handles.some) between) credit in
-      less_then (HaveFewLinks given) (HaveFewBuffers given) few side other (credit_handle one) between (handles.some ++ credit_handle one ∷ []) no_turn
-      (λ all. all_last (λ handle. handle < credit_handle other) handles.some (credit_handle one) all)
-      (subst (λ some. Fits (HaveFewLinks given) (HaveFewBuffers given) some other) now fits)
+      held_by (λ handle. handle < credit_handle other) side front one between credit packets no_turn
+      (fits_all (HaveFewLinks given) (HaveFewBuffers given) few (handles_of side before) other fits)

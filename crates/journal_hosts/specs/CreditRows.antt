@@ -35,6 +35,16 @@ abbrev pub after_the_other : List Entry
 after_the_other =
     Turn 0 true (Some true) ∷ Fed A (empty_packet 0) ∷ Fed B (empty_packet 0) ∷ Up A (credit_of 0 1) ∷ []
 
+-- a credit before another packet of its turn, and one before data for its host
+abbrev pub before_packet : List Entry
+before_packet = one_packet ++ Up A (credit_of 0 1) ∷ Air B 37 (0xAA ∷ []) Pass Missed ∷ []
+
+abbrev pub data_up : List ℕ
+data_up = 0x02 ∷ 0x00 ∷ 0x20 ∷ 0x01 ∷ 0x00 ∷ 0xAA ∷ []
+
+abbrev pub before_data : List Entry
+before_data = one_packet ++ Up A (credit_of 0 1) ∷ Up A data_up ∷ []
+
 -- no packet is credited
 abbrev pub of_nothing : List Entry
 of_nothing = one_packet ++ Up A (credit_of 0 0) ∷ []

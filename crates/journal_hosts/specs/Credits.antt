@@ -1,10 +1,10 @@
 -- When complete packets are reported to a host, and in which order (Core 5.2, volume 4 part E, section 7.7.19; when and
 -- in which order is our choice).
-use Rattle.std.specs.Prelude.{◌≡◌, ℕ, ◌<◌, ◌&&◌, Bool, true, false, List, [], ◌∷◌, ◌++◌, fold}
+use Rattle.std.specs.Prelude.{◌≡◌, ℕ, ◌<◌, ◌&&◌, Bool, true, false, List, [], ◌∷◌, ◌++◌, fold, ⊤}
 use Rattle.ble_base.specs.declared.roles.Side.{Side}
 use Rattle.host_view.specs.Noted.{two_octets}
 use Rattle.journal.specs.declared.entries.Entry.{Entry}
-use Rattle.journal.specs.declared.entries.Entry.TheVariants.{Fed, Shut, Up}
+use Rattle.journal.specs.declared.entries.Entry.TheVariants.{Fed, Shut, Turn, Up}
 use Rattle.controller_model.specs.Notes.{is_event}
 use Rattle.run_model.specs.Readers.{turn_packets, turns_of}
 use Rattle.journal_packets.specs.Belonging.{is_side}
@@ -54,3 +54,14 @@ abbrev pub AllCreditsAscend : List Entry → Type 0
 AllCreditsAscend journal = (front between rest : List Entry) (side : Side) (one other : List ℕ)
     → journal ≡ front ++ Up side one ∷ (between ++ Up side other ∷ rest) → is_credit one ≡ true → is_credit other ≡ true
     → 0 < turn_packets front → turns_of between ≡ [] → credit_handle one < credit_handle other
+
+-- and the lines that come after such a credit, in that turn, are packets to hosts; those to its own host are credits
+abbrev pub MayFollowCredit : Side → Entry → Type 0
+MayFollowCredit side (Turn slot a_on b_on) = ⊤
+MayFollowCredit side (Up other octets) = other ≡ side → is_credit octets ≡ true
+MayFollowCredit side entry = ⊥
+
+abbrev pub AllLateCreditsComeLast : List Entry → Type 0
+AllLateCreditsComeLast journal = (front between rest : List Entry) (side : Side) (octets : List ℕ) (entry : Entry)
+    → journal ≡ front ++ Up side octets ∷ (between ++ entry ∷ rest) → is_credit octets ≡ true
+    → 0 < turn_packets front → turns_of between ≡ [] → MayFollowCredit side entry

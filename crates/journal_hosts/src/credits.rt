@@ -3,6 +3,7 @@
 ghost use Rattle.std.specs.Prelude.{◌≡◌, ◌≤◌, ◌∷◌, [], ℕ};
 ghost use Rattle.journal_hosts.specs.Credits.{AllCreditsAreOfOne, AllCreditsAreOfSome};
 ghost use Rattle.journal_hosts.specs.Credits.{AllCreditsAscend, AllEarlyCreditsComeAtOnce};
+ghost use Rattle.journal_hosts.specs.Credits.{AllLateCreditsComeLast};
 ghost use Rattle.run_model.specs.Journal.{journal_of};
 ghost use Rattle.run_model.specs.Run.{Given, history_of, run_of, setup_at};
 
@@ -34,4 +35,13 @@ pub fn credits_of_a_turn_are_in_the_order_of_handles()
     ensures { (given : Given) → given.stations ≡ 0 ∷ 1 ∷ []
         → ((station : ℕ) → (setup_at given station).links ≤ 4096)
         → AllCreditsAscend (journal_of (history_of (run_of given))) }
+{}
+
+/// In the journal of a run of two stations, with any number of links each, after the first packet
+/// of a turn such an event comes as the turn ends: after it, in that turn, there are only packets to
+/// hosts, and those to its own host are such events too (Core 5.2, volume 4 part E, section 7.7.19;
+/// when it comes is our choice).
+pub fn each_late_credit_comes_as_its_turn_ends()
+    ensures { (given : Given) → given.stations ≡ 0 ∷ 1 ∷ []
+        → AllLateCreditsComeLast (journal_of (history_of (run_of given))) }
 {}
