@@ -31,8 +31,8 @@ AllCreditsAreOfOne journal = (front rest : List Entry) (side : Side) (octets : L
     → journal ≡ front ++ Up side octets ∷ rest → is_credit octets ≡ true → turn_packets front ≡ 0
     → credit_count octets ≡ 1
 
--- the lines since the octets that the host of a side sent last are all packets to that host and links of the side that
--- are shut, after a line
+-- whether a side is being fed, after a line: since the octets that its host sent last there are only packets to that
+-- host, and lines of links that the side shuts
 abbrev pub fed_after : Side → Bool → Entry → Bool
 fed_after side fed (Fed other octets) = is_side other side
 fed_after side fed (Up other octets) = fed && is_side other side
@@ -42,7 +42,7 @@ fed_after side fed entry = false
 unfoldable pub is_being_fed : Side → List Entry → Bool
 is_being_fed side front = fold (fed_after side) false front
 
--- and it comes as its side takes octets of its host
+-- and it comes as its side is being fed
 abbrev pub AllEarlyCreditsComeAtOnce : List Entry → Type 0
 AllEarlyCreditsComeAtOnce journal = (front rest : List Entry) (side : Side) (octets : List ℕ)
     → journal ≡ front ++ Up side octets ∷ rest → is_credit octets ≡ true → turn_packets front ≡ 0
