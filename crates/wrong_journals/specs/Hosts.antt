@@ -3,9 +3,9 @@ use Rattle.std.specs.Prelude.{List, [], ◌∷◌, ◌++◌}
 use Rattle.ble_base.specs.declared.roles.Side.TheVariants.{A, B}
 use Rattle.ble_base.specs.declared.verdicts.Verdict.TheVariants.{Good}
 use Rattle.journal.specs.declared.entries.Entry.{Entry}
-use Rattle.journal.specs.declared.entries.Entry.TheVariants.{Air, Shut, Up}
+use Rattle.journal.specs.declared.entries.Entry.TheVariants.{Air, Fed, Shut, Up}
 use Rattle.journal.specs.declared.entries.Mark.TheVariants.{Pass}
-use Rattle.run_model.specs.Rows.{one_event_journal, turn_entry}
+use Rattle.run_model.specs.Rows.{first_packet, one_event_journal, turn_entry}
 use Rattle.wrong_journals.specs.Exchanges.{reply_packet, taken}
 
 -- the octet AA for the host of the peripheral, as the start of a message
@@ -54,3 +54,10 @@ credit_too_early = taken ++ data_up ∷ credit ∷ turn_entry 4 ∷ []
 -- no credit before the next turn
 abbrev pub never_credited : List Entry
 never_credited = acknowledged ++ data_up ∷ turn_entry 4 ∷ []
+
+-- a packet without octets, of the host of the central, is not reported before the first packet of its turn
+abbrev pub before_credit : List Entry
+before_credit = one_event_journal ++ turn_entry 3 ∷ Fed B (0x02 ∷ 0x00 ∷ 0x20 ∷ 0x00 ∷ 0x00 ∷ []) ∷ []
+
+abbrev pub credit_after_packet : List Entry
+credit_after_packet = before_credit ++ Air B 25 first_packet Pass Good ∷ credit ∷ []

@@ -2,6 +2,7 @@
 pub mod Answers
 pub mod Events
 pub mod Exchanges
+pub mod Hearings
 pub mod Held
 pub mod Hosts
 pub mod InEvent

@@ -5,6 +5,7 @@
 mod answers;
 mod events;
 mod exchanges;
+mod hearings;
 mod held;
 mod hosts;
 mod orders;
@@ -21,6 +22,7 @@ pub use crate::exchanges::{
     wrong_packets_are_refused, wrong_sending_is_refused, wrong_taking_is_refused,
     wrong_turns_of_exchanges_are_refused,
 };
+pub use crate::hearings::wrong_hearings_are_refused;
 pub use crate::held::{lines_of_no_link_are_refused, packets_of_no_link_are_refused};
 pub use crate::hosts::{wrong_credits_are_refused, wrong_data_is_refused};
 pub use crate::orders::wrong_orders_of_turns_are_refused;
