@@ -1,4 +1,6 @@
 -- The definitions of this crate.
+pub mod Changes
 pub mod Phased
+pub mod Steps
 pub mod Taken
 pub mod Worked
