@@ -191,7 +191,7 @@ is_some_in (Known ctrl) is = refl
 is_some_in (Unknown opcode) is = absurd (cc)
 is_some_in Bare is = absurd (cc)
 
-apart : {X : Type 0} → ◌≡◌ {A = Role} Central Peripheral → X
+pub apart : {X : Type 0} → ◌≡◌ {A = Role} Central Peripheral → X
 apart is = absurd (cc)
 
 -- ---- a PDU is answered

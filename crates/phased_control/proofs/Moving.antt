@@ -157,7 +157,7 @@ moves_by_steps step s lasts =
 none_now : (step : PhasedStep) (s : Phased) (code : ErrCode) → s.control.ends ≡ Some code → steps_now step s ≡ []
 none_now step s code is = subst (λ (ends : Option ErrCode). (if is_none ends then control_steps step s else []) ≡ []) (sym is) refl
 
-same_after : (step : PhasedStep) (s : Phased) (code : ErrCode) → s.control.ends ≡ Some code → phased_after step s ≡ s
+pub same_after : (step : PhasedStep) (s : Phased) (code : ErrCode) → s.control.ends ≡ Some code → phased_after step s ≡ s
 same_after step s code is = subst (λ (ends : Option ErrCode). (if is_none ends then phased_moved step s else s) ≡ s) (sym is) refl
 
 none_after_end : (steps : List PhasedStep) (s : Phased) (code : ErrCode) → s.control.ends ≡ Some code → all_control_steps steps s ≡ []

@@ -1,5 +1,6 @@
 -- The definitions of this crate.
 pub mod Changes
+pub mod Ciphers
 pub mod Ends
 pub mod Phased
 pub mod Steps

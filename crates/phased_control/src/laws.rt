@@ -1,12 +1,14 @@
 //! The laws of one end with its phase of encryption, over all lists of steps from the beginning of
 //! its link. The bodies do nothing: the contracts are the laws.
-ghost use Rattle.std.specs.Prelude.{◌≡◌, ℕ, true, false, List, None, is_some};
+ghost use Rattle.std.specs.Prelude.{◌≡◌, ℕ, true, false, not, List, None, is_some};
 ghost use Rattle.ble_base.specs.declared.roles.Role.{Role};
 ghost use Rattle.enc_phase.specs.Phases.{is_asked};
 ghost use Rattle.instants.specs.declared.indications.Params.{Params};
+ghost use Rattle.table_laws.specs.Encrypting.{has_encryption};
 ghost use Rattle.control_model.specs.Control.{after_all, first_control};
 ghost use Rattle.control_model.specs.Waits.{kind_awaited, kind_waiting};
-ghost use Rattle.phased_control.specs.Ends.{IsFirst, is_half_keyed, says_kept};
+ghost use Rattle.phased_control.specs.Ends.{AllMayRespond, IsFirst, IsRequest, is_half_keyed};
+ghost use Rattle.phased_control.specs.Ends.{says_kept};
 ghost use Rattle.phased_control.specs.Phased.{Phased, first_phased, is_quiet_now};
 ghost use Rattle.phased_control.specs.Taken.{PhasedStep, phased_after, phased_after_all, role_now};
 ghost use Rattle.phased_control.specs.Steps.{all_control_steps, control_steps, end_by_phase};
@@ -59,4 +61,23 @@ pub fn a_phase_says_whether_a_pdu_is_kept()
         s.asks_key ≡ true → is_asked s.phase ≡ true }
     ensures central { (max_rx : ℕ) (first : Params) (slot : ℕ) (steps : List PhasedStep)
         → (phased_after_all steps (first_phased Role.Central max_rx first slot)).asks_key ≡ false }
+{}
+
+/// An encryption is in progress in the table of an end exactly outside Clear and Secure, where a
+/// peripheral answers LL_ENC_REQ with LL_ENC_RSP.
+pub fn encryption_runs_outside_clear_and_secure()
+    ensures { (role : Role) (max_rx : ℕ) (first : Params) (slot : ℕ) (steps : List PhasedStep)
+        → AllMayRespond role steps
+        → let s = phased_after_all steps (first_phased role max_rx first slot) in
+        is_quiet_now s ≡ not (has_encryption s.control.table.progress) }
+{}
+
+/// While a central runs an encryption it has the LL_ENC_REQ of it; a peripheral has none.
+pub fn a_central_has_the_request_of_its_encryption()
+    ensures central { (max_rx : ℕ) (first : Params) (slot : ℕ) (steps : List PhasedStep)
+        → let s = phased_after_all steps (first_phased Role.Central max_rx first slot) in
+        has_encryption s.control.table.progress ≡ true → IsRequest s.request }
+    ensures peripheral { (max_rx : ℕ) (first : Params) (slot : ℕ) (steps : List PhasedStep)
+        → (phased_after_all steps (first_phased Role.Peripheral max_rx first slot)).request
+        ≡ None }
 {}

@@ -5,5 +5,8 @@
 mod laws;
 mod rows;
 
-pub use crate::laws::{a_phase_says_whether_a_pdu_is_kept, an_end_moves_by_control_steps};
+pub use crate::laws::{
+    a_central_has_the_request_of_its_encryption, a_phase_says_whether_a_pdu_is_kept,
+    an_end_moves_by_control_steps, encryption_runs_outside_clear_and_secure,
+};
 pub use crate::rows::{a_start_is_secure, a_start_without_a_key_is_clear};
