@@ -107,7 +107,7 @@ has_request : (request : Option Ctrl) → request ≡ None → is_some request �
 has_request None is h = absurd (cc)
 has_request (Some ctrl) is h = absurd (cc)
 
-asks_at_central : (role : Role) (s : Phased) → asks_again s ≡ true → Requests role s → role ≡ Central
+pub asks_at_central : (role : Role) (s : Phased) → asks_again s ≡ true → Requests role s → role ≡ Central
 asks_at_central Central s is requests = refl
 asks_at_central Peripheral s is requests =
     absurd (has_request s.request (requests.peripheral refl) (and_parts (is_open_now s) _ (and_parts (may_follow AskTransition s.phase) _ (and_parts (is_pause_rsp s.control.table.out) _ is).1).1).1)
@@ -268,7 +268,7 @@ agrees_if : (b : Bool) (s t : Phased) → (b ≡ true → Agrees t) → Agrees s
 agrees_if true s t next agrees = next refl
 agrees_if false s t next agrees = agrees
 
-responds : (role : Role) (read : CtrlRead) (slot : ℕ) (response : Ctrl) → MayRespond role (Takes read slot response) → role ≡ Peripheral → IsResponse response
+pub responds : (role : Role) (read : CtrlRead) (slot : ℕ) (response : Ctrl) → MayRespond role (Takes read slot response) → role ≡ Peripheral → IsResponse response
 responds Peripheral read slot response may is = may
 responds Central read slot response may is = apart is
 

@@ -1,5 +1,6 @@
 -- The PDUs of the encryption that wait at an end change as the layer above queues one and as one is sent, and by nothing else.
 use Rattle.std.proofs.Common.{◌≡◌, ℕ, Bool, true, false, not, ◌&&◌, if◌then◌else◌, List, [], ◌∷◌, ◌++◌, Option, Some, None, is_some, Result, Ok, Err, refl, sym, ap, subst, ◌∙◌, append-nil}
+use Rattle.std.specs.List.{AllByRecursion}
 use Rattle.ble_base.specs.ErrorCodes.{instant_passed}
 use Rattle.ble_base.specs.declared.error_codes.ErrCode.{ErrCode}
 use Rattle.ble_base.specs.declared.roles.Role.{Role}
@@ -33,9 +34,9 @@ use Rattle.procedures.specs.Taking.{facts_with, outcome_of}
 use Rattle.table_laws.proofs.Outcomes.{is_reply, took}
 use Rattle.control_model.specs.Control.{Control, Step, Enters, Asks, Answers, Disconnects, Sends, SeesAcknowledged, Takes, Owes, after, ended, following, goes_out, indicated_by, is_to_come, moved, table_if, taken, went}
 use Rattle.control_model.proofs.Calls.{any_step, either_way, took_by}
-use Rattle.phased_control.specs.Ciphers.{cipher_of, ciphers_in, ciphers_waiting}
+use Rattle.phased_control.specs.Ciphers.{cipher_in, cipher_of, ciphers_in, ciphers_waiting}
 
-ciphers_joined : (xs ys : List Draft) → ciphers_in (xs ++ ys) ≡ ciphers_in xs ++ ciphers_in ys
+pub ciphers_joined : (xs ys : List Draft) → ciphers_in (xs ++ ys) ≡ ciphers_in xs ++ ciphers_in ys
 ciphers_joined [] ys = refl
 ciphers_joined (x ∷ xs) ys = ap (λ (zs : List Ctrl). cipher_of x ++ zs) (ciphers_joined xs ys) ∙ by (cipher_of x)
   where
@@ -45,7 +46,7 @@ ciphers_joined (x ∷ xs) ys = ap (λ (zs : List Ctrl). cipher_of x ++ zs) (ciph
 
 -- what is out is such a PDU, and fits
 abbrev pub IsOut : (Ctrl → Type 0) → Outgoing → Type 0
-IsOut P (Other (Cipher ctrl)) = P ctrl
+IsOut P (Other draft) = AllByRecursion P (cipher_of draft)
 IsOut P outgoing = Unit {0}
 
 -- what waits is of a sort that each rest of it is of too, and so is what is out
@@ -141,14 +142,16 @@ module _ (S : List Ctrl → Type 0) (P : Ctrl → Type 0) where
     draft_sent progress event [] rejections disconnect holds = (holds, tt)
     draft_sent progress event (draft ∷ drafts) rejections disconnect holds = by (waits_for_instant draft && not (is_past_instant progress event))
       where
-        of : (draft : Draft) → S (cipher_of draft ++ ciphers_in drafts) → S (ciphers_in drafts) × IsOut P (Other draft)
-        of (Cipher ctrl) h = (sort.rest ctrl (ciphers_in drafts) h, sort.head ctrl (ciphers_in drafts) h)
-        of draft h = (h, tt)
+        of : (ctrls : List Ctrl) → S (ctrls ++ ciphers_in drafts) → S (ciphers_in drafts) × AllByRecursion P ctrls
+        of [] h = (h, tt)
+        of (ctrl ∷ ctrls) h =
+            let more = of ctrls (sort.rest ctrl (ctrls ++ ciphers_in drafts) h) in
+            (more.0, (sort.head ctrl (ctrls ++ ciphers_in drafts) h, more.1))
 
         by : (b : Bool) → let out = (if b then Nothing else Other draft) in
             S (ciphers_in (without_next out (record { rejections = rejections; disconnect = disconnect; drafts = draft ∷ drafts })).drafts) × IsOut P out
         by true = (holds, tt)
-        by false = of draft holds
+        by false = of (cipher_of draft) holds
 
     queue_sent : (rejections : List TheRejection) (ends : Bool) (disconnect : Option ErrCode) (drafts : List Draft) (progress : Progress) (event : ℕ) → S (ciphers_in drafts)
         → let queue : QueueFacts = record { rejections = rejections; disconnect = disconnect; drafts = drafts } in
@@ -207,12 +210,12 @@ module _ (S : List Ctrl → Type 0) (P : Ctrl → Type 0) where
     held_after step c is holds = any_step (λ (d : Control). Holds S P d.table) step c (held_moved step c is holds) holds
 
     -- a PDU is queued, unless the link is to end
-    owed_draft : (b : Bool) (ctrl : Ctrl) (queue : QueueFacts) → S (ciphers_in queue.drafts) → (b ≡ true → S (ciphers_in queue.drafts ++ ctrl ∷ []))
+    owed_draft : (b : Bool) (ctrl : Ctrl) (queue : QueueFacts) → S (ciphers_in queue.drafts) → (b ≡ true → S (ciphers_in queue.drafts ++ cipher_in ctrl))
         → S (ciphers_in (if b then record queue { drafts = queue.drafts ++ Cipher ctrl ∷ [] } else queue).drafts)
     owed_draft false ctrl queue holds next = holds
-    owed_draft true ctrl queue holds next = subst S (sym (ciphers_joined queue.drafts (Cipher ctrl ∷ []))) (next refl)
+    owed_draft true ctrl queue holds next = subst S (sym (ciphers_joined queue.drafts (Cipher ctrl ∷ []) ∙ ap (λ (c : List Ctrl). ciphers_in queue.drafts ++ c) (append-nil (cipher_in ctrl)))) (next refl)
 
-    pub held_owing : (ctrl : Ctrl) (c : Control) → Holds S P c.table → (is_open c.table.closing ≡ true → S (ciphers_waiting c.table ++ ctrl ∷ [])) → Holds S P (after (Owes ctrl) c).table
+    pub held_owing : (ctrl : Ctrl) (c : Control) → Holds S P c.table → (is_open c.table.closing ≡ true → S (ciphers_waiting c.table ++ cipher_in ctrl)) → Holds S P (after (Owes ctrl) c).table
     held_owing ctrl c holds next =
         any_step (λ (d : Control). Holds S P d.table) (Owes ctrl) c
         (record { waits = owed_draft (is_open c.table.closing) ctrl c.table.queue holds.waits next; out = holds.out }) holds

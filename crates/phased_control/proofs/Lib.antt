@@ -10,3 +10,4 @@ pub mod Requests
 pub mod Tables
 pub mod Taking
 pub mod Unpaused
+pub mod Waiting

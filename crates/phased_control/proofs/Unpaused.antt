@@ -49,7 +49,8 @@ push [] x all is = (is, all)
 push (first ∷ xs) x all is = (all.0, push xs x all.1 is)
 
 none_is_out : (out : Outgoing) → IsOut IsOther out → is_pause_rsp out ≡ false
-none_is_out (Other (Cipher ctrl)) is = is
+none_is_out (Other (Cipher PauseEncRsp)) is = is.0
+none_is_out (Other (Cipher ctrl)) is = refl
 none_is_out (Other draft) is = refl
 none_is_out Nothing is = refl
 none_is_out (Rejection rejection) is = refl

@@ -1,12 +1,16 @@
 //! The laws of one end with its phase of encryption, over all lists of steps from the beginning of
 //! its link. The bodies do nothing: the contracts are the laws.
-ghost use Rattle.std.specs.Prelude.{◌≡◌, ℕ, true, false, not, List, None, is_some};
+ghost use Rattle.std.specs.Prelude.{◌≡◌, ◌≢◌, ◌≤◌, ◌∷◌, ℕ, true, false, not, List, [], None, is_some};
+ghost use Rattle.std.specs.Prelude.{length, map};
 ghost use Rattle.ble_base.specs.declared.roles.Role.{Role};
 ghost use Rattle.enc_phase.specs.Phases.{is_asked};
+ghost use Rattle.data_pdu.specs.declared.ctrl.Ctrl.{Ctrl};
+ghost use Rattle.enc_phase.specs.Taking.{ctrl_class};
 ghost use Rattle.instants.specs.declared.indications.Params.{Params};
 ghost use Rattle.table_laws.specs.Encrypting.{has_encryption};
 ghost use Rattle.control_model.specs.Control.{after_all, first_control};
 ghost use Rattle.control_model.specs.Waits.{kind_awaited, kind_waiting};
+ghost use Rattle.phased_control.specs.Ciphers.{AreInTurn, AreLastOf, ciphers_waiting, owed_in};
 ghost use Rattle.phased_control.specs.Ends.{AllMayRespond, IsFirst, IsRequest, is_half_keyed};
 ghost use Rattle.phased_control.specs.Ends.{says_kept};
 ghost use Rattle.phased_control.specs.Phased.{Phased, first_phased, is_quiet_now};
@@ -80,4 +84,27 @@ pub fn a_central_has_the_request_of_its_encryption()
     ensures peripheral { (max_rx : ℕ) (first : Params) (slot : ℕ) (steps : List PhasedStep)
         → (phased_after_all steps (first_phased Role.Peripheral max_rx first slot)).request
         ≡ None }
+{}
+
+/// Where the peer sends each PDU of the encryption once it has those that this end had to send, the
+/// phase of an end says which of these wait there: the last of a list, or all, or none. So at most
+/// two wait, and no two of one kind.
+pub fn few_pdus_of_the_encryption_wait()
+    ensures order { (role : Role) (max_rx : ℕ) (first : Params) (slot : ℕ)
+        (steps : List PhasedStep)
+        → AllMayRespond role steps → AreInTurn steps (first_phased role max_rx first slot)
+        → let s = phased_after_all steps (first_phased role max_rx first slot) in
+        AreLastOf (owed_in role s.phase)
+        (map (λ ctrl. ctrl_class ctrl) (ciphers_waiting s.control.table)) }
+    ensures few { (role : Role) (max_rx : ℕ) (first : Params) (slot : ℕ) (steps : List PhasedStep)
+        → AllMayRespond role steps → AreInTurn steps (first_phased role max_rx first slot)
+        → length (ciphers_waiting
+        (phased_after_all steps (first_phased role max_rx first slot)).control.table) ≤ 2 }
+    ensures kinds { (role : Role) (max_rx : ℕ) (first : Params) (slot : ℕ)
+        (steps : List PhasedStep) (one other : Ctrl)
+        → AllMayRespond role steps → AreInTurn steps (first_phased role max_rx first slot)
+        → ciphers_waiting
+        (phased_after_all steps (first_phased role max_rx first slot)).control.table
+        ≡ one ∷ other ∷ []
+        → ctrl_class one ≢ ctrl_class other }
 {}
