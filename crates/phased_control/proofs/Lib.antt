@@ -3,6 +3,7 @@ pub mod Agreeing
 pub mod AllLawful
 pub mod Answering
 pub mod Calling
+pub mod Changing
 pub mod Ciphers
 pub mod Encrypted
 pub mod Extending

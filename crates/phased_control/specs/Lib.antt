@@ -3,6 +3,7 @@ pub mod Calls
 pub mod Changes
 pub mod Ciphers
 pub mod Ends
+pub mod PhaseChanges
 pub mod Phased
 pub mod Steps
 pub mod Taken

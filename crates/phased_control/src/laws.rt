@@ -22,8 +22,10 @@ ghost use Rattle.control_model.specs.Control.{after_all, first_control};
 ghost use Rattle.control_model.specs.Waits.{kind_awaited, kind_waiting};
 ghost use Rattle.phased_control.specs.Calls.{AllPassPhase, all_phased_calls};
 ghost use Rattle.phased_control.specs.Ciphers.{AreInTurn, AreLastOf, ciphers_waiting, owed_in};
-ghost use Rattle.phased_control.specs.Ends.{AllMayRespond, IsFirst, IsRequest, is_half_keyed};
-ghost use Rattle.phased_control.specs.Ends.{says_kept};
+ghost use Rattle.phased_control.specs.Ends.{AllMayRespond, IsFirst, IsRequest, MayRespond};
+ghost use Rattle.phased_control.specs.Ends.{is_half_keyed, says_kept};
+ghost use Rattle.phased_control.specs.PhaseChanges.{change_of, changed, may_change};
+ghost use Rattle.phased_control.specs.PhaseChanges.{owed_by_steps, owed_with};
 ghost use Rattle.phased_control.specs.Phased.{Phased, first_phased, is_open_now};
 ghost use Rattle.phased_control.specs.Phased.{is_quiet_now};
 ghost use Rattle.phased_control.specs.Taken.{PhasedStep, phased_after, phased_after_all, role_now};
@@ -179,4 +181,25 @@ pub fn a_central_only_encrypts_outside_clear_and_secure()
         (all_phased_calls steps (first_phased Role.Central max_rx first slot))
         → let s = phased_after_all steps (first_phased Role.Central max_rx first slot) in
         is_quiet_now s ≡ false → has_peer s.control.table.progress ≡ false }
+{}
+
+/// Each step changes the phase of an end as a PDU that is taken, the beginning of a session or a
+/// transition changes it, where that can be made, or leaves it. Of the PDUs of the encryption it
+/// queues the one that is owed with this change, by the role of the end, or none.
+pub fn each_change_of_a_phase_owes_its_pdu()
+    ensures may { (role : Role) (max_rx : ℕ) (first : Params) (slot : ℕ) (steps : List PhasedStep)
+        (step : PhasedStep) → AllMayRespond role steps → MayRespond role step
+        → let s = phased_after_all steps (first_phased role max_rx first slot) in
+        s.control.ends ≡ None → may_change (change_of step s) s.phase ≡ true }
+    ensures phase { (role : Role) (max_rx : ℕ) (first : Params) (slot : ℕ)
+        (steps : List PhasedStep) (step : PhasedStep)
+        → AllMayRespond role steps → MayRespond role step
+        → let s = phased_after_all steps (first_phased role max_rx first slot) in
+        s.control.ends ≡ None
+        → (phased_after step s).phase ≡ changed (change_of step s) s.phase }
+    ensures owed { (role : Role) (max_rx : ℕ) (first : Params) (slot : ℕ) (steps : List PhasedStep)
+        (step : PhasedStep) → AllMayRespond role steps → MayRespond role step
+        → let s = phased_after_all steps (first_phased role max_rx first slot) in
+        s.control.ends ≡ None
+        → owed_by_steps (control_steps step s) ≡ owed_with role (change_of step s) }
 {}
