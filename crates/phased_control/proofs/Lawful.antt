@@ -337,7 +337,7 @@ asks_key_asking true s = asks_key_owed s.request (record s { phase = phase_after
 asks_key_asking false s = refl
 
 module _ (role : Role) (max_rx : ℕ) (past : List Call) (s : Phased) (key : Bool) (at : At role max_rx past s.control.table key) (lasts : s.control.ends ≡ None) (sound : Sound role s) (agrees : Agrees s)
-    (order : InOrder role s) (asked : KeyFits s key) where
+    (order : role ≡ Central → InOrder role s) (asked : KeyFits s key) where
   passes_acked : AllPassPhase s.control.table (calls_of control_sees_acknowledged s.control)
   passes_acked = passes_if (is_out s.control.table.out) is_acked s.control.table (λ is. tt)
 
@@ -367,7 +367,7 @@ module _ (role : Role) (max_rx : ℕ) (past : List Call) (s : Phased) (key : Boo
           let has : encrypts s ≡ true = runs (encrypts s) (sym (loud_in_half_clear s.phase may paused) ∙ agrees) in
           let role_c : role_of c.table.progress ≡ Central = same_role Central control_sees_acknowledged s.control (sound.tied.is_role ∙ here) in
           let none : own_waiting s.control.table ≡ 0 =
-          no_own s.control.table (in_half_clear s.phase (ciphers_waiting s.control.table) may paused (subst (λ (r : Role). InOrder r s) here order).waits)
+          no_own s.control.table (in_half_clear s.phase (ciphers_waiting s.control.table) may paused (subst (λ (r : Role). InOrder r s) here (order here)).waits)
           (none_first max_rx past s.control.table key (subst (λ (r : Role). At r max_rx past s.control.table key) here at) has) in
           let request : MayRequest c.table =
           record {

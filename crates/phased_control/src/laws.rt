@@ -123,9 +123,10 @@ pub fn few_pdus_of_the_encryption_wait()
         → ctrl_class one ≢ ctrl_class other }
 {}
 
-/// The table of an end is a new table after the calls that its steps make. Where its peer sends in
-/// turn these may come, and each passes the phase as the table has it. A key is asked for as the
-/// table has it, while the link is not to end. So at most twenty control PDUs wait.
+/// The table of an end is a new table after the calls that its steps make. These may come, and each
+/// passes the phase as the table has it, at a peripheral whatever its peer sends, and at a central
+/// whose peer sends in turn. A key is asked for as the table has it, while the link is not to end.
+/// So at most twenty control PDUs wait.
 pub fn calls_of_an_end_may_come()
     ensures table { (role : Role) (max_rx : ℕ) (first : Params) (slot : ℕ)
         (steps : List PhasedStep)
@@ -133,22 +134,26 @@ pub fn calls_of_an_end_may_come()
         ≡ after_calls (first_facts role max_rx)
         (all_phased_calls steps (first_phased role max_rx first slot)) }
     ensures may { (role : Role) (max_rx : ℕ) (first : Params) (slot : ℕ) (steps : List PhasedStep)
-        → AllMayRespond role steps → AreInTurn steps (first_phased role max_rx first slot)
+        → AllMayRespond role steps
+        → (role ≡ Role.Central → AreInTurn steps (first_phased role max_rx first slot))
         → MayAll (first_facts role max_rx) false
         (all_phased_calls steps (first_phased role max_rx first slot)) }
     ensures phase { (role : Role) (max_rx : ℕ) (first : Params) (slot : ℕ)
         (steps : List PhasedStep)
-        → AllMayRespond role steps → AreInTurn steps (first_phased role max_rx first slot)
+        → AllMayRespond role steps
+        → (role ≡ Role.Central → AreInTurn steps (first_phased role max_rx first slot))
         → AllPassPhase (first_facts role max_rx)
         (all_phased_calls steps (first_phased role max_rx first slot)) }
     ensures key { (role : Role) (max_rx : ℕ) (first : Params) (slot : ℕ) (steps : List PhasedStep)
-        → AllMayRespond role steps → AreInTurn steps (first_phased role max_rx first slot)
+        → AllMayRespond role steps
+        → (role ≡ Role.Central → AreInTurn steps (first_phased role max_rx first slot))
         → let s = phased_after_all steps (first_phased role max_rx first slot) in
         is_open_now s ≡ true
         → is_key_asked (all_phased_calls steps (first_phased role max_rx first slot))
         ≡ s.asks_key }
     ensures few { (role : Role) (max_rx : ℕ) (first : Params) (slot : ℕ) (steps : List PhasedStep)
-        → AllMayRespond role steps → AreInTurn steps (first_phased role max_rx first slot)
+        → AllMayRespond role steps
+        → (role ≡ Role.Central → AreInTurn steps (first_phased role max_rx first slot))
         → waiting_in
         (phased_after_all steps (first_phased role max_rx first slot)).control.table.queue ≤ 20 }
 {}
