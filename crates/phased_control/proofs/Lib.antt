@@ -1,6 +1,7 @@
 -- The lemmas of this crate.
 pub mod Agreeing
 pub mod AllLawful
+pub mod AnswerParts
 pub mod Answering
 pub mod Calling
 pub mod Changing

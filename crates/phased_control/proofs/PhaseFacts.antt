@@ -1,5 +1,5 @@
 -- What a change of the phase leaves of what it says of a kept PDU, and of a key that is asked for.
-use Rattle.std.proofs.Common.{◌≡◌, true, false, refl}
+use Rattle.std.proofs.Common.{◌≡◌, Bool, true, false, not, refl}
 use Rattle.ble_base.specs.declared.roles.Role.{Role}
 use Rattle.ble_base.specs.declared.roles.Role.TheVariants.{Central, Peripheral}
 use Rattle.enc_phase.specs.declared.classes.PduClass.{PduClass}
@@ -98,3 +98,10 @@ pub says_none : (p : PhaseFacts) → is_quiet p ≡ true → says_kept p ≡ fal
 says_none Clear h = refl
 says_none Secure h = refl
 says_none p h = absurd (cc)
+
+-- ---- a phase that follows no pause of an encryption, at a central
+
+abbrev pub follows_no_pause : PhaseFacts → Bool
+follows_no_pause Clear = true
+follows_no_pause (Asked after_pause enc_rsp kept) = not after_pause
+follows_no_pause phase = false

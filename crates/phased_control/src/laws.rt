@@ -1,7 +1,7 @@
 //! The laws of one end with its phase of encryption, over all lists of steps from the beginning of
 //! its link. The bodies do nothing: the contracts are the laws.
-ghost use Rattle.std.specs.Prelude.{◌≡◌, ◌≢◌, ◌≤◌, ◌∷◌, ℕ, true, false, not, List, [], None, is_some};
-ghost use Rattle.std.specs.Prelude.{Bool, Some, length, map};
+ghost use Rattle.std.specs.Prelude.{◌≡◌, ◌≢◌, ◌≤◌, ◌∷◌, ℕ, Bool, true, false, not, List, []};
+ghost use Rattle.std.specs.Prelude.{None, Some, is_some, length, map};
 ghost use Rattle.ble_base.specs.declared.procedure_kinds.Kind.{Kind};
 ghost use Rattle.ble_base.specs.declared.roles.Role.{Role};
 ghost use Rattle.enc_phase.specs.Phases.{is_asked};
@@ -21,11 +21,11 @@ ghost use Rattle.table_laws.specs.Quiet.{first_pdus_waiting};
 ghost use Rattle.control_model.specs.Control.{after_all, first_control};
 ghost use Rattle.control_model.specs.Waits.{kind_awaited, kind_waiting};
 ghost use Rattle.phased_control.specs.Calls.{AllPassPhase, all_phased_calls};
-ghost use Rattle.phased_control.specs.Ciphers.{AreInTurn, AreLastOf, ciphers_waiting, owed_in};
+ghost use Rattle.phased_control.specs.Ciphers.{AreInTurn, AreLastOf, ciphers_waiting, phase_ciphers};
 ghost use Rattle.phased_control.specs.Ends.{AllMayRespond, IsFirst, IsRequest, MayRespond};
 ghost use Rattle.phased_control.specs.Ends.{is_half_keyed, says_kept};
 ghost use Rattle.phased_control.specs.PhaseChanges.{change_of, changed, may_change};
-ghost use Rattle.phased_control.specs.PhaseChanges.{owed_by_steps, owed_with};
+ghost use Rattle.phased_control.specs.PhaseChanges.{all_step_pdus, change_pdus};
 ghost use Rattle.phased_control.specs.Phased.{Phased, first_phased, is_open_now};
 ghost use Rattle.phased_control.specs.Phased.{is_quiet_now};
 ghost use Rattle.phased_control.specs.Taken.{PhasedStep, phased_after, phased_after_all, role_now};
@@ -58,9 +58,10 @@ pub fn an_end_moves_by_control_steps()
         kind_awaited s.control.table.progress ≡ kind_waiting s.control.track.waits }
 {}
 
-/// A central keeps a PDU exactly where its phase says so; of HalfKeyed nothing is said. In Clear and
-/// Secure nothing is kept, and at a peripheral never. What is kept is the first PDU of a procedure of
-/// the peripheral. A host is asked for a key in phase Asked alone, and that of a central never.
+/// A central keeps a PDU exactly where its phase says so; of HalfKeyed nothing is said. In Clear
+/// and Secure nothing is kept, and at a peripheral never. What is kept is the first PDU of a
+/// procedure of the peripheral. A host is asked for a key in phase Asked alone, and that of a
+/// central never.
 pub fn a_phase_says_whether_a_pdu_is_kept()
     ensures said { (role : Role) (max_rx : ℕ) (first : Params) (slot : ℕ) (steps : List PhasedStep)
         → let s = phased_after_all steps (first_phased role max_rx first slot) in
@@ -108,7 +109,7 @@ pub fn few_pdus_of_the_encryption_wait()
         (steps : List PhasedStep)
         → AllMayRespond role steps → AreInTurn steps (first_phased role max_rx first slot)
         → let s = phased_after_all steps (first_phased role max_rx first slot) in
-        AreLastOf (owed_in role s.phase)
+        AreLastOf (phase_ciphers role s.phase)
         (map (λ ctrl. ctrl_class ctrl) (ciphers_waiting s.control.table)) }
     ensures few { (role : Role) (max_rx : ℕ) (first : Params) (slot : ℕ) (steps : List PhasedStep)
         → AllMayRespond role steps → AreInTurn steps (first_phased role max_rx first slot)
@@ -159,8 +160,8 @@ pub fn calls_of_an_end_may_come()
 {}
 
 /// Outside Clear and Secure a central runs an encryption, no first PDU of another own procedure
-/// waits, and nothing begins. Where the peripheral keeps the rules, no procedure of it that excludes
-/// others is in progress there.
+/// waits, and nothing begins. Where the peripheral keeps the rules, no procedure of it that
+/// excludes others is in progress there.
 pub fn a_central_only_encrypts_outside_clear_and_secure()
     ensures own { (max_rx : ℕ) (first : Params) (slot : ℕ) (steps : List PhasedStep)
         → AllMayRespond Role.Central steps
@@ -206,5 +207,5 @@ pub fn each_change_of_a_phase_owes_its_pdu()
         (step : PhasedStep) → AllMayRespond role steps → MayRespond role step
         → let s = phased_after_all steps (first_phased role max_rx first slot) in
         s.control.ends ≡ None
-        → owed_by_steps (control_steps step s) ≡ owed_with role (change_of step s) }
+        → all_step_pdus (control_steps step s) ≡ change_pdus role (change_of step s) }
 {}

@@ -1,5 +1,5 @@
-//! The control part of one end of a link with its phase of encryption, over all lists of steps (Core
-//! 5.2, volume 6 part B, section 5.1.3). Definitions and laws; no code.
+//! The control part of one end of a link with its phase of encryption, over all lists of steps
+//! (Core 5.2, volume 6 part B, section 5.1.3). Definitions and laws; no code.
 #![tactic(auto)]
 
 mod laws;
