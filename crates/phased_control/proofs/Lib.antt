@@ -8,6 +8,7 @@ pub mod Changing
 pub mod Ciphers
 pub mod Encrypted
 pub mod Extending
+pub mod Indicating
 pub mod Kept
 pub mod Lawful
 pub mod LawfulTaking

@@ -1,6 +1,6 @@
 -- What the laws of one end with its phase speak of (Core 5.2, volume 6 part B, section 5.1.3; that a central keeps a
 -- PDU is our choice).
-use Rattle.std.specs.Prelude.{◌≡◌, Bool, true, false, List, [], ◌∷◌, Option, Some, None, ⊤}
+use Rattle.std.specs.Prelude.{◌≡◌, Bool, true, false, List, [], ◌∷◌, Option, Some, None, Ok, ⊤}
 use Rattle.ble_base.specs.declared.roles.Role.{Role}
 use Rattle.ble_base.specs.declared.roles.Role.TheVariants.{Peripheral}
 use Rattle.data_pdu.specs.declared.ctrl.Ctrl.{Ctrl}
@@ -9,7 +9,8 @@ use Rattle.enc_phase.specs.declared.classes.PduClass.TheVariants.{Request}
 use Rattle.enc_phase.specs.declared.facts.PhaseFacts.{PhaseFacts}
 use Rattle.enc_phase.specs.declared.facts.PhaseFacts.TheVariants.{Asked, HalfClear, HalfKeyed, Pausing}
 use Rattle.enc_phase.specs.Taking.{ctrl_class}
-use Rattle.phased_control.specs.Taken.{PhasedStep, Takes}
+use Rattle.procedure_values.specs.Wants.{IsAsk}
+use Rattle.phased_control.specs.Taken.{PhasedStep, Answers, Asks, Takes}
 
 -- ---- the PDU that a central keeps
 
@@ -48,3 +49,14 @@ MayRespond role step = ⊤
 abbrev pub AllMayRespond : Role → List PhasedStep → Type 0
 AllMayRespond role [] = ⊤
 AllMayRespond role (step ∷ steps) = MayRespond role step × AllMayRespond role steps
+
+-- ---- what a host asks is in its range
+
+abbrev pub AsksInRange : PhasedStep → Type 0
+AsksInRange (Asks ask) = IsAsk ask
+AsksInRange (Answers (Ok ask)) = IsAsk ask
+AsksInRange step = ⊤
+
+abbrev pub AllAskInRange : List PhasedStep → Type 0
+AllAskInRange [] = ⊤
+AllAskInRange (step ∷ steps) = AsksInRange step × AllAskInRange steps
