@@ -43,6 +43,7 @@ use Rattle.phased_control.proofs.Tables.{begins_encryption, is_step_apart, leave
 use Rattle.phased_control.proofs.Taking.{handed_ways, took_ways}
 use Rattle.phased_control.proofs.Unpaused.{Unpaused, asks_in_half_clear, unpaused_after, unpaused_first}
 use Rattle.phased_control.proofs.PhaseFacts.{follows_no_pause}
+use Rattle.phased_control.proofs.PhaseFacts.{phase_owed}
 
 abbrev pub Agrees : Phased → Type 0
 Agrees s = is_quiet s.phase ≡ not (encrypts s)
@@ -66,10 +67,6 @@ apart_step step s is agrees = agrees_step step s (with_step step s) (leaves_encr
 encrypts_owed : (request : Option Ctrl) (s : Phased) → role_now s ≡ Central → encrypts (with_owed_if request s) ≡ encrypts s
 encrypts_owed None s role = refl
 encrypts_owed (Some ctrl) s role = leaves_at_central ctrl s.control role
-
-phase_owed : (request : Option Ctrl) (s : Phased) → (with_owed_if request s).phase ≡ s.phase
-phase_owed None s = refl
-phase_owed (Some ctrl) s = refl
 
 agrees_encrypting : (p : PhaseFacts) (s : Phased) → s.phase ≡ p → is_quiet p ≡ true → role_now s ≡ Central → encrypts s ≡ true → Agrees (encrypting p s)
 agrees_encrypting Clear s is quiet role has =

@@ -11,7 +11,7 @@ use Rattle.data_pdu.specs.declared.ctrl.CtrlRead.TheVariants.{Known, Unknown, Ba
 use Rattle.enc_phase.specs.declared.classes.PduClass.{PduClass}
 use Rattle.enc_phase.specs.declared.classes.PduClass.TheVariants.{Data, EncReq as enc_req, Refusal}
 use Rattle.enc_phase.specs.declared.facts.PhaseFacts.{PhaseFacts}
-use Rattle.enc_phase.specs.declared.facts.PhaseFacts.TheVariants.{Clear, Asked, Secure, HalfClear}
+use Rattle.enc_phase.specs.declared.facts.PhaseFacts.TheVariants.{Clear, Asked, Secure}
 use Rattle.enc_phase.specs.declared.facts.Transition.TheVariants.{Ask as AskTransition, Refuse}
 use Rattle.enc_phase.specs.Phases.{is_quiet, may_follow, phase_after}
 use Rattle.enc_phase.specs.Taking.{allows, ctrl_class}
@@ -20,7 +20,7 @@ use Rattle.procedure_stages.specs.Opcodes.{enc_req_opcode}
 use Rattle.procedures.specs.Beginning.{begin_step}
 use Rattle.control_model.specs.Control.{Step}
 use Rattle.control_model.specs.Control.{Enters as control_enters, SeesAcknowledged as control_sees_acknowledged, Takes as control_takes}
-use Rattle.phased_control.specs.Phased.{Phased, acknowledged, ask_begun, asking_if, asks_again, encrypting, encrypting_if, entered, first_phased, is_encrypt, is_open_now, is_pause_rsp, is_quiet_now, key_given, refused_if, request_of, table_entered, with_owed_if, with_step}
+use Rattle.phased_control.specs.Phased.{Phased, acknowledged, ask_begun, asking_if, asks_again, encrypting, encrypting_if, entered, first_phased, is_encrypt, is_open_now, is_pause_rsp, is_quiet_now, key_given, refused_if, request_of, table_entered, with_step}
 use Rattle.phased_control.specs.Taken.{PhasedStep, Answers, Asks, Disconnects, Enters, GivesKey, LacksKey, SeesAcknowledged, Sends, Takes, TakesData, answered_if_quiet, answered_kept, ciphered, class_of_read, does_keep, ended_with, handed_on, is_allowed, keeping, lacks_room_now, phased_after, phased_after_all, phased_moved, role_now, seen_as, took, took_data}
 use Rattle.phased_control.specs.Steps.{control_steps, ctrl_if, first_owed, first_owed_if, handed_steps, kept_steps, later_steps, read_answer, owed_steps, seen_by_procedures, taken_steps}
 use Rattle.phased_control.specs.Ends.{AllMayRespond, IsRequest, IsResponse, MayRespond}
@@ -39,8 +39,7 @@ use Rattle.enc_phase.specs.declared.facts.Transition.TheVariants.{Confirm, Pause
 use Rattle.phased_control.proofs.AnswerParts.{phase_answering, refused_phase}
 use Rattle.phased_control.specs.PhaseChanges.{Change, Moves, Starts, Stays, Took, answer_change, central_change, peripheral_change, first_change, handed_change, change_of, taken_change, changed, may_change, moves_if, step_pdus, all_step_pdus, change_pdus, starts_if}
 use Rattle.phased_control.proofs.Answering.{IsPlain, phase_stays, plain_ask, plain_confirm, plain_pause, plain_unlock, start_stays}
-use Rattle.phased_control.proofs.Lawful.{runs}
-use Rattle.phased_control.proofs.PhaseFacts.{follows_no_pause}
+use Rattle.phased_control.proofs.PhaseFacts.{phase_owed, loud_in_half_clear, runs}
 
 pub record Changes (role : Role) (change : Change) (p q : PhaseFacts) (owed : List PduClass) : Type 0 where
   pub may : may_change change p ≡ true
@@ -203,10 +202,6 @@ request_queued (Some (EncReq rand ediv skd_m iv_m)) is = refl
 request_queued (Some ctrl) is = absurd is
 request_queued None is = absurd is
 
-phase_owed : (request : Option Ctrl) (s : Phased) → (with_owed_if request s).phase ≡ s.phase
-phase_owed None s = refl
-phase_owed (Some ctrl) s = refl
-
 begins_change : (p : PhaseFacts) (request : Option Ctrl) (s : Phased) → s.phase ≡ p → s.request ≡ request → is_quiet p ≡ true → IsRequest request
     → Changes Central (first_change p) p (encrypting p s).phase (queued (first_owed p request))
 begins_change Clear request s is same quiet is_request =
@@ -232,11 +227,6 @@ entered_changes role slot s is_role = by (is_encrypt (begin_step (table_entered 
         subst (λ (r : Role). Changes r (first_change s.phase) s.phase (encrypting_if true request t).phase (queued (first_owed s.phase request)))
         (sym begins.role ∙ role_entered s ∙ is_role) (begins_change s.phase request (record t { request = request }) refl refl begins.is_quiet begins.request)
 
-asked_loudly : (p : PhaseFacts) → may_follow AskTransition p ≡ true → follows_no_pause p ≡ false → is_quiet p ≡ false
-asked_loudly (HalfClear kept) may paused = refl
-asked_loudly Clear may paused = absurd (cc)
-asked_loudly p may paused = absurd (cc)
-
 acked_changes : (role : Role) (s : Phased) → Sound role s → Agrees s
     → Changes role (change_of SeesAcknowledged s) s.phase (acknowledged s).phase (all_step_pdus (control_steps SeesAcknowledged s))
 acked_changes role s sound agrees = by (asks_again s) refl
@@ -249,7 +239,7 @@ acked_changes role s sound agrees = by (asks_again s) refl
     by true is =
         let at = asks_at_central role s is sound.requests in
         let may = (and_parts (may_follow AskTransition s.phase) _ (and_parts (is_pause_rsp s.control.table.out) _ is).1).0 in
-        let loud = asked_loudly s.phase may (asks_in_half_clear s is (sound.unpaused at)) in
+        let loud = loud_in_half_clear s.phase may (asks_in_half_clear s is (sound.unpaused at)) in
         record {
           may = may;
           phase = phase_owed t.request (record t { phase = phase_after AskTransition t.phase });

@@ -68,6 +68,7 @@ use Rattle.phased_control.proofs.Tables.{begins_encryption, leaves_encryption, s
 use Rattle.phased_control.proofs.Unpaused.{asks_in_half_clear}
 use Rattle.phased_control.proofs.Waiting.{InOrder, Last, lasts_acked}
 use Rattle.phased_control.proofs.PhaseFacts.{follows_no_pause}
+use Rattle.phased_control.proofs.PhaseFacts.{loud_in_half_clear, runs}
 
 abbrev pub KeyFits : Phased → Bool → Type 0
 KeyFits s key = is_open_now s ≡ true → key ≡ s.asks_key
@@ -316,15 +317,6 @@ in_half_clear : (p : PhaseFacts) (ctrls : List Ctrl) → may_follow AskTransitio
 in_half_clear (HalfClear kept) ctrls may paused last = no_request_in ctrls last
 in_half_clear Clear ctrls may paused last = absurd (cc)
 in_half_clear p ctrls may paused last = absurd (cc)
-
-loud_in_half_clear : (p : PhaseFacts) → may_follow AskTransition p ≡ true → follows_no_pause p ≡ false → is_quiet p ≡ false
-loud_in_half_clear (HalfClear kept) may paused = refl
-loud_in_half_clear Clear may paused = absurd (cc)
-loud_in_half_clear p may paused = absurd (cc)
-
-pub runs : (b : Bool) → false ≡ not b → b ≡ true
-runs true h = refl
-runs false h = absurd (cc)
 
 queue_acked : (c : Control) → (after control_sees_acknowledged c).table.queue ≡ c.table.queue
 queue_acked c = any_step (λ (d : Control). d.table.queue ≡ c.table.queue) control_sees_acknowledged c (by (is_out c.table.out)) refl

@@ -35,6 +35,7 @@ use Rattle.phased_control.proofs.Kept.{Tied, apart}
 use Rattle.phased_control.proofs.Tables.{begins_encryption, same_role}
 use Rattle.phased_control.proofs.Taking.{handed_ways, took_ways}
 use Rattle.phased_control.proofs.PhaseFacts.{follows_no_pause}
+use Rattle.phased_control.proofs.PhaseFacts.{phase_owed}
 
 abbrev pub IsOther : Ctrl → Type 0
 IsOther ctrl = is_pause_rsp (Other (Cipher ctrl)) ≡ false
@@ -159,10 +160,6 @@ asked_after_pause (HalfClear kept) may h = refl
 asked_after_pause Clear may h = absurd (cc)
 asked_after_pause p may h = absurd (cc)
 
-phase_owed_if : (request : Option Ctrl) (s : Phased) → (with_owed_if request s).phase ≡ s.phase
-phase_owed_if None s = refl
-phase_owed_if (Some ctrl) s = refl
-
 none_acknowledged : (s : Phased) → Unpaused s → Unpaused (acknowledged s)
 none_acknowledged s unpaused = by (asks_again s) refl
   where
@@ -176,7 +173,7 @@ none_acknowledged s unpaused = by (asks_again s) refl
     by false is = λ h. none_step control_sees_acknowledged s refl (unpaused h)
     by true is =
         let may = (and_parts (may_follow AskTransition s.phase) _ (and_parts (is_pause_rsp s.control.table.out) _ is).1).0 in
-        λ h. absurd (two (sym (asked_after_pause s.phase may (asks_in_half_clear s is unpaused)) ∙ sym (ap (λ (p : PhaseFacts). follows_no_pause p) (phase_owed_if t.request (record t { phase = phase_after AskTransition t.phase }))) ∙ h))
+        λ h. absurd (two (sym (asked_after_pause s.phase may (asks_in_half_clear s is unpaused)) ∙ sym (ap (λ (p : PhaseFacts). follows_no_pause p) (phase_owed t.request (record t { phase = phase_after AskTransition t.phase }))) ∙ h))
 
 none_kept : (slot : ℕ) (kept : Option Ctrl) (s : Phased) → Unpaused s → Unpaused (answered_kept slot kept s)
 none_kept slot None s unpaused = unpaused

@@ -1,5 +1,5 @@
 -- Which PDUs of the encryption wait at an end, by its phase, where the peer sends in turn.
-use Rattle.std.proofs.Common.{◌≡◌, ◌≢◌, inl, inr, ℕ, Bool, true, false, not, ◌&&◌, if◌then◌else◌, List, [], ◌∷◌, ◌++◌, map, length, ◌≤◌, arith, Option, Some, None, refl, sym, ap, subst, ◌∙◌, append-nil}
+use Rattle.std.proofs.Common.{◌≡◌, ◌≢◌, inl, inr, ℕ, Bool, true, false, ◌&&◌, if◌then◌else◌, List, [], ◌∷◌, ◌++◌, map, length, ◌≤◌, arith, Option, Some, None, refl, sym, ap, subst, ◌∙◌, append-nil}
 use Rattle.std.specs.List.{AllByRecursion}
 use Rattle.std.proofs.lemmas.Bool.{and_parts}
 use Rattle.std.proofs.lemmas.List.{length-map}
@@ -46,6 +46,7 @@ use Rattle.phased_control.proofs.Tables.{begins_encryption, same_role}
 use Rattle.phased_control.proofs.Taking.{handed_ways, took_ways}
 use Rattle.phased_control.proofs.Unpaused.{asks_in_half_clear}
 use Rattle.phased_control.proofs.PhaseFacts.{follows_no_pause}
+use Rattle.phased_control.proofs.PhaseFacts.{phase_owed, loud_in_half_clear, runs}
 
 -- ---- the last of some PDUs
 
@@ -232,10 +233,6 @@ request_in (Some (EncReq rand ediv skd_m iv_m)) pdus s is none holds last = firs
 request_in (Some other) pdus s is none holds last = absurd is
 request_in None pdus s is none holds last = absurd is
 
-phase_owed : (request : Option Ctrl) (s : Phased) → (with_owed_if request s).phase ≡ s.phase
-phase_owed None s = refl
-phase_owed (Some ctrl) s = refl
-
 none_in : (p : PhaseFacts) (c : Control) → is_quiet p ≡ true → Ordered (phase_ciphers Central p) c → Empty c
 none_in Clear c quiet order = empty c (no_map (ciphers_waiting c.table) order.waits)
   where
@@ -319,22 +316,13 @@ order_acknowledged role s sound agrees lasts order = by (asks_again s) refl
     now : InOrder role t
     now = ordered_step control_sees_acknowledged (phase_ciphers role s.phase) s.control refl order
 
-    asked_loudly : (p : PhaseFacts) → may_follow AskTransition p ≡ true → follows_no_pause p ≡ false → is_quiet p ≡ false
-    asked_loudly (HalfClear kept) may paused = refl
-    asked_loudly Clear may paused = absurd (cc)
-    asked_loudly p may paused = absurd (cc)
-
-    runs : (b : Bool) → false ≡ not b → b ≡ true
-    runs true h = refl
-    runs false h = absurd (cc)
-
     by : (b : Bool) → asks_again s ≡ b → InOrder role (asking_if b t)
     by false is = now
     by true is =
         let at = asks_at_central role s is sound.requests in
         let parts = and_parts (may_follow AskTransition s.phase) _ (and_parts (is_pause_rsp s.control.table.out) _ is).1 in
         let paused = asks_in_half_clear s is (sound.unpaused at) in
-        let has = runs (encrypts s) (sym (asked_loudly s.phase parts.0 paused) ∙ agrees) in
+        let has = runs (encrypts s) (sym (loud_in_half_clear s.phase parts.0 paused) ∙ agrees) in
         subst (λ (r : Role). InOrder r (asking_if true t)) (sym at)
         (order_asking s.phase t refl parts.0 paused (sound.requests.central at has) (lasts_acked s.control lasts)
         (opens_acked s.control (and_parts (is_open_now s) _ parts.1).0) (subst (λ (r : Role). InOrder r t) at now))

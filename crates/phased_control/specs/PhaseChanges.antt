@@ -110,7 +110,8 @@ answer_change Peripheral pdu encrypts phase = peripheral_change pdu phase
 abbrev pub handed_change : CtrlRead → ℕ → Phased → Change
 handed_change read slot s =
     (if is_none (seen_by_procedures read slot s).control.ends
-    then answer_change (role_now s) (class_of_read read) (has_encryption (seen_by_procedures read slot s).control.table.progress) s.phase
+    then answer_change (role_now s) (class_of_read read)
+    (has_encryption (seen_by_procedures read slot s).control.table.progress) s.phase
     else Took (class_of_read read))
 
 abbrev pub taken_change : CtrlRead → ℕ → Phased → Change

@@ -97,7 +97,9 @@ later_steps slot response read s =
 abbrev pub handed_steps : ℕ → Ctrl → CtrlRead → Phased → List Step
 handed_steps slot response read s =
     control_takes (seen_as read s) slot (is_quiet_now s)
-    ∷ (if is_none (seen_by_procedures read slot s).control.ends then later_steps slot response read (seen_by_procedures read slot s) else [])
+    ∷ (if is_none (seen_by_procedures read slot s).control.ends
+    then later_steps slot response read (seen_by_procedures read slot s)
+    else [])
 
 -- nothing where the phase forbids or keeps the PDU, or there is no room for the answer
 abbrev pub taken_steps : ℕ → Ctrl → CtrlRead → Phased → List Step

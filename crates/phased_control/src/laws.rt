@@ -34,7 +34,8 @@ ghost use Rattle.control_model.specs.Control.{after_all, first_control, indicate
 ghost use Rattle.control_model.specs.Waits.{kind_awaited, kind_waiting};
 ghost use Rattle.control_model.specs.Waits.{last_event_of, last_instant_of};
 ghost use Rattle.phased_control.specs.Calls.{AllPassPhase, all_phased_calls};
-ghost use Rattle.phased_control.specs.Ciphers.{AreInTurn, AreLastOf, ciphers_waiting, phase_ciphers};
+ghost use Rattle.phased_control.specs.Ciphers.{AreInTurn, AreLastOf, ciphers_waiting};
+ghost use Rattle.phased_control.specs.Ciphers.{phase_ciphers};
 ghost use Rattle.phased_control.specs.Ends.{AllAskInRange, AllMayRespond, IsFirst, IsRequest};
 ghost use Rattle.phased_control.specs.Ends.{MayRespond, is_half_keyed, says_kept};
 ghost use Rattle.phased_control.specs.PhaseChanges.{change_of, changed, may_change};
@@ -78,8 +79,8 @@ pub fn an_end_moves_by_control_steps()
 
 /// A central with its phase sends an indication only where the Instants of all before it are over,
 /// with an Instant ahead and near and with no offset; none waits at its own track then. The first
-/// PDU of its PHY update too waits for those Instants. The last Instant that its table knows is that
-/// of the last indication that it sent. The link begins with a latency of at most 499 events, and
+/// PDU of its PHY update too waits for those Instants. The last Instant that its table knows is
+/// that of the last indication that it sent. The link begins with a latency of at most 499 events, and
 /// what the host asks is in its range.
 pub fn a_central_with_its_phase_indicates_as_it_may()
     ensures may { (max_rx : ℕ) (first : Params) (slot : ℕ) (steps : List PhasedStep) (now : ℕ)
