@@ -1,0 +1,7 @@
+-- The definitions of this crate.
+pub mod JointMoves
+pub mod Machines
+pub mod Moves
+pub mod Parts
+pub mod Premises
+pub mod SentByRole

@@ -1,0 +1,126 @@
+-- Which control PDUs an end of a joint run queues and sends, by its role (Core 5.2, volume 6 part B, section 2.4.2; what
+-- this product never sends is our choice). The other end knows each of them, but for PDUs of the encryption in a phase
+-- in which they have no meaning.
+use Rattle.std.specs.Prelude.{◌≡◌, ⊤, ℕ, ◌==◌, Bool, true, false, ◌||◌, Option, Some, None}
+use Rattle.std.specs.List.{All}
+use Rattle.ble_base.specs.declared.roles.Role.{Role}
+use Rattle.ble_base.specs.declared.roles.Role.TheVariants.{Central, Peripheral}
+use Rattle.data_pdu.specs.declared.ctrl.Ctrl.{Ctrl}
+use Rattle.data_pdu.specs.declared.ctrl.Ctrl.TheVariants.{EncReq, EncRsp, PauseEncReq, PauseEncRsp, RejectExtInd, StartEncReq, StartEncRsp, TerminateInd}
+use Rattle.enc_phase.specs.declared.classes.PduClass.TheVariants.{Request as request_class}
+use Rattle.enc_phase.specs.Taking.{ctrl_class}
+use Rattle.procedure_values.specs.declared.drafts.Draft.{Draft}
+use Rattle.procedure_values.specs.declared.drafts.Draft.TheVariants.{Cipher, FeatureReq, FeatureRsp, Grant, LengthReq, LengthRsp, Map, PeripheralFeatureReq, PhyInd, PhyReq, PhyRsp, Request, UnknownRsp, Update, VersionInd}
+use Rattle.procedure_values.specs.declared.drafts.Outgoing.{Outgoing}
+use Rattle.procedure_values.specs.declared.drafts.Outgoing.TheVariants.{Disconnect, Nothing, Other, Rejection}
+use Rattle.procedure_values.specs.declared.drafts.Rejection.{Rejection as TheRejection}
+use Rattle.procedure_values.specs.Drafts.{ctrl_of_outgoing}
+use Rattle.procedure_stages.specs.Kinds.{role_of}
+use Rattle.procedure_stages.specs.Opcodes.{connection_param_req_opcode, enc_req_opcode, enc_rsp_opcode, pause_enc_req_opcode, phy_req_opcode, start_enc_req_opcode}
+use Rattle.phased_control.specs.Phased.{Phased}
+use Rattle.joint_controls.specs.Joint.{Clear, Control, Data, Fixed, Item, Joint, JointStep, OnAir, PeripheralTakes, Taken, Way}
+
+-- ---- what waits
+
+-- the layer above queues the PDUs of the encryption, and at a peripheral the refusal of a start or LL_TERMINATE_IND
+abbrev pub is_cipher_of : Role → Ctrl → Bool
+is_cipher_of Central (EncReq rand ediv skd_m iv_m) = true
+is_cipher_of Peripheral (EncRsp skd_s iv_s) = true
+is_cipher_of Peripheral StartEncReq = true
+is_cipher_of Central PauseEncReq = true
+is_cipher_of role StartEncRsp = true
+is_cipher_of role PauseEncRsp = true
+is_cipher_of Peripheral (RejectExtInd opcode code) = opcode == enc_req_opcode
+is_cipher_of Peripheral (TerminateInd code) = true
+is_cipher_of role ctrl = false
+
+-- the PDUs of the encryption that may have no meaning at an end
+abbrev pub is_cipher_opcode : ℕ → Bool
+is_cipher_opcode opcode =
+    (opcode == enc_req_opcode) || (opcode == enc_rsp_opcode) || (opcode == start_enc_req_opcode)
+    || (opcode == pause_enc_req_opcode)
+
+abbrev pub is_draft_of : Role → Draft → Bool
+is_draft_of Central (Update params) = true
+is_draft_of Central (Grant params) = true
+is_draft_of Central (Map map) = true
+is_draft_of Peripheral (Request min max latency timeout) = true
+is_draft_of role PhyReq = true
+is_draft_of Peripheral PhyRsp = true
+is_draft_of Central PhyInd = true
+is_draft_of Central FeatureReq = true
+is_draft_of Peripheral PeripheralFeatureReq = true
+is_draft_of role FeatureRsp = true
+is_draft_of role VersionInd = true
+is_draft_of role (LengthReq rx tx) = true
+is_draft_of role (LengthRsp rx tx) = true
+is_draft_of role (UnknownRsp opcode) = is_cipher_opcode opcode
+is_draft_of role (Cipher ctrl) = is_cipher_of role ctrl
+is_draft_of role draft = false
+
+-- a central rejects the two procedures of a peripheral that exclude others
+abbrev pub is_rejection_of : Role → TheRejection → Bool
+is_rejection_of Central rejection =
+    (rejection.opcode == connection_param_req_opcode) || (rejection.opcode == phy_req_opcode)
+is_rejection_of Peripheral rejection = false
+
+abbrev pub is_outgoing_of : Role → Outgoing → Bool
+is_outgoing_of role Nothing = true
+is_outgoing_of role (Rejection rejection) = is_rejection_of role rejection
+is_outgoing_of role (Disconnect code) = true
+is_outgoing_of role (Other draft) = is_draft_of role draft
+
+-- ---- an end
+
+-- LL_ENC_REQ of the encryption that a central runs
+abbrev pub IsRequest : Option Ctrl → Type 0
+IsRequest None = ⊤
+IsRequest (Some (EncReq rand ediv skd_m iv_m)) = ⊤
+IsRequest (Some ctrl) = ⊥
+
+-- what is kept is the first PDU of a procedure
+abbrev pub IsFirstPdu : Option Ctrl → Type 0
+IsFirstPdu None = ⊤
+IsFirstPdu (Some ctrl) = ctrl_class ctrl ≡ request_class
+
+pub record IsEndOf (role : Role) (s : Phased) : Type 0 where
+  pub same_role : role_of s.control.table.progress ≡ role
+  pub rejections : All (λ rejection. is_rejection_of role rejection ≡ true) s.control.table.queue.rejections
+  pub drafts : All (λ draft. is_draft_of role draft ≡ true) s.control.table.queue.drafts
+  pub request : IsRequest s.request
+  pub kept : IsFirstPdu s.kept
+
+-- ---- what is on its way
+
+pub record IsSentBy (role : Role) (outgoing : Outgoing) (ctrl : Ctrl) : Type 0 where
+  pub right : is_outgoing_of role outgoing ≡ true
+  -- what is read is what waited, with the numbers of the event in which it was sent
+  pub event : ℕ
+  pub latency : ℕ
+  pub is : ctrl_of_outgoing outgoing event latency ≡ Some ctrl
+
+abbrev pub IsItemOf : Role → Item → Type 0
+IsItemOf role Data = ⊤
+IsItemOf role (Control outgoing ctrl) = IsSentBy role outgoing ctrl
+
+abbrev pub IsWayOf : Role → Way → Type 0
+IsWayOf role Clear = ⊤
+IsWayOf role (Fixed item sealed) = IsItemOf role item
+IsWayOf role (OnAir item sealed) = IsItemOf role item
+IsWayOf role (Taken item) = IsItemOf role item
+
+pub record AreOfRoles (s : Joint) : Type 0 where
+  pub central : IsEndOf Central s.central
+  pub peripheral : IsEndOf Peripheral s.peripheral
+  pub down : IsWayOf Central s.down
+  pub up : IsWayOf Peripheral s.up
+
+-- ---- a step: a peripheral would answer LL_ENC_REQ with LL_ENC_RSP
+
+abbrev pub IsResponse : Ctrl → Type 0
+IsResponse (EncRsp skd_s iv_s) = ⊤
+IsResponse ctrl = ⊥
+
+abbrev pub Responds : JointStep → Type 0
+Responds (PeripheralTakes slot response) = IsResponse response
+Responds step = ⊤
