@@ -1,5 +1,16 @@
 -- The lemmas of this crate.
+pub mod Ciphered
+pub mod EndRoles
+pub mod EndSteps
+pub mod EndTakes
 pub mod Features
+pub mod JointSteps
+pub mod Known
 pub mod LengthMoves
+pub mod MayDo
+pub mod PartMoves
+pub mod Reading
 pub mod Runs
+pub mod TableRoles
+pub mod Took
 pub mod VersionMoves

@@ -2,7 +2,7 @@
 -- this product never sends is our choice). The other end knows each of them, but for PDUs of the encryption in a phase
 -- in which they have no meaning.
 use Rattle.std.specs.Prelude.{◌≡◌, ⊤, ℕ, ◌==◌, Bool, true, false, ◌||◌, Option, Some, None}
-use Rattle.std.specs.List.{All}
+use Rattle.std.specs.List.{AllByRecursion}
 use Rattle.ble_base.specs.declared.roles.Role.{Role}
 use Rattle.ble_base.specs.declared.roles.Role.TheVariants.{Central, Peripheral}
 use Rattle.data_pdu.specs.declared.ctrl.Ctrl.{Ctrl}
@@ -17,6 +17,7 @@ use Rattle.procedure_values.specs.declared.drafts.Rejection.{Rejection as TheRej
 use Rattle.procedure_values.specs.Drafts.{ctrl_of_outgoing}
 use Rattle.procedure_stages.specs.Kinds.{role_of}
 use Rattle.procedure_stages.specs.Opcodes.{connection_param_req_opcode, enc_req_opcode, enc_rsp_opcode, pause_enc_req_opcode, phy_req_opcode, start_enc_req_opcode}
+use Rattle.procedures.specs.Table.{TableFacts}
 use Rattle.phased_control.specs.Phased.{Phased}
 use Rattle.joint_controls.specs.Joint.{Clear, Control, Data, Fixed, Item, Joint, JointStep, OnAir, PeripheralTakes, Taken, Way}
 
@@ -73,22 +74,32 @@ is_outgoing_of role (Other draft) = is_draft_of role draft
 -- ---- an end
 
 -- LL_ENC_REQ of the encryption that a central runs
-abbrev pub IsRequest : Option Ctrl → Type 0
-IsRequest None = ⊤
-IsRequest (Some (EncReq rand ediv skd_m iv_m)) = ⊤
-IsRequest (Some ctrl) = ⊥
+abbrev pub IsRequestBy : Role → Option Ctrl → Type 0
+IsRequestBy role None = ⊤
+IsRequestBy Central (Some (EncReq rand ediv skd_m iv_m)) = ⊤
+IsRequestBy role (Some ctrl) = ⊥
 
--- what is kept is the first PDU of a procedure
-abbrev pub IsFirstPdu : Option Ctrl → Type 0
-IsFirstPdu None = ⊤
-IsFirstPdu (Some ctrl) = ctrl_class ctrl ≡ request_class
+-- a central alone keeps a PDU, the first of a procedure
+abbrev pub IsKeptBy : Role → Option Ctrl → Type 0
+IsKeptBy role None = ⊤
+IsKeptBy Central (Some ctrl) = ctrl_class ctrl ≡ request_class
+IsKeptBy Peripheral (Some ctrl) = ⊥
+
+-- a host is asked for a key at a peripheral alone
+abbrev pub AsksAt : Role → Bool → Type 0
+AsksAt Central true = ⊥
+AsksAt role asks = ⊤
+
+pub record IsTableOf (role : Role) (f : TableFacts) : Type 0 where
+  pub same_role : role_of f.progress ≡ role
+  pub rejections : AllByRecursion (λ rejection. is_rejection_of role rejection ≡ true) f.queue.rejections
+  pub drafts : AllByRecursion (λ draft. is_draft_of role draft ≡ true) f.queue.drafts
 
 pub record IsEndOf (role : Role) (s : Phased) : Type 0 where
-  pub same_role : role_of s.control.table.progress ≡ role
-  pub rejections : All (λ rejection. is_rejection_of role rejection ≡ true) s.control.table.queue.rejections
-  pub drafts : All (λ draft. is_draft_of role draft ≡ true) s.control.table.queue.drafts
-  pub request : IsRequest s.request
-  pub kept : IsFirstPdu s.kept
+  pub table : IsTableOf role s.control.table
+  pub request : IsRequestBy role s.request
+  pub kept : IsKeptBy role s.kept
+  pub asks : AsksAt role s.asks_key
 
 -- ---- what is on its way
 
