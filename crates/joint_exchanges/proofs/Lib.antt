@@ -5,6 +5,7 @@ pub mod EndSteps
 pub mod EndTakes
 pub mod Features
 pub mod JointSteps
+pub mod JointTakes
 pub mod Known
 pub mod LengthMoves
 pub mod MayDo
