@@ -4,6 +4,8 @@ pub mod EndRoles
 pub mod EndSteps
 pub mod EndTakes
 pub mod Features
+pub mod JointRoles
+pub mod JointRuns
 pub mod JointSteps
 pub mod JointTakes
 pub mod Known

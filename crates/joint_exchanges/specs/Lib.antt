@@ -4,4 +4,5 @@ pub mod Machines
 pub mod Moves
 pub mod Parts
 pub mod Premises
+pub mod Runs
 pub mod SentByRole
