@@ -1,5 +1,6 @@
 -- The lemmas of this crate.
 pub mod Ciphered
+pub mod Counting
 pub mod EndRoles
 pub mod EndSteps
 pub mod EndTakes
@@ -10,6 +11,7 @@ pub mod JointSteps
 pub mod JointTakes
 pub mod Known
 pub mod LengthMoves
+pub mod MachineRuns
 pub mod MayDo
 pub mod PartMoves
 pub mod Reading

@@ -1,4 +1,5 @@
 -- The definitions of this crate.
+pub mod Agreement
 pub mod JointMoves
 pub mod Machines
 pub mod Moves

@@ -109,3 +109,7 @@ module _ {E : Type 0} where
   abbrev pub events_of : (Move → List E) → List Move → List E
   events_of event [] = []
   events_of event (move ∷ moves) = event move ++ events_of event moves
+
+abbrev pub maxima_after_all : List Move → SentMaxima → SentMaxima
+maxima_after_all [] sent = sent
+maxima_after_all (move ∷ moves) sent = maxima_after_all moves (maxima_after move sent)
