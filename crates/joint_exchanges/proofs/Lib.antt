@@ -5,11 +5,13 @@ pub mod EndRoles
 pub mod EndSteps
 pub mod EndTakes
 pub mod Features
+pub mod Few
 pub mod JointRoles
 pub mod JointRuns
 pub mod JointSteps
 pub mod JointTakes
 pub mod Known
+pub mod Laws
 pub mod LengthMoves
 pub mod MachineRuns
 pub mod MayDo

@@ -7,3 +7,4 @@ pub mod Parts
 pub mod Premises
 pub mod Runs
 pub mod SentByRole
+pub mod Waiting

@@ -1,6 +1,6 @@
 -- The moves of the exchanges in a joint run up to a state in which it goes on, and what is asked of its steps.
 use Rattle.std.specs.Prelude.{◌≡◌, ⊤, Bool, true, List, [], ◌∷◌, ◌++◌, if◌then◌else◌}
-use Rattle.joint_controls.specs.Joint.{Joint, JointStep, after, is_running, may}
+use Rattle.joint_controls.specs.Joint.{Joint, JointStep, after, after_all, is_running, may}
 use Rattle.joint_exchanges.specs.JointMoves.{moves_of}
 use Rattle.joint_exchanges.specs.Moves.{Move}
 use Rattle.joint_exchanges.specs.Premises.{KeepsForLater}
@@ -22,3 +22,9 @@ KeepsAlways steps s = AllBefore (λ t. KeepsForLater t.central) steps s
 abbrev pub AllRespond : List JointStep → Type 0
 AllRespond [] = ⊤
 AllRespond (step ∷ steps) = Responds step × AllRespond steps
+
+-- a run from a state up to one in which it goes on: what it may rely on
+pub record GoesOn (steps : List JointStep) (s : Joint) : Type 0 where
+  pub responds : AllRespond steps
+  pub keeps : KeepsAlways steps s
+  pub goes : is_running (after_all steps s) ≡ true
