@@ -1,9 +1,9 @@
 -- The PDUs of the exchanges in a joint run are those that the machines of exchanges have, one for one.
-use Rattle.std.proofs.Common.{◌≡◌, ℕ, ◌+◌, Bool, true, false, List, [], ◌∷◌, map, length, Option, Some, None, is_some, option_map, if◌then◌else◌, refl, ap, ap₂, sym, ◌∙◌, arith}
+use Rattle.std.proofs.Common.{◌≡◌, ℕ, ◌+◌, Bool, true, false, List, [], ◌∷◌, map, Option, Some, None, is_some, option_map, refl, ap, ◌∙◌, arith}
 use Rattle.ble_base.specs.declared.roles.Role.{Role}
 use Rattle.ble_base.specs.declared.roles.Role.TheVariants.{Central, Peripheral}
 use Rattle.data_pdu.specs.declared.ctrl.Ctrl.{Ctrl}
-use Rattle.data_pdu.specs.declared.ctrl.Ctrl.TheVariants.{LengthReq as ctrl_length_req, PeripheralFeatureReq as ctrl_feature_req, VersionInd as ctrl_version_ind}
+use Rattle.data_pdu.specs.declared.ctrl.Ctrl.TheVariants.{PeripheralFeatureReq as ctrl_feature_req}
 use Rattle.procedure_values.specs.declared.drafts.Draft.{Draft}
 use Rattle.procedure_values.specs.declared.drafts.Draft.TheVariants.{FeatureReq, FeatureRsp, LengthReq, LengthRsp, PeripheralFeatureReq, VersionInd}
 use Rattle.procedure_values.specs.declared.drafts.Outgoing.{Outgoing}
@@ -14,16 +14,15 @@ use Rattle.exchange_pairs.specs.Exchange.{Answer, ExchangePdu, Question, count_i
 use Rattle.exchange_pairs.specs.Exchange
 use Rattle.exchange_pairs.specs.ExchangeLaws
 use Rattle.exchange_pairs.specs.ExchangeRun.{ExchangeLink, is_pdu}
-use Rattle.exchange_pairs.specs.ExchangeRun
-use Rattle.exchange_pairs.specs.LengthPart.{exchange_end, exchange_link, exchange_way}
+use Rattle.exchange_pairs.specs.LengthPart.{exchange_link, exchange_way}
 use Rattle.exchange_pairs.specs.LengthRun.{Control as length_control}
 use Rattle.exchange_pairs.specs.Lengths.{LengthPdu}
 use Rattle.exchange_steps.specs.Ends.{features_pdu, lengths_pdu, pdus_of, versions_waiting}
 use Rattle.joint_controls.specs.Joint.{Clear, Control, Data, Fixed, Item, Joint, OnAir, Taken, Way}
-use Rattle.joint_exchanges.specs.Agreement.{Asked, Features, Lengths, is_answer_of, is_control, is_draft, is_first_of, is_question_of, is_version_ctrl, is_version_ind, kept_of, passes, places_of, questions_waiting, untaken, waiting}
+use Rattle.joint_exchanges.specs.Agreement.{Asked, Features, Lengths, is_answer_of, is_control, is_draft, is_first_of, is_question_of, is_version_ctrl, is_version_ind, passes, places_of, questions_waiting, untaken}
 use Rattle.joint_exchanges.specs.Machines.{features_in, features_link, lengths_in, lengths_link, none_sent}
 use Rattle.joint_exchanges.specs.Moves.{is_some_version}
-use Rattle.joint_exchanges.specs.Parts.{AnyPdu, parts_of, pdu_kept, pdu_of_first, pdu_of_item, pdu_of_outgoing, pdu_on}
+use Rattle.joint_exchanges.specs.Parts.{AnyPdu, parts_of, pdu_kept, pdu_of_item, pdu_of_outgoing, pdu_on}
 
 -- ---- in a queue
 

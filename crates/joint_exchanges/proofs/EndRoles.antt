@@ -1,5 +1,5 @@
 -- Each step of an end queues only PDUs of its role.
-use Rattle.std.proofs.Common.{◌≡◌, ℕ, Bool, true, false, not, ◌&&◌, if◌then◌else◌, Option, Some, None, is_none, is_some, Result, refl, ap, sym, ◌∙◌, subst}
+use Rattle.std.proofs.Common.{◌≡◌, ℕ, Bool, true, false, ◌&&◌, if◌then◌else◌, Option, Some, None, is_none, is_some, refl, sym, ◌∙◌, subst}
 use Rattle.std.specs.Bool.{⊤}
 use Rattle.std.proofs.lemmas.Bool.{and_parts}
 use Rattle.ble_base.specs.ErrorCodes.{mic_failure, pin_or_key_missing}
@@ -9,7 +9,7 @@ use Rattle.ble_base.specs.declared.procedure_kinds.Kind.TheVariants.{Encrypt}
 use Rattle.ble_base.specs.declared.roles.Role.{Role}
 use Rattle.ble_base.specs.declared.roles.Role.TheVariants.{Central, Peripheral}
 use Rattle.data_pdu.specs.declared.ctrl.Ctrl.{Ctrl}
-use Rattle.data_pdu.specs.declared.ctrl.Ctrl.TheVariants.{ConnectionParamReq, EncReq, EncRsp, LengthReq, PauseEncReq, PauseEncRsp, PeripheralFeatureReq, PhyReq, RejectExtInd, StartEncReq, TerminateInd, VersionInd}
+use Rattle.data_pdu.specs.declared.ctrl.Ctrl.TheVariants.{ConnectionParamReq, EncReq, EncRsp, LengthReq, PauseEncReq, PeripheralFeatureReq, PhyReq, RejectExtInd, StartEncReq, TerminateInd, VersionInd}
 use Rattle.data_pdu.specs.declared.ctrl.CtrlRead.{CtrlRead}
 use Rattle.data_pdu.specs.declared.ctrl.CtrlRead.TheVariants.{Bare, Known, Unknown}
 use Rattle.enc_phase.specs.declared.classes.PduClass.{PduClass}
@@ -20,7 +20,7 @@ use Rattle.enc_phase.specs.declared.facts.Transition.TheVariants.{Ask as AskTran
 use Rattle.enc_phase.specs.Phases.{may_follow, phase_after, phase_starting}
 use Rattle.enc_phase.specs.Taking.{allows, ctrl_class, phase_taking}
 use Rattle.instants.specs.declared.indications.Indication.{Indication}
-use Rattle.instants.specs.Track.{event_of, next_number, track_after_take}
+use Rattle.instants.specs.Track.{event_of, next_number}
 use Rattle.procedure_values.specs.declared.asks.Ask.{Ask}
 use Rattle.procedure_values.specs.Asks.{kind_of_ask}
 use Rattle.procedure_values.specs.Drafts.{is_out}
@@ -28,15 +28,15 @@ use Rattle.procedure_stages.specs.InProgress.{is_host_asked}
 use Rattle.procedure_stages.specs.Kinds.{begins, role_of}
 use Rattle.procedure_stages.specs.Opcodes.{enc_req_opcode}
 use Rattle.procedures.specs.Beginning.{ask_at, begin_at, begin_step, place_to_begin}
-use Rattle.procedures.specs.Going.{entered_step, is_answer}
+use Rattle.procedures.specs.Going.{is_answer}
 use Rattle.procedures.specs.Table.{TableFacts}
 use Rattle.procedures.specs.Taking.{took_step}
 use Rattle.table_laws.proofs.Begun.{begins_of}
 use Rattle.control_model.specs.Control.{Control, Step, Answers as control_answers, Asks as control_asks, Disconnects as control_disconnects, Enters as control_enters, Owes, SeesAcknowledged as control_acked, Sends as control_sends, Takes as control_takes, after, following, goes_out, indicated_by, is_to_come, moved, taken, went}
 use Rattle.control_model.proofs.Calls.{any_step, either_way}
-use Rattle.phased_control.specs.Phased.{Phased, acknowledged, ask_begun, asking_if, asks_again, encrypting, encrypting_if, entered, if_key_asked, is_encrypt, is_open_now, is_quiet_now, key_given, key_lacking, refused_if, request_of, table_entered, with_owed, with_owed_if, with_step}
-use Rattle.phased_control.specs.Taken.{Answers, Asks, Disconnects, Enters, GivesKey, LacksKey, PhasedStep, SeesAcknowledged, Sends, Takes, TakesData, answered_if_quiet, answered_kept, ciphered, class_of_read, ctrl_in, does_keep, ended_with, goes_on, handed_on, is_allowed, keeping, keeps_class, knowing, lacks_room_now, opcode_of, phased_after, phased_moved, role_now, seen_as, seen_if, took, took_allowed, took_data, with_phase_taking}
-use Rattle.joint_exchanges.specs.SentByRole.{AsksAt, IsEndOf, IsKeptBy, IsRequestBy, IsResponse, IsTableOf, is_cipher_of, is_cipher_opcode}
+use Rattle.phased_control.specs.Phased.{Phased, acknowledged, ask_begun, asking_if, asks_again, encrypting, encrypting_if, entered, if_key_asked, is_encrypt, is_open_now, is_quiet_now, key_given, key_lacking, refused_if, request_of, table_entered, with_owed_if, with_step}
+use Rattle.phased_control.specs.Taken.{Answers, Asks, Disconnects, Enters, GivesKey, LacksKey, PhasedStep, SeesAcknowledged, Sends, Takes, TakesData, answered_kept, ciphered, class_of_read, ctrl_in, ended_with, keeps_class, knowing, opcode_of, phased_after, phased_moved, role_now, seen_as, seen_if, took, took_data}
+use Rattle.joint_exchanges.specs.SentByRole.{AsksAt, IsEndOf, IsKeptBy, IsRequestBy, IsTableOf, is_cipher_of, is_cipher_opcode}
 use Rattle.joint_exchanges.proofs.Ciphered.{RespondsAt, Steady, choice, ciphered_keeps}
 use Rattle.joint_exchanges.proofs.EndSteps.{IsRequest, is_request_of}
 use Rattle.joint_exchanges.proofs.Took.{TookAs, handed, hands, keeps, took_as}

@@ -1,9 +1,8 @@
 -- What each step of one end that takes no PDU does to its exchanges.
-use Rattle.std.proofs.Common.{◌≡◌, ℕ, ◌==◌, Bool, true, false, not, ◌&&◌, ◌||◌, if◌then◌else◌, List, [], ◌∷◌, Option, Some, None, is_none, is_some, Result, refl, ap, sym, ◌∙◌, subst}
+use Rattle.std.proofs.Common.{◌≡◌, ℕ, Bool, true, false, not, ◌&&◌, if◌then◌else◌, Option, Some, None, is_none, is_some, Result, refl, ap, ◌∙◌}
 use Rattle.std.specs.Bool.{⊤}
 use Rattle.ble_base.specs.ErrorCodes.{pin_or_key_missing}
 use Rattle.ble_base.specs.declared.error_codes.ErrCode.{ErrCode}
-use Rattle.ble_base.specs.declared.procedure_kinds.Kind.{Kind}
 use Rattle.ble_base.specs.declared.roles.Role.{Role}
 use Rattle.ble_base.specs.declared.roles.Role.TheVariants.{Central, Peripheral}
 use Rattle.data_pdu.specs.declared.ctrl.Ctrl.{Ctrl}
@@ -12,25 +11,20 @@ use Rattle.enc_phase.specs.declared.facts.PhaseFacts.{PhaseFacts}
 use Rattle.enc_phase.specs.declared.facts.PhaseFacts.TheVariants.{Clear}
 use Rattle.enc_phase.specs.declared.facts.Transition.TheVariants.{Ask as AskTransition, Pause, Refuse}
 use Rattle.enc_phase.specs.Phases.{may_follow, phase_after, phase_starting}
-use Rattle.instants.specs.declared.indications.Indication.{Indication}
 use Rattle.instants.specs.Track.{next_number}
 use Rattle.procedure_values.specs.declared.asks.Ask.{Ask}
 use Rattle.procedure_values.specs.declared.asks.Ask.TheVariants.{Encrypt as ask_encrypt}
 use Rattle.procedure_values.specs.Drafts.{is_out}
-use Rattle.procedure_stages.specs.Closing.{is_open}
 use Rattle.procedure_stages.specs.InProgress.{is_host_asked}
-use Rattle.procedure_stages.specs.Kinds.{role_of}
 use Rattle.procedure_stages.specs.Opcodes.{enc_req_opcode}
-use Rattle.procedures.specs.Beginning.{begin_step}
-use Rattle.procedures.specs.Calls.{asks, begins_one, disconnects, enters, host_answers, is_acked, is_given, sends as sends_call}
-use Rattle.procedures.specs.Going.{entered_step, host_answer_step, is_answer, terminate_step}
-use Rattle.procedures.specs.Sending.{acked_step, went_step}
-use Rattle.procedures.specs.Table.{TableFacts}
+use Rattle.procedures.specs.Calls.{asks, begins_one, disconnects, enters, host_answers, is_acked, is_given}
+use Rattle.procedures.specs.Going.{host_answer_step, is_answer, terminate_step}
+use Rattle.procedures.specs.Sending.{acked_step}
 use Rattle.exchange_steps.specs.Ends.{ExchangeEnds, ends_of}
 use Rattle.exchange_steps.specs.Steps.{EndStep, after_steps, step_of_ask, step_of_given, terminates}
 use Rattle.exchange_steps.proofs.Calls.{each_call}
-use Rattle.control_model.specs.Control.{Control, Step, Answers as control_answers, Asks as control_asks, Disconnects as control_disconnects, Enters as control_enters, Owes, SeesAcknowledged as control_acked, Sends as control_sends, after, following, goes_out, moved, table_if, went}
-use Rattle.phased_control.specs.Phased.{Phased, acknowledged, ask_begun, asking_if, asks_again, encrypting, encrypting_if, entered, if_key_asked, is_encrypt, is_open_now, is_quiet_now, key_given, key_lacking, refused_if, request_of, table_entered, with_owed, with_owed_if, with_step}
+use Rattle.control_model.specs.Control.{Control, Step, Answers as control_answers, Asks as control_asks, Disconnects as control_disconnects, Enters as control_enters, Owes, SeesAcknowledged as control_acked, after, moved, table_if}
+use Rattle.phased_control.specs.Phased.{Phased, acknowledged, ask_begun, asking_if, asks_again, encrypting, encrypting_if, entered, if_key_asked, is_open_now, is_quiet_now, key_given, key_lacking, refused_if, request_of, table_entered, with_owed, with_owed_if, with_step}
 use Rattle.phased_control.specs.Taken.{PhasedStep, phased_after, phased_moved}
 use Rattle.joint_exchanges.specs.JointMoves.{begun_as_entered, terminates_if}
 use Rattle.joint_exchanges.specs.Parts.{exchanges_at}

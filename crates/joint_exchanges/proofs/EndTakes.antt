@@ -1,5 +1,5 @@
 -- What sending and taking a PDU does to the exchanges of an end.
-use Rattle.std.proofs.Common.{◌≡◌, ℕ, ◌==◌, Bool, true, false, ◌||◌, if◌then◌else◌, Option, Some, None, is_none, is_some, refl, ap, sym, ◌∙◌, subst}
+use Rattle.std.proofs.Common.{◌≡◌, ℕ, ◌==◌, Bool, true, false, ◌||◌, if◌then◌else◌, Option, Some, None, is_none, is_some, refl, ap, sym, ◌∙◌}
 use Rattle.ble_base.specs.ErrorCodes.{mic_failure}
 use Rattle.ble_base.specs.declared.error_codes.ErrCode.{ErrCode}
 use Rattle.ble_base.specs.declared.roles.Role.{Role}
@@ -8,9 +8,8 @@ use Rattle.data_pdu.specs.declared.ctrl.Ctrl.{Ctrl}
 use Rattle.data_pdu.specs.declared.ctrl.Ctrl.TheVariants.{ConnectionParamReq, LengthReq, PeripheralFeatureReq, PhyReq, RejectExtInd, VersionInd}
 use Rattle.data_pdu.specs.declared.ctrl.CtrlRead.{CtrlRead}
 use Rattle.data_pdu.specs.declared.ctrl.CtrlRead.TheVariants.{Known}
-use Rattle.enc_phase.specs.declared.classes.PduClass.{PduClass}
 use Rattle.enc_phase.specs.declared.classes.PduClass.TheVariants.{Data, Other, Refusal, Request}
-use Rattle.enc_phase.specs.Taking.{allows, ctrl_class, is_unknown, phase_taking}
+use Rattle.enc_phase.specs.Taking.{allows, ctrl_class, is_unknown}
 use Rattle.instants.specs.declared.indications.Indication.{Indication}
 use Rattle.instants.specs.Track.{event_of, track_after_take}
 use Rattle.procedure_values.specs.declared.drafts.Outgoing.{Outgoing}
@@ -21,17 +20,16 @@ use Rattle.procedures.specs.Calls.{sends as sends_call, takes as takes_call}
 use Rattle.procedures.specs.Table.{TableFacts}
 use Rattle.procedures.specs.Taking.{took_step}
 use Rattle.exchange_steps.specs.Ends.{ExchangeEnds, ends_of}
-use Rattle.exchange_steps.specs.Steps.{EndStep, after_steps, step_of_ctrl, step_of_read, step_of_sent, unless_ended}
+use Rattle.exchange_steps.specs.Steps.{after_steps, step_of_ctrl, step_of_read, step_of_sent}
 use Rattle.exchange_steps.proofs.Calls.{each_call}
 use Rattle.control_model.specs.Control.{Control, Sends as control_sends, Takes as control_takes, after, ended, following, goes_out, indicated_by, is_to_come, moved, taken, went}
 use Rattle.phased_control.specs.Phased.{Phased, is_quiet_now, with_step}
-use Rattle.phased_control.specs.Taken.{answered_if_quiet, answered_kept, ciphered, ended_with, is_version as is_version_read, knowing, role_now, seen_as, seen_if, took_data}
+use Rattle.phased_control.specs.Taken.{answered_kept, ciphered, ended_with, is_version as is_version_read, role_now, seen_as, seen_if, took_data}
 use Rattle.joint_controls.specs.Joint.{next_out}
 use Rattle.joint_exchanges.specs.Moves.{is_some_version}
 use Rattle.joint_exchanges.specs.Parts.{AnyPdu, exchanges_at, pdu_of_first, pdu_of_outgoing}
-use Rattle.joint_exchanges.specs.SentByRole.{is_cipher_of}
-use Rattle.joint_exchanges.proofs.Ciphered.{RespondsAt, Steady, ciphered_keeps}
-use Rattle.joint_exchanges.proofs.EndSteps.{Makes, MakesOf, after_is, makes_none, owed_none, then_none}
+use Rattle.joint_exchanges.proofs.Ciphered.{RespondsAt, ciphered_keeps}
+use Rattle.joint_exchanges.proofs.EndSteps.{Makes, after_is, makes_none, owed_none, then_none}
 use Rattle.joint_exchanges.proofs.Reading.{IsRead, after_taking}
 use Rattle.joint_exchanges.proofs.Took.{handed}
 

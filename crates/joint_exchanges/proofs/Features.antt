@@ -1,9 +1,9 @@
 -- Each move of the exchanges is an event of the exchange of features, or none.
-use Rattle.std.proofs.Common.{◌≡◌, Bool, true, false, not, ◌&&◌, List, [], ◌∷◌, Option, Some, None, is_some, is_none, refl, ap, sym, ◌∙◌}
+use Rattle.std.proofs.Common.{◌≡◌, false, not, Some, None, is_some, is_none, refl, ap, sym, ◌∙◌}
 use Rattle.ble_base.specs.declared.roles.Role.{Role}
 use Rattle.ble_base.specs.declared.roles.Role.TheVariants.{Central, Peripheral}
 use Rattle.machines.specs.Machine.{run_from}
-use Rattle.exchange_pairs.specs.Exchange.{Answer, ExchangePdu, Question, is_question}
+use Rattle.exchange_pairs.specs.Exchange.{Answer, Question, is_question}
 use Rattle.exchange_pairs.specs.ExchangeRun
 use Rattle.exchange_pairs.specs.ExchangeRun.{end_sends, end_takes, exchanges, is_pdu}
 use Rattle.exchange_steps.specs.Steps.{EndStep, begins_features, begins_lengths, begins_version, limits, terminates, wants_version}

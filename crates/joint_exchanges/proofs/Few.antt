@@ -1,5 +1,5 @@
 -- The control PDUs that wait are those of the kinds of procedures, and few of the exchanges wait.
-use Rattle.std.proofs.Common.{◌≡◌, ◌≤◌, ◌<◌, ◌⊎◌, inl, inr, ℕ, ◌+◌, Bool, true, false, Option, Some, None, List, [], ◌∷◌, length, refl, arith}
+use Rattle.std.proofs.Common.{◌≡◌, ◌≤◌, ◌<◌, ℕ, ◌+◌, Bool, true, false, Option, Some, None, List, [], ◌∷◌, length, refl, arith}
 use Rattle.ble_base.specs.declared.error_codes.ErrCode.{ErrCode}
 use Rattle.ble_base.specs.declared.roles.Role.{Role}
 use Rattle.ble_base.specs.declared.roles.Role.TheVariants.{Central, Peripheral}
@@ -12,10 +12,10 @@ use Rattle.table_laws.specs.Waiting
 use Rattle.phased_control.specs.Phased.{Phased}
 use Rattle.exchange_pairs.specs.Exchange.{ExchangeStage, Idle, Sent, Unsent}
 use Rattle.joint_controls.specs.Joint.{Joint, JointStep, after_all, beginning}
-use Rattle.joint_exchanges.specs.Agreement.{Asked, Features, Lengths, end_at, is_answer_of, is_question_of, is_version_ind, places_of, questions_waiting, stage_at, waiting}
+use Rattle.joint_exchanges.specs.Agreement.{Asked, Features, Lengths, end_at, is_answer_of, is_question_of, is_version_ind, questions_waiting, stage_at, waiting}
 use Rattle.joint_exchanges.specs.Runs.{GoesOn}
 use Rattle.joint_exchanges.specs.Waiting.{disconnects_waiting, exchange_waiting, is_cipher, is_exclusive, is_unknown_rsp, kinds_waiting, rejections_waiting}
-use Rattle.joint_exchanges.proofs.Laws.{OnePlace, asked_idle, asked_sent, asked_unsent, one_place, version_once}
+use Rattle.joint_exchanges.proofs.States.{asked_idle, asked_sent, asked_unsent, one_place, version_once}
 
 -- ---- the sum
 

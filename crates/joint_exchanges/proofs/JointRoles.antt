@@ -1,18 +1,16 @@
 -- In a joint run each end queues and sends PDUs of its role alone.
-use Rattle.std.proofs.Common.{◌≡◌, ℕ, Bool, true, false, not, ◌&&◌, Option, Some, None, is_some, refl, ap, sym, ◌∙◌, subst}
-use Rattle.std.specs.Bool.{⊤}
+use Rattle.std.proofs.Common.{◌≡◌, ℕ, Bool, true, Option, Some, None, refl}
 use Rattle.ble_base.specs.declared.roles.Role.{Role}
 use Rattle.ble_base.specs.declared.roles.Role.TheVariants.{Central, Peripheral}
 use Rattle.data_pdu.specs.declared.ctrl.Ctrl.{Ctrl}
 use Rattle.data_pdu.specs.declared.ctrl.Ctrl.TheVariants.{TerminateInd}
 use Rattle.data_pdu.specs.declared.ctrl.CtrlRead.TheVariants.{Known}
-use Rattle.enc_phase.specs.Phases.{seals}
 use Rattle.procedure_values.specs.declared.drafts.Outgoing.{Outgoing}
 use Rattle.procedure_values.specs.Drafts.{ctrl_of_outgoing}
-use Rattle.phased_control.specs.Phased.{Phased, first_phased, is_quiet_now}
-use Rattle.phased_control.specs.Taken.{Enters, SeesAcknowledged, Sends, Takes, TakesData, phased_after}
-use Rattle.joint_controls.specs.Joint.{AnswersRequest, AsksFor, CentralAcked, CentralEnters, CentralHost, CentralSends, CentralSendsData, CentralTakes, Clear, Control, Data, Ends, Fixed, HasKey, HasNoKey, HostStep, Item, Joint, JointStep, OnAir, PeripheralAcked, PeripheralEnters, PeripheralFixes, PeripheralFixesData, PeripheralHost, PeripheralSends, PeripheralTakes, Shuts, Taken, Way, act, beginning, event_now, fixed, host_step, item_by, latency_now, next_out, on_air, sent_up, taking}
-use Rattle.joint_exchanges.specs.SentByRole.{AreOfRoles, IsEndOf, IsItemOf, IsWayOf, Responds, is_outgoing_of}
+use Rattle.phased_control.specs.Phased.{Phased, is_quiet_now}
+use Rattle.phased_control.specs.Taken.{Enters, SeesAcknowledged, Sends, Takes, TakesData}
+use Rattle.joint_controls.specs.Joint.{AnswersRequest, AsksFor, CentralAcked, CentralEnters, CentralHost, CentralSends, CentralSendsData, CentralTakes, Clear, Control, Data, Ends, Fixed, HasKey, HasNoKey, HostStep, Joint, JointStep, OnAir, PeripheralAcked, PeripheralEnters, PeripheralFixes, PeripheralFixesData, PeripheralHost, PeripheralSends, PeripheralTakes, Shuts, Taken, Way, act, event_now, fixed, host_step, item_by, latency_now, next_out, on_air, sent_up}
+use Rattle.joint_exchanges.specs.SentByRole.{AreOfRoles, IsEndOf, IsWayOf, Responds, is_outgoing_of}
 use Rattle.joint_exchanges.proofs.EndRoles.{Comes, step_end}
 use Rattle.joint_exchanges.proofs.JointSteps.{Runs}
 use Rattle.joint_exchanges.proofs.Known.{sent_known}

@@ -1,17 +1,13 @@
 -- Joint runs up to a state in which they go on: each step is its moves, and each end sends PDUs of its role.
-use Rattle.std.proofs.Common.{◌≡◌, ℕ, Bool, true, false, not, ◌&&◌, ◌||◌, if◌then◌else◌, List, [], ◌∷◌, ◌++◌, Option, Some, None, is_some, refl, ap, sym, ◌∙◌, subst}
-use Rattle.std.specs.Bool.{⊤}
+use Rattle.std.proofs.Common.{◌≡◌, ℕ, Bool, true, false, ◌&&◌, if◌then◌else◌, List, [], ◌∷◌, is_some, refl}
 use Rattle.std.proofs.lemmas.Bool.{and_parts}
-use Rattle.ble_base.specs.declared.roles.Role.TheVariants.{Central, Peripheral}
-use Rattle.data_pdu.specs.declared.ctrl.Ctrl.{Ctrl}
 use Rattle.instants.specs.declared.indications.Params.{Params}
-use Rattle.joint_controls.specs.Joint.{CentralAcked, CentralEnters, CentralHost, CentralSends, CentralSendsData, CentralTakes, Joint, JointStep, PeripheralAcked, PeripheralEnters, PeripheralFixes, PeripheralFixesData, PeripheralHost, PeripheralSends, PeripheralTakes, Shuts, act, after, after_all, beginning, is_clear, is_free, is_late, is_running, is_same_event, is_supervised, is_taken, item_on_air, may, may_act, may_transmit, next_item, sends_data}
+use Rattle.joint_controls.specs.Joint.{CentralAcked, CentralEnters, CentralHost, CentralSends, CentralSendsData, CentralTakes, Joint, JointStep, PeripheralAcked, PeripheralEnters, PeripheralFixes, PeripheralFixesData, PeripheralHost, PeripheralSends, PeripheralTakes, Shuts, act, after, after_all, beginning, is_clear, is_running, is_taken, item_on_air, may, may_act, may_transmit}
 use Rattle.joint_exchanges.specs.JointMoves.{moves_of}
-use Rattle.joint_exchanges.specs.Moves.{Move, after_moves}
-use Rattle.joint_exchanges.specs.Parts.{ExchangeParts, parts_of}
+use Rattle.joint_exchanges.specs.Parts.{parts_of}
 use Rattle.joint_exchanges.specs.Premises.{KeepsForLater}
 use Rattle.joint_exchanges.specs.Runs.{AllRespond, KeepsAlways, moves_in}
-use Rattle.joint_exchanges.specs.SentByRole.{AreOfRoles, IsEndOf, Responds}
+use Rattle.joint_exchanges.specs.SentByRole.{AreOfRoles, Responds}
 use Rattle.joint_exchanges.proofs.JointRoles.{roles_after}
 use Rattle.joint_exchanges.proofs.JointSteps.{Runs, central_acked, central_enters, central_hosts, central_sends_data, central_sends_one, peripheral_acked, peripheral_enters, peripheral_fixes_data, peripheral_fixes_one, peripheral_hosts, peripheral_sends_one, runs_of}
 use Rattle.joint_exchanges.proofs.JointTakes.{central_takes_way, peripheral_takes_way}

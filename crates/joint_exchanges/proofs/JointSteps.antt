@@ -1,44 +1,29 @@
 -- Each step of a joint run is the moves that it is said to be, and they may come.
-use Rattle.std.proofs.Common.{◌≡◌, ℕ, Bool, true, false, not, ◌&&◌, ◌||◌, if◌then◌else◌, List, [], ◌∷◌, ◌++◌, Option, Some, None, is_none, is_some, Result, refl, ap, sym, ◌∙◌, subst}
-use Rattle.std.specs.Bool.{⊤}
+use Rattle.std.proofs.Common.{◌≡◌, ℕ, Bool, true, false, not, ◌&&◌, [], Option, Some, None, is_none, is_some, refl, ap, sym, ◌∙◌, subst}
 use Rattle.std.proofs.lemmas.Bool.{and_parts}
-use Rattle.ble_base.specs.declared.error_codes.ErrCode.{ErrCode}
-use Rattle.ble_base.specs.declared.roles.Role.{Role}
 use Rattle.ble_base.specs.declared.roles.Role.TheVariants.{Central, Peripheral}
 use Rattle.data_pdu.specs.declared.ctrl.Ctrl.{Ctrl}
-use Rattle.data_pdu.specs.declared.ctrl.Ctrl.TheVariants.{LengthReq, PeripheralFeatureReq, TerminateInd, VersionInd}
-use Rattle.data_pdu.specs.declared.ctrl.CtrlRead.TheVariants.{Known}
-use Rattle.enc_phase.specs.declared.classes.PduClass.{PduClass}
-use Rattle.enc_phase.specs.declared.classes.PduClass.TheVariants.{Request}
 use Rattle.enc_phase.specs.declared.facts.Transition.TheVariants.{Refuse}
 use Rattle.enc_phase.specs.Phases.{may_follow, seals}
-use Rattle.enc_phase.specs.Taking.{allows, ctrl_class}
-use Rattle.procedure_values.specs.declared.drafts.Draft.{Draft}
 use Rattle.procedure_values.specs.declared.drafts.Draft.TheVariants.{FeatureReq, FeatureRsp, LengthReq as length_req, LengthRsp, PeripheralFeatureReq as feature_req_up, VersionInd as version_ind}
 use Rattle.procedure_values.specs.declared.drafts.Outgoing.{Outgoing}
 use Rattle.procedure_values.specs.declared.drafts.Outgoing.TheVariants.{Disconnect, Nothing, Other, Rejection}
-use Rattle.procedure_stages.specs.Kinds.{role_of}
 use Rattle.procedures.specs.Calls.{sends as sends_call}
-use Rattle.procedures.specs.Sending.{next_ctrl_of}
-use Rattle.exchange_steps.specs.Ends.{ExchangeEnds}
 use Rattle.exchange_steps.specs.Steps.{EndStep, MayCome, after_steps, step_of_sent}
 use Rattle.exchange_steps.proofs.Calls.{each_comes}
-use Rattle.control_model.specs.Control.{goes_out}
-use Rattle.phased_control.specs.Phased.{Phased, is_open_now, is_quiet_now}
-use Rattle.phased_control.specs.Taken.{Enters, PhasedStep, SeesAcknowledged, Sends, Takes, TakesData, answered_if_quiet, answered_kept, ciphered, ctrl_in, does_keep, is_allowed, keeping, keeps_class, phased_after, phased_moved, role_now, took, took_data}
-use Rattle.joint_controls.specs.Joint
-use Rattle.joint_controls.specs.Joint.{AnswersRequest, AsksFor, CentralAcked, CentralEnters, CentralHost, CentralSends, CentralSendsData, CentralTakes, Clear, Control, Data, Ends, Fixed, HasKey, HasNoKey, HostStep, Item, Joint, JointStep, OnAir, PeripheralAcked, PeripheralEnters, PeripheralFixes, PeripheralFixesData, PeripheralHost, PeripheralSends, PeripheralTakes, Shuts, Taken, Way, act, fixed, host_step, is_clear, is_last, is_running, is_taken, is_terminate, item_by, event_now, latency_now, may, may_act, may_host, next_item, next_out, on_air, sent_up, with_central, with_peripheral}
+use Rattle.phased_control.specs.Phased.{is_open_now, is_quiet_now}
+use Rattle.phased_control.specs.Taken.{Enters, PhasedStep, SeesAcknowledged, Sends, phased_moved}
+use Rattle.joint_controls.specs.Joint.{AnswersRequest, AsksFor, CentralAcked, CentralSends, CentralSendsData, Clear, Control, Data, Ends, Fixed, HasKey, HasNoKey, HostStep, Joint, OnAir, PeripheralAcked, PeripheralFixes, PeripheralFixesData, PeripheralSends, Taken, Way, act, fixed, host_step, is_clear, is_running, is_taken, item_by, event_now, latency_now, may, may_host, next_item, next_out, on_air, sent_up, with_central, with_peripheral}
 use Rattle.joint_exchanges.specs.JointMoves
 use Rattle.joint_exchanges.specs.JointMoves.{does, host_does, keeps, kept_taken, moves_of, sends, takes, terminates_if}
-use Rattle.joint_exchanges.specs.Moves.{IsFirst, Move, is_some_version, keeps_version}
-use Rattle.joint_exchanges.specs.Parts.{AnyPdu, ExchangeParts, exchanges_at, of_features, of_lengths, of_versions, parts_of, pdu_kept, pdu_of_draft, pdu_of_first, pdu_of_item, pdu_of_outgoing, pdu_on}
+use Rattle.joint_exchanges.specs.Moves.{is_some_version}
+use Rattle.joint_exchanges.specs.Parts.{ExchangeParts, exchanges_at, parts_of, pdu_kept, pdu_of_outgoing, pdu_on}
 use Rattle.joint_exchanges.specs.Premises.{KeepsForLater}
-use Rattle.joint_exchanges.specs.SentByRole.{AreOfRoles, IsEndOf, IsKeptBy, IsSentBy, Responds}
+use Rattle.joint_exchanges.specs.SentByRole.{IsEndOf}
 use Rattle.joint_exchanges.proofs.EndSteps.{Makes, acked_makes, answers_make, asks_makes, disconnects_make, enters_makes, is_request, key_makes, no_key_makes, phased_is}
-use Rattle.joint_exchanges.proofs.EndTakes.{TakesOf, ciphered_none, data_same, handed_takes, kept_takes, sends_makes}
-use Rattle.joint_exchanges.proofs.MayDo.{idle_encrypting, may_enter, may_host_ask, may_terminate}
+use Rattle.joint_exchanges.proofs.EndTakes.{sends_makes}
+use Rattle.joint_exchanges.proofs.MayDo.{may_enter, may_host_ask, may_terminate}
 use Rattle.joint_exchanges.proofs.PartMoves.{IsMoved, MayDoIf, central_does, central_keeps, central_sends, central_takes, kept_goes, kept_stays, peripheral_does, peripheral_sends, peripheral_takes, sending_if, then_moved, unmoved}
-use Rattle.joint_exchanges.proofs.Reading.{IsRead, IsTerminate, after_taking, read_as_sent}
 
 is_none_is : {X : Type 0} (o : Option X) → is_none o ≡ true → o ≡ None
 is_none_is None is = refl

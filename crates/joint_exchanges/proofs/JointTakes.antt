@@ -1,7 +1,5 @@
 -- A PDU is taken in a joint run: the moves that this is, and they may come.
-use Rattle.std.proofs.Common.{◌≡◌, ℕ, Bool, true, false, not, ◌&&◌, ◌||◌, if◌then◌else◌, List, [], ◌∷◌, ◌++◌, Option, Some, None, is_none, is_some, refl, ap, sym, ◌∙◌, subst}
-use Rattle.std.specs.Bool.{⊤}
-use Rattle.ble_base.specs.declared.error_codes.ErrCode.{ErrCode}
+use Rattle.std.proofs.Common.{◌≡◌, ℕ, Bool, true, false, if◌then◌else◌, [], Option, Some, None, is_some, refl, ap, sym, ◌∙◌, subst}
 use Rattle.ble_base.specs.declared.roles.Role.{Role}
 use Rattle.ble_base.specs.declared.roles.Role.TheVariants.{Central, Peripheral}
 use Rattle.data_pdu.specs.declared.ctrl.Ctrl.{Ctrl}
@@ -11,15 +9,14 @@ use Rattle.enc_phase.specs.declared.classes.PduClass.{PduClass}
 use Rattle.enc_phase.specs.declared.classes.PduClass.TheVariants.{Request}
 use Rattle.enc_phase.specs.Taking.{allows, ctrl_class}
 use Rattle.procedure_values.specs.declared.drafts.Outgoing.{Outgoing}
-use Rattle.procedure_stages.specs.Kinds.{role_of}
 use Rattle.exchange_pairs.specs.Exchange.{Question}
 use Rattle.phased_control.specs.Phased.{Phased, is_quiet_now}
-use Rattle.phased_control.specs.Taken.{Takes, TakesData, answered_if_quiet, answered_kept, ciphered, class_of_read, does_keep, is_allowed, keeping, keeps_class, phased_after, phased_moved, role_now, took}
+use Rattle.phased_control.specs.Taken.{Takes, TakesData, answered_if_quiet, answered_kept, ciphered, does_keep, is_allowed, keeping, keeps_class, phased_after, role_now, took}
 use Rattle.joint_controls.specs.Joint.{Clear, Control, Data, Fixed, Joint, OnAir, Taken, Way, CentralTakes, PeripheralTakes, act, is_terminate, item_on_air}
 use Rattle.joint_exchanges.specs.JointMoves
 use Rattle.joint_exchanges.specs.JointMoves.{keeps as keeps_moves, kept_taken, moves_of, takes}
-use Rattle.joint_exchanges.specs.Moves.{IsFirst, Move, is_some_version}
-use Rattle.joint_exchanges.specs.Parts.{AnyPdu, ExchangeParts, exchanges_at, of_features, of_lengths, of_versions, parts_of, pdu_kept, pdu_of_first, pdu_of_outgoing, pdu_on}
+use Rattle.joint_exchanges.specs.Moves.{IsFirst}
+use Rattle.joint_exchanges.specs.Parts.{AnyPdu, ExchangeParts, exchanges_at, of_lengths, of_versions, parts_of, pdu_kept, pdu_of_first, pdu_of_outgoing}
 use Rattle.joint_exchanges.specs.Premises.{KeepsForLater}
 use Rattle.joint_exchanges.specs.SentByRole.{IsEndOf, IsKeptBy, IsResponse, IsSentBy, IsWayOf}
 use Rattle.joint_exchanges.proofs.JointSteps.{Runs}
@@ -29,7 +26,7 @@ use Rattle.joint_exchanges.proofs.EndTakes.{TakesOf, ciphered_none, data_same, h
 use Rattle.joint_exchanges.proofs.Known.{sent_known}
 use Rattle.joint_exchanges.proofs.MayDo.{idle_encrypting}
 use Rattle.joint_exchanges.proofs.PartMoves.{IsMoved, central_keeps, central_takes, kept_goes, kept_stays, peripheral_takes, then_moved, unmoved}
-use Rattle.joint_exchanges.proofs.Reading.{IsRead, IsTerminate, after_taking, read_as_sent}
+use Rattle.joint_exchanges.proofs.Reading.{IsRead, IsTerminate, read_as_sent}
 use Rattle.joint_exchanges.proofs.TableRoles.{IsKnownAt}
 use Rattle.joint_exchanges.proofs.Took.{TookAs, handed, hands, keeps, took_as}
 
@@ -87,9 +84,9 @@ module _ (s : Joint) (slot : ℕ) (outgoing : Outgoing) (ctrl : Ctrl) (sealed : 
   goes_kept t kept allowed same k is =
       let all = keeps_all (ctrl_class ctrl) (role_now s.central) (is_quiet_now s.central) kept in
       let none : s.central.kept ≡ None =
-          k.once all.1.1
-          (subst (λ (role : Role). allows s.central.phase role Request ≡ true) all.1.0
-          (subst (λ (class : PduClass). allows s.central.phase (role_now s.central) class ≡ true) all.0 allowed)) in
+      k.once all.1.1
+      (subst (λ (role : Role). allows s.central.phase role Request ≡ true) all.1.0
+      (subst (λ (class : PduClass). allows s.central.phase (role_now s.central) class ≡ true) all.0 allowed)) in
       subst (λ (x : Phased). Goes s.central.kept x) (sym same)
       (subst (λ (x : Option Ctrl). Goes x (keeping (Known ctrl) s.central)) (sym none)
       (central_keeps pdu p (with_end (keeping (Known ctrl) s.central)) refl
@@ -186,7 +183,7 @@ module _ (s : Joint) (slot : ℕ) where
       (parts_of (act (CentralTakes slot) (record s { up = OnAir Data sealed })))
   central_takes_data sealed lasts goes =
       let same : phased_after TakesData s.central ≡ s.central =
-          phased_is TakesData s.central lasts ∙ data_same s.central (ap (λ (x : Phased). x.control.ends) (sym (phased_is TakesData s.central lasts)) ∙ goes) in
+      phased_is TakesData s.central lasts ∙ data_same s.central (ap (λ (x : Phased). x.control.ends) (sym (phased_is TakesData s.central lasts)) ∙ goes) in
       subst
       (λ (x : Phased). IsMoved (JointMoves.central_takes None s.central.kept x.kept) (parts_of (record s { up = OnAir Data sealed }))
       (record (parts_of (record s { up = OnAir Data sealed })) { central = exchanges_at x; central_knows = x.knows_version; up = None; kept = pdu_kept x.kept }))

@@ -1,9 +1,9 @@
 -- Each move of the exchanges is an event of the exchange of lengths, or none.
-use Rattle.std.proofs.Common.{◌≡◌, ℕ, Bool, true, false, not, ◌&&◌, List, [], ◌∷◌, Option, Some, None, is_some, is_none, option_map, refl, ap, sym, ◌∙◌}
+use Rattle.std.proofs.Common.{◌≡◌, ℕ, true, not, [], ◌∷◌, Option, Some, None, is_some, is_none, option_map, refl, ap, sym, ◌∙◌}
 use Rattle.ble_base.specs.declared.roles.Role.{Role}
 use Rattle.ble_base.specs.declared.roles.Role.TheVariants.{Central, Peripheral}
 use Rattle.machines.specs.Machine.{run_from}
-use Rattle.exchange_pairs.specs.Exchange.{Answer, ExchangePdu, Question, is_question}
+use Rattle.exchange_pairs.specs.Exchange.{is_question}
 use Rattle.exchange_pairs.specs.LengthRun
 use Rattle.exchange_pairs.specs.LengthRun.{Control, LengthLink, LengthWay, central_keeps, central_takes_kept, end_sends, end_takes, is_question_way, length_exchanges}
 use Rattle.exchange_pairs.specs.Lengths.{LengthPdu}

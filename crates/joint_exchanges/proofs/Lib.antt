@@ -11,13 +11,13 @@ pub mod JointRuns
 pub mod JointSteps
 pub mod JointTakes
 pub mod Known
-pub mod Laws
 pub mod LengthMoves
 pub mod MachineRuns
 pub mod MayDo
 pub mod PartMoves
 pub mod Reading
 pub mod Runs
+pub mod States
 pub mod TableRoles
 pub mod Took
 pub mod VersionMoves

@@ -1,16 +1,16 @@
 -- Moves one after another are a run of each of the machines of exchanges.
-use Rattle.std.proofs.Common.{◌≡◌, ℕ, Bool, true, false, not, ◌&&◌, List, [], ◌∷◌, ◌++◌, refl, ap, sym, ◌∙◌}
+use Rattle.std.proofs.Common.{◌≡◌, ℕ, true, List, [], ◌∷◌, ◌++◌, refl, ap, sym, ◌∙◌}
 use Rattle.instants.specs.declared.indications.Params.{Params}
 use Rattle.machines.specs.Machine.{run, run_from}
-use Rattle.exchange_pairs.specs.ExchangeRun.{ExchangeEvent, exchanges}
+use Rattle.exchange_pairs.specs.ExchangeRun.{exchanges}
 use Rattle.exchange_pairs.specs.LengthLaws.{none_accepts}
 use Rattle.exchange_pairs.specs.LengthRun.{LengthEvent, length_exchanges}
 use Rattle.exchange_pairs.specs.VersionRun.{versions}
-use Rattle.exchange_steps.specs.Steps.{EndStep, begins_lengths, limits, terminates}
+use Rattle.exchange_steps.specs.Steps.{begins_lengths, limits, terminates}
 use Rattle.joint_controls.specs.Joint.{Joint, JointStep, after_all, beginning, is_running}
 use Rattle.joint_exchanges.specs.Machines.{SentMaxima, events_of, features_event, features_link, lengths_event, lengths_link, maxima_after, maxima_after_all, none_sent, versions_event, versions_link}
 use Rattle.joint_exchanges.specs.Moves.{Does, Keeps, MayMoveAll, Move, Sends, Takes, TakesKept, after_move, after_moves}
-use Rattle.joint_exchanges.specs.Parts.{AnyPdu, ExchangeParts, of_features, of_lengths, of_versions, parts_of}
+use Rattle.joint_exchanges.specs.Parts.{ExchangeParts, of_lengths, parts_of}
 use Rattle.joint_exchanges.specs.Runs.{AllRespond, KeepsAlways, moves_in}
 use Rattle.joint_exchanges.proofs.Features.{each_features}
 use Rattle.joint_exchanges.proofs.JointRuns.{first_roles, run_moves}

@@ -1,18 +1,14 @@
 -- An end's own steps come in a joint run only where the machines of exchanges let them.
-use Rattle.std.proofs.Common.{◌≡◌, ℕ, ◌==◌, Bool, true, false, not, ◌&&◌, ◌||◌, if◌then◌else◌, List, Option, Some, None, is_none, is_some, refl, ap, sym, ◌∙◌, subst}
-use Rattle.std.specs.Bool.{⊤}
+use Rattle.std.proofs.Common.{◌≡◌, ℕ, ◌==◌, Bool, true, false, not, ◌||◌, Option, Some, None, is_some, refl, ap, sym, ◌∙◌, subst}
 use Rattle.std.proofs.lemmas.Bool.{and_parts}
 use Rattle.ble_base.specs.declared.procedure_kinds.Kind.{Kind}
 use Rattle.ble_base.specs.declared.procedure_kinds.Kind.TheVariants.{Encrypt, Features, Length, Version}
 use Rattle.ble_base.specs.declared.roles.Role.{Role}
-use Rattle.ble_base.specs.declared.roles.Role.TheVariants.{Central as central_role, Peripheral as peripheral_role}
 use Rattle.instants.specs.Track.{next_number}
 use Rattle.procedure_values.specs.declared.asks.Ask.{Ask}
 use Rattle.procedure_values.specs.declared.asks.Ask.TheVariants.{Length as ask_length, Version as ask_version}
-use Rattle.procedure_values.specs.Asks.{is_same_kind}
 use Rattle.procedure_values.specs.Wants.{count_of, is_wanted}
 use Rattle.procedure_values.proofs.Counts.{wanted-counted}
-use Rattle.procedure_stages.specs.declared.stages.Exchange.{Exchange}
 use Rattle.procedure_stages.specs.declared.stages.Exchange.TheVariants.{FeaturesUnsent, FeaturesSent, VersionUnsent, VersionSent, LengthUnsent, LengthSent}
 use Rattle.procedure_stages.specs.declared.stages.OwnCentral.{OwnCentral}
 use Rattle.procedure_stages.specs.declared.stages.OwnCentral.TheVariants.{Exchange as exchange}
@@ -26,13 +22,13 @@ use Rattle.procedures.specs.Calls.{begins_one, enters}
 use Rattle.procedures.specs.Table.{TableFacts}
 use Rattle.table_laws.proofs.Begun.{begins_of}
 use Rattle.exchange_pairs.specs.Exchange.{is_idle}
-use Rattle.exchange_steps.specs.Ends.{ends_of, version_stage}
-use Rattle.exchange_steps.specs.Steps.{MayCome, limits, step_of_ask, step_of_begun, wants_version}
+use Rattle.exchange_steps.specs.Ends.{version_stage}
+use Rattle.exchange_steps.specs.Steps.{MayCome, step_of_ask, step_of_begun}
 use Rattle.exchange_steps.proofs.Calls.{each_call, each_comes}
 use Rattle.phased_control.specs.Phased.{Phased, is_open_now, is_quiet_now, table_entered}
 use Rattle.joint_controls.specs.Joint.{may_ask}
 use Rattle.joint_exchanges.specs.JointMoves.{begun_as_entered, terminates_if}
-use Rattle.joint_exchanges.specs.Moves.{IsOpenEnd, MayWant, end_of, keeps_version, knows}
+use Rattle.joint_exchanges.specs.Moves.{end_of, keeps_version, knows}
 use Rattle.joint_exchanges.specs.Parts.{ExchangeParts, exchanges_at}
 use Rattle.joint_exchanges.proofs.PartMoves.{MayDoIf}
 

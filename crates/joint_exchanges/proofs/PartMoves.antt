@@ -1,14 +1,13 @@
 -- Moves of the exchanges, one after another, by what they change of both ends.
-use Rattle.std.proofs.Common.{◌≡◌, ◌==◌, Bool, true, false, ◌||◌, List, [], ◌∷◌, ◌++◌, Option, Some, None, refl, ap, sym, ◌∙◌, subst}
+use Rattle.std.proofs.Common.{◌≡◌, Bool, true, false, ◌||◌, List, [], ◌∷◌, ◌++◌, Option, Some, None, refl, ap, sym, ◌∙◌, subst}
 use Rattle.std.specs.Bool.{⊤}
 use Rattle.ble_base.specs.declared.roles.Role.{Role}
 use Rattle.ble_base.specs.declared.roles.Role.TheVariants.{Central, Peripheral}
 use Rattle.data_pdu.specs.declared.ctrl.Ctrl.{Ctrl}
 use Rattle.exchange_pairs.specs.Exchange.{is_idle}
-use Rattle.exchange_steps.specs.Ends.{ExchangeEnds}
 use Rattle.exchange_steps.specs.Steps.{EndStep, MayCome, after_steps}
 use Rattle.joint_exchanges.specs.JointMoves.{does, keeps, kept_taken, sends, takes}
-use Rattle.joint_exchanges.specs.Moves.{Does, IsFirst, MayDo, MayMoveAll, Move, after_move, after_moves, end_of, is_some_version, sending, way_from}
+use Rattle.joint_exchanges.specs.Moves.{IsFirst, MayDo, MayMoveAll, Move, after_move, after_moves, is_some_version, sending}
 use Rattle.joint_exchanges.specs.Parts.{AnyPdu, ExchangeParts}
 use Rattle.joint_exchanges.proofs.Reading.{after_taking}
 

@@ -1,12 +1,11 @@
 -- A PDU that an end sent is read at the other end as it was sent: as the step of an exchange that takes it, or as none.
-use Rattle.std.proofs.Common.{◌≡◌, ◌⊎◌, inl, inr, ℕ, ◌==◌, Bool, true, false, ◌||◌, List, [], ◌∷◌, Option, Some, None, is_some, if◌then◌else◌, refl, ap, sym, ◌∙◌, subst, eqb-true}
+use Rattle.std.proofs.Common.{◌≡◌, ◌⊎◌, inl, inr, ℕ, ◌==◌, Bool, true, false, ◌||◌, List, Option, Some, None, if◌then◌else◌, refl, ap, sym, ◌∙◌, subst, eqb-true}
 use Rattle.std.specs.Bool.{⊤}
 use Rattle.ble_base.specs.declared.roles.Role.{Role}
 use Rattle.ble_base.specs.declared.roles.Role.TheVariants.{Central as central_role, Peripheral as peripheral_role}
 use Rattle.data_pdu.specs.declared.ctrl.Ctrl.{Ctrl}
-use Rattle.data_pdu.specs.declared.ctrl.Ctrl.TheVariants.{EncReq, EncRsp, PauseEncReq, PauseEncRsp, RejectExtInd, StartEncReq, StartEncRsp, TerminateInd, VersionInd as ctrl_version, PeripheralFeatureReq as ctrl_feature_req, ConnectionParamReq, LengthReq as ctrl_length_req, PhyReq as ctrl_phy_req}
-use Rattle.data_pdu.specs.declared.ctrl.CtrlRead.{CtrlRead}
-use Rattle.data_pdu.specs.declared.ctrl.CtrlRead.TheVariants.{Known, Unknown}
+use Rattle.data_pdu.specs.declared.ctrl.Ctrl.TheVariants.{EncReq, EncRsp, PauseEncReq, PauseEncRsp, RejectExtInd, StartEncReq, StartEncRsp, TerminateInd}
+use Rattle.data_pdu.specs.declared.ctrl.CtrlRead.TheVariants.{Known}
 use Rattle.enc_phase.specs.declared.classes.PduClass.{PduClass}
 use Rattle.enc_phase.specs.declared.classes.PduClass.TheVariants.{Other as other_class, Request as request_class}
 use Rattle.enc_phase.specs.declared.facts.PhaseFacts.{PhaseFacts}
@@ -31,15 +30,15 @@ use Rattle.procedure_stages.specs.declared.stages.Peripheral.{Peripheral}
 use Rattle.procedure_stages.specs.declared.stages.Progress.{Progress}
 use Rattle.procedure_stages.specs.declared.stages.Progress.TheVariants.{Central as central, Peripheral as peripheral}
 use Rattle.procedure_stages.specs.Closing.{is_open}
-use Rattle.procedure_stages.specs.Kinds.{exchange_at_central, exchange_at_peripheral, own_exchange, role_of}
-use Rattle.procedure_stages.specs.Opcodes.{connection_param_req_opcode, enc_req_opcode, enc_rsp_opcode, feature_req_opcode, first_opcode, is_opcode, later_opcode, length_req_opcode, opcode_at_central, opcode_at_peripheral, pause_enc_req_opcode, peripheral_feature_req_opcode, phy_req_opcode, start_enc_req_opcode, version_ind_opcode}
+use Rattle.procedure_stages.specs.Kinds.{own_exchange, role_of}
+use Rattle.procedure_stages.specs.Opcodes.{connection_param_req_opcode, enc_req_opcode, enc_rsp_opcode, feature_req_opcode, first_opcode, is_opcode, later_opcode, length_req_opcode, pause_enc_req_opcode, peripheral_feature_req_opcode, phy_req_opcode, start_enc_req_opcode, version_ind_opcode}
 use Rattle.procedures.specs.Table.{TableFacts}
 use Rattle.exchange_pairs.specs.ExchangeRun.{other_role}
 use Rattle.exchange_steps.specs.Ends.{ExchangeEnds, ends_by, ends_of}
-use Rattle.exchange_steps.specs.Steps.{EndStep, after_step, after_steps, is_refused, refusal_if, step_of_ctrl, step_of_read}
-use Rattle.phased_control.specs.Taken.{is_version as is_version_read, opcode_of, seen_if}
+use Rattle.exchange_steps.specs.Steps.{after_step, after_steps, is_refused, refusal_if, step_of_ctrl}
+use Rattle.phased_control.specs.Taken.{is_version as is_version_read}
 use Rattle.joint_exchanges.specs.Moves.{is_some_version, taking}
-use Rattle.joint_exchanges.specs.Parts.{AnyPdu, of_features, of_lengths, of_versions, pdu_of_first, pdu_of_outgoing}
+use Rattle.joint_exchanges.specs.Parts.{AnyPdu, pdu_of_first, pdu_of_outgoing}
 use Rattle.joint_exchanges.specs.SentByRole.{IsSentBy, is_cipher_opcode, is_outgoing_of}
 
 -- the step by which a PDU is taken

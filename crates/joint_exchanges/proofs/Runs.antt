@@ -1,5 +1,5 @@
 -- Runs of machines, one list of events after another.
-use Rattle.std.proofs.Common.{◌≡◌, Bool, true, false, ◌&&◌, List, [], ◌∷◌, ◌++◌, if◌then◌else◌, refl, ap, sym, ◌∙◌}
+use Rattle.std.proofs.Common.{◌≡◌, Bool, true, false, ◌&&◌, List, [], ◌∷◌, ◌++◌, if◌then◌else◌, refl, ap, ◌∙◌}
 use Rattle.machines.specs.Machine.{Machine, run_from, step}
 
 module _ {S E : Type 0} (m : Machine S E) where

@@ -1,5 +1,5 @@
 -- Which control PDUs wait at an end, by its role, call by call on its table.
-use Rattle.std.proofs.Common.{◌≡◌, ℕ, ◌==◌, Bool, true, false, not, ◌&&◌, ◌||◌, if◌then◌else◌, List, [], ◌∷◌, ◌++◌, remove, Option, Some, None, is_some, Result, Ok, Err, refl, ap, sym, ◌∙◌, subst}
+use Rattle.std.proofs.Common.{◌≡◌, ℕ, Bool, true, false, not, ◌&&◌, if◌then◌else◌, List, [], ◌∷◌, ◌++◌, remove, Option, Some, None, is_some, Result, Ok, Err, refl, sym, ◌∙◌, subst}
 use Rattle.std.specs.Bool.{⊤}
 use Rattle.std.specs.List.{AllByRecursion}
 use Rattle.ble_base.specs.ErrorCodes.{invalid_ll_parameters}
@@ -14,7 +14,7 @@ use Rattle.data_pdu.specs.declared.ctrl.CtrlRead.TheVariants.{Bare, Known, Unkno
 use Rattle.procedure_values.specs.declared.asks.Ask.{Ask}
 use Rattle.procedure_values.specs.declared.asks.Ask.TheVariants.{Update as ask_update, Request as ask_request, Map as ask_map, Phy as ask_phy, Features as ask_features, Version as ask_version, Length as ask_length, Encrypt as ask_encrypt}
 use Rattle.procedure_values.specs.declared.drafts.Draft.{Draft}
-use Rattle.procedure_values.specs.declared.drafts.Draft.TheVariants.{Cipher, FeatureReq, FeatureRsp, Grant, LengthReq, LengthRsp, PeripheralFeatureReq, PhyInd, PhyReq, PhyRsp, UnknownRsp, VersionInd}
+use Rattle.procedure_values.specs.declared.drafts.Draft.TheVariants.{Cipher, FeatureReq, FeatureRsp, Grant, LengthRsp, PeripheralFeatureReq, PhyInd, PhyRsp, UnknownRsp, VersionInd}
 use Rattle.procedure_values.specs.declared.drafts.Rejection.{Rejection as TheRejection}
 use Rattle.procedure_values.specs.declared.drafts.Outgoing.{Outgoing}
 use Rattle.procedure_values.specs.declared.drafts.Outgoing.TheVariants.{Disconnect, Nothing, Other, Rejection}

@@ -1,5 +1,5 @@
 -- Each move of the exchanges is an event of the exchange of versions, or none.
-use Rattle.std.proofs.Common.{◌≡◌, ◌==◌, Bool, true, false, not, ◌&&◌, ◌||◌, List, [], ◌∷◌, Option, Some, None, refl, ap, sym, ◌∙◌}
+use Rattle.std.proofs.Common.{◌≡◌, Bool, true, false, not, ◌||◌, [], ◌∷◌, Option, Some, None, refl, ap, sym, ◌∙◌}
 use Rattle.ble_base.specs.declared.roles.Role.{Role}
 use Rattle.ble_base.specs.declared.roles.Role.TheVariants.{Central, Peripheral}
 use Rattle.machines.specs.Machine.{run_from}
@@ -7,7 +7,7 @@ use Rattle.exchange_pairs.specs.VersionRun
 use Rattle.exchange_pairs.specs.VersionRun.{VersionEvent, VersionLink, versions}
 use Rattle.exchange_steps.specs.Steps.{EndStep, begins_features, begins_lengths, begins_version, limits, terminates, wants_version}
 use Rattle.joint_exchanges.specs.Machines.{versions_event, versions_link}
-use Rattle.joint_exchanges.specs.Moves.{Does, Keeps, MayMove, Move, Sends, Takes, TakesKept, after_move, is_some_version, is_version, taking}
+use Rattle.joint_exchanges.specs.Moves.{Does, Keeps, MayMove, Move, Sends, Takes, TakesKept, after_move, is_some_version, is_version}
 use Rattle.joint_exchanges.specs.Parts.{AnyPdu, ExchangeParts, of_features, of_lengths, of_versions}
 use Rattle.joint_exchanges.proofs.Runs.{both_true, comes}
 

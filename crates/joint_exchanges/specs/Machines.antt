@@ -1,6 +1,5 @@
 -- The exchanges of both ends as the three machines of exchanges have them, and the events that each move is there.
-use Rattle.std.specs.Prelude.{ℕ, Bool, List, [], ◌∷◌, ◌++◌, Option, Some, None, is_some, option_map}
-use Rattle.ble_base.specs.declared.roles.Role.{Role}
+use Rattle.std.specs.Prelude.{ℕ, List, [], ◌∷◌, ◌++◌, Option, Some, None, is_some, option_map}
 use Rattle.ble_base.specs.declared.roles.Role.TheVariants.{Central, Peripheral}
 use Rattle.exchange_pairs.specs.Exchange.{ExchangePdu}
 use Rattle.exchange_pairs.specs.ExchangeRun
@@ -10,7 +9,7 @@ use Rattle.exchange_pairs.specs.LengthRun.{Control, LengthEvent, LengthLink}
 use Rattle.exchange_pairs.specs.Lengths.{LengthPdu}
 use Rattle.exchange_pairs.specs.VersionRun
 use Rattle.exchange_pairs.specs.VersionRun.{VersionEvent, VersionLink}
-use Rattle.exchange_steps.specs.Steps.{EndStep, begins_features, begins_lengths, begins_version, limits, terminates, wants_version}
+use Rattle.exchange_steps.specs.Steps.{begins_features, begins_lengths, begins_version, limits, terminates, wants_version}
 use Rattle.joint_exchanges.specs.Moves.{Does, Keeps, Move, Sends, Takes, TakesKept, is_some_version}
 use Rattle.joint_exchanges.specs.Parts.{AnyPdu, ExchangeParts, of_features, of_lengths, of_versions}
 

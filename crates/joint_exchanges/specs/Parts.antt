@@ -1,9 +1,7 @@
 -- What the machines of exchanges see of a joint run: the exchanges of features, lengths and versions at both ends, and
 -- their PDUs that are on their way or kept (Core 5.2, volume 6 part B, sections 5.1.4, 5.1.5 and 5.1.9). PDUs of other
 -- procedures, and data, count as none.
-use Rattle.std.specs.Prelude.{ℕ, Bool, true, false, Option, Some, None}
-use Rattle.ble_base.specs.declared.roles.Role.{Role}
-use Rattle.ble_base.specs.declared.roles.Role.TheVariants.{Central, Peripheral}
+use Rattle.std.specs.Prelude.{Bool, Option, Some, None}
 use Rattle.data_pdu.specs.declared.ctrl.Ctrl.{Ctrl}
 use Rattle.data_pdu.specs.declared.ctrl.Ctrl.TheVariants.{LengthReq as ctrl_length_req, PeripheralFeatureReq as ctrl_feature_req, VersionInd as ctrl_version_ind}
 use Rattle.procedure_values.specs.declared.drafts.Draft.{Draft}

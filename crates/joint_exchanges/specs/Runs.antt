@@ -1,5 +1,5 @@
 -- The moves of the exchanges in a joint run up to a state in which it goes on, and what is asked of its steps.
-use Rattle.std.specs.Prelude.{◌≡◌, ⊤, Bool, true, List, [], ◌∷◌, ◌++◌, if◌then◌else◌}
+use Rattle.std.specs.Prelude.{◌≡◌, ⊤, true, List, [], ◌∷◌, ◌++◌, if◌then◌else◌}
 use Rattle.joint_controls.specs.Joint.{Joint, JointStep, after, after_all, is_running, may}
 use Rattle.joint_exchanges.specs.JointMoves.{moves_of}
 use Rattle.joint_exchanges.specs.Moves.{Move}

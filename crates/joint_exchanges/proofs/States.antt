@@ -1,6 +1,5 @@
 -- The laws of exchanges, of each state of a joint run in which that goes on.
-use Rattle.std.proofs.Common.{◌≡◌, ◌≤◌, ◌⊎◌, inl, inr, ℕ, zero, suc, ◌+◌, ◌==◌, Bool, true, false, not, ◌&&◌, ◌||◌, List, length, Option, Some, None, refl, ap, sym, ◌∙◌, subst, arith}
-use Rattle.std.specs.List.{All, Contains}
+use Rattle.std.proofs.Common.{◌≡◌, ◌≤◌, ◌⊎◌, inl, inr, ℕ, zero, suc, ◌+◌, ◌==◌, Bool, true, false, not, ◌||◌, List, refl, ap, sym, ◌∙◌, subst, arith}
 use Rattle.ble_base.specs.Limits.{first_payload_octets}
 use Rattle.ble_base.specs.declared.procedure_kinds.Kind.TheVariants.{Version}
 use Rattle.ble_base.specs.declared.roles.Role.{Role}
@@ -15,17 +14,15 @@ use Rattle.exchange_pairs.specs.ExchangeLaws
 use Rattle.exchange_pairs.specs.ExchangeRun
 use Rattle.exchange_pairs.specs.ExchangeRun.{ExchangeEvent, ExchangeLink, exchanges, other_role}
 use Rattle.exchange_pairs.specs.LengthPart.{exchange_link}
-use Rattle.exchange_pairs.specs.LengthRun
-use Rattle.exchange_pairs.specs.LengthRun.{LengthEvent, LengthLink, length_exchanges}
+use Rattle.exchange_pairs.specs.LengthRun.{LengthLink, length_exchanges}
 use Rattle.exchange_pairs.specs.VersionLaws
 use Rattle.exchange_pairs.specs.VersionRun
 use Rattle.exchange_pairs.specs.VersionRun.{VersionEvent, VersionLink, versions}
-use Rattle.exchange_pairs.proofs.Exchanges.{few_wait, idle, sent, unsent}
+use Rattle.exchange_pairs.proofs.Exchanges.{idle, sent, unsent}
 use Rattle.exchange_pairs.proofs.LengthParts.{parts}
 use Rattle.exchange_pairs.proofs.LengthsFixed.{known_fixed, stays}
 use Rattle.exchange_pairs.proofs.LengthsKept.{transmits_within}
-use Rattle.exchange_pairs.proofs.Versions
-use Rattle.exchange_pairs.proofs.Versions.{known_then_idle, once, sent_is_coming, taken_once, unsent_waits}
+use Rattle.exchange_pairs.proofs.Versions.{known_then_idle, once, sent_is_coming, unsent_waits}
 use Rattle.phased_control.specs.Phased.{is_open_now}
 use Rattle.joint_controls.specs.Joint.{Joint, JointStep, after_all, beginning}
 use Rattle.joint_exchanges.specs.Agreement.{Asked, Features, Lengths, coming_to, end_at, first_rx_at, is_answer_of, is_first_of, is_question_of, is_version_ctrl, is_version_ind, kept_of, places_of, questions_waiting, sent_from, stage_at, untaken, version_coming, version_places, version_stage_at, waiting}
@@ -72,14 +69,14 @@ module _ (central_rx peripheral_rx : ℕ) (first : Params) (slot : ℕ) (steps :
     asked_idle asked role is =
         let reached = asked_run asked in
         let both = subst (λ l. (ExchangeRun.end_of role l).own ≡ Idle → (ExchangeLaws.questions_waiting role l ≡ 0) × (ExchangeLaws.places role l ≡ 0))
-            (sym reached.1) (idle reached.0 role) (stage_is asked role ∙ is) in
+        (sym reached.1) (idle reached.0 role) (stage_is asked role ∙ is) in
         (sym (asked_waiting asked role s) ∙ both.0, sym (asked_places asked role s) ∙ both.1)
 
     pub asked_unsent : (asked : Asked) (role : Role) → stage_at asked (end_at role s) ≡ Unsent → (questions_waiting asked role s ≡ 1) × (places_of asked role s ≡ 0)
     asked_unsent asked role is =
         let reached = asked_run asked in
         let both = subst (λ l. (ExchangeRun.end_of role l).own ≡ Unsent → (ExchangeLaws.questions_waiting role l ≡ 1) × (ExchangeLaws.places role l ≡ 0))
-            (sym reached.1) (unsent reached.0 role) (stage_is asked role ∙ is) in
+        (sym reached.1) (unsent reached.0 role) (stage_is asked role ∙ is) in
         (sym (asked_waiting asked role s) ∙ both.0, sym (asked_places asked role s) ∙ both.1)
 
     pub asked_sent : (asked : Asked) (role : Role) → stage_at asked (end_at role s) ≡ Sent
@@ -87,8 +84,8 @@ module _ (central_rx peripheral_rx : ℕ) (first : Params) (slot : ℕ) (steps :
     asked_sent asked role is =
         let reached = asked_run asked in
         let both = subst (λ l. (ExchangeRun.end_of role l).own ≡ Sent → (ExchangeLaws.questions_waiting role l ≡ 0)
-            × ((ExchangeLaws.places role l ≡ 1) ⊎ ((ExchangeLaws.places role l ≡ 0) × ((ExchangeRun.end_of (other_role role) l).closed ≡ true))))
-            (sym reached.1) (sent reached.0 role) (stage_is asked role ∙ is) in
+        × ((ExchangeLaws.places role l ≡ 1) ⊎ ((ExchangeLaws.places role l ≡ 0) × ((ExchangeRun.end_of (other_role role) l).closed ≡ true))))
+        (sym reached.1) (sent reached.0 role) (stage_is asked role ∙ is) in
         (sym (asked_waiting asked role s) ∙ both.0, by both.1)
       where
         by : ((ExchangeLaws.places role (asked_link asked s) ≡ 1)
@@ -250,9 +247,9 @@ module _ (central_rx peripheral_rx : ℕ) (first : Params) (slot : ℕ) (steps :
       pub length_transmits : (role : Role) → tx_of (end_at (other_role role) s).control.table.lengths ≤ first_rx_at role central_rx peripheral_rx
       length_transmits Central =
           let within = subst (λ (l : LengthLink). tx_of l.peripheral.lengths ≤ l.central.lengths.own_rx) (sym length_path)
-              (transmits_within central_rx peripheral_rx (events_of lengths_event moves) Central central_least peripheral_least) in
+          (transmits_within central_rx peripheral_rx (events_of lengths_event moves) Central central_least peripheral_least) in
           let same = length_stays Central in omega (arith, within, same)
       length_transmits Peripheral =
           let within = subst (λ (l : LengthLink). tx_of l.central.lengths ≤ l.peripheral.lengths.own_rx) (sym length_path)
-              (transmits_within central_rx peripheral_rx (events_of lengths_event moves) Peripheral central_least peripheral_least) in
+          (transmits_within central_rx peripheral_rx (events_of lengths_event moves) Peripheral central_least peripheral_least) in
           let same = length_stays Peripheral in omega (arith, within, same)

@@ -1,0 +1,18 @@
+-- The proof of the law `a_version_goes_once`.
+use Rattle.joint_exchanges.proofs.States.{version_known, version_once, version_sent, version_taken, version_unsent}
+use Rattle.joint_exchanges.proofs.laws.a_version_goes_once.Goals as goal
+
+pub returns-clause-once : goal.returns-clause-once
+returns-clause-once c = λ central_rx peripheral_rx first slot steps role on. version_once central_rx peripheral_rx first slot steps on role
+
+pub returns-clause-taken : goal.returns-clause-taken
+returns-clause-taken c = λ central_rx peripheral_rx first slot steps role on. version_taken central_rx peripheral_rx first slot steps on role
+
+pub returns-clause-known : goal.returns-clause-known
+returns-clause-known c = λ central_rx peripheral_rx first slot steps role on. version_known central_rx peripheral_rx first slot steps on role
+
+pub returns-clause-unsent : goal.returns-clause-unsent
+returns-clause-unsent c = λ central_rx peripheral_rx first slot steps role on. version_unsent central_rx peripheral_rx first slot steps on role
+
+pub returns-clause-sent : goal.returns-clause-sent
+returns-clause-sent c = λ central_rx peripheral_rx first slot steps role on. version_sent central_rx peripheral_rx first slot steps on role
