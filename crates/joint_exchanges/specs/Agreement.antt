@@ -116,8 +116,8 @@ version_places role s =
     waiting is_version_ind (end_at role s) + untaken is_version_ind (sent_from role s)
     + kept_of is_version_ctrl role s + count_if (end_at (other_role role) s).knows_version
 
--- what may still complete the exchange of an end: its own LL_VERSION_IND is on its way or kept, or that of the other end
--- waits or is on its way
+-- what may still complete the exchange of an end: its own LL_VERSION_IND is on its way or kept, or that of the other
+-- end waits or is on its way
 abbrev pub version_coming : Role → Joint → ℕ
 version_coming role s =
     untaken is_version_ind (sent_from role s) + kept_of is_version_ctrl role s

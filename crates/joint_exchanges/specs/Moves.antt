@@ -73,7 +73,11 @@ with_way_from Peripheral way p = record p { up = way }
 
 abbrev pub with_taken : Role → AnyPdu → ExchangeParts → ExchangeParts
 with_taken Central pdu p =
-    record p { central = after_step (taking pdu) p.central; central_knows = p.central_knows || is_version pdu; up = None }
+    record p {
+      central = after_step (taking pdu) p.central;
+      central_knows = p.central_knows || is_version pdu;
+      up = None;
+    }
 with_taken Peripheral pdu p =
     record p {
       peripheral = after_step (taking pdu) p.peripheral;
@@ -87,7 +91,11 @@ after_move (Sends role pdu) p = with_way_from role (Some pdu) (with_end role (se
 after_move (Takes role pdu) p = with_taken role pdu p
 after_move (Keeps pdu) p = record p { up = None; kept = Some pdu }
 after_move (TakesKept pdu) p =
-    record p { central = after_step (taking pdu) p.central; central_knows = p.central_knows || is_version pdu; kept = None }
+    record p {
+      central = after_step (taking pdu) p.central;
+      central_knows = p.central_knows || is_version pdu;
+      kept = None;
+    }
 
 abbrev pub after_moves : List Move → ExchangeParts → ExchangeParts
 after_moves [] p = p

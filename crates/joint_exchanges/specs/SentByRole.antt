@@ -1,6 +1,6 @@
--- Which control PDUs an end of a joint run queues and sends, by its role (Core 5.2, volume 6 part B, section 2.4.2; what
--- this product never sends is our choice). The other end knows each of them, but for PDUs of the encryption in a phase
--- in which they have no meaning.
+-- Which control PDUs an end of a joint run queues and sends, by its role (Core 5.2, volume 6 part B, section 2.4.2;
+-- what this product never sends is our choice). The other end knows each of them, but for PDUs of the encryption in a
+-- phase in which they have no meaning.
 use Rattle.std.specs.Prelude.{◌≡◌, ⊤, ℕ, ◌==◌, Bool, true, false, ◌||◌, Option, Some, None}
 use Rattle.std.specs.List.{AllByRecursion}
 use Rattle.ble_base.specs.declared.roles.Role.{Role}

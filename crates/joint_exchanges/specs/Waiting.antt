@@ -1,4 +1,5 @@
--- The control PDUs that wait at an end of a joint run, by the kinds of procedures (Core 5.2, volume 6 part B, section 5).
+-- The control PDUs that wait at an end of a joint run, by the kinds of procedures (Core 5.2, volume 6 part B,
+-- section 5).
 use Rattle.std.specs.Prelude.{ℕ, ◌+◌, Bool, true, false, length}
 use Rattle.procedure_values.specs.declared.drafts.Draft.{Draft}
 use Rattle.procedure_values.specs.declared.drafts.Draft.TheVariants.{Cipher, Grant, Map, PhyInd, PhyReq, PhyRsp, Request, UnknownRsp, Update}
