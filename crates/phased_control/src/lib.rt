@@ -2,6 +2,12 @@
 //! 5.2, volume 6 part B, section 5.1.3). Definitions and laws; no code.
 #![tactic(auto)]
 
+mod laws;
 mod rows;
 
+pub use crate::laws::{
+    a_central_has_the_request_of_its_encryption, a_phase_says_whether_a_pdu_is_kept,
+    an_end_moves_by_control_steps, encryption_runs_outside_clear_and_secure,
+    few_pdus_of_the_encryption_wait,
+};
 pub use crate::rows::{a_start_is_secure, a_start_without_a_key_is_clear};
