@@ -1,1 +1,5 @@
 -- The lemmas of this crate.
+pub mod EndSteps
+pub mod Keeping
+pub mod LastPdus
+pub mod Running

@@ -1,0 +1,123 @@
+-- What every step but sending and an acknowledgement keeps of an end: a property of its control part is kept by each of its
+-- phased steps where it is kept by the steps of the control part.
+use Rattle.std.proofs.Common.{ℕ, Bool, true, false, if◌then◌else◌, Option, Some, None}
+use Rattle.ble_base.specs.declared.error_codes.ErrCode.{ErrCode}
+use Rattle.ble_base.specs.declared.roles.Role.{Role}
+use Rattle.ble_base.specs.declared.roles.Role.TheVariants.{Central, Peripheral}
+use Rattle.data_pdu.specs.declared.ctrl.Ctrl.{Ctrl}
+use Rattle.data_pdu.specs.declared.ctrl.Ctrl.TheVariants.{EncReq, PauseEncReq, PauseEncRsp, StartEncReq, StartEncRsp}
+use Rattle.data_pdu.specs.declared.ctrl.CtrlRead.{CtrlRead}
+use Rattle.data_pdu.specs.declared.ctrl.CtrlRead.TheVariants.{Bare, Known, Unknown}
+use Rattle.enc_phase.specs.declared.classes.PduClass.{PduClass}
+use Rattle.enc_phase.specs.declared.classes.PduClass.TheVariants.{Refusal}
+use Rattle.enc_phase.specs.declared.facts.PhaseFacts.{PhaseFacts}
+use Rattle.enc_phase.specs.declared.facts.PhaseFacts.TheVariants.{Clear}
+use Rattle.enc_phase.specs.declared.facts.Transition.{Transition}
+use Rattle.enc_phase.specs.declared.facts.Transition.TheVariants.{Confirm, Pause, Unlock}
+use Rattle.enc_phase.specs.Taking.{ctrl_class}
+use Rattle.control_model.specs.Control.{Control, Owes, Takes, after, ended}
+use Rattle.phased_control.specs.Phased.{Phased, asking_if, encrypting, encrypting_if, if_key_asked, key_given, key_lacking, refused_if, with_owed_if}
+use Rattle.phased_control.specs.Taken.{answered_if_quiet, answered_kept, asked, ciphered, ciphered_at, ciphered_at_central, ciphered_at_peripheral, goes_on, moved_if, moved_to, refused_by, started, took, took_allowed, took_data}
+
+pub choice : {A : Type 0} (P : A → Type 0) (b : Bool) (x y : A) → P x → P y → P (if b then x else y)
+choice P true x y hx hy = hx
+choice P false x y hx hy = hy
+
+module _ (P : Control → Type 0)
+    (owes : (ctrl : Ctrl) (c : Control) → P c → P (after (Owes ctrl) c))
+    (takes : (read : CtrlRead) (slot : ℕ) (quiet : Bool) (c : Control) → P c → P (after (Takes read slot quiet) c))
+    (ends : (code : ErrCode) (c : Control) → P c → P (ended code c)) where
+  abbrev Q : Phased → Type 0
+  Q s = P s.control
+
+  pub owed_keeps : (ctrl : Option Ctrl) (s : Phased) → Q s → Q (with_owed_if ctrl s)
+  owed_keeps None s h = h
+  owed_keeps (Some ctrl) s h = owes ctrl s.control h
+
+  -- ---- what begins, what is asked again, and what the host of a peripheral answers
+
+  encrypting_keeps : (phase : PhaseFacts) (s : Phased) → Q s → Q (encrypting phase s)
+  encrypting_keeps Clear s h = owed_keeps s.request _ h
+  encrypting_keeps phase s h = owes PauseEncReq s.control h
+
+  pub encrypting_if_keeps : (b : Bool) (request : Option Ctrl) (s : Phased) → Q s → Q (encrypting_if b request s)
+  encrypting_if_keeps true request s h = encrypting_keeps s.phase _ h
+  encrypting_if_keeps false request s h = h
+
+  pub asking_keeps : (b : Bool) (s : Phased) → Q s → Q (asking_if b s)
+  asking_keeps true s h = owed_keeps s.request _ h
+  asking_keeps false s h = h
+
+  refused_keeps : (b : Bool) (s : Phased) → Q s → Q (refused_if b s)
+  refused_keeps true s h = owes _ s.control h
+  refused_keeps false s h = owes _ s.control h
+
+  pub given_keeps : (s : Phased) → Q s → Q (if_key_asked (key_given s) s)
+  given_keeps s h = choice Q _ (key_given s) s (owes StartEncReq s.control h) h
+
+  pub lacking_keeps : (s : Phased) → Q s → Q (if_key_asked (key_lacking s) s)
+  lacking_keeps s h = choice Q _ (key_lacking s) s (refused_keeps _ s h) h
+
+  -- ---- a PDU of the peer
+
+  moved_keeps : (transition : Transition) (owed : Option Ctrl) (s : Phased) → Q s → Q (moved_to transition owed s)
+  moved_keeps transition None s h = h
+  moved_keeps transition (Some ctrl) s h = owes ctrl s.control h
+
+  moved_if_keeps : (transition : Transition) (owed : Option Ctrl) (s : Phased) → Q s → Q (moved_if transition owed s)
+  moved_if_keeps transition owed s h = choice Q _ (moved_to transition owed s) s (moved_keeps transition owed s h) h
+
+  started_keeps : (s : Phased) → Q s → Q (started s)
+  started_keeps s h = choice Q _ _ s (owes StartEncRsp s.control h) h
+
+  asked_keeps : (response : Ctrl) (s : Phased) → Q s → Q (asked response s)
+  asked_keeps response s h = choice Q _ _ s (owes response s.control h) h
+
+  refused_by_keeps : (pdu : PduClass) (s : Phased) → Q s → Q (refused_by pdu s)
+  refused_by_keeps Refusal s h = choice Q _ s _ h h
+  refused_by_keeps pdu s h = h
+
+  at_central_keeps : (ctrl : Ctrl) (s : Phased) → Q s → Q (ciphered_at_central ctrl s)
+  at_central_keeps StartEncReq s h = started_keeps s h
+  at_central_keeps StartEncRsp s h = moved_if_keeps Confirm None s h
+  at_central_keeps PauseEncRsp s h = moved_if_keeps Unlock (Some PauseEncRsp) s h
+  at_central_keeps ctrl s h = refused_by_keeps (ctrl_class ctrl) s h
+
+  at_peripheral_keeps : (response ctrl : Ctrl) (s : Phased) → Q s → Q (ciphered_at_peripheral response ctrl s)
+  at_peripheral_keeps response (EncReq rand ediv skd_m iv_m) s h = asked_keeps response s h
+  at_peripheral_keeps response PauseEncReq s h = moved_if_keeps Pause (Some PauseEncRsp) s h
+  at_peripheral_keeps response StartEncRsp s h = moved_if_keeps Confirm (Some StartEncRsp) s h
+  at_peripheral_keeps response PauseEncRsp s h = moved_if_keeps Unlock None s h
+  at_peripheral_keeps response ctrl s h = h
+
+  ciphered_at_keeps : (role : Role) (response ctrl : Ctrl) (s : Phased) → Q s → Q (ciphered_at role response ctrl s)
+  ciphered_at_keeps Central response ctrl s h = at_central_keeps ctrl s h
+  ciphered_at_keeps Peripheral response ctrl s h = at_peripheral_keeps response ctrl s h
+
+  ciphered_keeps : (response : Ctrl) (read : CtrlRead) (s : Phased) → Q s → Q (ciphered response read s)
+  ciphered_keeps response (Known ctrl) s h = ciphered_at_keeps _ response ctrl s h
+  ciphered_keeps response (Unknown opcode) s h = h
+  ciphered_keeps response Bare s h = h
+
+  answered_keeps : (slot : ℕ) (kept : Option Ctrl) (s : Phased) → Q s → Q (answered_kept slot kept s)
+  answered_keeps slot None s h = h
+  answered_keeps slot (Some ctrl) s h = takes (Known ctrl) slot true s.control h
+
+  answered_if_keeps : (slot : ℕ) (s : Phased) → Q s → Q (answered_if_quiet slot s)
+  answered_if_keeps slot s h = choice Q _ (answered_kept slot s.kept s) s (answered_keeps slot s.kept s h) h
+
+  goes_keeps : (slot : ℕ) (response : Ctrl) (read : CtrlRead) (s : Phased) → Q s → Q (goes_on slot response read s)
+  goes_keeps slot response read s h =
+      choice Q _ (answered_if_quiet slot (ciphered response read s)) s
+      (answered_if_keeps slot (ciphered response read s) (ciphered_keeps response read s h)) h
+
+  allowed_keeps : (slot : ℕ) (response : Ctrl) (read : CtrlRead) (s : Phased) → Q s → Q (took_allowed slot response read s)
+  allowed_keeps slot response read s h =
+      choice Q _ _ _ h (choice Q _ _ _ (ends _ s.control h) (goes_keeps slot response read _ (takes _ slot _ s.control h)))
+
+  pub took_keeps : (slot : ℕ) (response : Ctrl) (read : CtrlRead) (s : Phased) → Q s → Q (took slot response read s)
+  took_keeps slot response read s h =
+      choice Q _ (took_allowed slot response read s) _ (allowed_keeps slot response read s h) (ends _ s.control h)
+
+  pub data_keeps : (s : Phased) → Q s → Q (took_data s)
+  data_keeps s h = choice Q _ s _ h (ends _ s.control h)
