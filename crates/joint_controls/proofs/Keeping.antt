@@ -23,10 +23,9 @@ pub choice : {A : Type 0} (P : A → Type 0) (b : Bool) (x y : A) → P x → P 
 choice P true x y hx hy = hx
 choice P false x y hx hy = hy
 
-module _ (P : Control → Type 0)
-    (owes : (ctrl : Ctrl) (c : Control) → P c → P (after (Owes ctrl) c))
-    (takes : (read : CtrlRead) (slot : ℕ) (quiet : Bool) (c : Control) → P c → P (after (Takes read slot quiet) c))
-    (ends : (code : ErrCode) (c : Control) → P c → P (ended code c)) where
+-- ---- the PDUs of the encryption
+
+module _ (P : Control → Type 0) (owes : (ctrl : Ctrl) (c : Control) → P c → P (after (Owes ctrl) c)) where
   abbrev Q : Phased → Type 0
   Q s = P s.control
 
@@ -94,30 +93,39 @@ module _ (P : Control → Type 0)
   ciphered_at_keeps Central response ctrl s h = at_central_keeps ctrl s h
   ciphered_at_keeps Peripheral response ctrl s h = at_peripheral_keeps response ctrl s h
 
-  ciphered_keeps : (response : Ctrl) (read : CtrlRead) (s : Phased) → Q s → Q (ciphered response read s)
+  pub ciphered_keeps : (response : Ctrl) (read : CtrlRead) (s : Phased) → Q s → Q (ciphered response read s)
   ciphered_keeps response (Known ctrl) s h = ciphered_at_keeps _ response ctrl s h
   ciphered_keeps response (Unknown opcode) s h = h
   ciphered_keeps response Bare s h = h
 
-  answered_keeps : (slot : ℕ) (kept : Option Ctrl) (s : Phased) → Q s → Q (answered_kept slot kept s)
+-- ---- a PDU of the peer, whole
+
+module _ (P : Control → Type 0)
+    (owes : (ctrl : Ctrl) (c : Control) → P c → P (after (Owes ctrl) c))
+    (takes : (read : CtrlRead) (slot : ℕ) (quiet : Bool) (c : Control) → P c → P (after (Takes read slot quiet) c))
+    (ends : (code : ErrCode) (c : Control) → P c → P (ended code c)) where
+  abbrev R : Phased → Type 0
+  R s = P s.control
+
+  answered_keeps : (slot : ℕ) (kept : Option Ctrl) (s : Phased) → R s → R (answered_kept slot kept s)
   answered_keeps slot None s h = h
   answered_keeps slot (Some ctrl) s h = takes (Known ctrl) slot true s.control h
 
-  answered_if_keeps : (slot : ℕ) (s : Phased) → Q s → Q (answered_if_quiet slot s)
-  answered_if_keeps slot s h = choice Q _ (answered_kept slot s.kept s) s (answered_keeps slot s.kept s h) h
+  answered_if_keeps : (slot : ℕ) (s : Phased) → R s → R (answered_if_quiet slot s)
+  answered_if_keeps slot s h = choice R _ (answered_kept slot s.kept s) s (answered_keeps slot s.kept s h) h
 
-  goes_keeps : (slot : ℕ) (response : Ctrl) (read : CtrlRead) (s : Phased) → Q s → Q (goes_on slot response read s)
+  goes_keeps : (slot : ℕ) (response : Ctrl) (read : CtrlRead) (s : Phased) → R s → R (goes_on slot response read s)
   goes_keeps slot response read s h =
-      choice Q _ (answered_if_quiet slot (ciphered response read s)) s
-      (answered_if_keeps slot (ciphered response read s) (ciphered_keeps response read s h)) h
+      choice R _ (answered_if_quiet slot (ciphered response read s)) s
+      (answered_if_keeps slot (ciphered response read s) (ciphered_keeps P owes response read s h)) h
 
-  allowed_keeps : (slot : ℕ) (response : Ctrl) (read : CtrlRead) (s : Phased) → Q s → Q (took_allowed slot response read s)
+  allowed_keeps : (slot : ℕ) (response : Ctrl) (read : CtrlRead) (s : Phased) → R s → R (took_allowed slot response read s)
   allowed_keeps slot response read s h =
-      choice Q _ _ _ h (choice Q _ _ _ (ends _ s.control h) (goes_keeps slot response read _ (takes _ slot _ s.control h)))
+      choice R _ _ _ h (choice R _ _ _ (ends _ s.control h) (goes_keeps slot response read _ (takes _ slot _ s.control h)))
 
-  pub took_keeps : (slot : ℕ) (response : Ctrl) (read : CtrlRead) (s : Phased) → Q s → Q (took slot response read s)
+  pub took_keeps : (slot : ℕ) (response : Ctrl) (read : CtrlRead) (s : Phased) → R s → R (took slot response read s)
   took_keeps slot response read s h =
-      choice Q _ (took_allowed slot response read s) _ (allowed_keeps slot response read s h) (ends _ s.control h)
+      choice R _ (took_allowed slot response read s) _ (allowed_keeps slot response read s h) (ends _ s.control h)
 
-  pub data_keeps : (s : Phased) → Q s → Q (took_data s)
-  data_keeps s h = choice Q _ s _ h (ends _ s.control h)
+  pub data_keeps : (s : Phased) → R s → R (took_data s)
+  data_keeps s h = choice R _ s _ h (ends _ s.control h)

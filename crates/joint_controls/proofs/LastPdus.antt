@@ -89,7 +89,7 @@ module _ (out : Outgoing) where
 
   entered_phased : (slot : ℕ) (s : Phased) → HasP out s → HasP out (phased_entered slot s)
   entered_phased slot s h =
-      encrypting_if_keeps (Has out) owes_keeps takes_keeps ended_keeps _ _ _ (enters_keeps slot (is_quiet_now s) s.control h)
+      encrypting_if_keeps (Has out) owes_keeps _ _ _ (enters_keeps slot (is_quiet_now s) s.control h)
 
   abbrev pub Keeps : PhasedStep → Phased → Type 0
   Keeps step s = HasP out s → HasP out (phased_after step s)
@@ -101,8 +101,8 @@ module _ (out : Outgoing) where
   hosted (AsksFor ask) s h = asks_keeps ask s.control h
   hosted (AnswersRequest answer) s h = answers_keeps answer s.control h
   hosted (Ends reason) s h = disconnects_keeps reason s.control h
-  hosted HasKey s h = given_keeps (Has out) owes_keeps takes_keeps ended_keeps s h
-  hosted HasNoKey s h = lacking_keeps (Has out) owes_keeps takes_keeps ended_keeps s h
+  hosted HasKey s h = given_keeps (Has out) owes_keeps s h
+  hosted HasNoKey s h = lacking_keeps (Has out) owes_keeps s h
 
   pub hosts_end : (step : HostStep) (s : Phased) → Keeps (host_step step) s
   hosts_end step s h = choice (HasP out) _ (phased_moved (host_step step) s) s (hosted step s h) h
@@ -176,7 +176,7 @@ acked_by out c is = refl
 pub acked_end : (s : Phased) → s.control.ends ≡ None → HasP Nothing (phased_after sees_acknowledged s)
 acked_end s goes_on =
     lasts (HasP Nothing) sees_acknowledged s goes_on
-    (asking_keeps (Has Nothing) (owes_keeps Nothing) (takes_keeps Nothing) (ended_keeps Nothing) _ _
+    (asking_keeps (Has Nothing) (owes_keeps Nothing) _ _
     (open_step (Has Nothing) SeesAcknowledged s.control goes_on (acked_by s.control.table.out s.control refl)))
 
 -- ---- both ends

@@ -1,4 +1,5 @@
 -- The lemmas of this crate.
+pub mod ControlRuns
 pub mod EndSteps
 pub mod Keeping
 pub mod LastPdus
