@@ -1,0 +1,4 @@
+-- The lemmas of this crate.
+pub mod Instants
+pub mod Reaching
+pub mod Resting
