@@ -13,67 +13,68 @@ use Rattle.enc_phase.specs.declared.classes.PduClass.TheVariants.{Refusal}
 use Rattle.enc_phase.specs.declared.facts.PhaseFacts.{PhaseFacts}
 use Rattle.enc_phase.specs.declared.facts.PhaseFacts.TheVariants.{Clear}
 use Rattle.enc_phase.specs.declared.facts.Transition.{Transition}
-use Rattle.enc_phase.specs.declared.facts.Transition.TheVariants.{Confirm, Pause, Unlock}
+use Rattle.enc_phase.specs.declared.facts.Transition.TheVariants.{Ask as AskTransition, Confirm, Pause, Unlock}
 use Rattle.enc_phase.specs.Taking.{ctrl_class}
 use Rattle.control_model.specs.Control.{Control, Owes, Takes, after, ended}
-use Rattle.phased_control.specs.Phased.{Phased, asking_if, encrypting, encrypting_if, if_key_asked, key_given, key_lacking, refused_if, with_owed_if}
+use Rattle.phased_control.specs.Phased.{Phased, asking_if, encrypting, encrypting_if, if_key_asked, is_open_now, key_given, key_lacking, refused_if, with_owed, with_owed_if}
 use Rattle.phased_control.specs.Taken.{answered_if_quiet, answered_kept, asked, ciphered, ciphered_at, ciphered_at_central, ciphered_at_peripheral, goes_on, moved_if, moved_to, refused_by, started, took, took_allowed, took_data}
 
 pub choice : {A : Type 0} (P : A → Type 0) (b : Bool) (x y : A) → P x → P y → P (if b then x else y)
 choice P true x y hx hy = hx
 choice P false x y hx hy = hy
 
--- ---- the PDUs of the encryption
+-- ---- the PDUs of the encryption: a property of an end that a queued PDU keeps, and that says nothing of its phase
 
-module _ (P : Control → Type 0) (owes : (ctrl : Ctrl) (c : Control) → P c → P (after (Owes ctrl) c)) where
-  abbrev Q : Phased → Type 0
-  Q s = P s.control
+module _ (Q : Phased → Type 0)
+    (owes : (ctrl : Ctrl) (s : Phased) → Q s → Q (with_owed ctrl s))
+    (phases : (phase : PhaseFacts) (s : Phased) → Q s → Q (record s { phase = phase }))
+    (keys : (asks : Bool) (s : Phased) → Q s → Q (record s { asks_key = asks }))
+    (requests : (request : Option Ctrl) (s : Phased) → Q s → Q (record s { request = request })) where
+  owed_keeps_end : (ctrl : Option Ctrl) (s : Phased) → Q s → Q (with_owed_if ctrl s)
+  owed_keeps_end None s h = h
+  owed_keeps_end (Some ctrl) s h = owes ctrl s h
 
-  pub owed_keeps : (ctrl : Option Ctrl) (s : Phased) → Q s → Q (with_owed_if ctrl s)
-  owed_keeps None s h = h
-  owed_keeps (Some ctrl) s h = owes ctrl s.control h
-
-  -- ---- what begins, what is asked again, and what the host of a peripheral answers
-
+  -- what begins, what is asked again, and what the host of a peripheral answers
   encrypting_keeps : (phase : PhaseFacts) (s : Phased) → Q s → Q (encrypting phase s)
-  encrypting_keeps Clear s h = owed_keeps s.request _ h
-  encrypting_keeps phase s h = owes PauseEncReq s.control h
+  encrypting_keeps Clear s h = owed_keeps_end s.request _ (phases _ s h)
+  encrypting_keeps phase s h = owes PauseEncReq _ (phases _ s h)
 
-  pub encrypting_if_keeps : (b : Bool) (request : Option Ctrl) (s : Phased) → Q s → Q (encrypting_if b request s)
-  encrypting_if_keeps true request s h = encrypting_keeps s.phase _ h
-  encrypting_if_keeps false request s h = h
+  pub encrypting_if_keeps_end : (b : Bool) (request : Option Ctrl) (s : Phased) → Q s → Q (encrypting_if b request s)
+  encrypting_if_keeps_end true request s h = encrypting_keeps s.phase _ (requests request s h)
+  encrypting_if_keeps_end false request s h = h
 
-  pub asking_keeps : (b : Bool) (s : Phased) → Q s → Q (asking_if b s)
-  asking_keeps true s h = owed_keeps s.request _ h
-  asking_keeps false s h = h
+  pub asking_keeps_end : (b : Bool) (s : Phased) → Q s → Q (asking_if b s)
+  asking_keeps_end true s h = owed_keeps_end s.request _ (phases _ s h)
+  asking_keeps_end false s h = h
 
   refused_keeps : (b : Bool) (s : Phased) → Q s → Q (refused_if b s)
-  refused_keeps true s h = owes _ s.control h
-  refused_keeps false s h = owes _ s.control h
+  refused_keeps true s h = owes _ _ (keys false _ (phases _ s h))
+  refused_keeps false s h = owes _ _ (keys false s h)
 
-  pub given_keeps : (s : Phased) → Q s → Q (if_key_asked (key_given s) s)
-  given_keeps s h = choice Q _ (key_given s) s (owes StartEncReq s.control h) h
+  pub given_keeps_end : (s : Phased) → Q s → Q (if_key_asked (key_given s) s)
+  given_keeps_end s h = choice Q _ (key_given s) s (owes StartEncReq _ (keys false _ (phases _ s h))) h
 
-  pub lacking_keeps : (s : Phased) → Q s → Q (if_key_asked (key_lacking s) s)
-  lacking_keeps s h = choice Q _ (key_lacking s) s (refused_keeps _ s h) h
+  pub lacking_keeps_end : (s : Phased) → Q s → Q (if_key_asked (key_lacking s) s)
+  lacking_keeps_end s h = choice Q _ (key_lacking s) s (refused_keeps _ s h) h
 
-  -- ---- a PDU of the peer
-
+  -- a PDU of the peer
   moved_keeps : (transition : Transition) (owed : Option Ctrl) (s : Phased) → Q s → Q (moved_to transition owed s)
-  moved_keeps transition None s h = h
-  moved_keeps transition (Some ctrl) s h = owes ctrl s.control h
+  moved_keeps transition None s h = phases _ s h
+  moved_keeps transition (Some ctrl) s h = owes ctrl _ (phases _ s h)
 
   moved_if_keeps : (transition : Transition) (owed : Option Ctrl) (s : Phased) → Q s → Q (moved_if transition owed s)
   moved_if_keeps transition owed s h = choice Q _ (moved_to transition owed s) s (moved_keeps transition owed s h) h
 
   started_keeps : (s : Phased) → Q s → Q (started s)
-  started_keeps s h = choice Q _ _ s (owes StartEncRsp s.control h) h
+  started_keeps s h = choice Q _ _ s (owes StartEncRsp _ (phases _ s h)) h
 
   asked_keeps : (response : Ctrl) (s : Phased) → Q s → Q (asked response s)
-  asked_keeps response s h = choice Q _ _ s (owes response s.control h) h
+  asked_keeps response s h =
+      choice Q _ (moved_to AskTransition (Some response) (record s { asks_key = is_open_now s })) s
+      (moved_keeps AskTransition (Some response) _ (keys _ s h)) h
 
   refused_by_keeps : (pdu : PduClass) (s : Phased) → Q s → Q (refused_by pdu s)
-  refused_by_keeps Refusal s h = choice Q _ s _ h h
+  refused_by_keeps Refusal s h = choice Q _ s _ h (phases _ s h)
   refused_by_keeps pdu s h = h
 
   at_central_keeps : (ctrl : Ctrl) (s : Phased) → Q s → Q (ciphered_at_central ctrl s)
@@ -93,10 +94,33 @@ module _ (P : Control → Type 0) (owes : (ctrl : Ctrl) (c : Control) → P c �
   ciphered_at_keeps Central response ctrl s h = at_central_keeps ctrl s h
   ciphered_at_keeps Peripheral response ctrl s h = at_peripheral_keeps response ctrl s h
 
+  pub ciphered_keeps_end : (response : Ctrl) (read : CtrlRead) (s : Phased) → Q s → Q (ciphered response read s)
+  ciphered_keeps_end response (Known ctrl) s h = ciphered_at_keeps _ response ctrl s h
+  ciphered_keeps_end response (Unknown opcode) s h = h
+  ciphered_keeps_end response Bare s h = h
+
+-- the same of its control part alone
+module _ (P : Control → Type 0) (owes : (ctrl : Ctrl) (c : Control) → P c → P (after (Owes ctrl) c)) where
+  abbrev Q : Phased → Type 0
+  Q s = P s.control
+
+  pub owed_keeps : (ctrl : Option Ctrl) (s : Phased) → Q s → Q (with_owed_if ctrl s)
+  owed_keeps = owed_keeps_end Q (λ ctrl s. owes ctrl s.control) (λ phase s h. h) (λ asks s h. h) (λ request s h. h)
+
+  pub encrypting_if_keeps : (b : Bool) (request : Option Ctrl) (s : Phased) → Q s → Q (encrypting_if b request s)
+  encrypting_if_keeps = encrypting_if_keeps_end Q (λ ctrl s. owes ctrl s.control) (λ phase s h. h) (λ asks s h. h) (λ request s h. h)
+
+  pub asking_keeps : (b : Bool) (s : Phased) → Q s → Q (asking_if b s)
+  asking_keeps = asking_keeps_end Q (λ ctrl s. owes ctrl s.control) (λ phase s h. h) (λ asks s h. h) (λ request s h. h)
+
+  pub given_keeps : (s : Phased) → Q s → Q (if_key_asked (key_given s) s)
+  given_keeps = given_keeps_end Q (λ ctrl s. owes ctrl s.control) (λ phase s h. h) (λ asks s h. h) (λ request s h. h)
+
+  pub lacking_keeps : (s : Phased) → Q s → Q (if_key_asked (key_lacking s) s)
+  lacking_keeps = lacking_keeps_end Q (λ ctrl s. owes ctrl s.control) (λ phase s h. h) (λ asks s h. h) (λ request s h. h)
+
   pub ciphered_keeps : (response : Ctrl) (read : CtrlRead) (s : Phased) → Q s → Q (ciphered response read s)
-  ciphered_keeps response (Known ctrl) s h = ciphered_at_keeps _ response ctrl s h
-  ciphered_keeps response (Unknown opcode) s h = h
-  ciphered_keeps response Bare s h = h
+  ciphered_keeps = ciphered_keeps_end Q (λ ctrl s. owes ctrl s.control) (λ phase s h. h) (λ asks s h. h) (λ request s h. h)
 
 -- ---- a PDU of the peer, whole
 
