@@ -1,7 +1,10 @@
 -- The lemmas of this crate.
+pub mod Answers
 pub mod CentralSteps
+pub mod CentralTakes
 pub mod Fixing
 pub mod Instants
+pub mod Meanings
 pub mod PeripheralSteps
 pub mod Reaching
 pub mod Resting
