@@ -5,8 +5,8 @@ use Rattle.instants.specs.declared.indications.Params.{Params}
 use Rattle.joint_controls.specs.Joint.{CentralAcked, CentralEnters, CentralHost, CentralSends, CentralSendsData, CentralTakes, Joint, JointStep, PeripheralAcked, PeripheralEnters, PeripheralFixes, PeripheralFixesData, PeripheralHost, PeripheralSends, PeripheralTakes, Shuts, act, after, after_all, beginning, is_clear, is_running, is_taken, item_on_air, may, may_act, may_transmit}
 use Rattle.joint_exchanges.specs.JointMoves.{moves_of}
 use Rattle.joint_exchanges.specs.Parts.{parts_of}
-use Rattle.joint_exchanges.specs.Premises.{KeepsForLater}
-use Rattle.joint_exchanges.specs.Runs.{AllRespond, KeepsAlways, moves_in}
+use Rattle.joint_exchanges.proofs.CentralKeeps.{KeepsForLater}
+use Rattle.joint_exchanges.specs.Runs.{AllRespond, moves_in}
 use Rattle.joint_exchanges.specs.SentByRole.{AreOfRoles, Responds}
 use Rattle.joint_exchanges.proofs.JointRoles.{roles_after}
 use Rattle.joint_exchanges.proofs.JointSteps.{Runs, central_acked, central_enters, central_hosts, central_sends_data, central_sends_one, peripheral_acked, peripheral_enters, peripheral_fixes_data, peripheral_fixes_one, peripheral_hosts, peripheral_sends_one, runs_of}
@@ -58,7 +58,7 @@ roles_on step s r responds goes = by (may step s) refl goes
     by true is goes = roles_after step s r responds (runs_of (act step s) goes)
     by false is goes = r
 
-moves_on : (step : JointStep) (s : Joint) → AreOfRoles s → (is_running s ≡ true → KeepsForLater s.central) → Responds step → is_running (after step s) ≡ true
+moves_on : (step : JointStep) (s : Joint) → AreOfRoles s → KeepsForLater s.central → Responds step → is_running (after step s) ≡ true
     → IsMoved (if may step s then moves_of step s else []) (parts_of s) (parts_of (after step s))
 moves_on step s r k responds goes = by (may step s) refl goes
   where
@@ -66,19 +66,19 @@ moves_on step s r k responds goes = by (may step s) refl goes
         → IsMoved (if b then moves_of step s else []) (parts_of s) (parts_of (if b then act step s else s))
     by true is goes =
         let both = and_parts (is_running s) (may_act step s) is in
-        step_moves step s r (k both.0) responds (runs_of s both.0) both.1 (runs_of (act step s) goes)
+        step_moves step s r k responds (runs_of s both.0) both.1 (runs_of (act step s) goes)
     by false is goes = unmoved (parts_of s) (parts_of s) refl
 
 -- ---- a run
 
-pub run_moves : (steps : List JointStep) (s : Joint) → AreOfRoles s → KeepsAlways steps s → AllRespond steps → is_running (after_all steps s) ≡ true
+pub run_moves : (steps : List JointStep) (s : Joint) → AreOfRoles s → ((done : List JointStep) → KeepsForLater (after_all done s).central) → AllRespond steps → is_running (after_all steps s) ≡ true
     → IsMoved (moves_in steps s) (parts_of s) (parts_of (after_all steps s))
 run_moves [] s r k responds goes = unmoved (parts_of s) (parts_of s) refl
 run_moves (step ∷ steps) s r k responds goes =
     let next = running_first steps (after step s) goes in
     then_moved _ _ (parts_of s) (parts_of (after step s)) (parts_of (after_all steps (after step s)))
-    (moves_on step s r k.0 responds.0 next)
-    (run_moves steps (after step s) (roles_on step s r responds.0 next) k.1 responds.1 goes)
+    (moves_on step s r (k []) responds.0 next)
+    (run_moves steps (after step s) (roles_on step s r responds.0 next) (λ done. k (step ∷ done)) responds.1 goes)
 
 pub run_roles : (steps : List JointStep) (s : Joint) → AreOfRoles s → AllRespond steps → is_running (after_all steps s) ≡ true → AreOfRoles (after_all steps s)
 run_roles [] s r responds goes = r

@@ -18,7 +18,7 @@ use Rattle.joint_exchanges.specs.JointMoves
 use Rattle.joint_exchanges.specs.JointMoves.{does, host_does, keeps, kept_taken, moves_of, sends, takes, terminates_if}
 use Rattle.joint_exchanges.specs.Moves.{is_some_version}
 use Rattle.joint_exchanges.specs.Parts.{ExchangeParts, exchanges_at, parts_of, pdu_kept, pdu_of_outgoing, pdu_on}
-use Rattle.joint_exchanges.specs.Premises.{KeepsForLater}
+use Rattle.joint_exchanges.proofs.CentralKeeps.{KeepsForLater}
 use Rattle.joint_exchanges.specs.SentByRole.{IsEndOf}
 use Rattle.joint_exchanges.proofs.EndSteps.{Makes, acked_makes, answers_make, asks_makes, disconnects_make, enters_makes, is_request, key_makes, no_key_makes, phased_is}
 use Rattle.joint_exchanges.proofs.EndTakes.{sends_makes}

@@ -17,7 +17,7 @@ use Rattle.joint_exchanges.specs.JointMoves
 use Rattle.joint_exchanges.specs.JointMoves.{keeps as keeps_moves, kept_taken, moves_of, takes}
 use Rattle.joint_exchanges.specs.Moves.{IsFirst}
 use Rattle.joint_exchanges.specs.Parts.{AnyPdu, ExchangeParts, exchanges_at, of_lengths, of_versions, parts_of, pdu_kept, pdu_of_first, pdu_of_outgoing}
-use Rattle.joint_exchanges.specs.Premises.{KeepsForLater}
+use Rattle.joint_exchanges.proofs.CentralKeeps.{KeepsForLater}
 use Rattle.joint_exchanges.specs.SentByRole.{IsEndOf, IsKeptBy, IsResponse, IsSentBy, IsWayOf}
 use Rattle.joint_exchanges.proofs.JointSteps.{Runs}
 use Rattle.joint_exchanges.proofs.EndRoles.{ciphered_end, handed_end}

@@ -1,4 +1,5 @@
 -- The lemmas of this crate.
+pub mod CentralKeeps
 pub mod Ciphered
 pub mod Counting
 pub mod EndRoles

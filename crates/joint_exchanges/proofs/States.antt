@@ -44,10 +44,10 @@ module _ (central_rx peripheral_rx : ℕ) (first : Params) (slot : ℕ) (steps :
     -- ---- an exchange of a question and an answer
 
     asked_run : (asked : Asked) → (events : List ExchangeEvent) × (asked_link asked s ≡ run exchanges events)
-    asked_run Features = (events_of features_event moves, features_now central_rx peripheral_rx first slot steps run_on.responds run_on.keeps run_on.goes)
+    asked_run Features = (events_of features_event moves, features_now central_rx peripheral_rx first slot steps run_on.responds run_on.goes)
     asked_run Lengths =
         let part = parts central_rx peripheral_rx (events_of lengths_event moves) in
-        (part.0, ap exchange_link (lengths_now central_rx peripheral_rx first slot steps run_on.responds run_on.keeps run_on.goes) ∙ part.1)
+        (part.0, ap exchange_link (lengths_now central_rx peripheral_rx first slot steps run_on.responds run_on.goes) ∙ part.1)
 
     stage_is : (asked : Asked) (role : Role) → (ExchangeRun.end_of role (asked_link asked s)).own ≡ stage_at asked (end_at role s)
     stage_is Features Central = refl
@@ -139,7 +139,7 @@ module _ (central_rx peripheral_rx : ℕ) (first : Params) (slot : ℕ) (steps :
     version_events = events_of versions_event moves
 
     version_path : versions_link (parts_of s) ≡ run versions (events_of versions_event moves)
-    version_path = versions_now central_rx peripheral_rx first slot steps run_on.responds run_on.keeps run_on.goes
+    version_path = versions_now central_rx peripheral_rx first slot steps run_on.responds run_on.goes
 
     count_same : (b : Bool) → count_if b ≡ Waiting.count_if b
     count_same true = refl
@@ -228,7 +228,7 @@ module _ (central_rx peripheral_rx : ℕ) (first : Params) (slot : ℕ) (steps :
     -- ---- the exchange of lengths
 
     length_path : lengths_link (maxima_after_all moves none_sent) (parts_of s) ≡ run (length_exchanges central_rx peripheral_rx) (events_of lengths_event moves)
-    length_path = lengths_now central_rx peripheral_rx first slot steps run_on.responds run_on.keeps run_on.goes
+    length_path = lengths_now central_rx peripheral_rx first slot steps run_on.responds run_on.goes
 
     pub length_stays : (role : Role) → (end_at role s).control.table.lengths.own_rx ≡ first_rx_at role central_rx peripheral_rx
     length_stays Central = ap (λ (l : LengthLink). l.central.lengths.own_rx) length_path ∙ stays central_rx peripheral_rx (events_of lengths_event moves) Central (none_ever moves)

@@ -4,7 +4,6 @@ pub mod JointMoves
 pub mod Machines
 pub mod Moves
 pub mod Parts
-pub mod Premises
 pub mod Runs
 pub mod SentByRole
 pub mod Waiting
