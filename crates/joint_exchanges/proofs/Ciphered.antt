@@ -16,9 +16,10 @@ use Rattle.enc_phase.specs.Phases.{is_asked, may_follow, phase_after, phase_star
 use Rattle.enc_phase.specs.Taking.{ctrl_class}
 use Rattle.table_laws.specs.Encrypting.{has_encryption}
 use Rattle.exchange_steps.specs.Steps.{step_of_given}
+use Rattle.phased_control.specs.Ends.{IsResponse}
 use Rattle.phased_control.specs.Phased.{Phased, is_open_now, with_owed}
 use Rattle.phased_control.specs.Taken.{ciphered, ciphered_at, ciphered_at_central, ciphered_at_peripheral, moved_if, moved_to, refused_by, role_now}
-use Rattle.joint_exchanges.specs.SentByRole.{IsResponse, is_cipher_of}
+use Rattle.joint_exchanges.specs.SentByRole.{is_cipher_of}
 
 pub choice : {A : Type 0} (P : A → Type 0) (b : Bool) (x y : A) → P x → P y → P (if b then x else y)
 choice P true x y hx hy = hx

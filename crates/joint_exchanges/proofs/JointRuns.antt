@@ -6,8 +6,8 @@ use Rattle.joint_controls.specs.Joint.{CentralAcked, CentralEnters, CentralHost,
 use Rattle.joint_exchanges.specs.JointMoves.{moves_of}
 use Rattle.joint_exchanges.specs.Parts.{parts_of}
 use Rattle.joint_exchanges.proofs.CentralKeeps.{KeepsForLater}
-use Rattle.joint_exchanges.specs.Runs.{AllRespond, moves_in}
-use Rattle.joint_exchanges.specs.SentByRole.{AreOfRoles, Responds}
+use Rattle.joint_exchanges.specs.Runs.{AllBefore, AllRespond, moves_in}
+use Rattle.joint_exchanges.specs.SentByRole.{AreOfRoles, HaveMeaning, Responds}
 use Rattle.joint_exchanges.proofs.JointRoles.{roles_after}
 use Rattle.joint_exchanges.proofs.JointSteps.{Runs, central_acked, central_enters, central_hosts, central_sends_data, central_sends_one, peripheral_acked, peripheral_enters, peripheral_fixes_data, peripheral_fixes_one, peripheral_hosts, peripheral_sends_one, runs_of}
 use Rattle.joint_exchanges.proofs.JointTakes.{central_takes_way, peripheral_takes_way}
@@ -15,7 +15,7 @@ use Rattle.joint_exchanges.proofs.PartMoves.{IsMoved, then_moved, unmoved}
 
 -- ---- a step that may come, and after which the run goes on
 
-pub step_moves : (step : JointStep) (s : Joint) → AreOfRoles s → KeepsForLater s.central → Responds step → Runs s → may_act step s ≡ true → Runs (act step s)
+pub step_moves : (step : JointStep) (s : Joint) → AreOfRoles true s → KeepsForLater s.central → Responds step → Runs s → may_act step s ≡ true → Runs (act step s)
     → IsMoved (moves_of step s) (parts_of s) (parts_of (act step s))
 step_moves (CentralEnters slot) s r k responds runs may goes = central_enters s slot runs.central k
 step_moves (CentralHost step) s r k responds runs may goes = central_hosts s step runs.central may
@@ -51,14 +51,18 @@ pub running_first : (steps : List JointStep) (s : Joint) → is_running (after_a
 running_first [] s goes = goes
 running_first (step ∷ steps) s goes = running_before step s (running_first steps (after step s) goes)
 
-pub roles_on : (step : JointStep) (s : Joint) → AreOfRoles s → Responds step → is_running (after step s) ≡ true → AreOfRoles (after step s)
-roles_on step s r responds goes = by (may step s) refl goes
+pub roles_on : (unknowns : Bool) (step : JointStep) (s : Joint) → AreOfRoles unknowns s → Responds step → (is_running s ≡ true → unknowns ≡ false → HaveMeaning s)
+    → is_running (after step s) ≡ true → AreOfRoles unknowns (after step s)
+roles_on unknowns step s r responds means goes = by (may step s) refl goes
   where
-    by : (b : Bool) → may step s ≡ b → is_running (if b then act step s else s) ≡ true → AreOfRoles (if b then act step s else s)
-    by true is goes = roles_after step s r responds (runs_of (act step s) goes)
+    by : (b : Bool) → may step s ≡ b → is_running (if b then act step s else s) ≡ true → AreOfRoles unknowns (if b then act step s else s)
+    by true is goes = roles_after unknowns step s r responds (means (and_parts (is_running s) (may_act step s) is).0) (runs_of (act step s) goes)
     by false is goes = r
 
-moves_on : (step : JointStep) (s : Joint) → AreOfRoles s → KeepsForLater s.central → Responds step → is_running (after step s) ≡ true
+no_meaning : (s : Joint) → is_running s ≡ true → true ≡ false → HaveMeaning s
+no_meaning s goes is = absurd (cc)
+
+moves_on : (step : JointStep) (s : Joint) → AreOfRoles true s → KeepsForLater s.central → Responds step → is_running (after step s) ≡ true
     → IsMoved (if may step s then moves_of step s else []) (parts_of s) (parts_of (after step s))
 moves_on step s r k responds goes = by (may step s) refl goes
   where
@@ -71,22 +75,23 @@ moves_on step s r k responds goes = by (may step s) refl goes
 
 -- ---- a run
 
-pub run_moves : (steps : List JointStep) (s : Joint) → AreOfRoles s → ((done : List JointStep) → KeepsForLater (after_all done s).central) → AllRespond steps → is_running (after_all steps s) ≡ true
+pub run_moves : (steps : List JointStep) (s : Joint) → AreOfRoles true s → ((done : List JointStep) → KeepsForLater (after_all done s).central) → AllRespond steps → is_running (after_all steps s) ≡ true
     → IsMoved (moves_in steps s) (parts_of s) (parts_of (after_all steps s))
 run_moves [] s r k responds goes = unmoved (parts_of s) (parts_of s) refl
 run_moves (step ∷ steps) s r k responds goes =
     let next = running_first steps (after step s) goes in
     then_moved _ _ (parts_of s) (parts_of (after step s)) (parts_of (after_all steps (after step s)))
     (moves_on step s r (k []) responds.0 next)
-    (run_moves steps (after step s) (roles_on step s r responds.0 next) (λ done. k (step ∷ done)) responds.1 goes)
+    (run_moves steps (after step s) (roles_on true step s r responds.0 (no_meaning s) next) (λ done. k (step ∷ done)) responds.1 goes)
 
-pub run_roles : (steps : List JointStep) (s : Joint) → AreOfRoles s → AllRespond steps → is_running (after_all steps s) ≡ true → AreOfRoles (after_all steps s)
-run_roles [] s r responds goes = r
-run_roles (step ∷ steps) s r responds goes =
-    run_roles steps (after step s) (roles_on step s r responds.0 (running_first steps (after step s) goes)) responds.1 goes
+pub run_roles : (unknowns : Bool) (steps : List JointStep) (s : Joint) → AreOfRoles unknowns s → AllRespond steps → AllBefore (λ t. unknowns ≡ false → HaveMeaning t) steps s
+    → is_running (after_all steps s) ≡ true → AreOfRoles unknowns (after_all steps s)
+run_roles unknowns [] s r responds means goes = r
+run_roles unknowns (step ∷ steps) s r responds means goes =
+    run_roles unknowns steps (after step s) (roles_on unknowns step s r responds.0 means.0 (running_first steps (after step s) goes)) responds.1 means.1 goes
 
-pub first_roles : (central_rx peripheral_rx : ℕ) (first : Params) (slot : ℕ) → AreOfRoles (beginning central_rx peripheral_rx first slot)
-first_roles central_rx peripheral_rx first slot =
+pub first_roles : (unknowns : Bool) (central_rx peripheral_rx : ℕ) (first : Params) (slot : ℕ) → AreOfRoles unknowns (beginning central_rx peripheral_rx first slot)
+first_roles unknowns central_rx peripheral_rx first slot =
     record {
       central = record { table = record { same_role = refl; rejections = tt; drafts = tt }; request = tt; kept = tt; asks = tt };
       peripheral = record { table = record { same_role = refl; rejections = tt; drafts = tt }; request = tt; kept = tt; asks = tt };

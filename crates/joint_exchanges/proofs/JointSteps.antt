@@ -113,14 +113,14 @@ module _ (s : Joint) where
   taken_none (Taken item) is = refl
   taken_none way is = absurd (cc)
 
-  pub central_acked : s.central.control.ends ≡ None → is_taken s.down ≡ true → IsEndOf Central s.central → IsMoved [] p (parts_of (act CentralAcked s))
+  pub central_acked : s.central.control.ends ≡ None → is_taken s.down ≡ true → IsEndOf true Central s.central → IsMoved [] p (parts_of (act CentralAcked s))
   central_acked lasts taken e =
       let m = acked_makes s.central lasts (is_request Central s.central.request e.request) in
       unmoved p _
       ((λ i. parts_of (record s { central = phased_is SeesAcknowledged s.central lasts i; down = Clear }))
       ∙ (λ i. record p { central = m.ends i; central_knows = m.knows i; kept = pdu_kept (m.kept i); down = taken_none s.down taken i }))
 
-  pub peripheral_acked : s.peripheral.control.ends ≡ None → is_taken s.up ≡ true → IsEndOf Peripheral s.peripheral → IsMoved [] p (parts_of (act PeripheralAcked s))
+  pub peripheral_acked : s.peripheral.control.ends ≡ None → is_taken s.up ≡ true → IsEndOf true Peripheral s.peripheral → IsMoved [] p (parts_of (act PeripheralAcked s))
   peripheral_acked lasts taken e =
       let m = acked_makes s.peripheral lasts (is_request Peripheral s.peripheral.request e.request) in
       unmoved p _

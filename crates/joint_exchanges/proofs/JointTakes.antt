@@ -10,6 +10,7 @@ use Rattle.enc_phase.specs.declared.classes.PduClass.TheVariants.{Request}
 use Rattle.enc_phase.specs.Taking.{allows, ctrl_class}
 use Rattle.procedure_values.specs.declared.drafts.Outgoing.{Outgoing}
 use Rattle.exchange_pairs.specs.Exchange.{Question}
+use Rattle.phased_control.specs.Ends.{IsResponse}
 use Rattle.phased_control.specs.Phased.{Phased, is_quiet_now}
 use Rattle.phased_control.specs.Taken.{Takes, TakesData, answered_if_quiet, answered_kept, ciphered, does_keep, is_allowed, keeping, keeps_class, phased_after, role_now, took}
 use Rattle.joint_controls.specs.Joint.{Clear, Control, Data, Fixed, Joint, OnAir, Taken, Way, CentralTakes, PeripheralTakes, act, is_terminate, item_on_air}
@@ -18,7 +19,7 @@ use Rattle.joint_exchanges.specs.JointMoves.{keeps as keeps_moves, kept_taken, m
 use Rattle.joint_exchanges.specs.Moves.{IsFirst}
 use Rattle.joint_exchanges.specs.Parts.{AnyPdu, ExchangeParts, exchanges_at, of_lengths, of_versions, parts_of, pdu_kept, pdu_of_first, pdu_of_outgoing}
 use Rattle.joint_exchanges.proofs.CentralKeeps.{KeepsForLater}
-use Rattle.joint_exchanges.specs.SentByRole.{IsEndOf, IsKeptBy, IsResponse, IsSentBy, IsWayOf}
+use Rattle.joint_exchanges.specs.SentByRole.{IsEndOf, IsKeptBy, IsSentBy, IsWayOf}
 use Rattle.joint_exchanges.proofs.JointSteps.{Runs}
 use Rattle.joint_exchanges.proofs.EndRoles.{ciphered_end, handed_end}
 use Rattle.joint_exchanges.proofs.EndSteps.{Makes, phased_is}
@@ -130,27 +131,27 @@ module _ (s : Joint) (slot : ℕ) (outgoing : Outgoing) (ctrl : Ctrl) (sealed : 
         (kept_goes (pdu_of_first first) between (with_end (answered_kept slot (Some first) v)) (ap pdu_kept (sym same_kept ∙ is)) (first_is first)
         (λ i. record between { central = two.ends i; central_knows = two.knows i; kept = None })))
 
-    goes_on_by : (quiet : Bool) (kept : Option Ctrl) → v.kept ≡ kept → IsEndOf Central v → (if quiet then answered_kept slot kept v else v).control.ends ≡ None
+    goes_on_by : (quiet : Bool) (kept : Option Ctrl) → v.kept ≡ kept → IsEndOf true Central v → (if quiet then answered_kept slot kept v else v).control.ends ≡ None
         → Goes s.central.kept (if quiet then answered_kept slot kept v else v)
     goes_on_by false kept is e goes = stays
     goes_on_by true None is e goes = stays
     goes_on_by true (Some first) is e goes =
         answers first is (kept_takes slot first v e.table.same_role (subst (λ (x : Option Ctrl). IsKeptBy Central x) is e.kept) goes)
 
-  goes_handed : (t : Phased) → IsEndOf Central s.central → IsSentBy Peripheral outgoing ctrl → IsRead s.central.control.table outgoing ctrl
+  goes_handed : (t : Phased) → IsEndOf true Central s.central → IsSentBy true Peripheral outgoing ctrl → IsRead s.central.control.table outgoing ctrl
       → s.central.control.ends ≡ None → (read s.central).control.ends ≡ None
       → t ≡ answered_if_quiet slot (ciphered (TerminateInd 0) (Known ctrl) (read s.central)) → t.control.ends ≡ None → Goes s.central.kept t
   goes_handed t e sent is open_now lasts same goes =
       subst (λ (x : Phased). Goes s.central.kept x) (sym same)
       (goes_on_by v (record { ends = none.ends ∙ h.ends; knows = none.knows ∙ h.knows }) none.kept (is_quiet_now v) v.kept refl
-      (ciphered_end Central slot (TerminateInd 0) (Known ctrl) s.central e known tt)
+      (ciphered_end true Central slot (TerminateInd 0) (Known ctrl) s.central e known (λ is. refl) tt)
       (ap (λ (x : Phased). x.control.ends) (sym same) ∙ goes))
     where
       v : Phased
       v = ciphered (TerminateInd 0) (Known ctrl) (read s.central)
 
       known : IsKnownAt Central ctrl
-      known = sent_known Peripheral outgoing ctrl sent
+      known = sent_known true Peripheral outgoing ctrl sent
 
       h : TakesOf pdu s.central (read s.central)
       h = handed_takes Central slot (TerminateInd 0) ctrl outgoing s.central is open_now lasts
@@ -158,14 +159,14 @@ module _ (s : Joint) (slot : ℕ) (outgoing : Outgoing) (ctrl : Ctrl) (sealed : 
       none : Makes None (read s.central) v
       none =
           ciphered_none Central slot (TerminateInd 0) ctrl outgoing s.central
-          (handed_end Central slot (TerminateInd 0) (Known ctrl) s.central e known).table.same_role tt
+          (handed_end true Central slot (TerminateInd 0) (Known ctrl) s.central e known (λ is. refl)).table.same_role tt
 
-  goes_as : (t : Phased) → TookAs slot (TerminateInd 0) (Known ctrl) s.central t → KeepsForLater s.central → IsEndOf Central s.central → IsSentBy Peripheral outgoing ctrl
+  goes_as : (t : Phased) → TookAs slot (TerminateInd 0) (Known ctrl) s.central t → KeepsForLater s.central → IsEndOf true Central s.central → IsSentBy true Peripheral outgoing ctrl
       → (IsTerminate ctrl → ⊥) → s.central.control.ends ≡ None → t.control.ends ≡ None → Goes s.central.kept t
   goes_as t (keeps kept allowed same) k e sent lasting open_now goes =
-      goes_kept t kept allowed same k (read_as_sent s.central.control.table Peripheral outgoing ctrl e.table.same_role sent lasting)
+      goes_kept t kept allowed same k (read_as_sent true s.central.control.table Peripheral outgoing ctrl e.table.same_role sent lasting)
   goes_as t (hands kept lasts same) k e sent lasting open_now goes =
-      goes_handed t e sent (read_as_sent s.central.control.table Peripheral outgoing ctrl e.table.same_role sent lasting) open_now lasts same goes
+      goes_handed t e sent (read_as_sent true s.central.control.table Peripheral outgoing ctrl e.table.same_role sent lasting) open_now lasts same goes
 
 -- ---- the central takes what is on its way
 
@@ -191,7 +192,7 @@ module _ (s : Joint) (slot : ℕ) where
       (subst (λ moves. IsMoved moves (parts_of (record s { up = OnAir Data sealed })) (parts_of (record s { up = OnAir Data sealed })))
       (sym (data_moves s.central.kept)) (unmoved _ _ refl))
 
-  central_takes_ctrl : (outgoing : Outgoing) (ctrl : Ctrl) (sealed : Bool) → KeepsForLater s.central → IsEndOf Central s.central → IsSentBy Peripheral outgoing ctrl
+  central_takes_ctrl : (outgoing : Outgoing) (ctrl : Ctrl) (sealed : Bool) → KeepsForLater s.central → IsEndOf true Central s.central → IsSentBy true Peripheral outgoing ctrl
       → is_terminate ctrl ≡ false → s.central.control.ends ≡ None → (phased_after (Takes (Known ctrl) slot (TerminateInd 0)) s.central).control.ends ≡ None
       → IsMoved (moves_of (CentralTakes slot) (record s { up = OnAir (Control outgoing ctrl) sealed })) (parts_of (record s { up = OnAir (Control outgoing ctrl) sealed }))
       (parts_of (act (CentralTakes slot) (record s { up = OnAir (Control outgoing ctrl) sealed })))
@@ -204,7 +205,7 @@ module _ (s : Joint) (slot : ℕ) where
       (goes_as s slot outgoing ctrl sealed (took slot (TerminateInd 0) (Known ctrl) s.central) (took_as slot (TerminateInd 0) (Known ctrl) s.central goes_on)
       k e sent (terminate_is ctrl lasting) lasts goes_on)
 
-  pub central_takes_way : (way : Way) → is_some (item_on_air way) ≡ true → IsWayOf Peripheral way → KeepsForLater s.central → IsEndOf Central s.central
+  pub central_takes_way : (way : Way) → is_some (item_on_air way) ≡ true → IsWayOf true Peripheral way → KeepsForLater s.central → IsEndOf true Central s.central
       → s.central.control.ends ≡ None → Runs (act (CentralTakes slot) (record s { up = way }))
       → IsMoved (moves_of (CentralTakes slot) (record s { up = way })) (parts_of (record s { up = way })) (parts_of (act (CentralTakes slot) (record s { up = way })))
   central_takes_way (OnAir Data sealed) some of k e lasts runs = central_takes_data sealed lasts runs.central
@@ -234,13 +235,13 @@ module _ (s : Joint) (slot : ℕ) (response : Ctrl) where
   answered_none true (Some first) v is = absurd is
   answered_none false kept v is = refl
 
-  module _ (outgoing : Outgoing) (ctrl : Ctrl) (sealed : Bool) (e : IsEndOf Peripheral s.peripheral) (sent : IsSentBy Central outgoing ctrl)
+  module _ (outgoing : Outgoing) (ctrl : Ctrl) (sealed : Bool) (e : IsEndOf true Peripheral s.peripheral) (sent : IsSentBy true Central outgoing ctrl)
       (responds : IsResponse response) (open_now : s.peripheral.control.ends ≡ None) (lasting : IsTerminate ctrl → ⊥) where
     abbrev joint_p : Joint
     joint_p = record s { down = OnAir (Control outgoing ctrl) sealed }
 
     known_p : IsKnownAt Peripheral ctrl
-    known_p = sent_known Central outgoing ctrl sent
+    known_p = sent_known true Central outgoing ctrl sent
 
     peripheral_takes_of : (t : Phased) → TookAs slot response (Known ctrl) s.peripheral t → TakesOf (pdu_of_outgoing outgoing) s.peripheral t
     peripheral_takes_of t (keeps kept allowed same) =
@@ -253,18 +254,18 @@ module _ (s : Joint) (slot : ℕ) (response : Ctrl) where
         v : Phased
         v = ciphered response (Known ctrl) (handed slot (Known ctrl) s.peripheral)
 
-        v_end : IsEndOf Peripheral v
-        v_end = ciphered_end Peripheral slot response (Known ctrl) s.peripheral e known_p responds
+        v_end : IsEndOf true Peripheral v
+        v_end = ciphered_end true Peripheral slot response (Known ctrl) s.peripheral e known_p (λ is. refl) responds
 
         h : TakesOf (pdu_of_outgoing outgoing) s.peripheral (handed slot (Known ctrl) s.peripheral)
         h =
             handed_takes Peripheral slot response ctrl outgoing s.peripheral
-            (read_as_sent s.peripheral.control.table Central outgoing ctrl e.table.same_role sent lasting) open_now lasts
+            (read_as_sent true s.peripheral.control.table Central outgoing ctrl e.table.same_role sent lasting) open_now lasts
 
         none : Makes None (handed slot (Known ctrl) s.peripheral) v
         none =
             ciphered_none Peripheral slot response ctrl outgoing s.peripheral
-            (handed_end Peripheral slot response (Known ctrl) s.peripheral e known_p).table.same_role responds
+            (handed_end true Peripheral slot response (Known ctrl) s.peripheral e known_p (λ is. refl)).table.same_role responds
 
     peripheral_takes_ctrl : (phased_after (Takes (Known ctrl) slot response) s.peripheral).control.ends ≡ None
         → IsMoved (takes Peripheral (pdu_of_outgoing outgoing)) (parts_of joint_p) (parts_of (act (PeripheralTakes slot response) joint_p))
@@ -276,7 +277,7 @@ module _ (s : Joint) (slot : ℕ) (response : Ctrl) where
         ((λ i. parts_of (record s { peripheral = same i; down = Clear }))
         ∙ (λ i. record (parts_of joint_p) { peripheral = one.ends i; peripheral_knows = one.knows i; down = None }))
 
-  pub peripheral_takes_way : (way : Way) → is_some (item_on_air way) ≡ true → IsWayOf Central way → IsEndOf Peripheral s.peripheral → IsResponse response
+  pub peripheral_takes_way : (way : Way) → is_some (item_on_air way) ≡ true → IsWayOf true Central way → IsEndOf true Peripheral s.peripheral → IsResponse response
       → s.peripheral.control.ends ≡ None → Runs (act (PeripheralTakes slot response) (record s { down = way }))
       → IsMoved (moves_of (PeripheralTakes slot response) (record s { down = way })) (parts_of (record s { down = way }))
       (parts_of (act (PeripheralTakes slot response) (record s { down = way })))

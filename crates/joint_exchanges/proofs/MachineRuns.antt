@@ -83,7 +83,7 @@ module _ (central_rx peripheral_rx : ℕ) (first : Params) (slot : ℕ) (steps :
 
   module _ (responds : AllRespond steps) (goes : is_running now ≡ true) where
     pub moved : IsMoved moves (parts_of start) (parts_of now)
-    moved = run_moves steps start (first_roles central_rx peripheral_rx first slot) (central_keeps central_rx peripheral_rx first slot) responds goes
+    moved = run_moves steps start (first_roles true central_rx peripheral_rx first slot) (central_keeps central_rx peripheral_rx first slot) responds goes
 
     pub features_now : features_link (parts_of now) ≡ run exchanges (events_of features_event moves)
     features_now = ap features_link moved.goes ∙ features_run moves (parts_of start) moved.may

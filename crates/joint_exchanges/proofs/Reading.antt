@@ -1,6 +1,7 @@
 -- A PDU that an end sent is read at the other end as it was sent: as the step of an exchange that takes it, or as none.
 use Rattle.std.proofs.Common.{◌≡◌, ◌⊎◌, inl, inr, ℕ, ◌==◌, Bool, true, false, ◌||◌, List, Option, Some, None, if◌then◌else◌, refl, ap, sym, ◌∙◌, subst, eqb-true}
 use Rattle.std.specs.Bool.{⊤}
+use Rattle.std.proofs.lemmas.Bool.{and_parts}
 use Rattle.ble_base.specs.declared.roles.Role.{Role}
 use Rattle.ble_base.specs.declared.roles.Role.TheVariants.{Central as central_role, Peripheral as peripheral_role}
 use Rattle.data_pdu.specs.declared.ctrl.Ctrl.{Ctrl}
@@ -192,7 +193,7 @@ not_unknown_first HalfKeyed role is = absurd (cc)
 not_unknown_first (Pausing kept) role is = absurd (cc)
 not_unknown_first (HalfClear kept) role is = absurd (cc)
 
-module _ (f : TableFacts) where
+module _ (unknowns : Bool) (f : TableFacts) where
   abbrev at : Progress → TableFacts
   at p = record f { progress = p }
 
@@ -235,7 +236,7 @@ module _ (f : TableFacts) where
   no_class : (x : PduClass) → x ≡ other_class → x ≡ request_class → ⊥
   no_class x a b = cc
 
-  cipher_at_central : (c : Central) (ctrl : Ctrl) → is_outgoing_of peripheral_role (Other (Cipher ctrl)) ≡ true → (IsTerminate ctrl → ⊥)
+  cipher_at_central : (c : Central) (ctrl : Ctrl) → is_outgoing_of unknowns peripheral_role (Other (Cipher ctrl)) ≡ true → (IsTerminate ctrl → ⊥)
       → IsRead (at (central c)) (Other (Cipher ctrl)) ctrl
   cipher_at_central c (EncRsp skd_s iv_s) right lasts = of_none (central c) (Cipher (EncRsp skd_s iv_s)) (EncRsp skd_s iv_s) (λ is. cc) refl refl refl
   cipher_at_central c StartEncReq right lasts = of_none (central c) (Cipher StartEncReq) StartEncReq (λ is. cc) refl refl refl
@@ -250,7 +251,7 @@ module _ (f : TableFacts) where
   cipher_at_central c (TerminateInd code) right lasts = absurd (lasts tt)
   cipher_at_central c ctrl right lasts = absurd (cc)
 
-  cipher_at_peripheral : (p : Peripheral) (ctrl : Ctrl) → is_outgoing_of central_role (Other (Cipher ctrl)) ≡ true
+  cipher_at_peripheral : (p : Peripheral) (ctrl : Ctrl) → is_outgoing_of unknowns central_role (Other (Cipher ctrl)) ≡ true
       → IsRead (at (peripheral p)) (Other (Cipher ctrl)) ctrl
   cipher_at_peripheral p (EncReq rand ediv skd_m iv_m) right = of_none (peripheral p) (Cipher (EncReq rand ediv skd_m iv_m)) (EncReq rand ediv skd_m iv_m) (λ is. cc) refl refl refl
   cipher_at_peripheral p StartEncRsp right = of_none (peripheral p) (Cipher StartEncRsp) StartEncRsp (λ is. cc) refl refl refl
@@ -258,7 +259,7 @@ module _ (f : TableFacts) where
   cipher_at_peripheral p PauseEncRsp right = of_none (peripheral p) (Cipher PauseEncRsp) PauseEncRsp (λ is. cc) refl refl refl
   cipher_at_peripheral p ctrl right = absurd (cc)
 
-  draft_at_central : (c : Central) (draft : Draft) (event latency : ℕ) → is_outgoing_of peripheral_role (Other draft) ≡ true
+  draft_at_central : (c : Central) (draft : Draft) (event latency : ℕ) → is_outgoing_of unknowns peripheral_role (Other draft) ≡ true
       → (IsTerminate (ctrl_of_draft draft event latency) → ⊥) → IsRead (at (central c)) (Other draft) (ctrl_of_draft draft event latency)
   draft_at_central c (Request min max latency timeout) event skips right lasts = of_first (central c) _ _ refl refl refl refl
   draft_at_central c PhyReq event skips right lasts = of_first (central c) _ _ refl refl refl refl
@@ -269,11 +270,11 @@ module _ (f : TableFacts) where
   draft_at_central c (LengthReq rx tx) event skips right lasts = of_first (central c) _ _ refl refl refl refl
   draft_at_central c (LengthRsp rx tx) event skips right lasts = of_other (central c) _ _ refl refl refl
   draft_at_central c (UnknownRsp opcode) event skips right lasts =
-      of_other (central c) _ _ refl (unknown_none (at (central c)) opcode (cipher_apart opcode right)) refl
+      of_other (central c) _ _ refl (unknown_none (at (central c)) opcode (cipher_apart opcode (and_parts unknowns (is_cipher_opcode opcode) right).1)) refl
   draft_at_central c (Cipher ctrl) event skips right lasts = cipher_at_central c ctrl right lasts
   draft_at_central c draft event skips right lasts = absurd (cc)
 
-  draft_at_peripheral : (p : Peripheral) (draft : Draft) (event latency : ℕ) → is_outgoing_of central_role (Other draft) ≡ true
+  draft_at_peripheral : (p : Peripheral) (draft : Draft) (event latency : ℕ) → is_outgoing_of unknowns central_role (Other draft) ≡ true
       → IsRead (at (peripheral p)) (Other draft) (ctrl_of_draft draft event latency)
   draft_at_peripheral p (Update params) event skips right = of_other (peripheral p) _ _ refl refl refl
   draft_at_peripheral p (Grant params) event skips right = of_other (peripheral p) _ _ refl refl refl
@@ -286,13 +287,13 @@ module _ (f : TableFacts) where
   draft_at_peripheral p (LengthReq rx tx) event skips right = of_first (peripheral p) _ _ refl refl refl refl
   draft_at_peripheral p (LengthRsp rx tx) event skips right = of_other (peripheral p) _ _ refl refl refl
   draft_at_peripheral p (UnknownRsp opcode) event skips right =
-      of_other (peripheral p) _ _ refl (unknown_none (at (peripheral p)) opcode (cipher_apart opcode right)) refl
+      of_other (peripheral p) _ _ refl (unknown_none (at (peripheral p)) opcode (cipher_apart opcode (and_parts unknowns (is_cipher_opcode opcode) right).1)) refl
   draft_at_peripheral p (Cipher ctrl) event skips right = cipher_at_peripheral p ctrl right
   draft_at_peripheral p draft event skips right = absurd (cc)
 
   -- ---- whatever is sent
 
-  rejection_at_peripheral : (p : Peripheral) (rejection : TheRejection) → is_outgoing_of central_role (Rejection rejection) ≡ true
+  rejection_at_peripheral : (p : Peripheral) (rejection : TheRejection) → is_outgoing_of unknowns central_role (Rejection rejection) ≡ true
       → IsRead (at (peripheral p)) (Rejection rejection) (RejectExtInd rejection.opcode rejection.code.0)
   rejection_at_peripheral p rejection right =
       record {
@@ -310,7 +311,7 @@ module _ (f : TableFacts) where
   some_is x y is = cc
 
   read_by : (p : Progress) (role : Role) (outgoing : Outgoing) (ctrl : Ctrl) (event latency : ℕ) → role_of p ≡ other_role role
-      → is_outgoing_of role outgoing ≡ true → ctrl_of_outgoing outgoing event latency ≡ Some ctrl → (IsTerminate ctrl → ⊥) → IsRead (at p) outgoing ctrl
+      → is_outgoing_of unknowns role outgoing ≡ true → ctrl_of_outgoing outgoing event latency ≡ Some ctrl → (IsTerminate ctrl → ⊥) → IsRead (at p) outgoing ctrl
   read_by p role Nothing ctrl event latency r right is lasts = absurd (cc)
   read_by p role (Disconnect code) ctrl event latency r right is lasts = absurd (lasts (subst IsTerminate (some_is _ ctrl is) tt))
   read_by (central c) peripheral_role (Other draft) ctrl event latency r right is lasts =
@@ -325,6 +326,6 @@ module _ (f : TableFacts) where
   read_by (peripheral p) peripheral_role outgoing ctrl event latency r right is lasts = absurd (cc)
   read_by (central c) peripheral_role (Rejection rejection) ctrl event latency r right is lasts = absurd (cc)
 
-pub read_as_sent : (f : TableFacts) (role : Role) (outgoing : Outgoing) (ctrl : Ctrl) → role_of f.progress ≡ other_role role
-    → IsSentBy role outgoing ctrl → (IsTerminate ctrl → ⊥) → IsRead f outgoing ctrl
-read_as_sent f role outgoing ctrl r sent lasts = read_by f f.progress role outgoing ctrl sent.event sent.latency r sent.right sent.is lasts
+pub read_as_sent : (unknowns : Bool) (f : TableFacts) (role : Role) (outgoing : Outgoing) (ctrl : Ctrl) → role_of f.progress ≡ other_role role
+    → IsSentBy unknowns role outgoing ctrl → (IsTerminate ctrl → ⊥) → IsRead f outgoing ctrl
+read_as_sent unknowns f role outgoing ctrl r sent lasts = read_by unknowns f f.progress role outgoing ctrl sent.event sent.latency r sent.right sent.is lasts

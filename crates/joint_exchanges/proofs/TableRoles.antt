@@ -62,8 +62,8 @@ use Rattle.table_laws.proofs.Begun.{begins_of}
 use Rattle.table_laws.proofs.Outcomes.{Took, is_reply, took}
 use Rattle.joint_exchanges.specs.SentByRole.{IsTableOf, is_cipher_of, is_cipher_opcode, is_draft_of, is_outgoing_of, is_rejection_of}
 
-abbrev pub AreDrafts : Role → List Draft → Type 0
-AreDrafts role drafts = AllByRecursion (λ (draft : Draft). is_draft_of role draft ≡ true) drafts
+abbrev pub AreDrafts : Bool → Role → List Draft → Type 0
+AreDrafts unknowns role drafts = AllByRecursion (λ (draft : Draft). is_draft_of unknowns role draft ≡ true) drafts
 
 abbrev pub AreRejections : Role → List TheRejection → Type 0
 AreRejections role rejections = AllByRecursion (λ (rejection : TheRejection). is_rejection_of role rejection ≡ true) rejections
@@ -72,10 +72,10 @@ push : {X : Type 0} (P : X → Type 0) (xs : List X) (x : X) → AllByRecursion 
 push P [] x all h = (h, all)
 push P (first ∷ xs) x all h = (all.0, push P xs x all.1 h)
 
-module _ (role : Role) where
-  with_drafts : (b : Bool) (queue : QueueFacts) (draft : Draft) → AreDrafts role queue.drafts → (b ≡ true → is_draft_of role draft ≡ true)
-      → AreDrafts role (if b then record queue { drafts = queue.drafts ++ draft ∷ [] } else queue).drafts
-  with_drafts true queue draft all is = push (λ (d : Draft). is_draft_of role d ≡ true) queue.drafts draft all (is refl)
+module _ (unknowns : Bool) (role : Role) where
+  with_drafts : (b : Bool) (queue : QueueFacts) (draft : Draft) → AreDrafts unknowns role queue.drafts → (b ≡ true → is_draft_of unknowns role draft ≡ true)
+      → AreDrafts unknowns role (if b then record queue { drafts = queue.drafts ++ draft ∷ [] } else queue).drafts
+  with_drafts true queue draft all is = push (λ (d : Draft). is_draft_of unknowns role d ≡ true) queue.drafts draft all (is refl)
   with_drafts false queue draft all is = all
 
   same_rejections : (b : Bool) (queue : QueueFacts) (draft : Draft) → AreRejections role queue.rejections
@@ -88,8 +88,8 @@ module _ (role : Role) where
   with_rejections true queue rejection all is = push (λ (r : TheRejection). is_rejection_of role r ≡ true) queue.rejections rejection all is
   with_rejections false queue rejection all is = all
 
-  same_drafts : (b : Bool) (queue : QueueFacts) (rejection : TheRejection) → AreDrafts role queue.drafts
-      → AreDrafts role (if b then record queue { rejections = queue.rejections ++ rejection ∷ [] } else queue).drafts
+  same_drafts : (b : Bool) (queue : QueueFacts) (rejection : TheRejection) → AreDrafts unknowns role queue.drafts
+      → AreDrafts unknowns role (if b then record queue { rejections = queue.rejections ++ rejection ∷ [] } else queue).drafts
   same_drafts true queue rejection all = all
   same_drafts false queue rejection all = all
 
@@ -99,8 +99,8 @@ module _ (role : Role) where
   ended_queue false queue code P h = h
 
   -- a call that queues a draft, nothing, or a rejection
-  pub queues : (f g : TableFacts) (draft : Draft) → IsTableOf role f → role_of g.progress ≡ role → g.queue ≡ with_draft f.closing draft f.queue
-      → (is_open f.closing ≡ true → is_draft_of role draft ≡ true) → IsTableOf role g
+  pub queues : (f g : TableFacts) (draft : Draft) → IsTableOf unknowns role f → role_of g.progress ≡ role → g.queue ≡ with_draft f.closing draft f.queue
+      → (is_open f.closing ≡ true → is_draft_of unknowns role draft ≡ true) → IsTableOf unknowns role g
   queues f g draft s r is of_role =
       record {
         same_role = r;
@@ -108,11 +108,11 @@ module _ (role : Role) where
         drafts = rw is (with_drafts (is_open f.closing) f.queue draft s.drafts of_role);
       }
 
-  pub queues_none : (f g : TableFacts) → IsTableOf role f → role_of g.progress ≡ role → g.queue ≡ f.queue → IsTableOf role g
+  pub queues_none : (f g : TableFacts) → IsTableOf unknowns role f → role_of g.progress ≡ role → g.queue ≡ f.queue → IsTableOf unknowns role g
   queues_none f g s r is = record { same_role = r; rejections = rw is s.rejections; drafts = rw is s.drafts }
 
-  pub rejects : (f g : TableFacts) (rejection : TheRejection) → IsTableOf role f → role_of g.progress ≡ role
-      → g.queue ≡ with_rejection f.closing rejection f.queue → is_rejection_of role rejection ≡ true → IsTableOf role g
+  pub rejects : (f g : TableFacts) (rejection : TheRejection) → IsTableOf unknowns role f → role_of g.progress ≡ role
+      → g.queue ≡ with_rejection f.closing rejection f.queue → is_rejection_of role rejection ≡ true → IsTableOf unknowns role g
   rejects f g rejection s r is of_role =
       record {
         same_role = r;
@@ -120,19 +120,19 @@ module _ (role : Role) where
         drafts = rw is (same_drafts (is_open f.closing) f.queue rejection s.drafts);
       }
 
-  pub disconnects_keeps : (f : TableFacts) (code : ErrCode) (g : TableFacts) → IsTableOf role f → g.progress ≡ f.progress
-      → g.queue ≡ (if is_open f.closing then record f.queue { disconnect = Some code } else f.queue) → IsTableOf role g
+  pub disconnects_keeps : (f : TableFacts) (code : ErrCode) (g : TableFacts) → IsTableOf unknowns role f → g.progress ≡ f.progress
+      → g.queue ≡ (if is_open f.closing then record f.queue { disconnect = Some code } else f.queue) → IsTableOf unknowns role g
   disconnects_keeps f code g s p is =
       record {
         same_role = rw p s.same_role;
         rejections = rw is (ended_queue (is_open f.closing) f.queue code (λ rejections drafts. AreRejections role rejections) s.rejections);
-        drafts = rw is (ended_queue (is_open f.closing) f.queue code (λ rejections drafts. AreDrafts role drafts) s.drafts);
+        drafts = rw is (ended_queue (is_open f.closing) f.queue code (λ rejections drafts. AreDrafts unknowns role drafts) s.drafts);
       }
 
   -- ---- what is sent leaves the queue
 
-  draft_goes : (queue : QueueFacts) (draft : Draft) (rest : List Draft) → queue.drafts ≡ draft ∷ rest → AreDrafts role queue.drafts → AreDrafts role (remove queue.drafts 0)
-  draft_goes queue draft rest is all = let split : AreDrafts role (draft ∷ rest) = subst (AreDrafts role) is all in rw is split.1
+  draft_goes : (queue : QueueFacts) (draft : Draft) (rest : List Draft) → queue.drafts ≡ draft ∷ rest → AreDrafts unknowns role queue.drafts → AreDrafts unknowns role (remove queue.drafts 0)
+  draft_goes queue draft rest is all = let split : AreDrafts unknowns role (draft ∷ rest) = subst (AreDrafts unknowns role) is all in rw is split.1
 
   rejection_goes : (queue : QueueFacts) (rejection : TheRejection) (rest : List TheRejection) → queue.rejections ≡ rejection ∷ rest
       → AreRejections role queue.rejections → AreRejections role (remove queue.rejections 0)
@@ -140,17 +140,17 @@ module _ (role : Role) where
 
   pub record Goes (queue : QueueFacts) (outgoing : Outgoing) : Type 0 where
     pub rejections : AreRejections role (without_next outgoing queue).rejections
-    pub drafts : AreDrafts role (without_next outgoing queue).drafts
-    pub right : is_outgoing_of role outgoing ≡ true
+    pub drafts : AreDrafts unknowns role (without_next outgoing queue).drafts
+    pub right : is_outgoing_of unknowns role outgoing ≡ true
 
-  module _ (queue : QueueFacts) (rs : AreRejections role queue.rejections) (ds : AreDrafts role queue.drafts) where
+  module _ (queue : QueueFacts) (rs : AreRejections role queue.rejections) (ds : AreDrafts unknowns role queue.drafts) where
     none_goes : Goes queue Nothing
     none_goes = record { rejections = rs; drafts = ds; right = refl }
 
     by_draft : (draft : Draft) (rest : List Draft) (b : Bool) → queue.drafts ≡ draft ∷ rest → Goes queue (if b then Nothing else Other draft)
     by_draft draft rest true is = none_goes
     by_draft draft rest false is =
-        let split : AreDrafts role (draft ∷ rest) = subst (AreDrafts role) is ds in
+        let split : AreDrafts unknowns role (draft ∷ rest) = subst (AreDrafts unknowns role) is ds in
         record { rejections = rs; drafts = draft_goes queue draft rest is ds; right = split.0 }
 
     by_drafts : (progress : Progress) (event : ℕ) (drafts : List Draft) → queue.drafts ≡ drafts → Goes queue (next_draft progress event drafts)
@@ -171,16 +171,16 @@ module _ (role : Role) where
         let split : AreRejections role (rejection ∷ rest) = subst (AreRejections role) is rs in
         record { rejections = rejection_goes queue rejection rest is rs; drafts = ds; right = split.0 }
 
-  pub next_goes : (f : TableFacts) (event : ℕ) (quiet : Bool) → IsTableOf role f → Goes f.queue (next_of f event quiet)
+  pub next_goes : (f : TableFacts) (event : ℕ) (quiet : Bool) → IsTableOf unknowns role f → Goes f.queue (next_of f event quiet)
   next_goes f event quiet s =
       by_rejections f.queue s.rejections s.drafts f.queue.rejections _ refl
       (by_other f.queue s.rejections s.drafts f.progress event (is_disconnecting f.closing && quiet))
 
 -- ---- what answers a PDU: LL_UNKNOWN_RSP only for a PDU of the encryption
 
-abbrev IsKnownReply : Reply → Type 0
-IsKnownReply (Answer (UnknownRsp opcode)) = is_cipher_opcode opcode ≡ true
-IsKnownReply reply = ⊤
+abbrev IsKnownReply : Bool → Reply → Type 0
+IsKnownReply unknowns (Answer (UnknownRsp opcode)) = (unknowns && is_cipher_opcode opcode) ≡ true
+IsKnownReply unknowns reply = ⊤
 
 -- a PDU that the other end may send
 abbrev pub IsKnownAt : Role → Ctrl → Type 0
@@ -190,22 +190,26 @@ IsKnownAt central_role (ctrl_feature_req features) = ⊥
 IsKnownAt central_role (PhyUpdateInd to_peripheral to_central instant) = ⊥
 IsKnownAt peripheral_role (ctrl_feature_req_up features) = ⊥
 IsKnownAt peripheral_role (ConnectionParamReq min max latency timeout periodicity reference offsets) = ⊥
+IsKnownAt central_role (EncReq rand ediv skd_m iv_m) = ⊥
+IsKnownAt central_role PauseEncReq = ⊥
+IsKnownAt peripheral_role (EncRsp skd_s iv_s) = ⊥
+IsKnownAt peripheral_role StartEncReq = ⊥
 IsKnownAt role (ConnectionParamRsp min max latency timeout periodicity reference offsets) = ⊥
 IsKnownAt role ctrl = ⊤
 
 -- what is read comes from the other end, or has no meaning here
-abbrev pub IsKnownRead : Role → CtrlRead → Type 0
-IsKnownRead role (Known ctrl) = IsKnownAt role ctrl
-IsKnownRead role (Unknown opcode) = is_cipher_opcode opcode ≡ true
-IsKnownRead role Bare = ⊤
+abbrev pub IsKnownRead : Bool → Role → CtrlRead → Type 0
+IsKnownRead unknowns role (Known ctrl) = IsKnownAt role ctrl
+IsKnownRead unknowns role (Unknown opcode) = (unknowns && is_cipher_opcode opcode) ≡ true
+IsKnownRead unknowns role Bare = ⊤
 
 choice : {A : Type 0} (P : A → Type 0) (b : Bool) (x y : A) → P x → P y → P (if b then x else y)
 choice P true x y hx hy = hx
 choice P false x y hx hy = hy
 
-module _ (f : TableFacts) where
+module _ (unknowns : Bool) (f : TableFacts) where
   abbrev K : Outcome → Type 0
-  K o = IsKnownReply o.reply
+  K o = IsKnownReply unknowns o.reply
 
   either_known : (ctrl : Ctrl) → IsKnownAt central_role ctrl → K (taken_by_either f ctrl)
   either_known (TerminateInd code) is = tt
@@ -213,7 +217,7 @@ module _ (f : TableFacts) where
   either_known (ctrl_feature_rsp features) is = choice K (awaits_features (own_exchange f.progress)) _ (unchanged f) tt tt
   either_known (ctrl_version_ind version company sub) is = by f.version_used
     where
-      by : (used : Bool) → IsKnownReply (version_reply used)
+      by : (used : Bool) → IsKnownReply unknowns (version_reply used)
       by true = tt
       by false = tt
   either_known (RejectInd code) is = choice K _ (refused f _) (unchanged f) tt tt
@@ -247,9 +251,9 @@ module _ (f : TableFacts) where
   central_known : (c : Central) (quiet : Bool) (ctrl : Ctrl) → IsKnownAt central_role ctrl → K (taken_by_central f c quiet ctrl)
   central_known c quiet (ConnectionUpdateInd win_size win_offset interval latency timeout instant) is = absurd is
   central_known c quiet (ChannelMapInd map instant) is = absurd is
-  central_known c quiet (EncReq rand ediv skd_m iv_m) is = refl
+  central_known c quiet (EncReq rand ediv skd_m iv_m) is = absurd is
   central_known c quiet (ctrl_feature_req features) is = absurd is
-  central_known c quiet PauseEncReq is = refl
+  central_known c quiet PauseEncReq is = absurd is
   central_known c quiet (PhyUpdateInd to_peripheral to_central instant) is = absurd is
   central_known c quiet (EncRsp skd_s iv_s) is = choice K quiet (unchanged f) _ tt tt
   central_known c quiet StartEncReq is = choice K quiet (unchanged f) _ tt tt
@@ -280,8 +284,8 @@ module _ (f : TableFacts) where
   peripheral_known p quiet PauseEncReq is = tt
   peripheral_known p quiet PauseEncRsp is = choice K quiet (unchanged f) _ tt tt
   peripheral_known p quiet StartEncRsp is = choice K quiet (unchanged f) _ tt tt
-  peripheral_known p quiet (EncRsp skd_s iv_s) is = refl
-  peripheral_known p quiet StartEncReq is = refl
+  peripheral_known p quiet (EncRsp skd_s iv_s) is = absurd is
+  peripheral_known p quiet StartEncReq is = absurd is
   peripheral_known p quiet (ctrl_feature_req_up features) is = absurd is
   peripheral_known p quiet (ConnectionParamReq min max latency timeout periodicity reference offsets) is = absurd is
   peripheral_known p quiet (ctrl_feature_req features) is = tt
@@ -305,49 +309,49 @@ module _ (f : TableFacts) where
   by_progress (central c) quiet ctrl is = central_known c quiet ctrl is
   by_progress (peripheral p) quiet ctrl is = peripheral_known p quiet ctrl is
 
-  read_known : (quiet : Bool) (read : CtrlRead) → IsKnownRead (role_of f.progress) read → K (outcome_of f quiet read)
+  read_known : (quiet : Bool) (read : CtrlRead) → IsKnownRead unknowns (role_of f.progress) read → K (outcome_of f quiet read)
   read_known quiet (Known ctrl) is = by_progress f.progress quiet ctrl is
   read_known quiet (Unknown opcode) is = is
   read_known quiet Bare is = tt
 
-answer_of : (role : Role) (used : Bool) (draft : Draft) → is_reply role used (Answer draft) ≡ true → IsKnownReply (Answer draft) → is_draft_of role draft ≡ true
-answer_of central_role used VersionInd is known = refl
-answer_of peripheral_role used VersionInd is known = refl
-answer_of central_role used FeatureRsp is known = refl
-answer_of peripheral_role used FeatureRsp is known = refl
-answer_of central_role used (LengthRsp rx tx) is known = refl
-answer_of peripheral_role used (LengthRsp rx tx) is known = refl
-answer_of central_role used (UnknownRsp opcode) is known = known
-answer_of peripheral_role used (UnknownRsp opcode) is known = known
-answer_of central_role used PhyInd is known = refl
-answer_of peripheral_role used PhyRsp is known = refl
-answer_of role used draft is known = absurd (cc)
+answer_of : (unknowns : Bool) (role : Role) (used : Bool) (draft : Draft) → is_reply role used (Answer draft) ≡ true → IsKnownReply unknowns (Answer draft) → is_draft_of unknowns role draft ≡ true
+answer_of unknowns central_role used VersionInd is known = refl
+answer_of unknowns peripheral_role used VersionInd is known = refl
+answer_of unknowns central_role used FeatureRsp is known = refl
+answer_of unknowns peripheral_role used FeatureRsp is known = refl
+answer_of unknowns central_role used (LengthRsp rx tx) is known = refl
+answer_of unknowns peripheral_role used (LengthRsp rx tx) is known = refl
+answer_of unknowns central_role used (UnknownRsp opcode) is known = known
+answer_of unknowns peripheral_role used (UnknownRsp opcode) is known = known
+answer_of unknowns central_role used PhyInd is known = refl
+answer_of unknowns peripheral_role used PhyRsp is known = refl
+answer_of unknowns role used draft is known = absurd (cc)
 
 rejection_of : (role : Role) (used : Bool) (rejection : TheRejection) → is_reply role used (Reject rejection) ≡ true → is_rejection_of role rejection ≡ true
 rejection_of central_role used rejection h = h
 rejection_of peripheral_role used rejection h = absurd (cc)
 
-replies : (role : Role) (f g : TableFacts) (used : Bool) (reply : Reply) → IsTableOf role f → role_of g.progress ≡ role
-    → g.queue ≡ with_reply f.closing reply f.queue → is_reply role used reply ≡ true → IsKnownReply reply → IsTableOf role g
-replies role f g used no_reply s r is h known = queues_none role f g s r is
-replies role f g used (Reject rejection) s r is h known = rejects role f g rejection s r is (rejection_of role used rejection h)
-replies role f g used (Answer draft) s r is h known = queues role f g draft s r is (λ lasts. answer_of role used draft h known)
+replies : (unknowns : Bool) (role : Role) (f g : TableFacts) (used : Bool) (reply : Reply) → IsTableOf unknowns role f → role_of g.progress ≡ role
+    → g.queue ≡ with_reply f.closing reply f.queue → is_reply role used reply ≡ true → IsKnownReply unknowns reply → IsTableOf unknowns role g
+replies unknowns role f g used no_reply s r is h known = queues_none unknowns role f g s r is
+replies unknowns role f g used (Reject rejection) s r is h known = rejects unknowns role f g rejection s r is (rejection_of role used rejection h)
+replies unknowns role f g used (Answer draft) s r is h known = queues unknowns role f g draft s r is (λ lasts. answer_of unknowns role used draft h known)
 
 abbrev settled_of : Bool → Bool → TableFacts → TableFacts → Step → Step → Step → TableFacts × Step
 settled_of a b f g x y z = if a then (f, x) else (if b then (f, y) else (g, z))
 
-settled_by : (role : Role) (a b : Bool) (f g : TableFacts) (x y z : Step) → IsTableOf role f → IsTableOf role g → IsTableOf role (settled_of a b f g x y z).0
-settled_by role true b f g x y z s next = s
-settled_by role false true f g x y z s next = s
-settled_by role false false f g x y z s next = next
+settled_by : (unknowns : Bool) (role : Role) (a b : Bool) (f g : TableFacts) (x y z : Step) → IsTableOf unknowns role f → IsTableOf unknowns role g → IsTableOf unknowns role (settled_of a b f g x y z).0
+settled_by unknowns role true b f g x y z s next = s
+settled_by unknowns role false true f g x y z s next = s
+settled_by unknowns role false false f g x y z s next = next
 
-pub takes_keeps : (role : Role) (f : TableFacts) (read : CtrlRead) (slot : ℕ) (quiet : Bool) → IsTableOf role f → IsKnownRead role read
-    → IsTableOf role (took_step f read slot quiet).0
-takes_keeps role f read slot quiet s known =
-    settled_by role (lacks_room f o) (is_some o.step.ends) f (facts_with f slot o) _ _ _ s
-    (replies role f (facts_with f slot o) f.version_used o.reply s (t.role ∙ s.same_role) refl
+pub takes_keeps : (unknowns : Bool) (role : Role) (f : TableFacts) (read : CtrlRead) (slot : ℕ) (quiet : Bool) → IsTableOf unknowns role f → IsKnownRead unknowns role read
+    → IsTableOf unknowns role (took_step f read slot quiet).0
+takes_keeps unknowns role f read slot quiet s known =
+    settled_by unknowns role (lacks_room f o) (is_some o.step.ends) f (facts_with f slot o) _ _ _ s
+    (replies unknowns role f (facts_with f slot o) f.version_used o.reply s (t.role ∙ s.same_role) refl
     (subst (λ (r : Role). is_reply r f.version_used o.reply ≡ true) s.same_role t.reply)
-    (read_known f quiet read (subst (λ (r : Role). IsKnownRead r read) (sym s.same_role) known)))
+    (read_known unknowns f quiet read (subst (λ (r : Role). IsKnownRead unknowns r read) (sym s.same_role) known)))
   where
     o : Outcome
     o = outcome_of f quiet read
@@ -361,62 +365,62 @@ begun_role : (ask : Ask) (used : Bool) (p : Progress) → role_of (progress_begu
 begun_role ask used (central c) = refl
 begun_role ask used (peripheral p) = refl
 
-first_of : (role : Role) (f : TableFacts) (ask : Ask) (g : TableFacts) → IsTableOf role f → role_of f.progress ≡ role → role_of g.progress ≡ role → begins role (kind_of_ask ask) ≡ true
-    → g.queue ≡ with_first_draft f.closing (first_draft f ask) f.queue → IsTableOf role g
-first_of central_role f (ask_update interval latency timeout) g s here r may is = queues central_role f g _ s r is (λ lasts. refl)
-first_of central_role f (ask_map map) g s here r may is = queues central_role f g _ s r is (λ lasts. refl)
-first_of central_role f ask_phy g s here r may is = queues central_role f g _ s r is (λ lasts. refl)
-first_of central_role f ask_features g s here r may is = queues central_role f g FeatureReq s r (is ∙ (rw here refl)) (λ lasts. refl)
-first_of central_role f (ask_length tx) g s here r may is = queues central_role f g _ s r is (λ lasts. refl)
-first_of central_role f (ask_request min max latency timeout) g s here r may is = absurd (cc)
-first_of central_role f (ask_encrypt rand ediv ltk skd_m iv_m) g s here r may is = queues_none central_role f g s r is
-first_of peripheral_role f (ask_request min max latency timeout) g s here r may is = queues peripheral_role f g _ s r is (λ lasts. refl)
-first_of peripheral_role f ask_phy g s here r may is = queues peripheral_role f g _ s r is (λ lasts. refl)
-first_of peripheral_role f ask_features g s here r may is = queues peripheral_role f g PeripheralFeatureReq s r (is ∙ (rw here refl)) (λ lasts. refl)
-first_of peripheral_role f (ask_length tx) g s here r may is = queues peripheral_role f g _ s r is (λ lasts. refl)
-first_of peripheral_role f (ask_update interval latency timeout) g s here r may is = absurd (cc)
-first_of peripheral_role f (ask_map map) g s here r may is = absurd (cc)
-first_of peripheral_role f (ask_encrypt rand ediv ltk skd_m iv_m) g s here r may is = absurd (cc)
-first_of role f ask_version g s here r may is = by f.version_used is
+first_of : (unknowns : Bool) (role : Role) (f : TableFacts) (ask : Ask) (g : TableFacts) → IsTableOf unknowns role f → role_of f.progress ≡ role → role_of g.progress ≡ role → begins role (kind_of_ask ask) ≡ true
+    → g.queue ≡ with_first_draft f.closing (first_draft f ask) f.queue → IsTableOf unknowns role g
+first_of unknowns central_role f (ask_update interval latency timeout) g s here r may is = queues unknowns central_role f g _ s r is (λ lasts. refl)
+first_of unknowns central_role f (ask_map map) g s here r may is = queues unknowns central_role f g _ s r is (λ lasts. refl)
+first_of unknowns central_role f ask_phy g s here r may is = queues unknowns central_role f g _ s r is (λ lasts. refl)
+first_of unknowns central_role f ask_features g s here r may is = queues unknowns central_role f g FeatureReq s r (is ∙ (rw here refl)) (λ lasts. refl)
+first_of unknowns central_role f (ask_length tx) g s here r may is = queues unknowns central_role f g _ s r is (λ lasts. refl)
+first_of unknowns central_role f (ask_request min max latency timeout) g s here r may is = absurd (cc)
+first_of unknowns central_role f (ask_encrypt rand ediv ltk skd_m iv_m) g s here r may is = queues_none unknowns central_role f g s r is
+first_of unknowns peripheral_role f (ask_request min max latency timeout) g s here r may is = queues unknowns peripheral_role f g _ s r is (λ lasts. refl)
+first_of unknowns peripheral_role f ask_phy g s here r may is = queues unknowns peripheral_role f g _ s r is (λ lasts. refl)
+first_of unknowns peripheral_role f ask_features g s here r may is = queues unknowns peripheral_role f g PeripheralFeatureReq s r (is ∙ (rw here refl)) (λ lasts. refl)
+first_of unknowns peripheral_role f (ask_length tx) g s here r may is = queues unknowns peripheral_role f g _ s r is (λ lasts. refl)
+first_of unknowns peripheral_role f (ask_update interval latency timeout) g s here r may is = absurd (cc)
+first_of unknowns peripheral_role f (ask_map map) g s here r may is = absurd (cc)
+first_of unknowns peripheral_role f (ask_encrypt rand ediv ltk skd_m iv_m) g s here r may is = absurd (cc)
+first_of unknowns role f ask_version g s here r may is = by f.version_used is
   where
-    of_version : (role : Role) → is_draft_of role VersionInd ≡ true
+    of_version : (role : Role) → is_draft_of unknowns role VersionInd ≡ true
     of_version central_role = refl
     of_version peripheral_role = refl
 
-    by : (used : Bool) → g.queue ≡ with_first_draft f.closing (version_draft used) f.queue → IsTableOf role g
-    by true is = queues_none role f g s r is
-    by false is = queues role f g VersionInd s r is (λ lasts. of_version role)
+    by : (used : Bool) → g.queue ≡ with_first_draft f.closing (version_draft used) f.queue → IsTableOf unknowns role g
+    by true is = queues_none unknowns role f g s r is
+    by false is = queues unknowns role f g VersionInd s r is (λ lasts. of_version role)
 
-begin_by : (role : Role) (f : TableFacts) (slot : ℕ) (quiet : Bool) (place : Option ℕ) (ask : Option Ask) → IsTableOf role f
-    → place_to_begin f quiet ≡ place → ask_at place f.wanted ≡ ask → IsTableOf role (begin_at f slot place ask).0
-begin_by role f slot quiet None ask s p a = s
-begin_by role f slot quiet (Some place) None s p a = s
-begin_by role f slot quiet (Some place) (Some ask) s p a =
+begin_by : (unknowns : Bool) (role : Role) (f : TableFacts) (slot : ℕ) (quiet : Bool) (place : Option ℕ) (ask : Option Ask) → IsTableOf unknowns role f
+    → place_to_begin f quiet ≡ place → ask_at place f.wanted ≡ ask → IsTableOf unknowns role (begin_at f slot place ask).0
+begin_by unknowns role f slot quiet None ask s p a = s
+begin_by unknowns role f slot quiet (Some place) None s p a = s
+begin_by unknowns role f slot quiet (Some place) (Some ask) s p a =
     let may = begins_of f quiet place ask p a in
-    first_of role f ask (facts_begun f slot ask (remove f.wanted place)) s s.same_role
+    first_of unknowns role f ask (facts_begun f slot ask (remove f.wanted place)) s s.same_role
     (begun_role ask f.version_used f.progress ∙ s.same_role)
     (subst (λ (r : Role). begins r (kind_of_ask ask) ≡ true) s.same_role may.role) refl
 
-pub begins_keeps : (role : Role) (f : TableFacts) (slot : ℕ) (quiet : Bool) → IsTableOf role f → IsTableOf role (begin_step f slot quiet).0
-begins_keeps role f slot quiet s = begin_by role f slot quiet _ _ s refl refl
+pub begins_keeps : (unknowns : Bool) (role : Role) (f : TableFacts) (slot : ℕ) (quiet : Bool) → IsTableOf unknowns role f → IsTableOf unknowns role (begin_step f slot quiet).0
+begins_keeps unknowns role f slot quiet s = begin_by unknowns role f slot quiet _ _ s refl refl
 
-answers_one : (role : Role) (f : TableFacts) (p : Progress) (answer : Result Ask ErrCode) → IsTableOf role (record f { progress = p }) → is_host_asked p ≡ true
-    → IsTableOf role (host_answer_step (record f { progress = p }) answer)
-answers_one central_role f (central c) (Ok (ask_update interval latency timeout)) s h = queues central_role (record f { progress = central c }) _ (Grant (record { interval = interval; latency = latency; timeout = timeout })) s refl refl (λ lasts. refl)
-answers_one central_role f (central c) (Ok (ask_request min max latency timeout)) s h = s
-answers_one central_role f (central c) (Ok (ask_map map)) s h = s
-answers_one central_role f (central c) (Ok ask_phy) s h = s
-answers_one central_role f (central c) (Ok ask_features) s h = s
-answers_one central_role f (central c) (Ok ask_version) s h = s
-answers_one central_role f (central c) (Ok (ask_length tx)) s h = s
-answers_one central_role f (central c) (Ok (ask_encrypt rand ediv ltk skd_m iv_m)) s h = s
-answers_one central_role f (central c) (Err code) s h = rejects central_role (record f { progress = central c }) _ (record { opcode = connection_param_req_opcode; code = code }) s refl refl refl
-answers_one peripheral_role f (central c) answer s h = absurd (let r = s.same_role in cc)
-answers_one role f (peripheral p) answer s h = absurd (cc)
+answers_one : (unknowns : Bool) (role : Role) (f : TableFacts) (p : Progress) (answer : Result Ask ErrCode) → IsTableOf unknowns role (record f { progress = p }) → is_host_asked p ≡ true
+    → IsTableOf unknowns role (host_answer_step (record f { progress = p }) answer)
+answers_one unknowns central_role f (central c) (Ok (ask_update interval latency timeout)) s h = queues unknowns central_role (record f { progress = central c }) _ (Grant (record { interval = interval; latency = latency; timeout = timeout })) s refl refl (λ lasts. refl)
+answers_one unknowns central_role f (central c) (Ok (ask_request min max latency timeout)) s h = s
+answers_one unknowns central_role f (central c) (Ok (ask_map map)) s h = s
+answers_one unknowns central_role f (central c) (Ok ask_phy) s h = s
+answers_one unknowns central_role f (central c) (Ok ask_features) s h = s
+answers_one unknowns central_role f (central c) (Ok ask_version) s h = s
+answers_one unknowns central_role f (central c) (Ok (ask_length tx)) s h = s
+answers_one unknowns central_role f (central c) (Ok (ask_encrypt rand ediv ltk skd_m iv_m)) s h = s
+answers_one unknowns central_role f (central c) (Err code) s h = rejects unknowns central_role (record f { progress = central c }) _ (record { opcode = connection_param_req_opcode; code = code }) s refl refl refl
+answers_one unknowns peripheral_role f (central c) answer s h = absurd (let r = s.same_role in cc)
+answers_one unknowns role f (peripheral p) answer s h = absurd (cc)
 
-pub answers_keeps : (role : Role) (f : TableFacts) (answer : Result Ask ErrCode) → IsTableOf role f → is_host_asked f.progress ≡ true
-    → IsTableOf role (host_answer_step f answer)
-answers_keeps role f answer s h = answers_one role f f.progress answer s h
+pub answers_keeps : (unknowns : Bool) (role : Role) (f : TableFacts) (answer : Result Ask ErrCode) → IsTableOf unknowns role f → is_host_asked f.progress ≡ true
+    → IsTableOf unknowns role (host_answer_step f answer)
+answers_keeps unknowns role f answer s h = answers_one unknowns role f f.progress answer s h
 
 acked_role : (out : Outgoing) (p : Progress) → role_of (progress_acked out p) ≡ role_of p
 acked_role out (central c) = refl
@@ -441,27 +445,27 @@ sent_role Nothing event skips p = refl
 sent_role (Rejection rejection) event skips p = refl
 sent_role (Disconnect code) event skips p = refl
 
-pub acked_keeps : (role : Role) (f : TableFacts) → IsTableOf role f → IsTableOf role (acked_step f).0
-acked_keeps role f s = queues_none role f _ s (acked_role f.out f.progress ∙ s.same_role) refl
+pub acked_keeps : (unknowns : Bool) (role : Role) (f : TableFacts) → IsTableOf unknowns role f → IsTableOf unknowns role (acked_step f).0
+acked_keeps unknowns role f s = queues_none unknowns role f _ s (acked_role f.out f.progress ∙ s.same_role) refl
 
-pub entered_keeps : (role : Role) (f : TableFacts) (applied : Bool) → IsTableOf role f → IsTableOf role (entered_step f applied).0
-entered_keeps role f true s = queues_none role f _ s (held_role f.progress ∙ s.same_role) refl
-entered_keeps role f false s = s
+pub entered_keeps : (unknowns : Bool) (role : Role) (f : TableFacts) (applied : Bool) → IsTableOf unknowns role f → IsTableOf unknowns role (entered_step f applied).0
+entered_keeps unknowns role f true s = queues_none unknowns role f _ s (held_role f.progress ∙ s.same_role) refl
+entered_keeps unknowns role f false s = s
 
-cipher_draft : (role : Role) (ctrl : Ctrl) → is_cipher_of role ctrl ≡ true → is_draft_of role (Cipher ctrl) ≡ true
-cipher_draft central_role ctrl is = is
-cipher_draft peripheral_role ctrl is = is
+cipher_draft : (unknowns : Bool) (role : Role) (ctrl : Ctrl) → is_cipher_of role ctrl ≡ true → is_draft_of unknowns role (Cipher ctrl) ≡ true
+cipher_draft unknowns central_role ctrl is = is
+cipher_draft unknowns peripheral_role ctrl is = is
 
-pub owes_keeps : (role : Role) (f : TableFacts) (ctrl : Ctrl) → IsTableOf role f → is_cipher_of role ctrl ≡ true → IsTableOf role (owe_step f ctrl)
-owes_keeps role f ctrl s is = queues role f _ (Cipher ctrl) s (given_role f.progress ctrl ∙ s.same_role) refl (λ lasts. cipher_draft role ctrl is)
+pub owes_keeps : (unknowns : Bool) (role : Role) (f : TableFacts) (ctrl : Ctrl) → IsTableOf unknowns role f → is_cipher_of role ctrl ≡ true → IsTableOf unknowns role (owe_step f ctrl)
+owes_keeps unknowns role f ctrl s is = queues unknowns role f _ (Cipher ctrl) s (given_role f.progress ctrl ∙ s.same_role) refl (λ lasts. cipher_draft unknowns role ctrl is)
 
-pub sends_keeps : (role : Role) (f : TableFacts) (event skips slot : ℕ) (quiet : Bool) → IsTableOf role f → IsTableOf role (went_step f event skips quiet slot).0
-sends_keeps role f event skips slot quiet s =
-    let goes = next_goes role f event quiet s in
+pub sends_keeps : (unknowns : Bool) (role : Role) (f : TableFacts) (event skips slot : ℕ) (quiet : Bool) → IsTableOf unknowns role f → IsTableOf unknowns role (went_step f event skips quiet slot).0
+sends_keeps unknowns role f event skips slot quiet s =
+    let goes = next_goes unknowns role f event quiet s in
     record { same_role = sent_role (next_of f event quiet) event skips f.progress ∙ s.same_role; rejections = goes.rejections; drafts = goes.drafts }
 
-pub terminates_keeps : (role : Role) (f : TableFacts) (reason : ErrCode) → IsTableOf role f → IsTableOf role (terminate_step f reason)
-terminates_keeps role f reason s = disconnects_keeps role f reason (terminate_step f reason) s refl refl
+pub terminates_keeps : (unknowns : Bool) (role : Role) (f : TableFacts) (reason : ErrCode) → IsTableOf unknowns role f → IsTableOf unknowns role (terminate_step f reason)
+terminates_keeps unknowns role f reason s = disconnects_keeps unknowns role f reason (terminate_step f reason) s refl refl
 
-pub asks_keeps : (role : Role) (f : TableFacts) (ask : Ask) → IsTableOf role f → IsTableOf role (ask_step f ask)
-asks_keeps role f ask s = record { same_role = s.same_role; rejections = s.rejections; drafts = s.drafts }
+pub asks_keeps : (unknowns : Bool) (role : Role) (f : TableFacts) (ask : Ask) → IsTableOf unknowns role f → IsTableOf unknowns role (ask_step f ask)
+asks_keeps unknowns role f ask s = record { same_role = s.same_role; rejections = s.rejections; drafts = s.drafts }

@@ -10,6 +10,11 @@ abbrev pub moves_in : List JointStep → Joint → List Move
 moves_in [] s = []
 moves_in (step ∷ steps) s = (if may step s then moves_of step s else []) ++ moves_in steps (after step s)
 
+-- in each state of the run that a step follows; of a run that has stopped nothing is asked
+abbrev pub AllBefore : (Joint → Type 0) → List JointStep → Joint → Type 0
+AllBefore P [] s = ⊤
+AllBefore P (step ∷ steps) s = (is_running s ≡ true → P s) × AllBefore P steps (after step s)
+
 -- a peripheral would answer LL_ENC_REQ with LL_ENC_RSP
 abbrev pub AllRespond : List JointStep → Type 0
 AllRespond [] = ⊤

@@ -27,10 +27,10 @@ ghost use Rattle.joint_exchanges.specs.Machines.{lengths_event, lengths_link, ma
 ghost use Rattle.joint_exchanges.specs.Machines.{none_sent, versions_event, versions_link};
 ghost use Rattle.joint_exchanges.specs.Moves.{MayMoveAll, after_moves};
 ghost use Rattle.joint_exchanges.specs.Parts.{parts_of};
-ghost use Rattle.joint_exchanges.specs.Runs.{AllRespond, GoesOn, moves_in};
-ghost use Rattle.joint_exchanges.specs.SentByRole.{AreOfRoles};
+ghost use Rattle.joint_exchanges.specs.Runs.{AllBefore, GoesOn, moves_in};
+ghost use Rattle.joint_exchanges.specs.SentByRole.{AreOfRoles, HaveMeaning};
 ghost use Rattle.joint_exchanges.specs.Waiting.{exchange_waiting, is_cipher, is_exclusive};
-ghost use Rattle.joint_exchanges.specs.Waiting.{is_unknown_rsp, kinds_waiting, rejections_waiting};
+ghost use Rattle.joint_exchanges.specs.Waiting.{kinds_waiting, rejections_waiting};
 
 /// Up to each state in which a joint run goes on, its steps are moves of the exchanges, each of
 /// which may come, and these are runs of the three machines of exchanges: so the laws of those hold
@@ -187,18 +187,31 @@ pub fn few_pdus_of_exchanges_wait()
         → waiting is_version_ind (end_at role s) ≤ 1 }
 {}
 
+/// An end of a joint run queues and sends PDUs of its role alone, so the other end knows each of
+/// them; and what is read is what was sent. LL_UNKNOWN_RSP waits only for a PDU of the encryption
+/// without a meaning in the phase of its receiver; where no such PDU comes, none waits anywhere.
+pub fn ends_send_pdus_of_their_role()
+    ensures known { (central_rx peripheral_rx : ℕ) (first : Params) (slot : ℕ)
+        (steps : List JointStep) → let start = beginning central_rx peripheral_rx first slot in
+        GoesOn steps start → AreOfRoles true (after_all steps start) }
+    ensures meant { (central_rx peripheral_rx : ℕ) (first : Params) (slot : ℕ)
+        (steps : List JointStep) → let start = beginning central_rx peripheral_rx first slot in
+        GoesOn steps start → AllBefore HaveMeaning steps start
+        → AreOfRoles false (after_all steps start) }
+{}
+
 /// The control PDUs that wait at an end are those of the kinds of procedures, each of one kind. So
-/// fewer than sixteen wait in a joint run where of the procedures that exclude each other at most
-/// one rejection and two PDUs wait, of the encryption at most three, with LL_TERMINATE_IND for lack
-/// of a key, and no LL_UNKNOWN_RSP.
+/// fewer than sixteen wait in a joint run where all that comes has a meaning, and where of the
+/// procedures that exclude each other at most one rejection and two PDUs wait, and of the
+/// encryption at most three, with LL_TERMINATE_IND for lack of a key.
 pub fn few_control_pdus_wait_by_kind()
     ensures sum { (s : Phased) → waiting_in s.control.table.queue ≡ kinds_waiting s }
     ensures few { (central_rx peripheral_rx : ℕ) (first : Params) (slot : ℕ)
         (steps : List JointStep) (role : Role)
         → let s = after_all steps (beginning central_rx peripheral_rx first slot) in
         GoesOn steps (beginning central_rx peripheral_rx first slot)
+        → AllBefore HaveMeaning steps (beginning central_rx peripheral_rx first slot)
         → rejections_waiting (end_at role s) ≤ 1
-        → waiting is_exclusive (end_at role s) ≤ 2
-        → waiting is_unknown_rsp (end_at role s) ≡ 0 → waiting is_cipher (end_at role s) ≤ 3
+        → waiting is_exclusive (end_at role s) ≤ 2 → waiting is_cipher (end_at role s) ≤ 3
         → waiting_in (end_at role s).control.table.queue < 16 }
 {}
