@@ -1,5 +1,5 @@
 -- The laws of exchanges, of each state of a joint run in which that goes on.
-use Rattle.std.proofs.Common.{◌≡◌, ◌≤◌, ◌⊎◌, inl, inr, ℕ, zero, suc, ◌+◌, ◌==◌, Bool, true, false, not, ◌||◌, List, refl, ap, sym, ◌∙◌, subst, arith}
+use Rattle.std.proofs.Common.{◌≡◌, ◌≤◌, ◌⊎◌, inl, inr, ℕ, zero, suc, ◌+◌, ◌==◌, Bool, true, false, not, ◌||◌, List, refl, ap, sym, ◌∙◌, subst, arith, eqb-true}
 use Rattle.ble_base.specs.Limits.{first_payload_octets}
 use Rattle.ble_base.specs.declared.procedure_kinds.Kind.TheVariants.{Version}
 use Rattle.ble_base.specs.declared.roles.Role.{Role}
@@ -9,7 +9,7 @@ use Rattle.procedure_values.specs.Limits.{tx_of}
 use Rattle.procedure_values.specs.Wants.{count_of}
 use Rattle.machines.specs.Machine.{run}
 use Rattle.table_laws.specs.Waiting
-use Rattle.exchange_pairs.specs.Exchange.{ExchangeStage, Idle, Sent, Unsent, count_if}
+use Rattle.exchange_pairs.specs.Exchange.{ExchangeStage, Idle, Sent, Unsent, count_if, is_idle}
 use Rattle.exchange_pairs.specs.ExchangeLaws
 use Rattle.exchange_pairs.specs.ExchangeRun
 use Rattle.exchange_pairs.specs.ExchangeRun.{ExchangeEvent, ExchangeLink, exchanges, other_role}
@@ -22,7 +22,7 @@ use Rattle.exchange_pairs.proofs.Exchanges.{idle, sent, unsent}
 use Rattle.exchange_pairs.proofs.LengthParts.{parts}
 use Rattle.exchange_pairs.proofs.LengthsFixed.{known_fixed, stays}
 use Rattle.exchange_pairs.proofs.LengthsKept.{transmits_within}
-use Rattle.exchange_pairs.proofs.Versions.{known_then_idle, once, sent_is_coming, unsent_waits}
+use Rattle.exchange_pairs.proofs.Versions.{known_then_idle, once, sent_is_coming, still_answering, unsent_waits, used_unknown}
 use Rattle.phased_control.specs.Phased.{is_open_now}
 use Rattle.joint_controls.specs.Joint.{Joint, JointStep, after_all, beginning}
 use Rattle.joint_exchanges.specs.Agreement.{Asked, Features, Lengths, coming_to, end_at, first_rx_at, is_answer_of, is_first_of, is_question_of, is_version_ctrl, is_version_ind, kept_of, places_of, questions_waiting, sent_from, stage_at, untaken, version_coming, version_places, version_stage_at, waiting}
@@ -209,6 +209,59 @@ module _ (central_rx peripheral_rx : ℕ) (first : Params) (slot : ℕ) (steps :
         let both = version_sent_parts Central is in (sym (version_drafts s.central.control.table.queue.drafts) ∙ both.0, coming_is Central both.1)
     version_sent Peripheral is =
         let both = version_sent_parts Peripheral is in (sym (version_drafts s.peripheral.control.table.queue.drafts) ∙ both.0, coming_is Peripheral both.1)
+
+    -- an own LL_VERSION_IND that waits or is on its way, as the machine says it
+    comes_by : (w : ℕ) (b : Bool) → 1 ≤ w + count_if b → (not (w == 0) || b) ≡ true
+    comes_by w b some = by (w == 0) b refl some
+      where
+        by : (none b : Bool) → (w == 0) ≡ none → 1 ≤ w + count_if b → (not none || b) ≡ true
+        by false b is some = refl
+        by true true is some = refl
+        by true false is some = let h = eqb-true w 0 is in absurd (omega (arith, h, some))
+
+    answering_by : (role : Role) → VersionRun.knows role (versions_link (parts_of s)) ≡ true
+        → (not ((VersionRun.end_of role (versions_link (parts_of s))).waiting == 0) || VersionRun.is_sent_by role (versions_link (parts_of s))) ≡ true
+        → ((VersionRun.end_of (other_role role) (versions_link (parts_of s))).own ≡ Sent) ⊎ ((VersionRun.end_of (other_role role) (versions_link (parts_of s))).closed ≡ true)
+    answering_by role =
+        subst (λ l. VersionRun.knows role l ≡ true → (not ((VersionRun.end_of role l).waiting == 0) || VersionRun.is_sent_by role l) ≡ true
+        → ((VersionRun.end_of (other_role role) l).own ≡ Sent) ⊎ ((VersionRun.end_of (other_role role) l).closed ≡ true))
+        (sym version_path) (still_answering (events_of versions_event moves) role)
+
+    pub version_answers : (role : Role) → (end_at role s).knows_version ≡ true → 1 ≤ waiting is_version_ind (end_at role s) + untaken is_version_ind (sent_from role s)
+        → (version_stage_at (end_at (other_role role) s) ≡ Sent) ⊎ (is_open_now (end_at (other_role role) s) ≡ false)
+    version_answers Central knows some =
+        by (answering_by Central knows (comes_by (versions_link (parts_of s)).central.waiting (versions_link (parts_of s)).down (let w = version_drafts s.central.control.table.queue.drafts in let a = version_way s.down in omega (arith, some, w, a))))
+      where
+        by : (version_stage_at s.peripheral ≡ Sent) ⊎ (not (is_open_now s.peripheral) ≡ true) → (version_stage_at s.peripheral ≡ Sent) ⊎ (is_open_now s.peripheral ≡ false)
+        by (inl is) = inl is
+        by (inr is) = inr (not_true _ is)
+    version_answers Peripheral knows some =
+        by (answering_by Peripheral knows (comes_by (versions_link (parts_of s)).peripheral.waiting (versions_link (parts_of s)).up (let w = version_drafts s.peripheral.control.table.queue.drafts in let a = version_way s.up in omega (arith, some, w, a))))
+      where
+        by : (version_stage_at s.central ≡ Sent) ⊎ (not (is_open_now s.central) ≡ true) → (version_stage_at s.central ≡ Sent) ⊎ (is_open_now s.central ≡ false)
+        by (inl is) = inl is
+        by (inr is) = inr (not_true _ is)
+
+    used_by : (role : Role) → (VersionRun.end_of role (versions_link (parts_of s))).used ≡ true → VersionRun.knows role (versions_link (parts_of s)) ≡ false
+        → (not (is_idle (VersionRun.end_of role (versions_link (parts_of s))).own) ≡ true) ⊎ (VersionRun.keeps role (versions_link (parts_of s)) ≡ true)
+    used_by role =
+        subst (λ l. (VersionRun.end_of role l).used ≡ true → VersionRun.knows role l ≡ false
+        → (not (is_idle (VersionRun.end_of role l).own) ≡ true) ⊎ (VersionRun.keeps role l ≡ true))
+        (sym version_path) (used_unknown (events_of versions_event moves) role)
+
+    pub version_used_for : (role : Role) → (end_at role s).control.table.version_used ≡ true → (end_at role s).knows_version ≡ false
+        → (is_idle (version_stage_at (end_at role s)) ≡ false) ⊎ (kept_of is_version_ctrl (other_role role) s ≡ 1)
+    version_used_for Central used unknown = by (used_by Central used unknown)
+      where
+        by : (not (is_idle (version_stage_at s.central)) ≡ true) ⊎ ((versions_link (parts_of s)).kept ≡ true)
+            → (is_idle (version_stage_at s.central) ≡ false) ⊎ (kept_of is_version_ctrl Peripheral s ≡ 1)
+        by (inl is) = inl (not_true _ is)
+        by (inr is) = inr (sym (version_kept s.central.kept) ∙ ap count_if is)
+    version_used_for Peripheral used unknown = by (used_by Peripheral used unknown)
+      where
+        by : (not (is_idle (version_stage_at s.peripheral)) ≡ true) ⊎ (false ≡ true) → (is_idle (version_stage_at s.peripheral) ≡ false) ⊎ (kept_of is_version_ctrl Central s ≡ 1)
+        by (inl is) = inl (not_true _ is)
+        by (inr is) = absurd (cc)
 
     one_count : (b : Bool) → Waiting.count_if b ≤ 1
     one_count true = omega arith

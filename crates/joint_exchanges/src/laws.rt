@@ -9,7 +9,7 @@ ghost use Rattle.procedure_values.specs.Limits.{tx_of};
 ghost use Rattle.procedure_values.specs.Wants.{count_of};
 ghost use Rattle.procedure_stages.specs.Queue.{waiting_in};
 ghost use Rattle.table_laws.specs.Waiting.{count_if};
-ghost use Rattle.exchange_pairs.specs.Exchange.{Idle, Sent, Unsent};
+ghost use Rattle.exchange_pairs.specs.Exchange.{Idle, Sent, Unsent, is_idle};
 ghost use Rattle.exchange_pairs.specs.ExchangeRun.{exchanges, other_role};
 ghost use Rattle.exchange_pairs.specs.LengthLaws.{none_accepts};
 ghost use Rattle.exchange_pairs.specs.LengthRun.{length_exchanges};
@@ -110,7 +110,10 @@ pub fn answers_meet_their_questions()
 /// Each end sends LL_VERSION_IND once, and takes one: once it was queued it is in one place, in the
 /// queue, on its way, kept or taken. An own exchange runs or is wanted only until the other's
 /// version is known; while it is unsent the PDU waits, and afterwards that or the other's is to
-/// come, or the other end is to end the link.
+/// come, or the other end is to end the link. An end that knows the other's version and whose own
+/// PDU is still to come answers an exchange of the other, or that is to end the link. One whose PDU
+/// was queued and that does not know the other's version runs an exchange, or keeps the other's PDU:
+/// so none begins without a PDU.
 pub fn a_version_goes_once()
     ensures once { (central_rx peripheral_rx : ℕ) (first : Params) (slot : ℕ)
         (steps : List JointStep) (role : Role)
@@ -143,6 +146,22 @@ pub fn a_version_goes_once()
         → version_stage_at (end_at role s) ≡ Sent
         → (waiting is_version_ind (end_at role s) ≡ 0) × ((1 ≤ version_coming role s)
         ⊎ (is_open_now (end_at (other_role role) s) ≡ false)) }
+    ensures answering { (central_rx peripheral_rx : ℕ) (first : Params) (slot : ℕ)
+        (steps : List JointStep) (role : Role)
+        → let s = after_all steps (beginning central_rx peripheral_rx first slot) in
+        GoesOn steps (beginning central_rx peripheral_rx first slot)
+        → (end_at role s).knows_version ≡ true
+        → 1 ≤ waiting is_version_ind (end_at role s) + untaken is_version_ind (sent_from role s)
+        → (version_stage_at (end_at (other_role role) s) ≡ Sent)
+        ⊎ (is_open_now (end_at (other_role role) s) ≡ false) }
+    ensures used { (central_rx peripheral_rx : ℕ) (first : Params) (slot : ℕ)
+        (steps : List JointStep) (role : Role)
+        → let s = after_all steps (beginning central_rx peripheral_rx first slot) in
+        GoesOn steps (beginning central_rx peripheral_rx first slot)
+        → (end_at role s).control.table.version_used ≡ true
+        → (end_at role s).knows_version ≡ false
+        → (is_idle (version_stage_at (end_at role s)) ≡ false)
+        ⊎ (kept_of is_version_ctrl (other_role role) s ≡ 1) }
 {}
 
 /// What an end receives at most is what it received as the link began. The other end knows 27

@@ -1,5 +1,5 @@
 -- The proof of the law `a_version_goes_once`.
-use Rattle.joint_exchanges.proofs.States.{version_known, version_once, version_sent, version_taken, version_unsent}
+use Rattle.joint_exchanges.proofs.States.{version_answers, version_known, version_once, version_sent, version_taken, version_unsent, version_used_for}
 use Rattle.joint_exchanges.proofs.laws.a_version_goes_once.Goals as goal
 
 pub returns-clause-once : goal.returns-clause-once
@@ -16,3 +16,9 @@ returns-clause-unsent c = λ central_rx peripheral_rx first slot steps role on. 
 
 pub returns-clause-sent : goal.returns-clause-sent
 returns-clause-sent c = λ central_rx peripheral_rx first slot steps role on. version_sent central_rx peripheral_rx first slot steps on role
+
+pub returns-clause-answering : goal.returns-clause-answering
+returns-clause-answering c = λ central_rx peripheral_rx first slot steps role on. version_answers central_rx peripheral_rx first slot steps on role
+
+pub returns-clause-used : goal.returns-clause-used
+returns-clause-used c = λ central_rx peripheral_rx first slot steps role on. version_used_for central_rx peripheral_rx first slot steps on role
