@@ -1,5 +1,6 @@
 -- The laws of exchanges, of each state of a joint run in which that goes on.
-use Rattle.std.proofs.Common.{◌≡◌, ◌≤◌, ◌⊎◌, inl, inr, ℕ, zero, suc, ◌+◌, ◌==◌, Bool, true, false, not, ◌||◌, List, refl, ap, sym, ◌∙◌, subst, arith, eqb-true}
+use Rattle.std.proofs.Common.{◌≡◌, ◌≤◌, ◌⊎◌, inl, inr, ℕ, zero, suc, ◌+◌, ◌==◌, Bool, true, false, not, ◌&&◌, ◌||◌, List, refl, ap, sym, ◌∙◌, subst, arith, eqb-true}
+use Rattle.std.proofs.lemmas.Bool.{and_parts}
 use Rattle.ble_base.specs.Limits.{first_payload_octets}
 use Rattle.ble_base.specs.declared.procedure_kinds.Kind.TheVariants.{Version}
 use Rattle.ble_base.specs.declared.roles.Role.{Role}
@@ -22,16 +23,18 @@ use Rattle.exchange_pairs.proofs.Exchanges.{idle, sent, unsent}
 use Rattle.exchange_pairs.proofs.LengthParts.{parts}
 use Rattle.exchange_pairs.proofs.LengthsFixed.{known_fixed, stays}
 use Rattle.exchange_pairs.proofs.LengthsKept.{transmits_within}
+use Rattle.exchange_pairs.proofs.Versions
 use Rattle.exchange_pairs.proofs.Versions.{known_then_idle, once, sent_is_coming, still_answering, unsent_waits, used_unknown}
 use Rattle.phased_control.specs.Phased.{is_open_now}
 use Rattle.joint_controls.specs.Joint.{Joint, JointStep, after_all, beginning}
 use Rattle.joint_exchanges.specs.Agreement.{Asked, Features, Lengths, coming_to, end_at, first_rx_at, is_answer_of, is_first_of, is_question_of, is_version_ctrl, is_version_ind, kept_of, places_of, questions_waiting, sent_from, stage_at, untaken, version_coming, version_places, version_stage_at, waiting}
 use Rattle.joint_exchanges.specs.Machines.{events_of, features_event, lengths_event, lengths_link, maxima_after_all, none_sent, versions_event, versions_link}
 use Rattle.joint_exchanges.specs.Moves.{Move}
-use Rattle.joint_exchanges.specs.Parts.{parts_of}
+use Rattle.joint_exchanges.specs.Parts.{ExchangeParts, parts_of}
 use Rattle.joint_exchanges.specs.Runs.{GoesOn, moves_in}
 use Rattle.joint_exchanges.proofs.Counting.{asked_link, asked_places, asked_waiting, version_drafts, version_kept, version_way}
-use Rattle.joint_exchanges.proofs.MachineRuns.{features_now, lengths_now, none_ever, versions_now}
+use Rattle.joint_exchanges.proofs.MachineRuns.{features_now, lengths_now, moved, none_ever, versions_now}
+use Rattle.joint_exchanges.proofs.UsedVersions.{AreUsed, moves_used}
 
 module _ (central_rx peripheral_rx : ℕ) (first : Params) (slot : ℕ) (steps : List JointStep) where
   abbrev s : Joint
@@ -262,6 +265,32 @@ module _ (central_rx peripheral_rx : ℕ) (first : Params) (slot : ℕ) (steps :
         by : (not (is_idle (version_stage_at s.peripheral)) ≡ true) ⊎ (false ≡ true) → (is_idle (version_stage_at s.peripheral) ≡ false) ⊎ (kept_of is_version_ctrl Central s ≡ 1)
         by (inl is) = inl (not_true _ is)
         by (inr is) = absurd (cc)
+
+    -- while an own exchange runs, and once the other's version is known, the own PDU was queued
+    used_now : AreUsed (parts_of s)
+    used_now =
+        let m = moved central_rx peripheral_rx first slot steps run_on.responds run_on.goes in
+        subst (λ (p : ExchangeParts). AreUsed p) (sym m.goes)
+        (moves_used moves (parts_of (beginning central_rx peripheral_rx first slot)) m.may (record { central = λ is. absurd (cc); peripheral = λ is. absurd (cc) }))
+
+    pub version_running : (role : Role) → is_idle (version_stage_at (end_at role s)) ≡ false → (end_at role s).control.table.version_used ≡ true
+    version_running Central is = used_now.central is
+    version_running Peripheral is = used_now.peripheral is
+
+    known_by : (role : Role) → VersionLaws.is_used_right role (versions_link (parts_of s)) ≡ true
+    known_by role = subst (λ l. VersionLaws.is_used_right role l ≡ true) (sym version_path) (Versions.parts (events_of versions_event moves) role).used
+
+    used_if : (knows used opens : Bool) → VersionLaws.implies knows (used || not opens) ≡ true → knows ≡ true → opens ≡ true → used ≡ true
+    used_if true true opens is k o = refl
+    used_if true false true is k o = absurd (cc)
+    used_if true false false is k o = absurd (cc)
+    used_if false used opens is k o = absurd (cc)
+
+    pub version_known_used : (role : Role) → (end_at role s).knows_version ≡ true → is_open_now (end_at role s) ≡ true → (end_at role s).control.table.version_used ≡ true
+    version_known_used Central knows opens =
+        used_if _ _ (is_open_now s.central) (and_parts (VersionLaws.implies (s.central.control.table.version_used && not s.central.knows_version) _) _ (known_by Central)).1 knows opens
+    version_known_used Peripheral knows opens =
+        used_if _ _ (is_open_now s.peripheral) (and_parts (VersionLaws.implies (s.peripheral.control.table.version_used && not s.peripheral.knows_version) _) _ (known_by Peripheral)).1 knows opens
 
     one_count : (b : Bool) → Waiting.count_if b ≤ 1
     one_count true = omega arith
