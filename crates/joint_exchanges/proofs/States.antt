@@ -34,7 +34,7 @@ use Rattle.joint_exchanges.specs.Parts.{ExchangeParts, parts_of}
 use Rattle.joint_exchanges.specs.Runs.{GoesOn, moves_in}
 use Rattle.joint_exchanges.proofs.Counting.{asked_link, asked_places, asked_waiting, version_drafts, version_kept, version_way}
 use Rattle.joint_exchanges.proofs.MachineRuns.{features_now, lengths_now, moved, none_ever, versions_now}
-use Rattle.joint_exchanges.proofs.UsedVersions.{AreUsed, moves_used}
+use Rattle.joint_exchanges.proofs.UsedVersions.{AreUsed, Await, moves_await, moves_used}
 
 module _ (central_rx peripheral_rx : ℕ) (first : Params) (slot : ℕ) (steps : List JointStep) where
   abbrev s : Joint
@@ -245,26 +245,17 @@ module _ (central_rx peripheral_rx : ℕ) (first : Params) (slot : ℕ) (steps :
         by (inl is) = inl is
         by (inr is) = inr (not_true _ is)
 
-    used_by : (role : Role) → (VersionRun.end_of role (versions_link (parts_of s))).used ≡ true → VersionRun.knows role (versions_link (parts_of s)) ≡ false
-        → (not (is_idle (VersionRun.end_of role (versions_link (parts_of s))).own) ≡ true) ⊎ (VersionRun.keeps role (versions_link (parts_of s)) ≡ true)
-    used_by role =
-        subst (λ l. (VersionRun.end_of role l).used ≡ true → VersionRun.knows role l ≡ false
-        → (not (is_idle (VersionRun.end_of role l).own) ≡ true) ⊎ (VersionRun.keeps role l ≡ true))
-        (sym version_path) (used_unknown (events_of versions_event moves) role)
+    await_now : Await (parts_of s)
+    await_now =
+        let m = moved central_rx peripheral_rx first slot steps run_on.responds run_on.goes in
+        subst (λ (p : ExchangeParts). Await p) (sym m.goes)
+        (moves_await moves (parts_of (beginning central_rx peripheral_rx first slot)) m.may
+        (record { central = λ is unknown. absurd (cc); peripheral = λ is unknown. absurd (cc) }))
 
     pub version_used_for : (role : Role) → (end_at role s).control.table.version_used ≡ true → (end_at role s).knows_version ≡ false
-        → (is_idle (version_stage_at (end_at role s)) ≡ false) ⊎ (kept_of is_version_ctrl (other_role role) s ≡ 1)
-    version_used_for Central used unknown = by (used_by Central used unknown)
-      where
-        by : (not (is_idle (version_stage_at s.central)) ≡ true) ⊎ ((versions_link (parts_of s)).kept ≡ true)
-            → (is_idle (version_stage_at s.central) ≡ false) ⊎ (kept_of is_version_ctrl Peripheral s ≡ 1)
-        by (inl is) = inl (not_true _ is)
-        by (inr is) = inr (sym (version_kept s.central.kept) ∙ ap count_if is)
-    version_used_for Peripheral used unknown = by (used_by Peripheral used unknown)
-      where
-        by : (not (is_idle (version_stage_at s.peripheral)) ≡ true) ⊎ (false ≡ true) → (is_idle (version_stage_at s.peripheral) ≡ false) ⊎ (kept_of is_version_ctrl Central s ≡ 1)
-        by (inl is) = inl (not_true _ is)
-        by (inr is) = absurd (cc)
+        → is_idle (version_stage_at (end_at role s)) ≡ false
+    version_used_for Central used unknown = await_now.central used unknown
+    version_used_for Peripheral used unknown = await_now.peripheral used unknown
 
     -- while an own exchange runs, and once the other's version is known, the own PDU was queued
     used_now : AreUsed (parts_of s)

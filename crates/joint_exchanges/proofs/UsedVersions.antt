@@ -8,7 +8,7 @@ use Rattle.exchange_pairs.specs.Exchange.{ExchangeStage, Idle, Question, Sent, U
 use Rattle.exchange_pairs.specs.Version.{VersionEnd, begun, may_begin, taken, with_version}
 use Rattle.exchange_steps.specs.Ends.{ExchangeEnds}
 use Rattle.exchange_steps.specs.Steps.{EndStep, after_step, begins_version, is_refused, sends_version, takes_version}
-use Rattle.joint_exchanges.specs.Moves.{Does, Keeps, MayMove, MayMoveAll, Move, Sends, Takes, TakesKept, after_move, after_moves, end_of, sending, taking}
+use Rattle.joint_exchanges.specs.Moves.{Does, Keeps, MayMove, MayMoveAll, Move, Sends, Takes, TakesKept, after_move, after_moves, end_of, is_version, sending, taking}
 use Rattle.joint_exchanges.specs.Parts.{AnyPdu, ExchangeParts, of_features, of_lengths, of_versions}
 
 -- a stage, with whether the PDU was queued
@@ -97,3 +97,70 @@ move_used (TakesKept pdu) p may is = record { central = step_used (taking pdu) p
 pub moves_used : (moves : List Move) (p : ExchangeParts) → MayMoveAll moves p → AreUsed p → AreUsed (after_moves moves p)
 moves_used [] p may is = is
 moves_used (move ∷ moves) p may is = moves_used moves (after_move move p) may.1 (move_used move p may.0 is)
+
+-- ---- an end whose LL_VERSION_IND was queued knows the other's version, or runs an exchange
+
+abbrev pub Awaits : VersionEnd → Bool → Type 0
+Awaits e knows = e.used ≡ true → knows ≡ false → is_idle e.own ≡ false
+
+begun_awaits : (e : VersionEnd) (knows : Bool) → Awaits (begun e) knows
+begun_awaits e knows = by e.used e.closed
+  where
+    by : (used closed : Bool)
+        → Awaits (with_version (record e { own = (if used then Sent else Unsent); wanted = e.wanted - 1; used = used; closed = closed })) knows
+    by true closed is unknown = refl
+    by false true is unknown = refl
+    by false false is unknown = refl
+
+sent_awaits : (own : ExchangeStage) → is_idle own ≡ false → is_idle (own_after_sending Question own) ≡ false
+sent_awaits Idle is = absurd (cc)
+sent_awaits Unsent is = refl
+sent_awaits Sent is = refl
+
+does_await : (role : Role) (step : EndStep) (p : ExchangeParts) (knows : Bool) → MayMove (Does role step) p → Awaits (end_of role p).versions knows
+    → Awaits (after_step step (end_of role p)).versions knows
+does_await role begins_version p knows may is = begun_awaits (end_of role p).versions knows
+does_await role sends_version p knows may is = absurd may
+does_await role takes_version p knows may is = absurd may
+does_await role is_refused p knows may is = absurd may
+does_await role step p knows may is = is
+
+sends_await : (pdu : AnyPdu) (e : ExchangeEnds) (knows : Bool) → Awaits e.versions knows → Awaits (after_step (sending pdu) e).versions knows
+sends_await (of_features pdu) e knows is = is
+sends_await (of_lengths pdu) e knows is = is
+sends_await of_versions e knows is = λ used unknown. sent_awaits e.versions.own (is used unknown)
+
+takes_await : (pdu : AnyPdu) (e : ExchangeEnds) (knows : Bool) → Awaits e.versions knows → Awaits (after_step (taking pdu) e).versions (knows || is_version pdu)
+takes_await (of_features pdu) e knows is = λ used unknown. is used (same knows unknown)
+  where
+    same : (b : Bool) → (b || false) ≡ false → b ≡ false
+    same true is = absurd (cc)
+    same false is = refl
+takes_await (of_lengths pdu) e knows is = λ used unknown. is used (same knows unknown)
+  where
+    same : (b : Bool) → (b || false) ≡ false → b ≡ false
+    same true is = absurd (cc)
+    same false is = refl
+takes_await of_versions e knows is = λ used unknown. never knows unknown
+  where
+    never : (b : Bool) → (b || true) ≡ false → is_idle (after_step (taking of_versions) e).versions.own ≡ false
+    never true is = absurd (cc)
+    never false is = absurd (cc)
+
+pub record Await (p : ExchangeParts) : Type 0 where
+  pub central : Awaits p.central.versions p.central_knows
+  pub peripheral : Awaits p.peripheral.versions p.peripheral_knows
+
+move_awaits : (move : Move) (p : ExchangeParts) → MayMove move p → Await p → Await (after_move move p)
+move_awaits (Does Central step) p may is = record { central = does_await Central step p p.central_knows may is.central; peripheral = is.peripheral }
+move_awaits (Does Peripheral step) p may is = record { central = is.central; peripheral = does_await Peripheral step p p.peripheral_knows may is.peripheral }
+move_awaits (Sends Central pdu) p may is = record { central = sends_await pdu p.central p.central_knows is.central; peripheral = is.peripheral }
+move_awaits (Sends Peripheral pdu) p may is = record { central = is.central; peripheral = sends_await pdu p.peripheral p.peripheral_knows is.peripheral }
+move_awaits (Takes Central pdu) p may is = record { central = takes_await pdu p.central p.central_knows is.central; peripheral = is.peripheral }
+move_awaits (Takes Peripheral pdu) p may is = record { central = is.central; peripheral = takes_await pdu p.peripheral p.peripheral_knows is.peripheral }
+move_awaits (Keeps pdu) p may is = record { central = is.central; peripheral = is.peripheral }
+move_awaits (TakesKept pdu) p may is = record { central = takes_await pdu p.central p.central_knows is.central; peripheral = is.peripheral }
+
+pub moves_await : (moves : List Move) (p : ExchangeParts) → MayMoveAll moves p → Await p → Await (after_moves moves p)
+moves_await [] p may is = is
+moves_await (move ∷ moves) p may is = moves_await moves (after_move move p) may.1 (move_awaits move p may.0 is)

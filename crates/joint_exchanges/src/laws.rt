@@ -112,9 +112,9 @@ pub fn answers_meet_their_questions()
 /// version is known; while it is unsent the PDU waits, and afterwards that or the other's is to
 /// come, or the other end is to end the link. An end that knows the other's version and whose own
 /// PDU is still to come answers an exchange of the other, or that is to end the link. One whose PDU
-/// was queued and that does not know the other's version runs an exchange, or keeps the other's PDU.
-/// The PDU was queued at each end that runs an exchange, and at each that knows the other's version
-/// and is not to end the link.
+/// was queued and that does not know the other's version runs an exchange. The PDU was queued at
+/// each end that runs an exchange, and at each that knows the other's version and is not to end the
+/// link.
 pub fn a_version_goes_once()
     ensures once { (central_rx peripheral_rx : ℕ) (first : Params) (slot : ℕ)
         (steps : List JointStep) (role : Role)
@@ -161,8 +161,7 @@ pub fn a_version_goes_once()
         GoesOn steps (beginning central_rx peripheral_rx first slot)
         → (end_at role s).control.table.version_used ≡ true
         → (end_at role s).knows_version ≡ false
-        → (is_idle (version_stage_at (end_at role s)) ≡ false)
-        ⊎ (kept_of is_version_ctrl (other_role role) s ≡ 1) }
+        → is_idle (version_stage_at (end_at role s)) ≡ false }
     ensures running { (central_rx peripheral_rx : ℕ) (first : Params) (slot : ℕ)
         (steps : List JointStep) (role : Role)
         → let s = after_all steps (beginning central_rx peripheral_rx first slot) in
