@@ -1,10 +1,11 @@
 -- The laws of exchanges, of each state of a joint run in which that goes on.
-use Rattle.std.proofs.Common.{◌≡◌, ◌≤◌, ◌⊎◌, inl, inr, ℕ, zero, suc, ◌+◌, ◌==◌, Bool, true, false, not, ◌&&◌, ◌||◌, List, refl, ap, sym, ◌∙◌, subst, arith, eqb-true}
+use Rattle.std.proofs.Common.{◌≡◌, ◌≤◌, ◌⊎◌, inl, inr, ℕ, zero, suc, ◌+◌, ◌==◌, Bool, true, false, not, ◌&&◌, ◌||◌, List, Option, Some, None, refl, ap, sym, ◌∙◌, subst, arith, eqb-true}
 use Rattle.std.proofs.lemmas.Bool.{and_parts}
 use Rattle.ble_base.specs.Limits.{first_payload_octets}
 use Rattle.ble_base.specs.declared.procedure_kinds.Kind.TheVariants.{Version}
 use Rattle.ble_base.specs.declared.roles.Role.{Role}
 use Rattle.ble_base.specs.declared.roles.Role.TheVariants.{Central, Peripheral}
+use Rattle.data_pdu.specs.declared.ctrl.Ctrl.{Ctrl}
 use Rattle.instants.specs.declared.indications.Params.{Params}
 use Rattle.procedure_values.specs.Limits.{tx_of}
 use Rattle.procedure_values.specs.Wants.{count_of}
@@ -25,14 +26,16 @@ use Rattle.exchange_pairs.proofs.LengthsFixed.{known_fixed, stays}
 use Rattle.exchange_pairs.proofs.LengthsKept.{transmits_within}
 use Rattle.exchange_pairs.proofs.Versions
 use Rattle.exchange_pairs.proofs.Versions.{known_then_idle, once, sent_is_coming, still_answering, unsent_waits, used_unknown}
-use Rattle.phased_control.specs.Phased.{is_open_now}
+use Rattle.phased_control.specs.Phased.{is_open_now, is_quiet_now}
 use Rattle.joint_controls.specs.Joint.{Joint, JointStep, after_all, beginning}
-use Rattle.joint_exchanges.specs.Agreement.{Asked, Features, Lengths, coming_to, end_at, first_rx_at, is_answer_of, is_first_of, is_question_of, is_version_ctrl, is_version_ind, kept_of, places_of, questions_waiting, sent_from, stage_at, untaken, version_coming, version_places, version_stage_at, waiting}
+use Rattle.joint_exchanges.specs.Agreement.{Asked, Features, Lengths, coming_to, end_at, first_rx_at, is_answer_of, is_first_of, is_question_of, is_version_ctrl, is_version_ind, kept_of, passes, places_of, questions_waiting, sent_from, stage_at, untaken, version_coming, version_places, version_stage_at, waiting}
 use Rattle.joint_exchanges.specs.Machines.{events_of, features_event, lengths_event, lengths_link, maxima_after_all, none_sent, versions_event, versions_link}
 use Rattle.joint_exchanges.specs.Moves.{Move}
 use Rattle.joint_exchanges.specs.Parts.{ExchangeParts, parts_of}
 use Rattle.joint_exchanges.specs.Runs.{GoesOn, moves_in}
+use Rattle.joint_exchanges.proofs.CentralKeeps.{central_keeps}
 use Rattle.joint_exchanges.proofs.Counting.{asked_link, asked_places, asked_waiting, version_drafts, version_kept, version_way}
+use Rattle.joint_exchanges.proofs.MayDo.{idle_encrypting}
 use Rattle.joint_exchanges.proofs.MachineRuns.{features_now, lengths_now, moved, none_ever, versions_now}
 use Rattle.joint_exchanges.proofs.UsedVersions.{AreUsed, Await, moves_await, moves_used}
 
@@ -297,6 +300,39 @@ module _ (central_rx peripheral_rx : ℕ) (first : Params) (slot : ℕ) (steps :
         let sum = version_once Peripheral in let most = one_count s.peripheral.control.table.version_used in zero_count s.central.knows_version (omega (arith, is, sum, most))
     version_taken Peripheral is =
         let sum = version_once Central in let most = one_count s.central.control.table.version_used in zero_count s.peripheral.knows_version (omega (arith, is, sum, most))
+
+    -- a central that keeps LL_VERSION_IND has not queued its own
+    some_kept : (kept : Option Ctrl) → Waiting.count_if (passes is_version_ctrl kept) ≡ 1 → kept ≡ None → ⊥
+    some_kept None is none = absurd (cc)
+    some_kept (Some ctrl) is none = cc
+
+    not_quiet : (b : Bool) → (b ≡ true → ⊥) → b ≡ false
+    not_quiet true is = absurd (is refl)
+    not_quiet false is = refl
+
+    pub version_kept_unused : kept_of is_version_ctrl Peripheral s ≡ 1 → s.central.control.table.version_used ≡ false
+    version_kept_unused kept =
+        let keeps = central_keeps central_rx peripheral_rx first slot steps in
+        let idle : is_idle (version_stage_at s.central) ≡ true =
+        idle_encrypting s.central (keeps.encrypts (not_quiet (is_quiet_now s.central) (λ quiet. some_kept s.central.kept kept (keeps.quiet quiet)))) in
+        let sum = version_once Peripheral in
+        let most = one_count s.peripheral.control.table.version_used in
+        let unknown : s.central.knows_version ≡ false = zero_count s.central.knows_version (omega (arith, kept, sum, most)) in
+        by s.central.control.table.version_used (λ used. version_used_for Central used unknown) idle
+      where
+        by : (used : Bool) → (used ≡ true → is_idle (version_stage_at s.central) ≡ false) → is_idle (version_stage_at s.central) ≡ true → used ≡ false
+        by true is idle = absurd (let h = is refl in cc)
+        by false is idle = refl
+
+    -- and the peripheral runs an exchange of versions
+    pub version_kept_runs : kept_of is_version_ctrl Peripheral s ≡ 1 → is_idle (version_stage_at s.peripheral) ≡ false
+    version_kept_runs kept =
+        version_used_for Peripheral (one_used s.peripheral.control.table.version_used (let sum = version_once Peripheral in omega (arith, sum, kept)))
+        (zero_count s.peripheral.knows_version (let sum = version_once Central in let none = ap (λ b. Waiting.count_if b) (version_kept_unused kept) in omega (arith, sum, none)))
+      where
+        one_used : (b : Bool) → 1 ≤ Waiting.count_if b → b ≡ true
+        one_used true is = refl
+        one_used false is = absurd (omega (arith, is))
 
     -- ---- the exchange of lengths
 

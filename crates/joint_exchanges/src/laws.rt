@@ -114,7 +114,7 @@ pub fn answers_meet_their_questions()
 /// PDU is still to come answers an exchange of the other, or that is to end the link. One whose PDU
 /// was queued and that does not know the other's version runs an exchange. The PDU was queued at
 /// each end that runs an exchange, and at each that knows the other's version and is not to end the
-/// link.
+/// link. What the central keeps began an exchange of the peripheral.
 pub fn a_version_goes_once()
     ensures once { (central_rx peripheral_rx : ℕ) (first : Params) (slot : ℕ)
         (steps : List JointStep) (role : Role)
@@ -174,6 +174,18 @@ pub fn a_version_goes_once()
         GoesOn steps (beginning central_rx peripheral_rx first slot)
         → (end_at role s).knows_version ≡ true → is_open_now (end_at role s) ≡ true
         → (end_at role s).control.table.version_used ≡ true }
+    ensures kept { (central_rx peripheral_rx : ℕ) (first : Params) (slot : ℕ)
+        (steps : List JointStep)
+        → let s = after_all steps (beginning central_rx peripheral_rx first slot) in
+        GoesOn steps (beginning central_rx peripheral_rx first slot)
+        → kept_of is_version_ctrl Role.Peripheral s ≡ 1
+        → s.central.control.table.version_used ≡ false }
+    ensures kept_runs { (central_rx peripheral_rx : ℕ) (first : Params) (slot : ℕ)
+        (steps : List JointStep)
+        → let s = after_all steps (beginning central_rx peripheral_rx first slot) in
+        GoesOn steps (beginning central_rx peripheral_rx first slot)
+        → kept_of is_version_ctrl Role.Peripheral s ≡ 1
+        → is_idle (version_stage_at s.peripheral) ≡ false }
 {}
 
 /// What an end receives at most is what it received as the link began. The other end knows 27
