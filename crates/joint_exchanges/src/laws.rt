@@ -250,7 +250,7 @@ pub fn ends_send_pdus_of_their_role()
 /// The control PDUs that wait at an end are those of the kinds of procedures, each of one kind. So
 /// fewer than sixteen wait in a joint run where all that comes has a meaning, and where of the
 /// procedures that exclude each other at most one rejection and two PDUs wait, and of the
-/// encryption at most three, with LL_TERMINATE_IND for lack of a key.
+/// encryption at most three, with LL_TERMINATE_IND for want of a key.
 pub fn few_control_pdus_wait_by_kind()
     ensures sum { (s : Phased) → waiting_in s.control.table.queue ≡ kinds_waiting s }
     ensures few { (central_rx peripheral_rx : ℕ) (first : Params) (slot : ℕ)
