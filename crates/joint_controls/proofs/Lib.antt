@@ -1,1 +1,6 @@
 -- The lemmas of this crate.
+pub mod ControlRuns
+pub mod EndSteps
+pub mod Keeping
+pub mod LastPdus
+pub mod Running

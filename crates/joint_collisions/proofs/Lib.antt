@@ -1,0 +1,11 @@
+-- The lemmas of this crate.
+pub mod Answers
+pub mod CentralSteps
+pub mod CentralTakes
+pub mod Fixing
+pub mod Instants
+pub mod Meanings
+pub mod PeripheralSteps
+pub mod Reaching
+pub mod Resting
+pub mod Sending
