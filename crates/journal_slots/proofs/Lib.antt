@@ -4,3 +4,4 @@ mod OnAir
 mod OnAirCalls
 mod OnAirPackets
 mod SecondSlots
+mod Refusals

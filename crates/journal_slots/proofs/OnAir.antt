@@ -29,7 +29,7 @@ use Rattle.journal_acks.proofs.Counting.{taking_if}
 use Rattle.journal_acks.proofs.LinkCalls.{HasBegun, fixed_if}
 use Rattle.journal_acks.proofs.LinkUses.{listens_under, sends_under}
 use Rattle.journal_acks.proofs.UnderHandles.{sent_if}
-use Rattle.journal_slots.specs.Continued.{HasToContinue, PacketInSlot, has_more}
+use Rattle.journal_slots.specs.SecondSlot.{HasToContinue, PacketInSlot, has_more}
 
 -- ---- packets in the slot of an event
 

@@ -49,7 +49,7 @@ use Rattle.journal_acks.proofs.LinkUses.{listens_under, sends_under}
 use Rattle.journal_acks.proofs.Standing.{PhasedBy, listener_sends, other_listens, other_sends, phased_at, sends_on, sends_other}
 use Rattle.journal_acks.proofs.TwoStations.{IsOfTwo, hearing_of, one_hearing, other_is, other_of, own_differs, own_received, same_number, sent_in_form}
 use Rattle.journal_acks.proofs.UnderHandles.{same_base}
-use Rattle.journal_slots.specs.Continued.{PacketInSlot, has_more}
+use Rattle.journal_slots.specs.SecondSlot.{PacketInSlot, has_more}
 use Rattle.journal_slots.proofs.OnAir.{IsEndOnAir, IsOnAir, WasOnAir, moved, on_air_stays, plain, received_on_air, sent_on_air}
 use Rattle.journal_slots.proofs.OnAirCalls.{AreOnAirSo, none_sent}
 
@@ -69,9 +69,9 @@ whole_pdu channel access init octets pdu is = by (bytes_eq (take 4 octets) (acce
     by true false found same = absurd cc
     by false whole found same = absurd cc
 
-says_more : IsHeardWhole → (setup : EndSetup) (facts : EndFacts) → IsInForm facts → has_more facts.event.channel (packet_sent setup facts) ≡ more_sent facts
+packet_says_more : IsHeardWhole → (setup : EndSetup) (facts : EndFacts) → IsInForm facts → has_more facts.event.channel (packet_sent setup facts) ≡ more_sent facts
 unfolding packet_sent
-says_more whole setup facts form =
+packet_says_more whole setup facts form =
     let pdu = octets_of (header_sent facts) ++ payload_sent facts in
     ap (λ xs. (header_in xs).md)
     (whole_pdu facts.event.channel setup.link.fields.access setup.link.fields.crc_init (packet_sent setup facts) pdu
@@ -81,23 +81,23 @@ says_more whole setup facts form =
 -- ---- the line of the packet
 
 -- the journal with it
-aired_journal : (history : List Event) (station channel : ℕ) (octets : List ℕ) (hearings : List Hearing) (hearing : Hearing) → hearings ≡ hearing ∷ []
+journal_with_line : (history : List Event) (station channel : ℕ) (octets : List ℕ) (hearings : List Hearing) (hearing : Hearing) → hearings ≡ hearing ∷ []
     → journal_of (history ++ Transmitted station channel octets hearings ∷ []) ≡ journal_of history ++ Air (side_of station) channel octets (mark_of hearing.fate) hearing.verdict ∷ []
-aired_journal history station channel octets hearings hearing has =
+journal_with_line history station channel octets hearings hearing has =
     journal_event history (Transmitted station channel octets hearings) ∙ ap (λ xs. journal_of history ++ air_entries (side_of station) channel octets xs) has
 
 -- it is a packet of its link in the slot of this turn
-abbrev aired : (number slot : ℕ) (sender : Side) (history : List Event) (station channel : ℕ) (octets : List ℕ) (hearings : List Hearing) (hearing : Hearing) → hearings ≡ hearing ∷ []
+abbrev packet_of_line : (number slot : ℕ) (sender : Side) (history : List Event) (station channel : ℕ) (octets : List ℕ) (hearings : List Hearing) (hearing : Hearing) → hearings ≡ hearing ∷ []
     → sender ≡ side_of station → is_advertising channel ≡ false → link_of_packet (journal_of history) (side_of station) octets ≡ Some number → length (turns_of (journal_of history)) ≡ slot + 1
     → PacketInSlot number slot sender (journal_of (history ++ Transmitted station channel octets hearings ∷ []))
-aired number slot sender history station channel octets hearings hearing has same off belongs turns = record {
+packet_of_line number slot sender history station channel octets hearings hearing has same off belongs turns = record {
   before = journal_of history;
   channel = channel;
   octets = octets;
   fate = mark_of hearing.fate;
   verdict = hearing.verdict;
   after = [];
-  is_at = aired_journal history station channel octets hearings hearing has
+  is_at = journal_with_line history station channel octets hearings hearing has
       ∙ ap (λ s. journal_of history ++ Air s channel octets (mark_of hearing.fate) hearing.verdict ∷ []) (sym same);
   on_data_channel = off;
   belongs = ap (λ s. link_of_packet (journal_of history) s octets) same ∙ belongs;
@@ -243,7 +243,7 @@ module _ (whole : IsHeardWhole) (given : Given) (Q : Place → List Event → Ty
     -- it says whether more waits at the end that sent it
     says : has_more channel octets ≡ more_sent (facts_in sent.link)
     says =
-        (λ i. has_more (sent.channel_is i) (sent.packet i)) ∙ says_more whole sent.link.setup (facts_in sent.link) (past_form sent.link.setup sent.link.past)
+        (λ i. has_more (sent.channel_is i) (sent.packet i)) ∙ packet_says_more whole sent.link.setup (facts_in sent.link) (past_form sent.link.setup sent.link.past)
 
     own_sent : (link : OpenLink) → link_at sent.handle (facts station).links ≡ Some link → IsOwnThen sent.handle link
     own_sent link at =
@@ -256,7 +256,7 @@ module _ (whole : IsHeardWhole) (given : Given) (Q : Place → List Event → Ty
         let same : sent.link ≡ base = same_base sent.slot slot sent.link base (equal ∙ is) in
         subst (λ xs. IsOnAir own (side_of station) xs (facts_in (link_after (PacketSent slot) base)).event) grown
         (sent_on_air own (side_of station) (journal_of after) slot base (subst (λ xs. IsOnAir own (side_of station) xs (facts_in base).event) (sym grown) then_on)
-        (aired own slot (side_of station) history station channel octets hearings hearing has_one refl off sent.belongs (turns station in_it))
+        (packet_of_line own slot (side_of station) history station channel octets hearings hearing has_one refl off sent.belongs (turns station in_it))
         (says ∙ ap (λ (l : OpenLink). more_sent (facts_in l)) same)))
         (before_sent sent.handle link at))
 
@@ -314,7 +314,7 @@ module _ (whole : IsHeardWhole) (given : Given) (Q : Place → List Event → Ty
           (received_on_air number (side_of other) (journal_of after) turn.slot false link
           (subst (λ xs. IsOnAir number (side_of other) xs (facts_in link).event) (sym grown) (on_air_stays number (side_of other) (journal_of history) line (facts_in link).event before))
           (record {
-            packet = aired number turn.slot (other_side (side_of other)) history station channel octets hearings hearing has_one (other_back station) off ((sent off).belongs ∙ ap Some numbers)
+            packet = packet_of_line number turn.slot (other_side (side_of other)) history station channel octets hearings hearing has_one (other_back station) off ((sent off).belongs ∙ ap Some numbers)
                 (turns other is_too);
             good = is_good_one hearing.verdict good;
           })

@@ -61,7 +61,7 @@ use Rattle.journal_acks.proofs.RunCounts.{counts_first}
 use Rattle.journal_acks.proofs.Seen.{IsSeen, seen_packet}
 use Rattle.journal_acks.proofs.Standing.{PhasedBy, last_phase, phased_at, sends_on, silent_sends}
 use Rattle.journal_acks.proofs.TwoStations.{IsOfTwo}
-use Rattle.journal_slots.specs.Continued.{AllAreContinued, HasToContinue, IsContinued}
+use Rattle.journal_slots.specs.SecondSlot.{AllAreContinued, HasToContinue, IsContinued}
 use Rattle.journal_slots.proofs.ExchangeSlots.{AreInExchanges, IsAtAnchor, IsInExchange, exchanges_first, exchanges_kept}
 use Rattle.journal_slots.proofs.OnAir.{IsEndOnAir, WasOnAir, continues}
 use Rattle.journal_slots.proofs.OnAirCalls.{AreOnAirSo, begin_on_air, end_on_air, feed_on_air, on_air_call, on_air_event, on_air_same, passes_on_air}
@@ -259,18 +259,18 @@ module _ (whole : IsHeardWhole) (understood : IsUnderstood) (taken : AreTaken) (
       let number = number_at station sent.handle history in
       let turn = (facts_at given station history).turn in
       let on = sends_on sent.handle turn.doing sent.sends in
-      let stands = turned setup (AreInExchanges setup) (exchanges_kept setup) (past_of station history) (at_stage (Within phases) (turns_begun history)) (exchanges_first setup)
+      let exchanges = turned setup (AreInExchanges setup) (exchanges_kept setup) (past_of station history) (at_stage (Within phases) (turns_begun history)) (exchanges_first setup)
       (has.is.holds.hearing.stand station in_it) in record {
         sent = sent;
         begun = known.begun place history has.is.known station sent.handle own in_it sent.is_open;
         count = count_read (journal_of history) station number (notes_opened_on own.setup own.past) (known.lines place history has.is.known station sent.handle own in_it sent.is_open)
             ∙ entered_noted own.setup own.past;
-        anchored = stands.anchored sent.handle own sent.is_open;
-        in_exchange = stands.in_exchange sent.handle own sent.is_open (Sending on);
+        anchored = exchanges.anchored sent.handle own sent.is_open;
+        in_exchange = exchanges.in_exchange sent.handle own sent.is_open (Sending on);
         on_air = late (packet_received station history) sent.handle turn own number (side_of station) (journal_of history) on
             (subst (λ b. IsEndOnAir (not b) (packet_received station history) sent.handle turn own number (side_of station) (journal_of history))
             (not_before given.stations done left station distinct are) (has.on_air station sent.handle own in_it sent.is_open));
-        turns = turns_are history ∙ sym stands.phased.uses.in_turn.slot_is;
+        turns = turns_are history ∙ sym exchanges.phased.uses.in_turn.slot_is;
       }
 
   sees : IsSeen given P (λ history. ⊤) (IsInExchangeOn given)

@@ -1,2 +1,3 @@
 -- The definitions of this crate.
-pub mod Continued
+pub mod SecondSlot
+pub mod Rows

@@ -1,6 +1,6 @@
--- Proof of `slots::each_second_slot_was_told_of`.
+-- Proof of `slots::each_second_slot_has_its_reason`.
 use Rattle.journal_slots.proofs.SecondSlots.{packets_continued}
-use Rattle.journal_slots.proofs.slots.each_second_slot_was_told_of.Goals as goal
+use Rattle.journal_slots.proofs.slots.each_second_slot_has_its_reason.Goals as goal
 
 pub returns : goal.returns
 returns c = λ given stations six.
