@@ -19,6 +19,7 @@ use Rattle.journal_hearings.specs.Requests.{AllRequestsAreHeard}
 use Rattle.journal_hearings.specs.Taken.{AllTakenLinksAreHeard}
 use Rattle.journal_hosts.specs.Answered.{AllAreAnswered}
 use Rattle.journal_hosts.specs.Credits.{AllCreditsAreOfOne, AllCreditsAreOfSome, AllCreditsAscend, AllEarlyCreditsComeAtOnce, AllLateCreditsComeLast}
+use Rattle.journal_slots.specs.SecondSlot.{AllAreContinued}
 use Rattle.journal_turns.specs.Follows.{FollowsSchedule}
 use Rattle.journal_turns.specs.Scheduled.{AreAllTurns}
 use Rattle.journal_pdus.specs.Answered.{AllAnswersAreHeard}
@@ -72,6 +73,8 @@ pub record IsLawful (a b : List ℕ) (script : Script) (journal : List Entry) : 
   pub events : AllAreInOrder journal
   -- a packet of a link is in the turn of the event that its side entered last, or in the next one
   pub in_events : AllAreInEvents journal
+  -- in the next one only where a packet in the turn of the event says that more waits
+  pub continued : AllAreContinued journal
   -- lines name links that are open at their side, and a link is opened under the next free handle
   pub held : LinesAreOfOpenLinks journal
   -- each link that is shut has its reason, and one that is not shut has none: it ends later

@@ -29,6 +29,7 @@ returns-clause-lawful c = λ a b script six six_too. record {
   entered = λ front rest side number event channel at. c.each_enter_line_is_at_its_anchor.ensures a b script front rest side number event channel six six_too at;
   events = λ front rest side number event channel at. c.each_side_enters_its_events_in_order.ensures a b script front rest side number event channel six six_too at;
   in_events = c.each_packet_is_in_its_event.ensures (given_of a b script) refl (pair_addresses a b script six six_too);
+  continued = c.each_second_slot_has_its_reason.ensures (given_of a b script) refl (pair_addresses a b script six six_too);
   held = c.lines_are_of_open_links_in_every_journal.ensures a b script six six_too;
   shut = λ front rest side number reason at. c.each_shut_line_has_its_reason.ensures a b script front rest side number reason six six_too at;
   in_time = journal_in_time c.packet_tells_its_pdu.ensures.heard c.a_pdu_is_understood.ensures.says c.connections_are_taken.ensures.taken
