@@ -10,9 +10,12 @@ mod SettingsRead
 mod LinkedAddresses
 mod OffersMade
 mod BothKept
+mod PeripheralNotes
 mod ConnectsTaken
 mod ConnectsAwaited
 mod HeardTaken
 mod LinksOpened
+mod LastHeard
+mod OpenedHeard
 mod AdvertiserRoom
 mod AdvertiserHandles
