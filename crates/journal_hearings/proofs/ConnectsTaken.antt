@@ -2,7 +2,7 @@
 use Rattle.std.proofs.Common.{◌≡◌, ℕ, ◌==◌, ◌||◌, Bool, true, false, Option, Some, None, List, [], ◌∷◌, ◌++◌, cond, refl, sym, ap, subst, ◌∙◌}
 use Rattle.std.specs.Prelude.{◌&&◌, not, IsSome, if◌then◌else◌}
 use Rattle.std.specs.Option.{option_map}
-use Rattle.std.proofs.lemmas.Bool.{and_parts, eqb-true}
+use Rattle.std.proofs.lemmas.Bool.{and_from, and_parts, eqb-true}
 use Rattle.ble_base.specs.declared.addresses.Address.{Address}
 use Rattle.ble_base.specs.declared.notes.Note.{Note}
 use Rattle.ble_base.specs.declared.notes.Note.TheVariants.{Opened}
@@ -90,9 +90,6 @@ lets_by false true false own target body policy list from to apart others = refl
 lets_by false false true own target body policy list from to apart others = refl
 lets_by false false false own target body policy list from to apart others = refl
 
-both_are : (one other : Bool) → one ≡ true → other ≡ true → (one && other) ≡ true
-both_are one other is is_too = rw (is, is_too) refl
-
 module _ (facts : Facts) (policy : ℕ) (list : List Address) (offer : Option AdvPdu) (fits : FitsOffer facts offer) (holds : Holds policy list facts) (from to : Address) where
   -- the settings and the advertisement of an advertiser
   lets_is : (on : AdvertiserFacts) → facts.advertising.on ≡ Some on
@@ -130,7 +127,7 @@ module _ (facts : Facts) (policy : ℕ) (list : List Address) (offer : Option Ad
       let parts = and_parts (is_connectable params.kind) (is_same_address params.own to) first.0 in
       takes_link setup facts octets channel one.on from to ch_sel fields doing one.is_on found
       (ap (λ b. if b then Takes fields else Ignore)
-      (both_are (is_connectable params.kind && is_same_address params.own to && may_connect params facts.view.accepted from) (is_in_range fields) may in_range))
+      (and_from (is_connectable params.kind && is_same_address params.own to && may_connect params facts.view.accepted from) (is_in_range fields) may in_range))
       (ap (λ own. has_link_between own from facts.links) (equal_addresses params.own to parts.1) ∙ new) (free one.on one.is_on parts.0)
 
 -- and what is taken is to be opened by the lines

@@ -2,7 +2,7 @@
 -- station since.
 use Rattle.std.proofs.Common.{◌≡◌, ℕ, ◌+◌, ◌==◌, ◌||◌, Bool, true, false, Option, Some, None, List, [], ◌∷◌, ◌++◌, refl, sym, ap, subst, ◌∙◌, append-nil, append_assoc}
 use Rattle.std.specs.Prelude.{⊤, if◌then◌else◌}
-use Rattle.std.proofs.lemmas.Bool.{eqb-true}
+use Rattle.std.proofs.lemmas.Bool.{eqb-true, or_right}
 use Rattle.ble_base.specs.declared.notes.Note.{Note}
 use Rattle.ble_base.specs.declared.notes.Note.TheVariants.{Opened}
 use Rattle.controller_model.specs.Facts.{Sends, Listens}
@@ -56,10 +56,6 @@ sent_same false same received last begun differs none = refl
 last_if : (begins : Bool) (station : ℕ) (links more : Links) → (if begins then more else links).last_of station ≡ (if begins then more.last_of station else links.last_of station)
 last_if true station links more = refl
 last_if false station links more = refl
-
-or_right : (one other : Bool) → other ≡ true → (one || other) ≡ true
-or_right true other is = refl
-or_right false other is = is
 
 module _ (given : Given) (six : HaveAddresses given) (distinct : AreDistinct given.stations) (station : ℕ) (in_it : is_in station given.stations ≡ true) where
   abbrev HeardNone : List Event → Type 0

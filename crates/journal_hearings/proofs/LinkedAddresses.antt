@@ -3,7 +3,7 @@ use Rattle.std.proofs.Common.{◌≡◌, ◌≢◌, ℕ, ◌+◌, ◌≤◌, ◌
 use Rattle.std.specs.Prelude.{◌&&◌, is_some}
 use Rattle.std.specs.List.{find, list_any}
 use Rattle.std.specs.Option.{option_map}
-use Rattle.std.proofs.lemmas.Bool.{eqb-true, false_from_ne_true, or_left}
+use Rattle.std.proofs.lemmas.Bool.{eqb-true, false_from_ne_true, or_left, or_right}
 use Rattle.ble_base.specs.declared.addresses.Address.{Address}
 use Rattle.ble_base.specs.declared.roles.Role.{Role}
 use Rattle.ble_base.specs.declared.roles.Role.TheVariants.{Central, Peripheral}
@@ -61,10 +61,6 @@ open_between first own peer (place ∷ links) is = by place (is_link_between own
           between = found.between;
         }
 
-or_later : (one other : Bool) → other ≡ true → (one || other) ≡ true
-or_later true other is = refl
-or_later false other is = is
-
 between_open : (first handle : ℕ) (own peer : Address) (links : Links) (link : OpenLink) → link_from first handle links ≡ Some link → is_link_between own peer (Some link) ≡ true
     → has_link_between own peer links ≡ true
 between_open first handle own peer [] link is between = absurd (let h : None ≡ Some link = is in cc)
@@ -73,7 +69,7 @@ between_open first handle own peer (place ∷ links) link is between = by (first
     by : (same : Bool) → cond same place (link_from (first + 1) handle links) ≡ Some link
         → (link_from (first + 1) handle links ≡ Some link → has_link_between own peer links ≡ true) → (is_link_between own peer place || has_link_between own peer links) ≡ true
     by true is rest = or_left (is_link_between own peer place) (has_link_between own peer links) (ap (is_link_between own peer) is ∙ between)
-    by false is rest = or_later (is_link_between own peer place) (has_link_between own peer links) (rest is)
+    by false is rest = or_right (is_link_between own peer place) (has_link_between own peer links) (rest is)
 
 record IsPlaceOpen (place : Option OpenLink) : Type 0 where
   link : OpenLink

@@ -4,7 +4,7 @@ use Rattle.std.proofs.Common.{◌≡◌, ℕ, ◌+◌, ◌≤◌, ◌==◌, true
 use Rattle.std.specs.Prelude.{map}
 use Rattle.std.proofs.lemmas.Bool.{eqb-false}
 use Rattle.std.proofs.lemmas.Grind.{flat_map-append}
-use Rattle.std.proofs.lemmas.List.{length-append}
+use Rattle.std.proofs.lemmas.List.{length-append, nil_from_length}
 use Rattle.ble_base.specs.Side.{other_side}
 use Rattle.ble_base.specs.declared.addresses.Address.{Address}
 use Rattle.ble_base.specs.declared.notes.Note.{Note}
@@ -30,7 +30,7 @@ use Rattle.run_model.specs.History.{Event, Called, Noted, Transmitted, Hearing, 
 use Rattle.run_model.specs.Journal.{air_entries, entry_of, journal_from, journal_of, mark_of, side_of}
 use Rattle.run_model.specs.LinkEnds.{HaveAddresses}
 use Rattle.run_model.specs.Links.{Links, is_advertising, is_connect_ind, links_after, links_of}
-use Rattle.run_model.specs.Readers.{PairOpening, pair_openings_in, turns_of}
+use Rattle.run_model.specs.Readers.{pair_openings_in, turns_of}
 use Rattle.run_model.specs.Run.{Given, facts_at, history_of, run_of, setup_at, use_at}
 use Rattle.run_model.proofs.Calls.{turns_called}
 use Rattle.run_model.proofs.Doings.{IsWanted, always_wanted}
@@ -102,10 +102,6 @@ packet_line before after sender channel octets hearing hearings side are side_is
     ∙ ap (λ xs. journal_of before ++ (air_entries (side_of sender) channel octets xs ++ between)) are
     ∙ (λ i. journal_of before ++ Air (side_is i) channel octets (mark_of hearing.fate) (good i) ∷ between)
 
-none_of : (turns : List PairOpening) → length turns ≡ 0 → turns ≡ []
-none_of [] none = refl
-none_of (turn ∷ turns) none = absurd (omega (arith, none))
-
 -- no turn begins after it
 no_turn : (front before between : List Entry) (side : Side) (channel : ℕ) (octets : List ℕ) (fate : Mark) → front ≡ before ++ Air side channel octets fate Good ∷ between
     → length (turns_of front) ≡ length (turns_of before) → turns_of between ≡ []
@@ -114,7 +110,7 @@ no_turn front before between side channel octets fate is same =
     let whole = ap (λ xs. length (turns_of xs)) is in
     let parts = ap length (flat_map-append pair_openings_in before (line ∷ between)) in
     let both = length-append (turns_of before) (turns_of between) in
-    none_of (turns_of between) (omega (arith, same, whole, parts, both))
+    nil_from_length (turns_of between) (omega (arith, same, whole, parts, both))
 
 -- ---- the channel of a request that is taken
 

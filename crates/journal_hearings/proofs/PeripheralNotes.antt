@@ -3,6 +3,7 @@
 use Rattle.std.proofs.Common.{◌≡◌, ℕ, ◌==◌, ◌||◌, Bool, true, false, Option, Some, None, List, [], ◌∷◌, ◌++◌, refl, sym, ap, ◌∙◌}
 use Rattle.std.specs.Prelude.{not, if◌then◌else◌}
 use Rattle.std.specs.List.{list_any}
+use Rattle.std.proofs.lemmas.Bool.{or_parts, or_right}
 use Rattle.std.proofs.lemmas.List.Folds.{list_any-append}
 use Rattle.ble_base.specs.declared.addresses.Address.{Address}
 use Rattle.ble_base.specs.declared.notes.Note.{Note}
@@ -56,14 +57,6 @@ is_taking other = false
 abbrev takes_in : List Note → Bool
 takes_in notes = list_any is_taking notes
 
-or_none : (one other : Bool) → (one || other) ≡ false → other ≡ false
-or_none true other is = absurd cc
-or_none false other is = is
-
-or_later : (one other : Bool) → other ≡ true → (one || other) ≡ true
-or_later true other is = refl
-or_later false other is = is
-
 -- no link is opened by these notes
 abbrev OpenNone : List Note → Type 0
 OpenNone notes = (handle : ℕ) → is_opened handle notes ≡ false
@@ -74,7 +67,7 @@ not_opened handle rest X none = absurd (let h : true ≡ false = sym (ap (λ b. 
 none_taken : (notes : List Note) → OpenNone notes → takes_in notes ≡ false
 none_taken [] none = refl
 none_taken (Opened handle role own peer ∷ notes) none = not_opened handle (is_opened handle notes) _ (none handle)
-none_taken (note ∷ notes) none = none_taken notes (λ handle. or_none (opens_under handle note) (is_opened handle notes) (none handle))
+none_taken (note ∷ notes) none = none_taken notes (λ handle. (or_parts (opens_under handle note) (is_opened handle notes) (none handle)).1)
 
 passed_none : (outcome : Outcome) → OpenNone outcome.notes → takes_in (notes_passed outcome) ≡ false
 passed_none outcome none =
@@ -222,4 +215,4 @@ pub peripheral_noted : (setup : Setup) (facts : Facts) (step : Step) (handle : �
 peripheral_noted setup facts step handle own peer earlier later wants is =
     let rest = Opened handle Peripheral own peer ∷ later in
     step_takes setup facts step wants
-    (ap takes_in is ∙ list_any-append is_taking earlier rest ∙ or_later (takes_in earlier) (takes_in rest) refl)
+    (ap takes_in is ∙ list_any-append is_taking earlier rest ∙ or_right (takes_in earlier) (takes_in rest) refl)
