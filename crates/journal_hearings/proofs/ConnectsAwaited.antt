@@ -41,6 +41,7 @@ use Rattle.journal_data.proofs.Law.{first_data}
 use Rattle.journal_hearings.specs.Openings.{IsToOpen, is_linked, offer_in}
 use Rattle.journal_hearings.specs.Settings.{accept_list, filter_policy}
 use Rattle.journal_hearings.proofs.AdvertiserHandles.{advertisers_have_handles}
+use Rattle.journal_hearings.proofs.AdvertisersKnown.{advertisers_known}
 use Rattle.journal_hearings.proofs.AirDoings.{AwaitsNow, FitsPhase, at_phase}
 use Rattle.journal_hearings.proofs.BothKept.{both_kept}
 use Rattle.journal_hearings.proofs.ConnectsTaken.{TakesLink, offered_taken, taken_offered}
@@ -174,7 +175,8 @@ module _ (understood : IsUnderstood) (given : Given) (pair : IsOfTwo given) (six
         let journal = journal_of before in
         let is = ready_at before rest sender channel octets hearings at from to ch_sel fields on found in
         let well = well_known_at before rest sender channel octets hearings at in
-        offered_taken facts (filter_policy side journal) (accept_list side journal) (offer_in side journal) is.offers well.holds from to setup octets channel ch_sel fields is.awaits
+        offered_taken facts (filter_policy side journal) (accept_list side journal) (offer_in side journal) is.offers well.holds
+        (advertisers_known setup (past_of station before)) from to setup octets channel ch_sel fields is.awaits
         found to_open.lets to_open.in_range (well.unlinked_is to from to_open.new)
         (λ one is_on connectable. advertisers_have_handles setup (past_of station before) is.at one (few station) is.stands is_on connectable)
 
@@ -188,5 +190,6 @@ module _ (understood : IsUnderstood) (given : Given) (pair : IsOfTwo given) (six
         let journal = journal_of before in
         let is = ready_at before rest sender channel octets hearings at taking.from taking.to taking.ch_sel taking.fields on found in
         let well = well_known_at before rest sender channel octets hearings at in
-        let offered = taken_offered (facts_at given station before) octets (filter_policy side journal) (accept_list side journal) (offer_in side journal) taking is.offers well.holds in
+        let offered = taken_offered (facts_at given station before) octets (filter_policy side journal) (accept_list side journal) (offer_in side journal) taking is.offers well.holds
+        (advertisers_known (setup_at given station) (past_of station before)) in
         record { lets = offered.lets; in_range = offered.in_range; new = well.unlinked_lines_are taking.to taking.from offered.new }

@@ -28,9 +28,10 @@ use Rattle.controller_model.specs.Packets.{pdu_heard}
 use Rattle.controller_model.specs.Side.{notes_after}
 use Rattle.controller_model.specs.Step.{PacketHeard}
 use Rattle.journal_hearings.specs.Openings.{lets_in, newer_offer}
+use Rattle.journal_hearings.proofs.AdvertisersKnown.{AdvertisersKnown, OnPolicy}
 use Rattle.journal_hearings.proofs.OffersMade.{FitsOffer}
 use Rattle.journal_hearings.proofs.PeripheralNotes.{IsTaking}
-use Rattle.journal_hearings.proofs.SettingsHeld.{Holds, OnPolicy}
+use Rattle.journal_hearings.proofs.SettingsHeld.{Holds}
 
 -- ---- what a controller does
 
@@ -90,7 +91,8 @@ lets_by false true false own target body policy list from to apart others = refl
 lets_by false false true own target body policy list from to apart others = refl
 lets_by false false false own target body policy list from to apart others = refl
 
-module _ (facts : Facts) (policy : ℕ) (list : List Address) (offer : Option AdvPdu) (fits : FitsOffer facts offer) (holds : Holds policy list facts) (from to : Address) where
+module _ (facts : Facts) (policy : ℕ) (list : List Address) (offer : Option AdvPdu) (fits : FitsOffer facts offer) (holds : Holds policy list facts) (known : AdvertisersKnown facts)
+    (from to : Address) where
   -- the settings and the advertisement of an advertiser
   lets_is : (on : AdvertiserFacts) → facts.advertising.on ≡ Some on
       → lets_in offer policy list from to ≡ (is_connectable on.params.kind && is_same_address on.params.own to && may_connect on.params facts.view.accepted from)
@@ -100,7 +102,7 @@ module _ (facts : Facts) (policy : ℕ) (list : List Address) (offer : Option Ad
       let kind = params.kind in
       let offer_is : offer ≡ newer_offer None (Some (advertisement params body)) =
       fits ∙ ap (λ (may : Option AdvertiserFacts). newer_offer None (option_map (λ one. advertisement one.params body) may)) is_on in
-      let policy_is : params.policy ≡ policy = subst (OnPolicy policy) is_on holds.1.on_policy in
+      let policy_is : params.policy ≡ policy = subst (OnPolicy facts.advertising.params.policy) is_on known.on_policy ∙ holds.1 in
       (λ i. lets_in (offer_is i) (sym policy_is i) (sym holds.0 i) from to)
       ∙ lets_by (kind == 0) (kind == 2) (kind == 4) params.own params.target body params.policy facts.view.accepted from to (no_both kind 0 refl) (no_both kind 2 refl)
 
@@ -137,8 +139,8 @@ pub record IsToTake (policy : ℕ) (list : List Address) (offer : Option AdvPdu)
   pub new : has_link_between to from facts.links ≡ false
 
 pub taken_offered : (facts : Facts) (octets : List ℕ) (policy : ℕ) (list : List Address) (offer : Option AdvPdu) (taking : IsTaking facts octets) → FitsOffer facts offer
-    → Holds policy list facts → IsToTake policy list offer facts taking.from taking.to taking.fields
-taken_offered facts octets policy list offer taking fits holds =
+    → Holds policy list facts → AdvertisersKnown facts → IsToTake policy list offer facts taking.from taking.to taking.fields
+taken_offered facts octets policy list offer taking fits holds known =
     let from = taking.from in
     let to = taking.to in
     let params = taking.on.params in
@@ -146,7 +148,7 @@ taken_offered facts octets policy list offer taking fits holds =
     let all = and_parts lets (is_in_range taking.fields) taking.takes in
     let first = and_parts (is_connectable params.kind && is_same_address params.own to) (may_connect params facts.view.accepted from) all.0 in
     let parts = and_parts (is_connectable params.kind) (is_same_address params.own to) first.0 in record {
-      lets = lets_is facts policy list offer fits holds from to taking.on taking.is_on ∙ all.0;
+      lets = lets_is facts policy list offer fits holds known from to taking.on taking.is_on ∙ all.0;
       in_range = all.1;
       new = ap (λ own. has_link_between own from facts.links) (sym (equal_addresses params.own to parts.1)) ∙ taking.new;
     }

@@ -3,6 +3,7 @@ mod AirDoings
 mod OnePhase
 mod RequestsHeard
 mod ConnectLines
+mod AdvertisersKnown
 mod CommandCodes
 mod AnswerStatuses
 mod SettingsHeld
