@@ -1,10 +1,9 @@
 -- While a controller of a run has connectable advertising on it has a free handle.
-use Rattle.std.proofs.Common.{◌≡◌, ℕ, zero, suc, ◌+◌, ◌-◌, ◌<◌, ◌≤◌, ◌==◌, Bool, true, false, Option, Some, None, List, [], ◌∷◌, ◌++◌, length, replicate, refl, ap, sym, subst, ◌∙◌, inl, inr, arith}
-use Rattle.std.specs.Prelude.{is_some, slice_set, ◌&&◌, ⊤, ◌⊎◌, IsSome}
+use Rattle.std.proofs.Common.{◌≡◌, ℕ, ◌+◌, ◌-◌, ◌<◌, ◌≤◌, ◌==◌, Bool, true, false, Option, Some, None, List, [], ◌∷◌, ◌++◌, length, replicate, refl, ap, sym, subst, ◌∙◌, arith}
+use Rattle.std.specs.Prelude.{is_some, slice_set, ◌&&◌, ⊤, IsSome}
 use Rattle.std.proofs.Math.ListN.{set}
 use Rattle.std.proofs.lemmas.Bool.{eqb-true}
-use Rattle.std.proofs.lemmas.List.{length-map, map-set, set-append_left}
-use Rattle.acl_banks.specs.declared.pieces.Piece.{Piece}
+use Rattle.std.proofs.lemmas.List.{length-map, map-set, replicate-append-replicate, set-append_left}
 use Rattle.ble_base.specs.declared.roles.Role.{Role}
 use Rattle.ble_base.specs.declared.roles.Role.TheVariants.{Central, Peripheral}
 use Rattle.adv_pdu.specs.declared.pdu.AdvPdu.{AdvPdu}
@@ -24,9 +23,7 @@ use Rattle.host_view.specs.Refusals.{count_if, is_connectable}
 use Rattle.host_view.specs.Unbuilt.{status_of}
 use Rattle.advertise.specs.Advertising.{AdvertiserFacts}
 use Rattle.scan_init.specs.Initiating.{InitiatorFacts}
-use Rattle.scan_init.specs.Reports.{ScannerFacts, does_ask, scan_answer}
-use Rattle.slot_plan.specs.declared.Activity.{Activity}
-use Rattle.slot_plan.specs.declared.Activity.TheVariants.{Link, Advertise, Scan, Initiate}
+use Rattle.scan_init.specs.Reports.{does_ask, scan_answer}
 use Rattle.link_model.specs.declared.setup.LinkSetup.{LinkSetup}
 use Rattle.link_model.specs.Step.{DataGiven, PacketReceived}
 use Rattle.open_links.specs.declared.ended.LinkEnded.{LinkEnded}
@@ -41,21 +38,21 @@ use Rattle.controller_model.specs.declared.doing.Doing.TheVariants.{Advertises, 
 use Rattle.controller_model.specs.Step.{Step, HostOctet, TurnBegins, TurnEnds}
 use Rattle.controller_model.specs.Facts.{Setup, Facts, first_facts}
 use Rattle.controller_model.specs.Commands.{facts_accepted, facts_commanded, facts_known, links_after}
-use Rattle.controller_model.specs.Data.{facts_offered, offer_of}
+use Rattle.controller_model.specs.Data.{facts_ended_turn, facts_offered, offer_of}
 use Rattle.controller_model.specs.Heard.{has_room, asks_if, facts_connecting, fields_sent, link_made, link_received, link_taken, replies_in, reply_if, scanner_after, with_scanner}
 use Rattle.controller_model.specs.Links.{ends_in}
 use Rattle.controller_model.specs.Outcome.{facts_passed}
 use Rattle.controller_model.specs.Packets.{facts_doing}
-use Rattle.controller_model.specs.Radio.{served_if_on, turn_begins}
-use Rattle.controller_model.specs.Side.{facts_after, facts_fed, facts_of, result_of, with_octet}
-use Rattle.controller_model.proofs.Always.{MayBegin, advertiser_stopped, advertiser_won, advertising_noted, facts_ended, facts_opening, facts_winning, holds_step, initiating_noted, initiator_stopped, left_doing, links_shut, opening_passes}
+use Rattle.controller_model.specs.Side.{facts_after, facts_fed, facts_of, result_of}
+use Rattle.controller_model.proofs.Always.{MayBegin, advertising_noted, facts_ended, facts_opening, holds_step, initiating_noted, initiator_stopped, left_doing, links_shut, opening_passes}
 use Rattle.controller_model.proofs.Handles.{HaveOwnHandles, IsNew, free_is_new, handles_kept, own_handles}
-use Rattle.controller_model.proofs.OpenPlaces.{changed_opens, ended_agree, first_opens, fixed_opens, is_reset, many, many-append, many_full, many_none, many_opened, many_shut, mapped_opens, opened_opens, opens, reset_opens, sent_opens, view_opens, won_opens}
+use Rattle.controller_model.proofs.OpenPlaces.{changed_opens, ended_agree, first_opens, fixed_opens, many, many-append, many_full, many_none, many_opened, many_shut, mapped_opens, opened_opens, opens, reset_opens, sent_opens, view_opens, won_opens}
 use Rattle.controller_model.proofs.Phases.{EachOutcome, heard_is, unheard_is}
-use Rattle.controller_model.proofs.Room.{KnowsAdvertising, OnKind, initiates_after, knows_after, limit_after, may_connect}
+use Rattle.controller_model.proofs.Room.{OnKind, initiates_after, limit_after, may_connect}
 use Rattle.run_model.specs.Run.{step_of}
 use Rattle.run_laws.proofs.TurnPlaces.{Between, IsTurned, Stage, Standing, Within, standing, turned}
 use Rattle.run_laws.proofs.TurnSteps.{octet_turn}
+use Rattle.journal_hearings.proofs.AdvertisersKnown.{advertisers_known}
 use Rattle.journal_hearings.proofs.AdvertiserRoom.{LeavesRoom, leaves_after}
 
 -- ---- what is true in a run
@@ -64,13 +61,24 @@ use Rattle.journal_hearings.proofs.AdvertiserRoom.{LeavesRoom, leaves_after}
 abbrev spare : Setup → List Bool
 spare setup = replicate (6 - setup.links) false
 
--- what the view tells of a controller is so
-record IsKnown (setup : Setup) (facts : Facts) : Type 0 where
-  limit : facts.view.limit ≡ setup.links
-  places : opens facts.view.links ≡ opens facts.links ++ spare setup
-  advertising : KnowsAdvertising facts.view.advertising facts.advertising
-  initiates : is_some facts.view.initiating ≡ is_some facts.initiator
-  room : LeavesRoom (is_some facts.initiator) (many (opens facts.view.links)) facts.view.advertising facts.view.limit
+-- what the view tells of links, of advertising and of initiating is so
+record FitsView (setup : Setup) (limit : ℕ) (seen : List Bool) (advertising : ViewAdvertising) (seeks initiates : Bool) (held : List Bool) : Type 0 where
+  limit_is : limit ≡ setup.links
+  places : seen ≡ held ++ spare setup
+  initiates_is : seeks ≡ initiates
+  room : LeavesRoom initiates (many seen) advertising limit
+
+-- by the view of a controller that holds links in these places
+abbrev Holding : Setup → Facts → List Bool → Type 0
+Holding setup facts held =
+    FitsView setup facts.view.limit (opens facts.view.links) facts.view.advertising (is_some facts.view.initiating) (is_some facts.initiator) held
+
+abbrev IsKnown : Setup → Facts → Type 0
+IsKnown setup facts = Holding setup facts (opens facts.links)
+
+-- where links are open as they were
+still_known : (setup : Setup) (facts : Facts) (held : List Bool) → held ≡ opens facts.links → IsKnown setup facts → Holding setup facts held
+still_known setup facts held same known = subst (Holding setup facts) (sym same) known
 
 -- a CONNECT_IND that is to be sent is that of a central, which initiates until then
 abbrev MakesOne : Bool → Doing → Type 0
@@ -79,14 +87,9 @@ MakesOne initiates other = ⊤
 
 -- ---- an accepted command
 
-replicate-append : (n m : ℕ) → replicate n false ++ replicate m false ≡ replicate (n + m) false
-replicate-append zero m = ap (λ (k : ℕ). replicate k false) (let same : m ≡ 0 + m = omega arith in same)
-replicate-append (suc n) m =
-    (λ i. false ∷ replicate-append n m i) ∙ ap (λ (k : ℕ). replicate k false) (let same : suc (n + m) ≡ suc n + m = omega arith in same)
-
 six_places : (n : ℕ) → n ≤ 6 → replicate 6 false ≡ replicate n false ++ replicate (6 - n) false
 six_places n few =
-    ap (λ (k : ℕ). replicate k false) (let same : 6 ≡ n + (6 - n) = omega arith in same) ∙ sym (replicate-append n (6 - n))
+    ap (λ (k : ℕ). replicate k false) (let same : 6 ≡ n + (6 - n) = omega arith in same) ∙ sym (replicate-append-replicate n (6 - n) false)
 
 reset_places : (setup : Setup) (links : Links) → setup.links ≤ 6 → length links ≡ setup.links → opens no_links ≡ opens (links_after Reset links) ++ spare setup
 reset_places setup links few long =
@@ -98,36 +101,19 @@ reset_view : (view : View) → (view_after view Reset).links ≡ no_links
 unfolding view_after
 reset_view view = refl
 
-by_reset : (command : Command) → (is_reset command ≡ false) ⊎ (command ≡ Reset)
-by_reset Reset = inr refl
-by_reset other = inl refl
-
-links_still : (command : Command) (links : Links) → is_reset command ≡ false → links_after command links ≡ links
-links_still Reset links not_reset = absurd (let h : true ≡ false = not_reset in absurd cc)
-links_still other links not_reset = refl
-
 places_after : (setup : Setup) (facts : Facts) (command : Command) → setup.links ≤ 6 → length facts.links ≡ setup.links
     → opens facts.view.links ≡ opens facts.links ++ spare setup
     → opens (view_after facts.view command).links ≡ opens (links_after command facts.links) ++ spare setup
-places_after setup facts command few long agree = elim (by_reset command) [
-  | inl other ↦
-      view_opens facts.view command other ∙ agree
-      ∙ ap (λ (links : Links). opens links ++ spare setup) (sym (links_still command facts.links other))
-  | inr reset ↦
-      ap (λ (of : Command). opens (view_after facts.view of).links) reset
-      ∙ ap opens (reset_view facts.view)
-      ∙ reset_places setup facts.links few long
-      ∙ ap (λ (of : Command). opens (links_after of facts.links) ++ spare setup) (sym reset)
-]
+places_after setup facts Reset few long agree = ap opens (reset_view facts.view) ∙ reset_places setup facts.links few long
+places_after setup facts other few long agree = view_opens facts.view other refl ∙ agree
 
 accepted_known : (setup : Setup) (facts : Facts) (command : Command) → setup.links ≤ 6 → length facts.links ≡ setup.links
     → status_of facts.view command ≡ 0 → IsKnown setup facts → IsKnown setup (facts_accepted setup facts command)
 accepted_known setup facts command few long accepted known = record {
-  limit = limit_after facts.view command ∙ known.limit;
+  limit_is = limit_after facts.view command ∙ known.limit_is;
   places = places_after setup facts command few long known.places;
-  advertising = knows_after setup facts.view facts.turn.begun command facts.advertising accepted known.advertising;
-  initiates = initiates_after setup facts.view facts.turn.begun command facts.initiator known.initiates;
-  room = leaves_after setup facts.view facts.turn.begun command facts.initiator accepted known.initiates known.room;
+  initiates_is = initiates_after setup facts.view facts.turn.begun command facts.initiator known.initiates_is;
+  room = leaves_after setup facts.view facts.turn.begun command facts.initiator accepted known.initiates_is known.room;
 }
 
 -- ---- the beginning of a turn
@@ -146,66 +132,15 @@ shut_fewer links (one ∷ ended) =
 
 ended_known : (setup : Setup) (slot : ℕ) (facts : Facts) → IsKnown setup facts → IsKnown setup (facts_ended slot facts)
 ended_known setup slot facts known = record {
-  limit = known.limit;
+  limit_is = known.limit_is;
   places = ended_agree slot [] (spare setup) facts.view.links 0 facts.links refl known.places;
-  advertising = known.advertising;
-  initiates = known.initiates;
+  initiates_is = known.initiates_is;
   room = fewer (is_some facts.initiator) (many (opens facts.view.links)) _ facts.view.advertising facts.view.limit
       (shut_fewer facts.view.links (ends_in slot facts)) known.room;
 }
 
--- where links are open as they were, all is known as it was
-links_known : (setup : Setup) (facts : Facts) (links : Links) (received : List (ℕ × Piece)) → opens links ≡ opens facts.links → IsKnown setup facts
-    → IsKnown setup (record facts { links = links; received = received })
-links_known setup facts links received same known = record {
-  limit = known.limit;
-  places = known.places ∙ ap (λ (places : List Bool). places ++ spare setup) (sym same);
-  advertising = known.advertising;
-  initiates = known.initiates;
-  room = known.room;
-}
-
-served_some : (slot : ℕ) (on : Option AdvertiserFacts) → is_some on ≡ is_some (served_if_on slot on)
-served_some slot None = refl
-served_some slot (Some on) = refl
-
-won_some : (slot : ℕ) (activity : Activity) (on : Option AdvertiserFacts) → is_some on ≡ is_some (advertiser_won slot activity on)
-won_some slot (Link handle) on = refl
-won_some slot Advertise on = served_some slot on
-won_some slot Scan on = refl
-won_some slot Initiate on = refl
-
-served_kind : (slot kind : ℕ) (on : Option AdvertiserFacts) → OnKind kind on → OnKind kind (served_if_on slot on)
-served_kind slot kind None is = tt
-served_kind slot kind (Some on) is = is
-
-won_kind : (slot kind : ℕ) (activity : Activity) (on : Option AdvertiserFacts) → OnKind kind on → OnKind kind (advertiser_won slot activity on)
-won_kind slot kind (Link handle) on is = is
-won_kind slot kind Advertise on is = served_kind slot kind on is
-won_kind slot kind Scan on is = is
-won_kind slot kind Initiate on is = is
-
-won_known : (setup : Setup) (slot : ℕ) (activity : Activity) (facts : Facts) → IsKnown setup facts → IsKnown setup (facts_winning slot activity facts)
-won_known setup slot activity facts known = record {
-  limit = known.limit;
-  places = known.places ∙ ap (λ (places : List Bool). places ++ spare setup) (sym (won_opens slot activity facts.links));
-  advertising = record {
-    on_is = known.advertising.on_is ∙ won_some slot activity facts.advertising.on;
-    kind_is = known.advertising.kind_is;
-    on_kind = won_kind slot facts.view.advertising.kind activity facts.advertising.on known.advertising.on_kind;
-  };
-  initiates = known.initiates;
-  room = known.room;
-}
-
 doing_known : (setup : Setup) (doing : Doing) (facts : Facts) → IsKnown setup facts → IsKnown setup (facts_doing doing facts)
-doing_known setup doing facts known = record {
-  limit = known.limit;
-  places = known.places ∙ ap (λ (places : List Bool). places ++ spare setup) (sym (sent_opens facts.turn.slot doing facts.links));
-  advertising = known.advertising;
-  initiates = known.initiates;
-  room = known.room;
-}
+doing_known setup doing facts known = still_known setup facts _ (sent_opens facts.turn.slot doing facts.links) known
 
 -- ---- a link is opened
 
@@ -221,19 +156,6 @@ opened_places setup link facts opened below agree =
     ∙ ap (λ (places : List Bool). places ++ spare setup)
     (sym (opened_opens (new_link (record { link = link; opened = facts.turn.slot })) link.handle facts.links))
 
-opened_on : (role : Role) (view : ViewAdvertising) (on : Option AdvertiserFacts) → view.on ≡ is_some on
-    → (advertising_noted role view).on ≡ is_some (advertiser_stopped role on)
-opened_on Central view on is = is
-opened_on Peripheral view on is = refl
-
-opened_kind : (role : Role) (view : ViewAdvertising) → (advertising_noted role view).kind ≡ view.kind
-opened_kind Central view = refl
-opened_kind Peripheral view = refl
-
-opened_on_kind : (role : Role) (kind : ℕ) (on : Option AdvertiserFacts) → OnKind kind on → OnKind kind (advertiser_stopped role on)
-opened_on_kind Central kind on is = is
-opened_on_kind Peripheral kind on is = tt
-
 opened_initiates : (role : Role) (view : Option ℕ) (initiator : Option InitiatorFacts) → is_some view ≡ is_some initiator
     → is_some (initiating_noted role view) ≡ is_some (initiator_stopped role initiator)
 opened_initiates Central view initiator same = refl
@@ -244,15 +166,9 @@ opened_known : (setup : Setup) (link : LinkSetup) (facts : Facts) → link.handl
     (advertising_noted link.role facts.view.advertising) facts.view.limit
     → IsKnown setup (facts_opening link facts)
 opened_known setup link facts below known room = record {
-  limit = known.limit;
+  limit_is = known.limit_is;
   places = opened_places setup link facts _ below known.places;
-  advertising = record {
-    on_is = opened_on link.role facts.view.advertising facts.advertising.on known.advertising.on_is;
-    kind_is = opened_kind link.role facts.view.advertising ∙ known.advertising.kind_is;
-    on_kind = subst (λ (kind : ℕ). OnKind kind (advertiser_stopped link.role facts.advertising.on)) (sym (opened_kind link.role facts.view.advertising))
-        (opened_on_kind link.role facts.view.advertising.kind facts.advertising.on known.advertising.on_kind);
-  };
-  initiates = opened_initiates link.role facts.view.initiating facts.initiator known.initiates;
+  initiates_is = opened_initiates link.role facts.view.initiating facts.initiator known.initiates_is;
   room = room;
 }
 
@@ -291,24 +207,6 @@ begin_one initiates (Connects channel link) may = absurd may
 begin_one initiates (Advertises channel) may = tt
 begin_one initiates other may = tt
 
-scanned_known : (setup : Setup) (facts : Facts) (on : ScannerFacts) → IsKnown setup facts → IsKnown setup (with_scanner on facts)
-scanned_known setup facts on known = record {
-  limit = known.limit;
-  places = known.places;
-  advertising = known.advertising;
-  initiates = known.initiates;
-  room = known.room;
-}
-
-connecting_known : (setup : Setup) (facts : Facts) → IsKnown setup facts → IsKnown setup (facts_connecting setup facts)
-connecting_known setup facts known = record {
-  limit = known.limit;
-  places = known.places;
-  advertising = known.advertising;
-  initiates = known.initiates;
-  room = known.room;
-}
-
 passes_known : (setup : Setup) (facts : Facts) → HaveOwnHandles setup facts → Both setup facts → EachOutcome setup facts (λ outcome. Both setup (facts_passed outcome))
 passes_known setup facts own both =
     let known = both.0 in
@@ -336,41 +234,23 @@ passes_known setup facts own both =
       scanned = λ channel octets pdu on doing is_on hears.
           let asks = true && does_ask (scan_answer on.params facts.view.accepted on.recent pdu) in
           let after = scanner_after on facts.view.accepted pdu in
-          (doing_known setup (asks_if asks channel pdu) (with_scanner after facts) (scanned_known setup facts after known), asks_one (is_some facts.initiator) asks channel pdu);
+          (doing_known setup (asks_if asks channel pdu) (with_scanner after facts) known, asks_one (is_some facts.initiator) asks channel pdu);
       answered = λ channel octets pdu on doing is_on hears.
           let asks = false && does_ask (scan_answer on.params facts.view.accepted on.recent pdu) in
           let after = scanner_after on facts.view.accepted pdu in
-          (doing_known setup (asks_if asks channel pdu) (with_scanner after facts) (scanned_known setup facts after known), asks_one (is_some facts.initiator) asks channel pdu);
+          (doing_known setup (asks_if asks channel pdu) (with_scanner after facts) known, asks_one (is_some facts.initiator) asks channel pdu);
       connects = λ channel octets pdu on access handle doing is_on hears answers next free in_range.
           let link = link_made on.params.own pdu (fields_sent setup on access facts) handle in
-          (doing_known setup (Connects channel link) (facts_connecting setup facts) (connecting_known setup facts known), (refl, ap is_some is_on));
+          (doing_known setup (Connects channel link) (facts_connecting setup facts) known, (refl, ap is_some is_on));
       received = λ handle octets.
           let replies = replies_in (link_at handle facts.links) octets in
           let room = has_room setup facts in
           let change = link_after (PacketReceived facts.turn.slot octets room) in (
             doing_known setup (reply_if replies handle) (link_received handle room octets facts)
-                (links_known setup facts _ _ (changed_opens change handle facts.links) known),
+                (still_known setup facts _ (changed_opens change handle facts.links) known),
             reply_one (is_some facts.initiator) replies handle,
           );
     }
-
-octet_known : (setup : Setup) (octet : ℕ) (facts : Facts) → IsKnown setup facts → IsKnown setup (with_octet octet facts)
-octet_known setup octet facts known = record {
-  limit = known.limit;
-  places = known.places;
-  advertising = known.advertising;
-  initiates = known.initiates;
-  room = known.room;
-}
-
-begins_known : (setup : Setup) (slot : ℕ) (facts : Facts) → IsKnown setup facts → IsKnown setup (turn_begins slot facts)
-begins_known setup slot facts known = record {
-  limit = known.limit;
-  places = known.places;
-  advertising = known.advertising;
-  initiates = known.initiates;
-  room = known.room;
-}
 
 -- ---- an octet of the host
 
@@ -386,7 +266,7 @@ commanded_known setup facts BadLength few own known = known
 offered_known : (setup : Setup) (facts : Facts) (offer : Offer) (handle : ℕ) (start : Bool) (octets : List ℕ) → IsKnown setup facts
     → IsKnown setup (facts_offered offer handle start octets facts)
 offered_known setup facts Kept handle start octets known =
-    links_known setup facts _ facts.received (changed_opens (link_after (DataGiven start octets)) handle facts.links) known
+    still_known setup facts _ (changed_opens (link_after (DataGiven start octets)) handle facts.links) known
 offered_known setup facts NoLink handle start octets known = known
 offered_known setup facts Empty handle start octets known = known
 offered_known setup facts Overflow handle start octets known = known
@@ -413,9 +293,10 @@ own_step setup facts step own = holds_step setup (HaveOwnHandles setup) (HaveOwn
 
 begun_known : (setup : Setup) (slot : ℕ) (on : Bool) (facts : Facts) → IsKnown setup facts → Both setup (facts_after setup facts (TurnBegins slot on))
 begun_known setup slot on facts known =
-    left_doing (IsKnown setup) (ended_known setup) (begins_known setup)
-    (λ slot facts known. links_known setup facts _ facts.received (mapped_opens (link_entered slot) facts.links) known) (won_known setup)
-    (λ doing facts known. links_known setup facts _ facts.received (fixed_opens doing facts.links) known)
+    left_doing (IsKnown setup) (ended_known setup) (λ slot facts known. known)
+    (λ slot facts known. still_known setup facts _ (mapped_opens (link_entered slot) facts.links) known)
+    (λ slot activity facts known. still_known setup facts _ (won_opens slot activity facts.links) known)
+    (λ doing facts known. still_known setup facts _ (fixed_opens doing facts.links) known)
     (λ doing facts. Both setup (facts_doing doing facts)) (λ doing facts may known. (doing_known setup doing facts known, begin_one (is_some facts.initiator) doing may))
     slot on facts known
 
@@ -427,7 +308,7 @@ in_step_kept : (setup : Setup) → setup.links ≤ 6 → IsTurned setup (IsInSte
 in_step_kept setup few = record {
   feeds = λ begun octet facts is. record {
     own = own_step setup facts (HostOctet octet) is.own;
-    known = octet_known setup octet (facts_fed setup facts (result_of facts.octets octet)) (fed_known setup facts (result_of facts.octets octet) few is.own is.known);
+    known = fed_known setup facts (result_of facts.octets octet) few is.own is.known;
     done = ap (λ (turn : Turn). turn.doing) (octet_turn setup facts octet).turn ∙ is.done;
   };
   begins = λ begun on facts is.
@@ -438,7 +319,7 @@ in_step_kept setup few = record {
       record { own = own_step setup facts (step_of received) is.own; known = both.0; done = both.1 };
   ends = λ begun facts is. record {
     own = own_step setup facts TurnEnds is.own;
-    known = doing_known setup Rests _ (links_known setup facts _ [] (mapped_opens link_reported facts.links) is.known);
+    known = doing_known setup Rests (facts_ended_turn facts) (still_known setup facts _ (mapped_opens link_reported facts.links) is.known);
     done = refl;
   };
 }
@@ -447,10 +328,9 @@ in_step_kept setup few = record {
 
 first_known : (setup : Setup) → setup.links ≤ 6 → IsKnown setup (first_facts setup)
 first_known setup few = record {
-  limit = refl;
+  limit_is = refl;
   places = six_places setup.links few ∙ ap (λ (places : List Bool). places ++ spare setup) (sym (first_opens setup.links));
-  advertising = record { on_is = refl; kind_is = refl; on_kind = tt };
-  initiates = refl;
+  initiates_is = refl;
   room = λ so. absurd (let h : false ≡ true = so in absurd cc);
 }
 
@@ -467,7 +347,7 @@ some_free setup facts None is own known connectable =
     let counted : many (opens facts.view.links) ≡ many (opens facts.links) + 0 =
     ap many known.places ∙ many-append (opens facts.links) (spare setup)
     ∙ ap (λ (n : ℕ). many (opens facts.links) + n) (many_none (6 - setup.links)) in
-    absurd (omega (arith, enough, full, counted, own.many, known.limit))
+    absurd (omega (arith, enough, full, counted, own.many, known.limit_is))
 
 both_true : (on : Bool) (one kind : ℕ) → on ≡ true → one ≡ kind → is_connectable one ≡ true → (on && is_connectable kind) ≡ true
 both_true on one kind is same connectable =
@@ -477,7 +357,8 @@ pub advertisers_have_handles : (setup : Setup) (past : List Step) (at : Standing
     → (facts_of setup past).advertising.on ≡ Some on → is_connectable on.params.kind ≡ true → IsSome (free_from 0 (facts_of setup past).links)
 advertisers_have_handles setup past at on few stands is connectable =
     let facts = facts_of setup past in
+    let knows = (advertisers_known setup past).knows in
     let step = turned setup (IsInStep setup) (in_step_kept setup few) past at (record { own = first_own setup; known = first_known setup few; done = refl }) stands in
     some_free setup facts (free_from 0 facts.links) refl step.own step.known
-    (both_true facts.view.advertising.on on.params.kind facts.view.advertising.kind (step.known.advertising.on_is ∙ ap is_some is)
-    (subst (OnKind facts.view.advertising.kind) is step.known.advertising.on_kind) connectable)
+    (both_true facts.view.advertising.on on.params.kind facts.view.advertising.kind (knows.on_is ∙ ap is_some is)
+    (subst (OnKind facts.view.advertising.kind) is knows.on_kind) connectable)

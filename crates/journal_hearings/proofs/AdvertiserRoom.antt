@@ -17,7 +17,7 @@ use Rattle.controller_model.specs.Facts.{Setup}
 use Rattle.controller_model.specs.Commands.{initiator_after}
 use Rattle.controller_model.proofs.Accepted.{row_passes, set_while_off, table_accepts}
 use Rattle.controller_model.proofs.OpenPlaces.{count_many, many, opens, view_opens}
-use Rattle.controller_model.proofs.Room.{may_connect}
+use Rattle.controller_model.proofs.Room.{limit_after, may_connect}
 
 -- while connectable advertising is on there is room for the links that are open, for one that an initiator may open, and for
 -- one more
@@ -77,10 +77,6 @@ same_advertising : (on : Bool) (one other : View) → other.advertising ≡ one.
 same_advertising true one other same = same
 same_advertising false one other same = refl
 
-same_limit : (on : Bool) (one other : View) → other.limit ≡ one.limit → (cond on other one).limit ≡ one.limit
-same_limit true one other same = same
-same_limit false one other same = refl
-
 -- an accepted command
 pub leaves_after : (setup : Setup) (view : View) (slot : ℕ) (command : Command) (initiator : Option InitiatorFacts) → status_of view command ≡ 0
     → is_some view.initiating ≡ is_some initiator → LeavesRoom (is_some initiator) (many (opens view.links)) view.advertising view.limit
@@ -106,7 +102,7 @@ leaves_after setup view slot (LeSetAdvEnable value) initiator accepted same room
 leaves_after setup view slot (HostCompleted counts) initiator accepted same room = λ so.
     let other = record view { links = after_counts view.links counts.items } in
     let advertising = same_advertising view.flow.on view other refl in
-    let limit = same_limit view.flow.on view other refl in
+    let limit = limit_after view (HostCompleted counts) in
     let opened = ap many (view_opens view (HostCompleted counts) refl) in
     let enough = room (ap may_connect (sym advertising) ∙ so) in
     omega (arith, enough, limit, opened)

@@ -41,12 +41,14 @@ use Rattle.journal_data.proofs.Law.{first_data}
 use Rattle.journal_hearings.specs.Openings.{IsToOpen, is_linked, offer_in}
 use Rattle.journal_hearings.specs.Settings.{accept_list, filter_policy}
 use Rattle.journal_hearings.proofs.AdvertiserHandles.{advertisers_have_handles}
+use Rattle.journal_hearings.proofs.AdvertisersKnown.{advertisers_known}
 use Rattle.journal_hearings.proofs.AirDoings.{AwaitsNow, FitsPhase, at_phase}
 use Rattle.journal_hearings.proofs.BothKept.{both_kept}
-use Rattle.journal_hearings.proofs.ConnectsTaken.{TakesLink, offered_taken}
-use Rattle.journal_hearings.proofs.LinkedAddresses.{unlinked}
-use Rattle.journal_hearings.proofs.OffersMade.{AreOffering, FitsOffer, HasOffered, OffersAt, awaits_on, offer_is, offering_first, offering_kept}
+use Rattle.journal_hearings.proofs.ConnectsTaken.{TakesLink, offered_taken, taken_offered}
+use Rattle.journal_hearings.proofs.LinkedAddresses.{unlinked, unlinked_lines}
+use Rattle.journal_hearings.proofs.OffersMade.{AreOffering, FitsOffer, OffersAt, OffersIt, is_offering, offer_is, offering_first, offering_kept}
 use Rattle.journal_hearings.proofs.OnePhase.{ArePassing, passing_first, passing_kept}
+use Rattle.journal_hearings.proofs.PeripheralNotes.{IsTaking}
 use Rattle.journal_hearings.proofs.RequestsHeard.{waits}
 use Rattle.journal_hearings.proofs.SettingsHeld.{Holds}
 use Rattle.journal_hearings.proofs.SettingsRead.{settings_read}
@@ -89,6 +91,7 @@ IsReadyFor given history sender channel octets =
 -- what its lines say of its links and its host
 record IsWellKnown (given : Given) (history : List Event) (station : ℕ) : Type 0 where
   unlinked_is : (own peer : Address) → is_linked (side_of station) own peer (journal_of history) ≡ false → has_link_between own peer (facts_at given station history).links ≡ false
+  unlinked_lines_are : (own peer : Address) → has_link_between own peer (facts_at given station history).links ≡ false → is_linked (side_of station) own peer (journal_of history) ≡ false
   holds : Holds (filter_policy (side_of station) (journal_of history)) (accept_list (side_of station) (journal_of history)) (facts_at given station history)
 
 module _ (understood : IsUnderstood) (given : Given) (pair : IsOfTwo given) (six : HaveAddresses given) where
@@ -112,11 +115,11 @@ module _ (understood : IsUnderstood) (given : Given) (pair : IsOfTwo given) (six
       let second = sent_second understood phases (facts_at given sender history) channel octets from to ch_sel fields
       (use_sent_at given six place history stand sender in_it channel octets wanted) on found own.fits in
       let doing = awaits_second phases channel (facts_at given station history).turn.doing awaiting.awaits far.fits second in
-      let offered : HasOffered given history station = subst (λ n. OffersAt given (AtPackets n done (sender ∷ left)) history station) second (is.1.offers station too) in record {
+      let offered : OffersIt given history station = subst (λ n. OffersAt given (AtPackets n done (sender ∷ left)) history station) second (is.1.offers station too) in record {
         at = stands_at place station (turns_begun history);
         stands = stand station too;
         awaits = doing;
-        offers = subst (FitsOffer (facts_at given station history)) (sym (offer_is (side_of station) history)) (offered channel (ap awaits_on doing));
+        offers = subst (FitsOffer (facts_at given station history)) (sym (offer_is (side_of station) history)) (offered (ap is_offering doing));
       }
 
   sees : IsSeen given Both (λ history. ⊤) (IsReadyFor given)
@@ -129,7 +132,7 @@ module _ (understood : IsUnderstood) (given : Given) (pair : IsOfTwo given) (six
       (λ history. ⊤) (IsReadyFor given) sees (passing_first given, offering_first understood given pair six distinct) before rest sender channel octets hearings at
 
   module _ (whole : IsHeardWhole) (taken : AreTaken) (nth : AreNth) (apart : AreApart) (few_links : HaveFewLinks given)
-      (eight : (station : ℕ) → (setup_at given station).host_buffers ≡ 8) (few : (station : ℕ) → (setup_at given station).links ≤ 6) where
+      (eight : (station : ℕ) → (setup_at given station).host_buffers ≡ 8) where
     abbrev Q : Place → List Event → Type 0
     Q place history = IsBelongingSoFar given place history
 
@@ -148,6 +151,7 @@ module _ (understood : IsUnderstood) (given : Given) (pair : IsOfTwo given) (six
         let so_far = is.counted.known in
         let front = front_at given (AtPackets phases done (sender ∷ left)) history so_far.front in record {
           unlinked_is = unlinked given pair station too history front.rest front.at well.booked so_far.numbered.numbered;
+          unlinked_lines_are = unlinked_lines given pair station too history front.rest front.at well.booked so_far.numbered.numbered;
           holds = settings_read given pair station too history front.rest front.at well.noted well.fed;
         }
 
@@ -159,11 +163,11 @@ module _ (understood : IsUnderstood) (given : Given) (pair : IsOfTwo given) (six
 
     -- ---- a CONNECT_IND
 
-    pub takes_at : (before rest : List Event) (sender channel : ℕ) (octets : List ℕ) (hearings : List Hearing) (from to : Address) (ch_sel : Bool) (fields : ConnectFields)
+    pub takes_at : ((station : ℕ) → (setup_at given station).links ≤ 6) → (before rest : List Event) (sender channel : ℕ) (octets : List ℕ) (hearings : List Hearing) (from to : Address) (ch_sel : Bool) (fields : ConnectFields)
         → history_of (run_of given) ≡ before ++ Transmitted sender channel octets hearings ∷ rest → is_advertising channel ≡ true
         → pdu_heard channel octets ≡ Some (Connect from to ch_sel fields) → IsToOpen (side_of (other_of sender)) (journal_of before) from to fields
         → TakesLink (setup_at given (other_of sender)) (facts_at given (other_of sender) before) octets
-    takes_at before rest sender channel octets hearings from to ch_sel fields at on found to_open =
+    takes_at few before rest sender channel octets hearings from to ch_sel fields at on found to_open =
         let station = other_of sender in
         let setup = setup_at given station in
         let facts = facts_at given station before in
@@ -171,5 +175,21 @@ module _ (understood : IsUnderstood) (given : Given) (pair : IsOfTwo given) (six
         let journal = journal_of before in
         let is = ready_at before rest sender channel octets hearings at from to ch_sel fields on found in
         let well = well_known_at before rest sender channel octets hearings at in
-        offered_taken setup facts octets channel (filter_policy side journal) (accept_list side journal) (offer_in side journal) from to ch_sel fields is.awaits found is.offers well.holds
-        to_open.lets to_open.in_range (well.unlinked_is to from to_open.new) (λ one is_on connectable. advertisers_have_handles setup (past_of station before) is.at one (few station) is.stands is_on connectable)
+        offered_taken facts (filter_policy side journal) (accept_list side journal) (offer_in side journal) is.offers well.holds
+        (advertisers_known setup (past_of station before)) from to setup octets channel ch_sel fields is.awaits
+        found to_open.lets to_open.in_range (well.unlinked_is to from to_open.new)
+        (λ one is_on connectable. advertisers_have_handles setup (past_of station before) is.at one (few station) is.stands is_on connectable)
+
+    pub to_open_at : (before rest : List Event) (sender channel : ℕ) (octets : List ℕ) (hearings : List Hearing)
+        → history_of (run_of given) ≡ before ++ Transmitted sender channel octets hearings ∷ rest → is_advertising channel ≡ true
+        → (taking : IsTaking (facts_at given (other_of sender) before) octets) → pdu_heard channel octets ≡ Some (Connect taking.from taking.to taking.ch_sel taking.fields)
+        → IsToOpen (side_of (other_of sender)) (journal_of before) taking.from taking.to taking.fields
+    to_open_at before rest sender channel octets hearings at on taking found =
+        let station = other_of sender in
+        let side = side_of station in
+        let journal = journal_of before in
+        let is = ready_at before rest sender channel octets hearings at taking.from taking.to taking.ch_sel taking.fields on found in
+        let well = well_known_at before rest sender channel octets hearings at in
+        let offered = taken_offered (facts_at given station before) octets (filter_policy side journal) (accept_list side journal) (offer_in side journal) taking is.offers well.holds
+        (advertisers_known (setup_at given station) (past_of station before)) in
+        record { lets = offered.lets; in_range = offered.in_range; new = well.unlinked_lines_are taking.to taking.from offered.new }

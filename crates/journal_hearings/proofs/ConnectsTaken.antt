@@ -1,7 +1,8 @@
--- A CONNECT_IND that a side is to take by the lines is one that its controller takes.
-use Rattle.std.proofs.Common.{◌≡◌, ℕ, ◌==◌, ◌||◌, Bool, true, false, Option, Some, None, List, [], ◌∷◌, ◌++◌, cond, refl, ap, subst, ◌∙◌}
+-- A CONNECT_IND is taken by a controller exactly where its side is to open the link by the lines.
+use Rattle.std.proofs.Common.{◌≡◌, ℕ, ◌==◌, ◌||◌, Bool, true, false, Option, Some, None, List, [], ◌∷◌, ◌++◌, cond, refl, sym, ap, subst, ◌∙◌}
 use Rattle.std.specs.Prelude.{◌&&◌, not, IsSome, if◌then◌else◌}
-use Rattle.std.proofs.lemmas.Bool.{and_parts, eqb-true}
+use Rattle.std.specs.Option.{option_map}
+use Rattle.std.proofs.lemmas.Bool.{and_from, and_parts, eqb-true}
 use Rattle.ble_base.specs.declared.addresses.Address.{Address}
 use Rattle.ble_base.specs.declared.notes.Note.{Note}
 use Rattle.ble_base.specs.declared.notes.Note.TheVariants.{Opened}
@@ -26,9 +27,11 @@ use Rattle.controller_model.specs.Outcome.{Outcome, notes_passed}
 use Rattle.controller_model.specs.Packets.{pdu_heard}
 use Rattle.controller_model.specs.Side.{notes_after}
 use Rattle.controller_model.specs.Step.{PacketHeard}
-use Rattle.journal_hearings.specs.Openings.{lets_in}
+use Rattle.journal_hearings.specs.Openings.{lets_in, newer_offer}
+use Rattle.journal_hearings.proofs.AdvertisersKnown.{AdvertisersKnown, OnPolicy}
 use Rattle.journal_hearings.proofs.OffersMade.{FitsOffer}
-use Rattle.journal_hearings.proofs.SettingsHeld.{Holds, OnPolicy}
+use Rattle.journal_hearings.proofs.PeripheralNotes.{IsTaking}
+use Rattle.journal_hearings.proofs.SettingsHeld.{Holds}
 
 -- ---- what a controller does
 
@@ -72,55 +75,80 @@ takes_link setup facts octets channel on from to ch_sel fields doing is_on found
 
 -- ---- what the lines say of it
 
-no_both : (kind : ℕ) → (kind == 0) ≡ true → (kind == 4) ≡ false
-no_both kind is = ap (λ n. n == 4) (eqb-true kind 0 is)
+no_both : (kind one : ℕ) → (one == 4) ≡ false → (kind == one) ≡ true → (kind == 4) ≡ false
+no_both kind one differs is = ap (λ n. n == 4) (eqb-true kind one is) ∙ differs
 
 lets_by : (undirected scannable directed : Bool) (own target : Address) (body : List ℕ) (policy : ℕ) (list : List Address) (from to : Address)
-    → lets_in (Some (cond undirected (Ind own true (record { items = body }))
+    → (undirected ≡ true → directed ≡ false) → (scannable ≡ true → directed ≡ false)
+    → lets_in (newer_offer None (Some (cond undirected (Ind own true (record { items = body }))
     (cond scannable (ScanInd own (record { items = body }))
-    (cond directed (Direct own target true) (Nonconn own (record { items = body })))))) policy list from to ≡ true
-    → (undirected ≡ true → directed ≡ false)
-    → ((undirected || directed) && is_same_address own to && cond directed (is_same_address target from) (lets_connect policy list from)) ≡ true
-lets_by true scannable directed own target body policy list from to lets apart =
-    ap (λ b. is_same_address own to && cond b (is_same_address target from) (lets_connect policy list from)) (apart refl) ∙ lets
-lets_by false true directed own target body policy list from to lets apart = absurd cc
-lets_by false false true own target body policy list from to lets apart = lets
-lets_by false false false own target body policy list from to lets apart = absurd cc
+    (cond directed (Direct own target true) (Nonconn own (record { items = body }))))))) policy list from to
+    ≡ ((undirected || directed) && is_same_address own to && cond directed (is_same_address target from) (lets_connect policy list from))
+lets_by true scannable true own target body policy list from to apart others = absurd (let h : true ≡ false = apart refl in cc)
+lets_by true scannable false own target body policy list from to apart others = refl
+lets_by false true true own target body policy list from to apart others = absurd (let h : true ≡ false = others refl in cc)
+lets_by false true false own target body policy list from to apart others = refl
+lets_by false false true own target body policy list from to apart others = refl
+lets_by false false false own target body policy list from to apart others = refl
 
-both_are : (one other : Bool) → one ≡ true → other ≡ true → (one && other) ≡ true
-both_are one other is is_too = rw (is, is_too) refl
+module _ (facts : Facts) (policy : ℕ) (list : List Address) (offer : Option AdvPdu) (fits : FitsOffer facts offer) (holds : Holds policy list facts) (known : AdvertisersKnown facts)
+    (from to : Address) where
+  -- the settings and the advertisement of an advertiser
+  lets_is : (on : AdvertiserFacts) → facts.advertising.on ≡ Some on
+      → lets_in offer policy list from to ≡ (is_connectable on.params.kind && is_same_address on.params.own to && may_connect on.params facts.view.accepted from)
+  lets_is on is_on =
+      let body = facts.advertising.data_octets in
+      let params = on.params in
+      let kind = params.kind in
+      let offer_is : offer ≡ newer_offer None (Some (advertisement params body)) =
+      fits ∙ ap (λ (may : Option AdvertiserFacts). newer_offer None (option_map (λ one. advertisement one.params body) may)) is_on in
+      let policy_is : params.policy ≡ policy = subst (OnPolicy facts.advertising.params.policy) is_on known.on_policy ∙ holds.1 in
+      (λ i. lets_in (offer_is i) (sym policy_is i) (sym holds.0 i) from to)
+      ∙ lets_by (kind == 0) (kind == 2) (kind == 4) params.own params.target body params.policy facts.view.accepted from to (no_both kind 0 refl) (no_both kind 2 refl)
 
--- an advertiser takes it
-record IsTakenBy (on : AdvertiserFacts) (list : List Address) (from to : Address) (ch_sel : Bool) (fields : ConnectFields) : Type 0 where
-  answers : advertiser_answer on.params list (Connect from to ch_sel fields) ≡ Takes fields
-  own : on.params.own ≡ to
-  connectable : is_connectable on.params.kind ≡ true
+  record IsOn : Type 0 where
+    on : AdvertiserFacts
+    is_on : facts.advertising.on ≡ Some on
 
-taken_by : (on : AdvertiserFacts) (body : List ℕ) (list : List Address) (from to : Address) (ch_sel : Bool) (fields : ConnectFields)
-    → lets_in (Some (advertisement on.params body)) on.params.policy list from to ≡ true → is_in_range fields ≡ true → IsTakenBy on list from to ch_sel fields
-taken_by on body list from to ch_sel fields lets in_range =
-    let params = on.params in
-    let kind = params.kind in
-    let may = lets_by (kind == 0) (kind == 2) (kind == 4) params.own params.target body params.policy list from to lets (no_both kind) in
-    let first = and_parts (is_connectable kind && is_same_address params.own to) (may_connect params list from) may in
-    let parts = and_parts (is_connectable kind) (is_same_address params.own to) first.0 in record {
-      answers = ap (λ b. if b then Takes fields else Ignore) (both_are (is_connectable kind && is_same_address params.own to && may_connect params list from) (is_in_range fields) may in_range);
-      own = equal_addresses params.own to parts.1;
-      connectable = parts.0;
+  on_by : (may : Option AdvertiserFacts) → facts.advertising.on ≡ may → lets_in offer policy list from to ≡ true → IsOn
+  on_by None is lets =
+      let none : offer ≡ None = fits ∙ ap (λ (one : Option AdvertiserFacts). newer_offer None (option_map (λ on. advertisement on.params facts.advertising.data_octets) one)) is in
+      absurd (let h : false ≡ true = ap (λ may. lets_in may policy list from to) (sym none) ∙ lets in cc)
+  on_by (Some on) is lets = record { on = on; is_on = is }
+
+  -- what is to be opened by the lines is taken
+  pub offered_taken : (setup : Setup) (octets : List ℕ) (channel : ℕ) (ch_sel : Bool) (fields : ConnectFields) → facts.turn.doing ≡ AwaitsRequest channel
+      → pdu_heard channel octets ≡ Some (Connect from to ch_sel fields) → lets_in offer policy list from to ≡ true → is_in_range fields ≡ true
+      → has_link_between to from facts.links ≡ false
+      → ((on : AdvertiserFacts) → facts.advertising.on ≡ Some on → is_connectable on.params.kind ≡ true → IsSome (free_from 0 facts.links)) → TakesLink setup facts octets
+  offered_taken setup octets channel ch_sel fields doing found lets in_range new free =
+      let one = on_by facts.advertising.on refl lets in
+      let params = one.on.params in
+      let may = sym (lets_is one.on one.is_on) ∙ lets in
+      let first = and_parts (is_connectable params.kind && is_same_address params.own to) (may_connect params facts.view.accepted from) may in
+      let parts = and_parts (is_connectable params.kind) (is_same_address params.own to) first.0 in
+      takes_link setup facts octets channel one.on from to ch_sel fields doing one.is_on found
+      (ap (λ b. if b then Takes fields else Ignore)
+      (and_from (is_connectable params.kind && is_same_address params.own to && may_connect params facts.view.accepted from) (is_in_range fields) may in_range))
+      (ap (λ own. has_link_between own from facts.links) (equal_addresses params.own to parts.1) ∙ new) (free one.on one.is_on parts.0)
+
+-- and what is taken is to be opened by the lines
+pub record IsToTake (policy : ℕ) (list : List Address) (offer : Option AdvPdu) (facts : Facts) (from to : Address) (fields : ConnectFields) : Type 0 where
+  pub lets : lets_in offer policy list from to ≡ true
+  pub in_range : is_in_range fields ≡ true
+  pub new : has_link_between to from facts.links ≡ false
+
+pub taken_offered : (facts : Facts) (octets : List ℕ) (policy : ℕ) (list : List Address) (offer : Option AdvPdu) (taking : IsTaking facts octets) → FitsOffer facts offer
+    → Holds policy list facts → AdvertisersKnown facts → IsToTake policy list offer facts taking.from taking.to taking.fields
+taken_offered facts octets policy list offer taking fits holds known =
+    let from = taking.from in
+    let to = taking.to in
+    let params = taking.on.params in
+    let lets = is_connectable params.kind && is_same_address params.own to && may_connect params facts.view.accepted from in
+    let all = and_parts lets (is_in_range taking.fields) taking.takes in
+    let first = and_parts (is_connectable params.kind && is_same_address params.own to) (may_connect params facts.view.accepted from) all.0 in
+    let parts = and_parts (is_connectable params.kind) (is_same_address params.own to) first.0 in record {
+      lets = lets_is facts policy list offer fits holds known from to taking.on taking.is_on ∙ all.0;
+      in_range = all.1;
+      new = ap (λ own. has_link_between own from facts.links) (sym (equal_addresses params.own to parts.1)) ∙ taking.new;
     }
-
--- the settings and the advertisement of a controller that awaits a request
-pub offered_taken : (setup : Setup) (facts : Facts) (octets : List ℕ) (channel policy : ℕ) (list : List Address) (offer : Option AdvPdu) (from to : Address) (ch_sel : Bool)
-    (fields : ConnectFields) → facts.turn.doing ≡ AwaitsRequest channel → pdu_heard channel octets ≡ Some (Connect from to ch_sel fields) → FitsOffer facts offer
-    → Holds policy list facts → lets_in offer policy list from to ≡ true → is_in_range fields ≡ true → has_link_between to from facts.links ≡ false
-    → ((on : AdvertiserFacts) → facts.advertising.on ≡ Some on → is_connectable on.params.kind ≡ true → IsSome (free_from 0 facts.links)) → TakesLink setup facts octets
-offered_taken setup facts octets channel policy list None from to ch_sel fields doing found fits holds lets in_range new free = absurd cc
-offered_taken setup facts octets channel policy list (Some pdu) from to ch_sel fields doing found fits holds lets in_range new free =
-    let of = fits pdu refl in
-    let on = of.on in
-    let policy_is : on.params.policy ≡ policy = subst (OnPolicy policy) of.is_on holds.1.on_policy in
-    let lets_on : lets_in (Some (advertisement on.params of.body)) on.params.policy facts.view.accepted from to ≡ true =
-    (λ i. lets_in (Some (of.is i)) (policy_is i) (holds.0 i) from to) ∙ lets in
-    let taken = taken_by on of.body facts.view.accepted from to ch_sel fields lets_on in_range in
-    takes_link setup facts octets channel on from to ch_sel fields doing of.is_on found taken.answers
-    (ap (λ own. has_link_between own from facts.links) taken.own ∙ new) (free on of.is_on taken.connectable)

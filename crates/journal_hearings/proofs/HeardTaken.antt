@@ -1,8 +1,8 @@
 -- In every run of two stations, a station that heard a CONNECT_IND which it takes notes that the link is open, before the phase
 -- is over.
-use Rattle.std.proofs.Common.{◌≡◌, ℕ, ◌+◌, ◌==◌, ◌⊎◌, inl, inr, ◌&&◌, ◌||◌, Bool, true, false, Option, Some, None, List, [], ◌∷◌, ◌++◌, refl, sym, ap, subst, ◌∙◌, append-nil, append_assoc}
+use Rattle.std.proofs.Common.{◌≡◌, ℕ, ◌+◌, ◌==◌, ◌⊎◌, inl, inr, ◌&&◌, Bool, true, false, Option, Some, None, List, [], ◌∷◌, ◌++◌, refl, sym, ap, subst, ◌∙◌, append-nil, append_assoc}
 use Rattle.std.specs.Prelude.{⊤, map, take, if◌then◌else◌}
-use Rattle.std.proofs.lemmas.Bool.{eqb-true, or_left}
+use Rattle.std.proofs.lemmas.Bool.{eqb-true, or_left, or_right}
 use Rattle.std.proofs.lemmas.List.Folds.{list_any-append}
 use Rattle.ble_base.specs.declared.notes.Note.TheVariants.{Opened}
 use Rattle.ble_base.specs.declared.roles.Role.TheVariants.{Peripheral}
@@ -169,10 +169,6 @@ module _ (given : Given) where
 
 -- ---- a packet
 
-or_true : (one other : Bool) → other ≡ true → (one || other) ≡ true
-or_true true other is = refl
-or_true false other is = is
-
 in_more : (station other : ℕ) (done : List ℕ) → is_in station done ≡ true → is_in station (done ++ other ∷ []) ≡ true
 in_more station other done is = by (station == other) refl
   where
@@ -215,7 +211,7 @@ module _ (given : Given) (pair : IsOfTwo given) where
       number = ap (λ (links : Links). links.last_of (other_of sender))
           (links_event history event ∙ ap (λ b. if b then with_link sender hearings (links_of history) else links_of history) will.begins)
           ∙ ap (λ b. if b then (links_of history).begun + 1 else (links_of history).last_of (other_of sender))
-          (or_true (other_of sender == sender) (has_received (other_of sender) hearings) will.received);
+          (or_right (other_of sender == sender) (has_received (other_of sender) hearings) will.received);
     })
 
     packet_sent_by : SentBy given (AtPackets phases (done ++ sender ∷ []) left) after
@@ -263,7 +259,7 @@ module _ (given : Given) (pair : IsOfTwo given) where
         ap (λ ns. is_taken_by side number (journal_of (history ++ Called caller (step_of received) ∷ map (Noted caller) ns))) notes
         ∙ ap (is_taken_by side number) (journal_more history more)
         ∙ list_any-append (takes side number) front (line ∷ rest)
-        ∙ or_true (is_taken_by side number front) (is_taken_by side number (line ∷ rest)) (or_left (takes side number line) (is_taken_by side number rest) one)
+        ∙ or_right (is_taken_by side number front) (is_taken_by side number (line ∷ rest)) (or_left (takes side number line) (is_taken_by side number rest) one)
 
     -- another station still waits
     pending_now : (before : List Event) (station : ℕ) (octets : List ℕ) → (station == caller) ≡ false → IsPending given history before station octets

@@ -3,6 +3,7 @@ mod AirDoings
 mod OnePhase
 mod RequestsHeard
 mod ConnectLines
+mod AdvertisersKnown
 mod CommandCodes
 mod AnswerStatuses
 mod SettingsHeld
@@ -10,9 +11,12 @@ mod SettingsRead
 mod LinkedAddresses
 mod OffersMade
 mod BothKept
+mod PeripheralNotes
 mod ConnectsTaken
 mod ConnectsAwaited
 mod HeardTaken
 mod LinksOpened
+mod LastHeard
+mod OpenedHeard
 mod AdvertiserRoom
 mod AdvertiserHandles

@@ -113,7 +113,7 @@ module _ (given : Given) (pair : IsOfTwo given) where
       one (Called sender step) station fate = tt
       one (Noted sender note) station fate = tt
 
-  begun_is : (before rest : List Event) → history_of (run_of given) ≡ before ++ rest → (links_of before).begun ≡ length (links_begun (journal_of before))
+  pub begun_is : (before rest : List Event) → history_of (run_of given) ≡ before ++ rest → (links_of before).begun ≡ length (links_begun (journal_of before))
   begun_is before rest at =
       number_sent before
       ∙ ap length (sym (begun_are_sent before (of_two [] before

@@ -9,20 +9,22 @@ use Rattle.ble_base.specs.declared.notes.Note.{Note}
 use Rattle.ble_base.specs.declared.notes.Note.TheVariants.{Up as UpNote}
 use Rattle.ble_base.specs.declared.roles.Side.{Side}
 use Rattle.adv_pdu.specs.declared.pdu.AdvPdu.{AdvPdu}
-use Rattle.adv_pdu.specs.declared.pdu.AdvPdu.TheVariants.{Ind, Direct}
-use Rattle.advertise.specs.Advertising.{AdvertiserFacts, advertisement}
+use Rattle.advertise.specs.Advertising.{advertisement}
 use Rattle.link_model.specs.declared.setup.LinkSetup.{LinkSetup}
 use Rattle.scan_init.specs.Initiating.{InitiatorFacts}
-use Rattle.scan_init.specs.Reports.{ScannerFacts}
+use Rattle.scan_init.specs.Reports.{ScannerFacts, does_ask, scan_answer}
+use Rattle.open_links.specs.OpenLinks.{link_at}
 use Rattle.radio_replay.specs.declared.fates.Fate.{Fate}
 use Rattle.controller_model.specs.declared.doing.Doing.{Doing}
-use Rattle.controller_model.specs.declared.doing.Doing.TheVariants.{Advertises, AwaitsRequest, Responds, Scans, Requests, AwaitsResponse, Initiates, Connects, CentralSends, CentralListens, PeripheralListens}
+use Rattle.controller_model.specs.declared.doing.Doing.TheVariants.{Advertises, AwaitsRequest, Responds, Scans, Requests, AwaitsResponse, Initiates, Connects, CentralSends, CentralListens, PeripheralListens, Rests}
 use Rattle.controller_model.specs.Step.{Step, HostOctet, TurnBegins}
 use Rattle.controller_model.specs.Facts.{Setup, Facts, Advertising, Sends, Listens}
-use Rattle.controller_model.specs.Heard.{connects, heard, if_pdu, initiator_heard, link_to, scanner_heard, unheard}
-use Rattle.controller_model.specs.Packets.{advertisement_sent, advertising_packet, pdu_heard}
+use Rattle.controller_model.specs.Heard.{asks_if, connects, fields_sent, heard, if_pdu, initiator_heard, link_made, link_to, replies_in, reply_if, scanner_heard, unheard}
+use Rattle.controller_model.specs.Packets.{advertisement_sent, advertising_packet, pdu_heard, sends_pdu}
 use Rattle.controller_model.specs.Side.{facts_after, facts_of, notes_after}
-use Rattle.controller_model.proofs.Sent.{AdvertisingFits, SomePdu, advertisement_is, sends_well}
+use Rattle.controller_model.proofs.Phases.{EachOutcome, heard_is, unheard_is}
+use Rattle.controller_model.proofs.Sent.{AdvertisingFits, DoingFits, SomePdu, advertisement_is, sends_well}
+use Rattle.run_model.specs.Due.{packet_in}
 use Rattle.run_model.specs.Feeding.{AreDistinct}
 use Rattle.run_model.specs.History.{Event, TurnBegan, HostFed, Called, Noted, Transmitted, Hearing, packet_received, past_of, turns_begun}
 use Rattle.run_model.specs.Journal.{air_entries, entries_of, entry_of, journal_from, journal_of, side_of}
@@ -38,10 +40,9 @@ use Rattle.run_laws.proofs.Hearings.{AreHearing, hearing_kept, other_facts, own_
 use Rattle.run_laws.proofs.InAgreement.{differs_back}
 use Rattle.run_laws.proofs.TurnPlaces.{Within, at_stage, event_past, stands_first}
 use Rattle.journal_packets.specs.Belonging.{is_side}
-use Rattle.journal_acks.proofs.TwoStations.{IsOfTwo, other_apart}
+use Rattle.journal_acks.proofs.TwoStations.{IsOfTwo, hearing_of, one_hearing, other_apart, side_same}
 use Rattle.journal_hearings.specs.Openings.{offer_after, offer_in, newer_offer}
-use Rattle.journal_hearings.proofs.AirDoings.{FitsPhase, IsAtPhase, IsSentOn, UsesIt, at_phase, pdu_on, sent_by}
-use Rattle.journal_hearings.proofs.RequestsHeard.{from_37}
+use Rattle.journal_hearings.proofs.AirDoings.{FitsPhase, UsesIt, at_phase, of_advertising, pdu_on}
 
 -- ---- the offer of a side in a history
 
@@ -104,67 +105,64 @@ air_same side sender channel octets (hearing ∷ hearings) offer differs =
     ap (λ b. if b && is_advertising channel then newer_offer offer (pdu_heard channel octets) else offer) differs
 
 -- what a side offers with its packet
-record IsNewOffer (channel : ℕ) (octets : List ℕ) (pdu : AdvPdu) : Type 0 where
-  on : is_advertising channel ≡ true
-  found : pdu_heard channel octets ≡ Some pdu
-
-new_offer : (found : Option AdvPdu) (pdu : AdvPdu) → newer_offer None found ≡ Some pdu → found ≡ Some pdu
-new_offer None pdu is = absurd cc
-new_offer (Some (Ind from ch_sel body)) pdu is = is
-new_offer (Some (Direct from to ch_sel)) pdu is = is
-new_offer (Some other) pdu is = absurd cc
-
-new_by : (own on : Bool) (channel : ℕ) (octets : List ℕ) (pdu : AdvPdu) → is_advertising channel ≡ on
-    → (if own && on then newer_offer None (pdu_heard channel octets) else None) ≡ Some pdu → IsNewOffer channel octets pdu
-new_by true true channel octets pdu on is = record { on = on; found = new_offer (pdu_heard channel octets) pdu is }
-new_by true false channel octets pdu on is = absurd cc
-new_by false on_it channel octets pdu on is = absurd cc
-
-air_new : (side sender : Side) (channel : ℕ) (octets : List ℕ) (hearings : List Hearing) (pdu : AdvPdu)
-    → fold (offer_after side) None (air_entries sender channel octets hearings) ≡ Some pdu → IsNewOffer channel octets pdu
-air_new side sender channel octets [] pdu is = absurd cc
-air_new side sender channel octets (hearing ∷ hearings) pdu is = new_by (is_side sender side) (is_advertising channel) channel octets pdu refl is
+air_new : (side : Side) (channel : ℕ) (octets : List ℕ) (hearing : Hearing) (offer : Option AdvPdu) → is_side side side ≡ true → is_advertising channel ≡ true
+    → fold (offer_after side) offer (air_entries side channel octets (hearing ∷ [])) ≡ newer_offer offer (pdu_heard channel octets)
+air_new side channel octets hearing offer same on =
+    (λ i. if same i && on i then newer_offer offer (pdu_heard channel octets) else offer)
 
 -- ---- the advertisement of a controller
 
-pub record IsOfferOf (facts : Facts) (pdu : AdvPdu) : Type 0 where
-  pub on : AdvertiserFacts
-  pub is_on : facts.advertising.on ≡ Some on
-  pub body : List ℕ
-  pub is : advertisement on.params body ≡ pdu
-
+-- a CONNECT_IND answers this one
 abbrev pub FitsOffer : Facts → Option AdvPdu → Type 0
-FitsOffer facts offer = (pdu : AdvPdu) → offer ≡ Some pdu → IsOfferOf facts pdu
+FitsOffer facts offer = offer ≡ newer_offer None (advertisement_sent facts)
 
-none_fits : (facts : Facts) (offer : Option AdvPdu) → offer ≡ None → FitsOffer facts offer
-none_fits facts offer none = λ pdu is. absurd (let h : None ≡ Some pdu = sym none ∙ is in absurd cc)
+-- a controller that sends its advertisement, and then awaits a request, offers that
+abbrev pub is_offering : Doing → Bool
+is_offering (Advertises channel) = true
+is_offering (AwaitsRequest channel) = true
+is_offering other = false
+
+abbrev pub Offers : Facts → Option AdvPdu → Type 0
+Offers facts offer = is_offering facts.turn.doing ≡ true → FitsOffer facts offer
 
 same_fits : (before after : Facts) (offer later : Option AdvPdu) → after.advertising ≡ before.advertising → later ≡ offer → FitsOffer before offer → FitsOffer after later
-same_fits before after offer later same is fits = λ pdu some.
-    let of = fits pdu (sym is ∙ some) in record { on = of.on; is_on = ap (λ (a : Advertising). a.on) same ∙ of.is_on; body = of.body; is = of.is }
+same_fits before after offer later same is fits =
+    is ∙ fits ∙ ap (λ (a : Advertising). newer_offer None (option_map (λ on. advertisement on.params a.data_octets) a.on)) (sym same)
 
-offered_by : (on : Option AdvertiserFacts) (body : List ℕ) (facts : Facts) (pdu : AdvPdu) → facts.advertising.on ≡ on
-    → option_map (λ on. advertisement on.params body) on ≡ Some pdu → IsOfferOf facts pdu
-offered_by None body facts pdu is_on is = absurd cc
-offered_by (Some on) body facts pdu is_on is = record { on = on; is_on = is_on; body = body; is = cc }
+same_offers : (before after : Facts) (offer later : Option AdvPdu) → after ≡ before → later ≡ offer → Offers before offer → Offers after later
+same_offers before after offer later same is offers = λ doing.
+    same_fits before after offer later (ap (λ (f : Facts). f.advertising) same) is (offers (ap (λ (f : Facts). is_offering f.turn.doing) (sym same) ∙ doing))
 
 no_phase : (phases : ℕ) (X : Type 0) → 0 ≡ suc phases → X
 no_phase phases X is = absurd (omega (arith, is))
 
 -- what is sent in the first phase is the advertisement
-first_offer : IsUnderstood → (facts : Facts) (doing : Doing) (channel : ℕ) (octets : List ℕ) (pdu : AdvPdu) → AdvertisingFits facts.advertising → FitsPhase 0 doing
-    → UsesIt facts doing → IsSentOn channel doing → facts.wanted ≡ Sends channel octets → pdu_heard channel octets ≡ Some pdu → IsOfferOf facts pdu
-first_offer understood facts (Advertises on) channel octets pdu can fits uses sent wants found =
+record IsOffered (facts : Facts) (channel : ℕ) (octets : List ℕ) : Type 0 where
+  on_channel : is_advertising channel ≡ true
+  found : pdu_heard channel octets ≡ advertisement_sent facts
+
+first_offered : IsUnderstood → (facts : Facts) (doing : Doing) (channel : ℕ) (octets : List ℕ) → AdvertisingFits facts.advertising → FitsPhase 0 doing
+    → DoingFits doing → UsesIt facts doing → facts.wanted ≡ Sends channel octets → is_offering doing ≡ true → IsOffered facts channel octets
+first_offered understood facts (Advertises on) channel octets can fits does uses wants offering =
     let made = pdu_on on channel (advertisement_sent facts) octets (sym uses ∙ wants) in
     let packet : Sends channel (advertising_packet channel made.pdu) ≡ Sends channel octets = made.sent in
     let same : advertising_packet channel made.pdu ≡ octets = cc in
-    let is_pdu = subst SomePdu made.is (advertisement_is facts.advertising facts.advertising.on can can.on_fits) in
-    let told : Some made.pdu ≡ Some pdu = sym (ap (pdu_heard channel) (sym same) ∙ understood channel made.pdu is_pdu) ∙ found in
-    offered_by facts.advertising.on facts.advertising.data_octets facts pdu refl (made.is ∙ told)
-first_offer understood facts (Requests on advertiser) channel octets pdu can fits uses sent wants found = no_phase 0 _ fits
-first_offer understood facts (Connects on link) channel octets pdu can fits uses sent wants found = no_phase 0 _ fits
-first_offer understood facts (Responds on) channel octets pdu can fits uses sent wants found = no_phase 1 _ fits
-first_offer understood facts other channel octets pdu can fits uses sent wants found = absurd sent
+    let is_pdu = subst SomePdu made.is (advertisement_is facts.advertising facts.advertising.on can can.on_fits) in record {
+      on_channel = subst (λ n. is_advertising n ≡ true) made.same (of_advertising on does);
+      found = ap (pdu_heard channel) (sym same) ∙ understood channel made.pdu is_pdu ∙ sym made.is;
+    }
+first_offered understood facts (AwaitsRequest on) channel octets can fits does uses wants offering = no_phase 0 _ fits
+first_offered understood facts other channel octets can fits does uses wants offering = absurd cc
+
+-- where nothing is sent there is none
+none_by : (on : ℕ) (advertisement : Option AdvPdu) → packet_in (sends_pdu on advertisement) ≡ [] → newer_offer None advertisement ≡ None
+none_by on None none = refl
+none_by on (Some pdu) none = absurd cc
+
+none_offered : (facts : Facts) (doing : Doing) → FitsPhase 0 doing → UsesIt facts doing → packet_in facts.wanted ≡ [] → is_offering doing ≡ true → FitsOffer facts None
+none_offered facts (Advertises on) fits uses none offering = sym (none_by on (advertisement_sent facts) (ap packet_in (sym uses) ∙ none))
+none_offered facts (AwaitsRequest on) fits uses none offering = no_phase 0 _ fits
+none_offered facts other fits uses none offering = absurd cc
 
 -- ---- the first phase changes nothing of it
 
@@ -216,24 +214,55 @@ phase_same : (setup : Setup) (received : Option (List ℕ)) (facts : Facts) → 
 phase_same setup None facts fits = unheard_same facts.turn.doing facts fits
 phase_same setup (Some octets) facts fits = heard_same setup facts.turn.doing octets facts fits
 
+-- who offers after it did before it
+asks_none : (asks : Bool) (channel : ℕ) (pdu : AdvPdu) → is_offering (asks_if asks channel pdu) ≡ false
+asks_none true channel pdu = refl
+asks_none false channel pdu = refl
+
+replies_none : (replies : Bool) (handle : ℕ) → is_offering (reply_if replies handle) ≡ false
+replies_none true handle = refl
+replies_none false handle = refl
+
+none_next : (next : Doing) (X : Type 0) → is_offering next ≡ false → is_offering next ≡ true → X
+none_next next X none is = absurd (let h : true ≡ false = sym is ∙ none in cc)
+
+offers_before : (setup : Setup) (facts : Facts) → EachOutcome setup facts (λ outcome. is_offering outcome.next ≡ true → is_offering facts.turn.doing ≡ true)
+offers_before setup facts = record {
+  rests = λ is. none_next Rests _ refl is;
+  awaits_request = λ channel doing is. ap is_offering doing;
+  awaits_response = λ channel advertiser doing is. none_next (AwaitsResponse channel) _ refl is;
+  central_listens = λ handle doing is. none_next (CentralListens handle) _ refl is;
+  sent = λ channel link doing is. none_next Rests _ refl is;
+  responds = λ channel on doing is_on is. none_next (Responds channel) _ refl is;
+  taken = λ channel octets pdu on fields handle is_on hears takes free is. none_next Rests _ refl is;
+  scanned = λ channel octets pdu on doing is_on hears is.
+      let asks = true && does_ask (scan_answer on.params facts.view.accepted on.recent pdu) in none_next (asks_if asks channel pdu) _ (asks_none asks channel pdu) is;
+  answered = λ channel octets pdu on doing is_on hears is. none_next Rests _ refl is;
+  connects = λ channel octets pdu on access handle doing is_on hears answers next free in_range is.
+      none_next (Connects channel (link_made on.params.own pdu (fields_sent setup on access facts) handle)) _ refl is;
+  received = λ handle octets is.
+      let replies = replies_in (link_at handle facts.links) octets in none_next (reply_if replies handle) _ (replies_none replies handle) is;
+}
+
+offering_before : (setup : Setup) (received : Option (List ℕ)) (facts : Facts) → is_offering (facts_after setup facts (step_of received)).turn.doing ≡ true
+    → is_offering facts.turn.doing ≡ true
+offering_before setup None facts is = unheard_is setup facts _ (offers_before setup facts) facts.turn.doing refl is
+offering_before setup (Some octets) facts is = heard_is setup facts _ (offers_before setup facts) facts.turn.doing octets refl is
+
 -- ---- at each place of a run
 
-abbrev pub awaits_on : Doing → Option ℕ
-awaits_on (AwaitsRequest channel) = Some channel
-awaits_on other = None
+listens_for : (facts : Facts) (doing : Doing) (channel : ℕ) (octets : List ℕ) (X : Type 0) → FitsPhase 1 doing → UsesIt facts doing → facts.wanted ≡ Sends channel octets
+    → is_offering doing ≡ true → X
+listens_for facts (AwaitsRequest on) channel octets X fits uses wants offering = absurd (let h : Listens on ≡ Sends channel octets = sym uses ∙ wants in cc)
+listens_for facts (Advertises on) channel octets X fits uses wants offering = no_phase 0 X (sym fits)
+listens_for facts other channel octets X fits uses wants offering = absurd cc
 
-awaits_listens : (facts : Facts) (doing : Doing) (channel : ℕ) → UsesIt facts doing → awaits_on doing ≡ Some channel → facts.wanted ≡ Listens channel
-awaits_listens facts (AwaitsRequest on) channel uses awaits = let same : on ≡ channel = cc in uses ∙ ap Listens same
-awaits_listens facts (Advertises on) channel uses awaits = absurd cc
-awaits_listens facts other channel uses awaits = absurd cc
+-- what a station offers is what its side offered last
+abbrev pub OffersIt : Given → List Event → ℕ → Type 0
+OffersIt given history station = Offers (facts_at given station history) (offer_at (side_of station) history)
 
--- a station that awaits a request has offered what its side offered last
-abbrev pub HasOffered : Given → List Event → ℕ → Type 0
-HasOffered given history station =
-    (channel : ℕ) → awaits_on (facts_at given station history).turn.doing ≡ Some channel → FitsOffer (facts_at given station history) (offer_at (side_of station) history)
-
-abbrev SentOffer : Bool → Given → List Event → ℕ → Type 0
-SentOffer true given history station = FitsOffer (facts_at given station history) (offer_at (side_of station) history)
+abbrev pub SentOffer : Bool → Given → List Event → ℕ → Type 0
+SentOffer true given history station = OffersIt given history station
 SentOffer false given history station = offer_at (side_of station) history ≡ None
 
 abbrev pub OffersAt : Given → Place → List Event → ℕ → Type 0
@@ -244,7 +273,7 @@ OffersAt given (AfterPhases zero) history station = SentOffer false given histor
 OffersAt given (AfterPhases (suc zero)) history station = SentOffer true given history station
 OffersAt given (AfterPhases (suc (suc phases))) history station = ⊤
 OffersAt given (AtPackets zero done left) history station = SentOffer (is_in station done) given history station
-OffersAt given (AtPackets (suc zero) done left) history station = HasOffered given history station
+OffersAt given (AtPackets (suc zero) done left) history station = OffersIt given history station
 OffersAt given (AtPackets (suc (suc phases)) done left) history station = ⊤
 OffersAt given (AtListening zero done left) history station = SentOffer true given history station
 OffersAt given (AtListening (suc phases) done left) history station = ⊤
@@ -281,51 +310,46 @@ module _ (understood : IsUnderstood) (given : Given) (pair : IsOfTwo given) (six
     wants = wanted_is given sender history ∙ wanted
 
     -- in the first phase
-    own_offer : (place : Place) → place ≡ AtPackets 0 done (sender ∷ left) → AreHearing given place history → offer_at (side_of sender) history ≡ None
-        → FitsOffer (facts_at given sender history) (offer_at (side_of sender) after)
-    own_offer place first hearing none = λ pdu is.
+    own_offer : AreHearing given (AtPackets 0 done (sender ∷ left)) history → offer_at (side_of sender) history ≡ None → OffersIt given after sender
+    own_offer hearing none = λ offering.
         let facts = facts_at given sender history in
-        let hearings = hearings_of given fates sender channel octets history in
-        let now : IsAtPhase 0 facts =
-        at_phase (setup_at given sender) (past_of sender history) 0 (turns_begun history) ((subst (λ p. AreHearing given p history) first hearing).stand sender sender_in) in
-        let new = air_new (side_of sender) (side_of sender) channel octets hearings pdu
-        (ap (λ last. fold (offer_after (side_of sender)) last (air_entries (side_of sender) channel octets hearings)) (sym none)
-        ∙ sym (fold_event (offer_event (side_of sender)) None history event) ∙ is) in
-        first_offer understood facts facts.turn.doing channel octets pdu (sends_well (setup_at given sender) (six sender) (past_of sender history)).can.advertising now.fits now.uses
-        (sent_by facts facts.turn.doing channel octets now.uses wants (from_37 channel new.on)) wants new.found
+        let setup = setup_at given sender in
+        let past = past_of sender history in
+        let now = at_phase setup past 0 (turns_begun history) (hearing.stand sender sender_in) in
+        let well = sends_well setup (six sender) past in
+        let sent = first_offered understood facts facts.turn.doing channel octets well.can.advertising now.fits well.does now.uses wants
+        (ap (λ (f : Facts). is_offering f.turn.doing) (sym (same sender)) ∙ offering) in
+        fold_event (offer_event (side_of sender)) None history event
+        ∙ ap (λ hearings. fold (offer_after (side_of sender)) (offer_at (side_of sender) history) (air_entries (side_of sender) channel octets hearings))
+        (one_hearing given pair fates sender channel octets history sender_in)
+        ∙ air_new (side_of sender) channel octets (hearing_of given fates sender channel octets history) (offer_at (side_of sender) history) (side_same sender) sent.on_channel
+        ∙ (λ i. newer_offer (none i) (sent.found i))
+        ∙ ap (λ (f : Facts). newer_offer None (advertisement_sent f)) (sym (same sender))
 
     kept_offer : (took : Bool) (station : ℕ) → is_in station given.stations ≡ true → (station == sender) ≡ false → SentOffer took given history station → SentOffer took given after station
-    kept_offer true station in_it differs fits =
-        same_fits (facts_at given station history) (facts_at given station after) (offer_at (side_of station) history) (offer_at (side_of station) after)
-        (ap (λ (f : Facts). f.advertising) (same station)) (other_offer station in_it differs) fits
+    kept_offer true station in_it differs offers =
+        same_offers (facts_at given station history) (facts_at given station after) (offer_at (side_of station) history) (offer_at (side_of station) after)
+        (same station) (other_offer station in_it differs) offers
     kept_offer false station in_it differs none = other_offer station in_it differs ∙ none
 
     first_packet : AreHearing given (AtPackets 0 done (sender ∷ left)) history → is_in sender done ≡ false → (station : ℕ) → is_in station given.stations ≡ true
         → SentOffer (is_in sender done) given history sender → SentOffer (is_in station done) given history station → (one : Bool) → (station == sender) ≡ one
         → SentOffer (is_in station (done ++ sender ∷ [])) given after station
     first_packet hearing out station in_it own has true is =
-        let equal = eqb-true station sender is in
         subst (λ b. SentOffer b given after station) (sym (in_more_same station sender done is))
-        (subst (SentOffer true given after) (sym equal)
-        (same_fits (facts_at given sender history) (facts_at given sender after) (offer_at (side_of sender) after) (offer_at (side_of sender) after)
-        (ap (λ (f : Facts). f.advertising) (same sender)) refl
-        (own_offer (AtPackets 0 done (sender ∷ left)) refl hearing (subst (λ b. SentOffer b given history sender) out own))))
+        (subst (OffersIt given after) (sym (eqb-true station sender is)) (own_offer hearing (subst (λ b. SentOffer b given history sender) out own)))
     first_packet hearing out station in_it own has false is =
         subst (λ b. SentOffer b given after station) (sym (in_more_other station sender done is)) (kept_offer (is_in station done) station in_it is has)
 
     -- who awaits a request sends nothing
-    second_packet : AreHearing given (AtPackets 1 done (sender ∷ left)) history → (station : ℕ) → is_in station given.stations ≡ true → HasOffered given history station
-        → (one : Bool) → (station == sender) ≡ one → HasOffered given after station
-    second_packet hearing station in_it has true is = λ on awaits.
-        let equal = eqb-true station sender is in
+    second_packet : AreHearing given (AtPackets 1 done (sender ∷ left)) history → (station : ℕ) → is_in station given.stations ≡ true → OffersIt given history station
+        → (one : Bool) → (station == sender) ≡ one → OffersIt given after station
+    second_packet hearing station in_it has true is = λ offering.
         let facts = facts_at given sender history in
         let now = at_phase (setup_at given sender) (past_of sender history) 1 (turns_begun history) (hearing.stand sender sender_in) in
-        let doing = ap (λ (f : Facts). awaits_on f.turn.doing) (sym (ap (λ n. facts_at given n after) equal ∙ same sender)) ∙ awaits in
-        absurd (let h : Sends channel octets ≡ Listens on = sym wants ∙ awaits_listens facts facts.turn.doing on now.uses doing in cc)
-    second_packet hearing station in_it has false is = λ on awaits.
-        same_fits (facts_at given station history) (facts_at given station after) (offer_at (side_of station) history) (offer_at (side_of station) after)
-        (ap (λ (f : Facts). f.advertising) (same station)) (other_offer station in_it is)
-        (has on (ap (λ (f : Facts). awaits_on f.turn.doing) (sym (same station)) ∙ awaits))
+        listens_for facts facts.turn.doing channel octets _ now.fits now.uses wants
+        (ap (λ (f : Facts). is_offering f.turn.doing) (sym (ap (λ n. facts_at given n after) (eqb-true station sender is) ∙ same sender)) ∙ offering)
+    second_packet hearing station in_it has false is = kept_offer true station in_it is has
 
   packet_offers : (phases : ℕ) (fates : List Fate) (done left : List ℕ) (sender channel : ℕ) (octets : List ℕ) (history : List Event) → given.stations ≡ done ++ sender ∷ left
       → use_at given sender history ≡ Sends channel octets → AreOffering given (AtPackets phases done (sender ∷ left)) history → (station : ℕ) → is_in station given.stations ≡ true
@@ -338,28 +362,37 @@ module _ (understood : IsUnderstood) (given : Given) (pair : IsOfTwo given) (six
   packet_offers (suc (suc phases)) fates done left sender channel octets history are wanted is station in_it = tt
 
   -- who sends nothing offers nothing
-  silent_by : (done : List ℕ) (silent : ℕ) (history : List Event) (station : ℕ) → is_in silent done ≡ false → SentOffer (is_in silent done) given history silent
-      → SentOffer (is_in station done) given history station → (one : Bool) → (station == silent) ≡ one → SentOffer (is_in station (done ++ silent ∷ [])) given history station
-  silent_by done silent history station out own has true is =
-      subst (λ b. SentOffer b given history station) (sym (in_more_same station silent done is))
-      (subst (SentOffer true given history) (sym (eqb-true station silent is))
-      (none_fits (facts_at given silent history) (offer_at (side_of silent) history) (subst (λ b. SentOffer b given history silent) out own)))
-  silent_by done silent history station out own has false is = subst (λ b. SentOffer b given history station) (sym (in_more_other station silent done is)) has
+  silent_own : (done left : List ℕ) (silent : ℕ) (history : List Event) → given.stations ≡ done ++ silent ∷ left → packet_in (use_at given silent history) ≡ []
+      → AreHearing given (AtPackets 0 done (silent ∷ left)) history → offer_at (side_of silent) history ≡ None → OffersIt given history silent
+  silent_own done left silent history are quiet hearing none = λ offering.
+      let facts = facts_at given silent history in
+      let now = at_phase (setup_at given silent) (past_of silent history) 0 (turns_begun history) (hearing.stand silent (among given.stations done left silent are)) in
+      none ∙ none_offered facts facts.turn.doing now.fits now.uses (ap packet_in (wanted_is given silent history) ∙ quiet) offering
 
-  silence_offers : (phases : ℕ) (done left : List ℕ) (silent : ℕ) (history : List Event) → given.stations ≡ done ++ silent ∷ left
+  silent_by : (done left : List ℕ) (silent : ℕ) (history : List Event) → given.stations ≡ done ++ silent ∷ left → packet_in (use_at given silent history) ≡ []
+      → AreHearing given (AtPackets 0 done (silent ∷ left)) history → (station : ℕ) → is_in silent done ≡ false → SentOffer (is_in silent done) given history silent
+      → SentOffer (is_in station done) given history station → (one : Bool) → (station == silent) ≡ one → SentOffer (is_in station (done ++ silent ∷ [])) given history station
+  silent_by done left silent history are quiet hearing station out own has true is =
+      subst (λ b. SentOffer b given history station) (sym (in_more_same station silent done is))
+      (subst (OffersIt given history) (sym (eqb-true station silent is))
+      (silent_own done left silent history are quiet hearing (subst (λ b. SentOffer b given history silent) out own)))
+  silent_by done left silent history are quiet hearing station out own has false is =
+      subst (λ b. SentOffer b given history station) (sym (in_more_other station silent done is)) has
+
+  silence_offers : (phases : ℕ) (done left : List ℕ) (silent : ℕ) (history : List Event) → given.stations ≡ done ++ silent ∷ left → packet_in (use_at given silent history) ≡ []
       → AreOffering given (AtPackets phases done (silent ∷ left)) history → (station : ℕ) → is_in station given.stations ≡ true
       → OffersAt given (AtPackets phases (done ++ silent ∷ []) left) history station
-  silence_offers zero done left silent history are is station in_it =
-      silent_by done silent history station (not_before given.stations done left silent distinct are) (is.offers silent (among given.stations done left silent are))
-      (is.offers station in_it) (station == silent) refl
-  silence_offers (suc zero) done left silent history are is station in_it = is.offers station in_it
-  silence_offers (suc (suc phases)) done left silent history are is station in_it = tt
+  silence_offers zero done left silent history are quiet is station in_it =
+      silent_by done left silent history are quiet is.hearing station (not_before given.stations done left silent distinct are)
+      (is.offers silent (among given.stations done left silent are)) (is.offers station in_it) (station == silent) refl
+  silence_offers (suc zero) done left silent history are quiet is station in_it = is.offers station in_it
+  silence_offers (suc (suc phases)) done left silent history are quiet is station in_it = tt
 
   -- ---- the other steps
 
   phase_offers : (phases : ℕ) (history : List Event) (station : ℕ) → OffersAt given (AfterPhases phases) history station → OffersAt given (AtPackets phases [] given.stations) history station
   phase_offers zero history station has = has
-  phase_offers (suc zero) history station has = λ channel awaits. has
+  phase_offers (suc zero) history station has = has
   phase_offers (suc (suc phases)) history station has = tt
 
   air_offers : (phases : ℕ) (history : List Event) (station : ℕ) → is_in station given.stations ≡ true → OffersAt given (AtPackets phases given.stations []) history station
@@ -367,22 +400,25 @@ module _ (understood : IsUnderstood) (given : Given) (pair : IsOfTwo given) (six
   air_offers zero history station in_it has = subst (λ b. SentOffer b given history station) in_it has
   air_offers (suc phases) history station in_it has = tt
 
-  call_by : (caller : ℕ) (history : List Event) (station : ℕ) → FitsPhase 0 (facts_at given caller history).turn.doing → SentOffer true given history station
-      → (one : Bool) → (station == caller) ≡ one → SentOffer true given (after_call given caller (step_of (packet_received caller history)) history) station
+  call_by : (caller : ℕ) (history : List Event) (station : ℕ) → FitsPhase 0 (facts_at given caller history).turn.doing → OffersIt given history station
+      → (one : Bool) → (station == caller) ≡ one → OffersIt given (after_call given caller (step_of (packet_received caller history)) history) station
   call_by caller history station fits has true is =
       let step = step_of (packet_received caller history) in
       let after = after_call given caller step history in
+      let facts = facts_at given caller history in
+      let setup = setup_at given caller in
+      let own = own_facts given caller step history in
       let equal = eqb-true station caller is in
-      subst (SentOffer true given after) (sym equal)
-      (same_fits (facts_at given caller history) (facts_at given caller after) (offer_at (side_of caller) history) (offer_at (side_of caller) after)
-      (ap (λ (f : Facts). f.advertising) (own_facts given caller step history)
-      ∙ phase_same (setup_at given caller) (packet_received caller history) (facts_at given caller history) fits)
-      (offer_called (side_of caller) given caller step history) (subst (SentOffer true given history) equal has))
+      subst (OffersIt given after) (sym equal) (λ offering.
+      same_fits facts (facts_at given caller after) (offer_at (side_of caller) history) (offer_at (side_of caller) after)
+      (ap (λ (f : Facts). f.advertising) own ∙ phase_same setup (packet_received caller history) facts fits) (offer_called (side_of caller) given caller step history)
+      (subst (OffersIt given history) equal has
+      (offering_before setup (packet_received caller history) facts (ap (λ (f : Facts). is_offering f.turn.doing) (sym own) ∙ offering))))
   call_by caller history station fits has false is =
       let step = step_of (packet_received caller history) in
       let after = after_call given caller step history in
-      same_fits (facts_at given station history) (facts_at given station after) (offer_at (side_of station) history) (offer_at (side_of station) after)
-      (ap (λ (f : Facts). f.advertising) (other_facts given caller step history station is)) (offer_called (side_of station) given caller step history) has
+      same_offers (facts_at given station history) (facts_at given station after) (offer_at (side_of station) history) (offer_at (side_of station) after)
+      (other_facts given caller step history station is) (offer_called (side_of station) given caller step history) has
 
   call_offers : (phases : ℕ) (done left : List ℕ) (caller : ℕ) (history : List Event) → given.stations ≡ done ++ caller ∷ left
       → AreOffering given (AtListening phases done (caller ∷ left)) history → (station : ℕ) → is_in station given.stations ≡ true
@@ -424,7 +460,7 @@ module _ (understood : IsUnderstood) (given : Given) (pair : IsOfTwo given) (six
     };
     on_silence = λ phases done left station history are none is. record {
       hearing = kept.on_silence phases done left station history are none is.hearing;
-      offers = silence_offers phases done left station history are is;
+      offers = silence_offers phases done left station history are none is;
     };
     on_packet = λ phases plan done left station channel octets history are some due is. record {
       hearing = kept.on_packet phases plan done left station channel octets history are some due is.hearing;

@@ -1,15 +1,13 @@
 -- The filter policy and the accept list that a controller holds are those that its host has set, by its commands and the
 -- statuses in their answers.
-use Rattle.std.proofs.Common.{◌≡◌, ℕ, suc, ◌+◌, ◌%◌, ◌==◌, ◌||◌, Bool, true, false, Option, Some, None, List, [], ◌∷◌, ◌++◌, cond, length, refl, sym, ap, subst, ◌∙◌, append-nil, append_assoc, arith}
-use Rattle.std.specs.Prelude.{⊤, fold, is_some, flat_map}
+use Rattle.std.proofs.Common.{◌≡◌, ℕ, suc, ◌+◌, ◌%◌, ◌==◌, ◌||◌, Bool, true, false, List, [], ◌∷◌, ◌++◌, cond, length, refl, sym, ap, subst, ◌∙◌, append-nil, append_assoc, arith}
+use Rattle.std.specs.Prelude.{fold, flat_map}
 use Rattle.std.proofs.lemmas.List.{length-append}
 use Rattle.std.proofs.lemmas.List.Concat.{flat_map-append}
 use Rattle.std.proofs.lemmas.List.Sums.{fold-append}
 use Rattle.std.proofs.lemmas.Bool.{eqb-true}
 use Rattle.ble_base.specs.declared.addresses.Address.{Address}
 use Rattle.ble_base.specs.declared.notes.Note.{Note}
-use Rattle.ble_base.specs.declared.roles.Role.{Role}
-use Rattle.ble_base.specs.declared.roles.Role.TheVariants.{Central, Peripheral}
 use Rattle.h4_frames.specs.Frames.{frames, frame_entry}
 use Rattle.h4_frames.specs.declared.packet.HostPacket.TheVariants.{Command as HostCommand, Acl}
 use Rattle.h4_frames.specs.declared.packet.Fed.{Fed}
@@ -17,34 +15,24 @@ use Rattle.h4_frames.specs.declared.packet.Fed.TheVariants.{More, Packet, LostSy
 use Rattle.arrayvec.specs.ArrayVec.{ArrayVec}
 use Rattle.hci_cmd.specs.declared.command.HandleCount.{HandleCount}
 use Rattle.hci_cmd.specs.declared.command.Command.{Command}
-use Rattle.hci_cmd.specs.declared.command.Command.TheVariants.{HostCompleted, Reset, LeSetAdvParams, LeSetAdvEnable, LeClearList, LeAddToList, LeRemoveFromList}
+use Rattle.hci_cmd.specs.declared.command.Command.TheVariants.{HostCompleted, Reset, LeSetAdvParams, LeClearList, LeAddToList, LeRemoveFromList}
 use Rattle.hci_cmd.specs.declared.command.CmdRead.{CmdRead}
 use Rattle.hci_cmd.specs.declared.command.CmdRead.TheVariants.{Known, UnknownOpcode, BadLength}
 use Rattle.hci_cmd.specs.Command.{command_of}
 use Rattle.host_view.specs.View.{View}
 use Rattle.host_view.specs.Changes.{after_counts, view_after}
 use Rattle.host_view.specs.Unbuilt.{status_of}
-use Rattle.host_view.specs.declared.view.Advertising.{Advertising as ViewAdvertising}
-use Rattle.advertise.specs.declared.params.AdvParams.{AdvParams}
-use Rattle.advertise.specs.Advertising.{AdvertiserFacts}
-use Rattle.link_model.specs.declared.setup.LinkSetup.{LinkSetup}
 use Rattle.open_links.specs.declared.offers.Offer.{Offer}
 use Rattle.open_links.specs.declared.offers.Offer.TheVariants.{NoLink, Empty, Overflow, Kept}
-use Rattle.slot_plan.specs.declared.Activity.{Activity}
-use Rattle.slot_plan.specs.declared.Activity.TheVariants.{Link, Advertise, Scan, Initiate}
-use Rattle.controller_model.specs.declared.doing.Doing.TheVariants.{Rests}
 use Rattle.controller_model.specs.Step.{Step, HostOctet, TurnBegins, PacketHeard, NothingHeard, TurnEnds}
 use Rattle.controller_model.specs.Facts.{Setup, Facts, Advertising, first_facts}
 use Rattle.controller_model.specs.Answers.{accepted_answer, answer_to, complete_answer, has_status_answer, is_host_completed, refused_fields, returned, status_answer}
-use Rattle.controller_model.specs.Commands.{advertiser_enabled, advertiser_turned_on, advertising_after, events_caused, facts_accepted, facts_commanded, facts_known, notes_before, notes_commanded, notes_known, own_address}
+use Rattle.controller_model.specs.Commands.{advertising_after, events_caused, facts_accepted, facts_commanded, facts_known, notes_before, notes_commanded, notes_known}
 use Rattle.controller_model.specs.Data.{facts_offered, offer_of}
 use Rattle.controller_model.specs.Events.{notes_of_events}
 use Rattle.controller_model.specs.Heard.{link_taken}
-use Rattle.controller_model.specs.Packets.{facts_doing}
-use Rattle.controller_model.specs.Radio.{served_if_on}
 use Rattle.controller_model.specs.Side.{facts_after, facts_fed, facts_of, notes_after, notes_fed, notes_from, notes_of, result_of}
-use Rattle.controller_model.proofs.Accepted.{set_while_off}
-use Rattle.controller_model.proofs.Always.{IsInTurn, IsKeptInTurns, advertiser_stopped, advertiser_won, advertising_noted, facts_opening, opening_passes, holds_step, turn_keeps}
+use Rattle.controller_model.proofs.Always.{IsInTurn, IsKeptInTurns, opening_passes, holds_step, turn_keeps}
 use Rattle.controller_model.proofs.Feds.{frames_more, more_octets, no_frames, turn_octets}
 use Rattle.controller_model.proofs.Handles.{HaveOwnHandles, handles_kept, own_handles}
 use Rattle.journal_hearings.specs.Settings.{accepted_commands, accepted_command, commands_sent, command_read, is_left_out, list_after, policy_after, status_unless}
@@ -53,27 +41,14 @@ use Rattle.journal_hearings.proofs.CommandCodes.{FitsCode, FitsRead, IsPlain, re
 
 -- ---- what a controller holds
 
-abbrev pub OnPolicy : ℕ → Option AdvertiserFacts → Type 0
-OnPolicy policy None = ⊤
-OnPolicy policy (Some on) = on.params.policy ≡ policy
-
-pub record HasPolicy (policy : ℕ) (view : ViewAdvertising) (advertising : Advertising) : Type 0 where
-  pub params : advertising.params.policy ≡ policy
-  pub on_policy : OnPolicy policy advertising.on
-  pub on_is : view.on ≡ is_some advertising.on
-
 abbrev pub Holds : ℕ → List Address → Facts → Type 0
-Holds policy list facts = (facts.view.accepted ≡ list) × HasPolicy policy facts.view.advertising facts.advertising
+Holds policy list facts = (facts.view.accepted ≡ list) × (facts.advertising.params.policy ≡ policy)
 
 -- ---- an accepted command
 
 same_accepted : (on : Bool) (one other : View) → other.accepted ≡ one.accepted → (cond on other one).accepted ≡ one.accepted
 same_accepted true one other same = same
 same_accepted false one other same = refl
-
-same_advertising : (on : Bool) (one other : View) → other.advertising ≡ one.advertising → (cond on other one).advertising ≡ one.advertising
-same_advertising true one other same = same
-same_advertising false one other same = refl
 
 list_held : (view : View) (command : Command) → (view_after view command).accepted ≡ list_after view.accepted command
 unfolding view_after
@@ -84,45 +59,11 @@ list_held view (LeRemoveFromList kind address) = refl
 list_held view (HostCompleted counts) = same_accepted view.flow.on view (record view { links = after_counts view.links counts.items }) refl
 list_held view other = refl
 
-enabled_is : (value : Bool) (one other : AdvertiserFacts) → value ≡ is_some (cond value (Some one) None)
-enabled_is true one other = refl
-enabled_is false one other = refl
-
-turned_is : (own : Address) (slot : ℕ) (params : AdvParams) (value : ℕ) (on : Option AdvertiserFacts) → (value == 1) ≡ is_some (advertiser_enabled own slot params value on)
-turned_is own slot params value None = enabled_is (value == 1) (advertiser_turned_on own slot params) (advertiser_turned_on own slot params)
-turned_is own slot params value (Some on) = enabled_is (value == 1) on on
-
-policy_if : (value : Bool) (policy : ℕ) (on : AdvertiserFacts) → on.params.policy ≡ policy → OnPolicy policy (cond value (Some on) None)
-policy_if true policy on is = is
-policy_if false policy on is = tt
-
-turned_policy : (own : Address) (slot : ℕ) (params : AdvParams) (value policy : ℕ) (on : Option AdvertiserFacts) → params.policy ≡ policy → OnPolicy policy on
-    → OnPolicy policy (advertiser_enabled own slot params value on)
-turned_policy own slot params value policy None is on_policy = policy_if (value == 1) policy (advertiser_turned_on own slot params) is
-turned_policy own slot params value policy (Some on) is on_policy = policy_if (value == 1) policy on on_policy
-
-off_policy : (on : Option AdvertiserFacts) (policy : ℕ) → is_some on ≡ false → OnPolicy policy on
-off_policy None policy off = tt
-off_policy (Some on) policy off = absurd (let h : true ≡ false = off in absurd cc)
-
--- parameters are set only while advertising is off
-policy_held : (setup : Setup) (view : View) (slot policy : ℕ) (command : Command) (advertising : Advertising) → status_of view command ≡ 0
-    → HasPolicy policy view.advertising advertising
-    → HasPolicy (policy_after policy command) (view_after view command).advertising (advertising_after setup view slot command advertising)
-unfolding view_after
-policy_held setup view slot policy Reset advertising accepted has = record { params = refl; on_policy = tt; on_is = refl }
-policy_held setup view slot policy (LeSetAdvParams min max kind own peer_kind peer channels new) advertising accepted has =
-    let off = set_while_off view min max kind own peer_kind peer channels new accepted in
-    record { params = refl; on_policy = off_policy advertising.on new (sym has.on_is ∙ off); on_is = has.on_is }
-policy_held setup view slot policy (LeSetAdvEnable value) advertising accepted has = record {
-  params = has.params;
-  on_policy = turned_policy (own_address setup view view.advertising.own) slot advertising.params value policy advertising.on has.params has.on_policy;
-  on_is = turned_is (own_address setup view view.advertising.own) slot advertising.params value advertising.on;
-}
-policy_held setup view slot policy (HostCompleted counts) advertising accepted has =
-    subst (λ (of : ViewAdvertising). HasPolicy policy of advertising)
-    (sym (same_advertising view.flow.on view (record view { links = after_counts view.links counts.items }) refl)) has
-policy_held setup view slot policy other advertising accepted has = record { params = has.params; on_policy = has.on_policy; on_is = has.on_is }
+policy_held : (setup : Setup) (view : View) (slot policy : ℕ) (command : Command) (advertising : Advertising) → advertising.params.policy ≡ policy
+    → (advertising_after setup view slot command advertising).params.policy ≡ policy_after policy command
+policy_held setup view slot policy Reset advertising is = refl
+policy_held setup view slot policy (LeSetAdvParams min max kind own peer_kind peer channels new) advertising is = refl
+policy_held setup view slot policy other advertising is = is
 
 -- ---- what commands set
 
@@ -131,10 +72,10 @@ abbrev IsSet : Facts → Facts → List Command → Type 0
 IsSet before after commands =
     (policy : ℕ) (list : List Address) → Holds policy list before → Holds (fold policy_after policy commands) (fold list_after list commands) after
 
-accepted_set : (setup : Setup) (facts : Facts) (command : Command) → status_of facts.view command ≡ 0 → IsSet facts (facts_accepted setup facts command) (command ∷ [])
-accepted_set setup facts command accepted = λ policy list holds. (
+accepted_set : (setup : Setup) (facts : Facts) (command : Command) → IsSet facts (facts_accepted setup facts command) (command ∷ [])
+accepted_set setup facts command = λ policy list holds. (
   list_held facts.view command ∙ ap (λ xs. list_after xs command) holds.0,
-  policy_held setup facts.view facts.turn.begun policy command facts.advertising accepted holds.1,
+  policy_held setup facts.view facts.turn.begun policy command facts.advertising holds.1,
 )
 
 -- commands that set neither
@@ -164,10 +105,10 @@ if_alone true true before after command none is = is
 if_alone false false before after command none is = is
 if_alone true false before after command none is = λ policy list holds.
     let set = is policy list holds in
-    (set.0 ∙ no_list command list none, subst (λ n. HasPolicy n after.view.advertising after.advertising) (no_policy command policy none) set.1)
+    (set.0 ∙ no_list command list none, subst (λ n. after.advertising.params.policy ≡ n) (no_policy command policy none) set.1)
 if_alone false true before after command none is = λ policy list holds.
     let set = is policy list holds in
-    (set.0 ∙ sym (no_list command list none), subst (λ n. HasPolicy n after.view.advertising after.advertising) (sym (no_policy command policy none)) set.1)
+    (set.0 ∙ sym (no_list command list none), subst (λ n. after.advertising.params.policy ≡ n) (sym (no_policy command policy none)) set.1)
 
 -- ---- a command and its answer
 
@@ -252,10 +193,9 @@ known_says true setup facts opcode command =
     ∙ (λ i. (before_statuses facts command i ++ statuses_of answer) ++ [])
     ∙ append-nil (statuses_of answer)
 
-took_set : (took : Bool) (setup : Setup) (facts : Facts) (command : Command) → (status_of facts.view command == 0) ≡ took
-    → IsSet facts (facts_known took setup facts command) (cond took (command ∷ []) [])
-took_set true setup facts command is = accepted_set setup facts command (eqb-true (status_of facts.view command) 0 is)
-took_set false setup facts command is = λ policy list holds. holds
+took_set : (took : Bool) (setup : Setup) (facts : Facts) (command : Command) → IsSet facts (facts_known took setup facts command) (cond took (command ∷ []) [])
+took_set true setup facts command = accepted_set setup facts command
+took_set false setup facts command = λ policy list holds. holds
 
 module _ (setup : Setup) (facts : Facts) (opcode : ℕ) where
   abbrev took : Command → Bool
@@ -273,7 +213,7 @@ module _ (setup : Setup) (facts : Facts) (opcode : ℕ) where
       (says_by setup facts facts.view opcode command (status_of facts.view command) plain (status_of facts.view command == 1) (has_status_answer opcode) (took command) refl refl)
 
   set_now : (command : Command) → IsSet facts (next command) (cond (took command) (command ∷ []) [])
-  set_now command = took_set (took command) setup facts command refl
+  set_now command = took_set (took command) setup facts command
 
   abbrev Answers : Command → Type 0
   Answers command = IsAnsweredSet facts (next command) (reads_of (is_left_out opcode) (Known command)) (statuses command)
@@ -378,33 +318,6 @@ commands_more before octet =
 
 -- ---- a turn
 
-served_some : (slot : ℕ) (on : Option AdvertiserFacts) → is_some on ≡ is_some (served_if_on slot on)
-served_some slot None = refl
-served_some slot (Some on) = refl
-
-served_policy : (slot policy : ℕ) (on : Option AdvertiserFacts) → OnPolicy policy on → OnPolicy policy (served_if_on slot on)
-served_policy slot policy None is = tt
-served_policy slot policy (Some on) is = is
-
-won_has : (slot policy : ℕ) (activity : Activity) (view : ViewAdvertising) (advertising : Advertising) → HasPolicy policy view advertising
-    → HasPolicy policy view (record advertising { on = advertiser_won slot activity advertising.on })
-won_has slot policy (Link handle) view advertising has = has
-won_has slot policy Advertise view advertising has = record {
-  params = has.params;
-  on_policy = served_policy slot policy advertising.on has.on_policy;
-  on_is = has.on_is ∙ served_some slot advertising.on;
-}
-won_has slot policy Scan view advertising has = has
-won_has slot policy Initiate view advertising has = has
-
-opened_has : (role : Role) (policy : ℕ) (view : ViewAdvertising) (advertising : Advertising) → HasPolicy policy view advertising
-    → HasPolicy policy (advertising_noted role view) (record advertising { on = advertiser_stopped role advertising.on })
-opened_has Central policy view advertising has = has
-opened_has Peripheral policy view advertising has = record { params = has.params; on_policy = tt; on_is = refl }
-
-opened_holds : (policy : ℕ) (list : List Address) (link : LinkSetup) (facts : Facts) → Holds policy list facts → Holds policy list (facts_doing Rests (facts_opening link facts))
-opened_holds policy list link facts holds = (holds.0, opened_has link.role policy facts.view.advertising facts.advertising holds.1)
-
 settings_kept : (setup : Setup) (policy : ℕ) (list : List Address) → IsKeptInTurns setup (Holds policy list) (Holds policy list)
 settings_kept setup policy list = record {
   starts = record {
@@ -412,7 +325,7 @@ settings_kept setup policy list = record {
     ends = λ slot facts is. is;
     begins = λ slot facts is. is;
     enters = λ slot facts is. is;
-    wins = λ slot activity facts is. (is.0, won_has slot policy activity facts.view.advertising facts.advertising is.1);
+    wins = λ slot activity facts is. is;
     fixes = λ doing facts is. is;
     does = λ doing facts may is. is;
   };
@@ -422,10 +335,10 @@ settings_kept setup policy list = record {
     awaits_request = λ channel doing. is;
     awaits_response = λ channel advertiser doing. is;
     central_listens = λ handle doing. is;
-    sent = λ channel link doing. opening_passes (Holds policy list) link facts (opened_holds policy list link facts is);
+    sent = λ channel link doing. opening_passes (Holds policy list) link facts is;
     responds = λ channel on doing is_on. is;
     taken = λ channel heard pdu on fields handle is_on hears takes free.
-        let link = link_taken on.params.own pdu fields handle in opening_passes (Holds policy list) link facts (opened_holds policy list link facts is);
+        let link = link_taken on.params.own pdu fields handle in opening_passes (Holds policy list) link facts is;
     scanned = λ channel heard pdu on doing is_on hears. is;
     answered = λ channel heard pdu on doing is_on hears. is;
     connects = λ channel heard pdu on access handle doing is_on hears answers next free in_range. is;
@@ -511,7 +424,7 @@ first_settings setup = record {
   lengths = ap (λ entries. length (flat_map (λ (entry : ℕ × Fed). command_read entry.1) entries)) no_frames;
   holds = subst (λ entries. Holds (fold policy_after 0 (accepted_commands (flat_map (λ (entry : ℕ × Fed). command_read entry.1) entries) []))
       (fold list_after [] (accepted_commands (flat_map (λ (entry : ℕ × Fed). command_read entry.1) entries) [])) (first_facts setup)) (sym no_frames)
-      (refl, record { params = refl; on_policy = tt; on_is = refl });
+      (refl, refl);
 }
 
 pub settings_held : (setup : Setup) (past : List Step) → AreSettings (facts_of setup past) (notes_of setup past)

@@ -1,10 +1,9 @@
--- The CONNECT_INDs of a journal with their verdicts: the n-th on the air begins link n, from 1 (our choice). Each has
--- the address of the central and that of the peripheral (Core 5.2, volume 6 part B, section 2.3.3.1).
+-- The CONNECT_INDs of a journal: the n-th on the air begins link n, from 1 (our choice). Each has the address of the
+-- central and that of the peripheral (Core 5.2, volume 6 part B, section 2.3.3.1).
 use Rattle.std.specs.Prelude.{ℕ, zero, suc, List, [], ◌∷◌, Option, Some, None, slice_get, if◌then◌else◌}
 use Rattle.std.specs.List.{flat_map}
 use Rattle.ble_base.specs.declared.addresses.Address.{Address}
 use Rattle.ble_base.specs.declared.roles.Side.{Side}
-use Rattle.ble_base.specs.declared.verdicts.Verdict.{Verdict}
 use Rattle.adv_pdu.specs.declared.pdu.AdvPdu.{AdvPdu}
 use Rattle.adv_pdu.specs.declared.pdu.AdvPdu.TheVariants.{Connect}
 use Rattle.journal.specs.declared.entries.Entry.{Entry}
@@ -18,17 +17,14 @@ pub record ConnectLine : Type 0 where
   -- InitA and AdvA
   pub from : Address
   pub to : Address
-  -- that of the other side
-  pub verdict : Verdict
 
-abbrev pub pdu_connects : Side → Verdict → Option AdvPdu → List ConnectLine
-pdu_connects side verdict (Some (Connect from to ch_sel fields)) =
-    record { central = side; from = from; to = to; verdict = verdict } ∷ []
-pdu_connects side verdict other = []
+abbrev pub pdu_connects : Side → Option AdvPdu → List ConnectLine
+pdu_connects side (Some (Connect from to ch_sel fields)) = record { central = side; from = from; to = to } ∷ []
+pdu_connects side other = []
 
 abbrev pub entry_connects : Entry → List ConnectLine
 entry_connects (Air side channel octets fate verdict) =
-    if is_advertising channel then pdu_connects side verdict (pdu_heard channel octets) else []
+    if is_advertising channel then pdu_connects side (pdu_heard channel octets) else []
 entry_connects _ = []
 
 abbrev pub all_connects : List Entry → List ConnectLine

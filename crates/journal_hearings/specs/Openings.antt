@@ -25,6 +25,7 @@ use Rattle.journal_data.specs.Held.{links_open}
 use Rattle.journal_data.specs.HostLines.{OpenUnder}
 use Rattle.journal_hearings.specs.Connects.{ConnectLine, connect_numbered}
 use Rattle.journal_hearings.specs.Settings.{accept_list, filter_policy}
+use Rattle.journal_hearings.specs.Taken.{HasHeardConnect}
 
 -- ---- the advertisement
 
@@ -105,3 +106,15 @@ HeardLinksAreOpened journal =
 abbrev pub AllHeardLinksAreOpened : List Entry → Type 0
 AllHeardLinksAreOpened journal = (front rest : List Entry) (slot : ℕ) (a_on : Bool) (b_on : Option Bool)
     → journal ≡ front ++ Turn slot a_on b_on ∷ rest → HeardLinksAreOpened front
+
+-- ---- and no others
+
+-- this side heard the CONNECT_IND of this link, and was to open the link
+pub record WasToOpen (side : Side) (number : ℕ) (front : List Entry) : Type 0 where
+  pub heard : HasHeardConnect side number front
+  pub to_open : IsToOpen side heard.before heard.from heard.to heard.fields
+
+-- so it is with each link that a side opens as its peripheral
+abbrev pub OpenedLinksWereToOpen : List Entry → Type 0
+OpenedLinksWereToOpen journal = (front rest : List Entry) (side : Side) (number handle : ℕ)
+    → journal ≡ front ++ Opened side number handle Peripheral ∷ rest → WasToOpen side number front

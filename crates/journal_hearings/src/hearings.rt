@@ -3,6 +3,7 @@
 ghost use Rattle.std.specs.Prelude.{◌≡◌, ◌≤◌, ◌∷◌, [], ℕ, List};
 ghost use Rattle.host_view.specs.declared.view.TheConstants.{MOST_LINKS};
 ghost use Rattle.journal_hearings.specs.Openings.{AllHeardLinksAreOpened, HeardLinksAreOpened};
+ghost use Rattle.journal_hearings.specs.Openings.{OpenedLinksWereToOpen};
 ghost use Rattle.journal_hearings.specs.Requests.{AllRequestsAreHeard};
 ghost use Rattle.journal_hearings.specs.Taken.{AllTakenLinksAreHeard};
 ghost use Rattle.run_model.specs.History.{Event};
@@ -21,15 +22,13 @@ pub fn each_request_is_heard()
 }
 
 /// In the journal of a run of two stations, with any number of links each, a side holds a link as
-/// its peripheral only where its verdict on the CONNECT_IND of that link is good (Core 5.2, volume
-/// 6 part B, sections 4.4.2.3, 4.4.2.4 and 4.5).
+/// its peripheral only where it heard the CONNECT_IND of that link, in the same turn: the other
+/// side sent it, and this side judged it good (Core 5.2, volume 6 part B, sections 4.4.2.3, 4.4.2.4
+/// and 4.5).
 pub fn each_taken_link_is_heard()
     ensures { (given : Given) → given.stations ≡ 0 ∷ 1 ∷ [] → HaveAddresses given
         → AllTakenLinksAreHeard (journal_of (history_of (run_of given))) }
-{
-    controller_model::a_pdu_is_understood();
-    advertise::laws::connections_are_taken();
-}
+{}
 
 /// In the journal of a run of two stations, each of which can hold no more links than the view of
 /// its host has places for, a side that heard a CONNECT_IND opens its link as the peripheral,
@@ -48,6 +47,22 @@ pub fn each_heard_link_is_opened()
         → HaveAddresses given → ((station : ℕ) → (setup_at given station).links ≤ MOST_LINKS)
         → ((station : ℕ) → (setup_at given station).host_buffers ≡ 8)
         → run_of given ≡ GoesOn history → HeardLinksAreOpened (journal_of history) }
+{
+    controller_model::a_pdu_is_understood();
+    advertise::laws::connections_are_taken();
+    scan_init::laws::searches_give_each_valid_address();
+    air_frame::laws::packet_tells_its_pdu();
+}
+
+/// And it opens no others. In the journal of a run of two stations, with any number of links each
+/// that handles of 12 bits can name, where each has eight buffers for packets of its host, a side
+/// opens a link as its peripheral only where it heard the CONNECT_IND of that link in the same
+/// turn, and all these conditions held as it came (sections as above).
+pub fn each_opened_link_was_to_open()
+    ensures { (given : Given) → given.stations ≡ 0 ∷ 1 ∷ [] → HaveAddresses given
+        → ((station : ℕ) → (setup_at given station).links ≤ 4096)
+        → ((station : ℕ) → (setup_at given station).host_buffers ≡ 8)
+        → OpenedLinksWereToOpen (journal_of (history_of (run_of given))) }
 {
     controller_model::a_pdu_is_understood();
     advertise::laws::connections_are_taken();

@@ -6,7 +6,8 @@ mod hearings;
 mod rows;
 
 pub use crate::hearings::{
-    each_heard_link_is_opened, each_request_is_heard, each_taken_link_is_heard,
+    each_heard_link_is_opened, each_opened_link_was_to_open, each_request_is_heard,
+    each_taken_link_is_heard,
 };
 pub use crate::rows::{
     worked_connects, worked_offers, worked_openings, worked_requests, worked_settings,

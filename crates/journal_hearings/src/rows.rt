@@ -6,16 +6,15 @@ ghost use Rattle.ble_base.specs.declared.verdicts.Verdict.TheVariants.{Good, Mis
 ghost use Rattle.adv_pdu.specs.declared.pdu.AdvPdu.TheVariants.{Direct};
 ghost use Rattle.controller_model.specs.Packets.{pdu_heard};
 ghost use Rattle.journal.specs.declared.entries.Entry.TheVariants.{Air, Fed, Up};
-ghost use Rattle.journal.specs.declared.entries.Mark.TheVariants.{Lost};
+ghost use Rattle.journal.specs.declared.entries.Mark.TheVariants.{Lost, Pass as Passed};
 ghost use Rattle.journal_hearings.specs.Connects.{connect_numbered};
-ghost use Rattle.journal_hearings.specs.Openings.{IsToOpen, is_linked, is_taken_by, lets_in};
-ghost use Rattle.journal_hearings.specs.Openings.{offer_in};
+ghost use Rattle.journal_hearings.specs.Openings.{IsToOpen, WasToOpen, is_linked, is_taken_by};
+ghost use Rattle.journal_hearings.specs.Openings.{lets_in, offer_in};
 ghost use Rattle.journal_hearings.specs.Requests.{is_awaited};
 ghost use Rattle.journal_hearings.specs.Rows.{completing_octets, device_a, device_b};
 ghost use Rattle.journal_hearings.specs.Rows.{listing_octets, offered_journal, policy_octets};
 ghost use Rattle.journal_hearings.specs.Rows.{refusal};
 ghost use Rattle.journal_hearings.specs.Settings.{accept_list, filter_policy};
-ghost use Rattle.journal_hearings.specs.Taken.{verdict_numbered};
 ghost use Rattle.run_laws.specs.Rows.{one_event_fields};
 ghost use Rattle.run_model.specs.Rows.{answer, connect_packet, connectable_packet};
 ghost use Rattle.run_model.specs.Rows.{connecting_octets, one_connection_journal, reset};
@@ -27,14 +26,14 @@ pub fn worked_requests()
     ensures advertisement { option_map is_awaited (pdu_heard 37 connectable_packet) ≡ Some false }
 {}
 
-/// A CONNECT_IND is found under the number of its link, with its addresses and its verdict.
+/// A CONNECT_IND is found under the number of its link, with its addresses.
 pub fn worked_connects()
     ensures connect { connect_numbered 1 one_connection_journal
-        ≡ Some (record { central = B; from = device_b; to = device_a; verdict = Good }) }
-    ensures good { verdict_numbered 1 one_connection_journal ≡ Some Good }
-    ensures lost { verdict_numbered 1 (Air B 37 connect_packet Lost Missed ∷ []) ≡ Some Missed }
-    ensures no_link { verdict_numbered 2 one_connection_journal ≡ None }
-    ensures zero { verdict_numbered 0 one_connection_journal ≡ None }
+        ≡ Some (record { central = B; from = device_b; to = device_a }) }
+    ensures lost { connect_numbered 1 (Air B 37 connect_packet Lost Missed ∷ [])
+        ≡ Some (record { central = B; from = device_b; to = device_a }) }
+    ensures no_link { connect_numbered 2 one_connection_journal ≡ None }
+    ensures zero { connect_numbered 0 one_connection_journal ≡ None }
 {}
 
 /// A command counts where the status in its answer is 00, and a Reset undoes what was set. Answers
@@ -74,10 +73,13 @@ pub fn worked_offers()
     ensures next_turn { offer_in A (offered_journal ++ turn_entry 1 ∷ []) ≡ None }
 {}
 
-/// A link is to be opened where its CONNECT_IND answers an advertisement and passes the policy. A
-/// side that took a link has one between its own address and that of its peer.
+/// A link is to be opened where its CONNECT_IND answers an advertisement and passes the policy, and
+/// was to be opened where a good one came so. A side that took a link has one between its own
+/// address and that of its peer.
 pub fn worked_openings()
     ensures to_open { IsToOpen A offered_journal device_b device_a one_event_fields }
+    ensures was_to_open { WasToOpen A 1
+        (offered_journal ++ Air B 37 connect_packet Passed Good ∷ []) }
     ensures taken { is_taken_by A 1 one_connection_journal ≡ true }
     ensures central { is_taken_by B 1 one_connection_journal ≡ false }
     ensures no_link { is_taken_by A 2 one_connection_journal ≡ false }

@@ -11,4 +11,4 @@ use Rattle.journal_hearings.proofs.rows.worked_connects.Goals as goal
 
 pub returns : goal.returns
 unfolding pdu_heard heard_in read_of kept_bits crc crc_octets crc_of_bits remainder mask_of next_mask whitening_bit whitening_of little_endian
-returns c = record { connect = refl; good = refl; lost = refl; no_link = refl; zero = refl }
+returns c = record { connect = refl; lost = refl; no_link = refl; zero = refl }
