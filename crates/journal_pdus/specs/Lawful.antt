@@ -14,9 +14,8 @@ use Rattle.journal_acks.specs.EventOrder.{AllAreInOrder}
 use Rattle.journal_acks.specs.Shut.{IsShutWithReason}
 use Rattle.journal_data.specs.Delivered.{AllDataArrives}
 use Rattle.journal_data.specs.Held.{LinesAreOfOpenLinks}
-use Rattle.journal_hearings.specs.Openings.{AllHeardLinksAreOpened, HeardLinksAreOpened}
+use Rattle.journal_hearings.specs.Openings.{AllHeardLinksAreOpened, HeardLinksAreOpened, OpenedLinksWereToOpen}
 use Rattle.journal_hearings.specs.Requests.{AllRequestsAreHeard}
-use Rattle.journal_hearings.specs.Taken.{AllTakenLinksAreHeard}
 use Rattle.journal_hosts.specs.Answered.{AllAreAnswered}
 use Rattle.journal_hosts.specs.Credits.{AllCreditsAreOfOne, AllCreditsAreOfSome, AllCreditsAscend, AllEarlyCreditsComeAtOnce, AllLateCreditsComeLast}
 use Rattle.journal_slots.specs.SecondSlot.{AllAreContinued}
@@ -64,11 +63,11 @@ pub record IsLawful (a b : List ℕ) (script : Script) (journal : List Entry) : 
   -- links and their events are those of their CONNECT_INDs, each of which has the next access address
   pub addresses : AllAddressesAreNext script journal
   pub opened : AllAreOpened journal
-  -- each CONNECT_IND opens its link at the side that sent it, before the next turn, and at the side that heard it, if that
-  -- is to open it
+  -- each CONNECT_IND opens its link at the side that sent it, before the next turn, and at the other side exactly if that
+  -- heard it and is to open it
   pub begun : AllAreOpenedByThen journal
-  pub heard : AllTakenLinksAreHeard journal
   pub taken : AllHeardLinksAreOpened journal
+  pub to_open : OpenedLinksWereToOpen journal
   pub entered : AllAreEntered journal
   pub events : AllAreInOrder journal
   -- a packet of a link is in the turn of the event that its side entered last, or in the next one

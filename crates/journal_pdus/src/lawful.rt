@@ -80,8 +80,8 @@ pub fn each_journal_is_lawful()
     journal_hosts::credits_of_a_turn_are_in_the_order_of_handles();
     journal_hosts::each_late_credit_comes_as_its_turn_ends();
     journal_hearings::each_request_is_heard();
-    journal_hearings::each_taken_link_is_heard();
     journal_hearings::each_heard_link_is_opened();
+    journal_hearings::each_opened_link_was_to_open();
     each_answer_on_a_link_is_heard();
     each_link_is_opened_at_its_central();
     each_packet_is_in_its_event();

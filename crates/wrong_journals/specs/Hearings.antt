@@ -34,3 +34,10 @@ heard_connect = offered_journal ++ Air B 37 connect_packet Pass Good ∷ Opened 
 
 abbrev pub heard_unopened : List Entry
 heard_unopened = heard_connect ++ turn_entry 1 ∷ []
+
+-- a side opens the link of a CONNECT_IND that answers no advertisement of its own
+abbrev pub unasked_connect : List Entry
+unasked_connect = turn_entry 0 ∷ Air B 37 connect_packet Pass Good ∷ Opened B 1 0 Central ∷ []
+
+abbrev pub opened_unasked : List Entry
+opened_unasked = unasked_connect ++ Opened A 1 0 Peripheral ∷ []

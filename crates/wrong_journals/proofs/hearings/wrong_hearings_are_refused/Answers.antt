@@ -23,13 +23,10 @@ use Rattle.run_laws.specs.Rows.{one_event_fields}
 use Rattle.run_model.specs.History.{is_good}
 use Rattle.run_model.specs.Rows.{connect_packet}
 use Rattle.wire_fields.specs.Field.{little_endian}
-use Rattle.wrong_journals.specs.Hearings.{broken_connect, heard_connect, lost_connect}
+use Rattle.wrong_journals.specs.Hearings.{broken_connect, heard_connect, lost_connect, unasked_connect}
 use Rattle.wrong_journals.proofs.Differing.{truths_differ}
+use Rattle.wrong_journals.proofs.Hearing.{is_heard_packet, none_heard, unasked}
 use Rattle.wrong_journals.proofs.hearings.wrong_hearings_are_refused.Goals as goal
-
-is_good_one : Option Verdict → Bool
-is_good_one None = false
-is_good_one (Some verdict) = is_good verdict
 
 pub returns-clause-missed : goal.returns-clause-missed
 unfolding pdu_heard heard_in read_of kept_bits crc crc_octets crc_of_bits remainder mask_of next_mask whitening_bit whitening_of little_endian data_channels used_channels
@@ -37,12 +34,13 @@ returns-clause-missed c all =
     truths_differ (sym (ap is_good (all offered_journal [] B 37 connect_packet Missed (Connect device_b device_a true one_event_fields) refl refl refl refl)))
 
 pub returns-clause-lost : goal.returns-clause-lost
-unfolding is_good_one pdu_heard heard_in read_of kept_bits crc crc_octets crc_of_bits remainder mask_of next_mask whitening_bit whitening_of little_endian data_channels used_channels
-returns-clause-lost c all = truths_differ (sym (ap is_good_one (all lost_connect [] A 1 0 refl)))
+returns-clause-lost c all = none_heard A 1 lost_connect refl (all lost_connect [] A 1 0 refl).heard
 
 pub returns-clause-broken : goal.returns-clause-broken
-unfolding is_good_one pdu_heard heard_in read_of kept_bits crc crc_octets crc_of_bits remainder mask_of next_mask whitening_bit whitening_of little_endian data_channels used_channels
-returns-clause-broken c all = truths_differ (sym (ap is_good_one (all broken_connect [] A 1 0 refl)))
+returns-clause-broken c all = none_heard A 1 broken_connect refl (all broken_connect [] A 1 0 refl).heard
+
+pub returns-clause-unasked : goal.returns-clause-unasked
+returns-clause-unasked c all = unasked (all unasked_connect [] A 1 0 refl)
 
 pub returns-clause-unopened : goal.returns-clause-unopened
 unfolding pdu_heard heard_in read_of kept_bits crc crc_octets crc_of_bits remainder mask_of next_mask whitening_bit whitening_of little_endian lines_of frames command_of layout_of layouts data_channels used_channels links_begun
