@@ -18,5 +18,6 @@ mod HeardTaken
 mod LinksOpened
 mod LastHeard
 mod OpenedHeard
+mod HeardInTurn
 mod AdvertiserRoom
 mod AdvertiserHandles

@@ -1,5 +1,5 @@
--- While a controller awaits a request, the last connectable advertisement of its side in the turn, if there is one, is the one
--- that it sent.
+-- While a controller awaits a request, the last connectable advertisement of its side in the turn is the one that it sent, and
+-- there is none where that is not connectable.
 use Rattle.std.proofs.Common.{◌≡◌, ℕ, zero, suc, ◌==◌, Bool, true, false, Option, Some, None, List, [], ◌∷◌, ◌++◌, refl, sym, ap, subst, ◌∙◌, arith}
 use Rattle.std.specs.Prelude.{⊤, ◌&&◌, fold, map, take, if◌then◌else◌}
 use Rattle.std.specs.Option.{option_map}

@@ -54,10 +54,12 @@ pub fn each_heard_link_is_opened()
     air_frame::laws::packet_tells_its_pdu();
 }
 
-/// And it opens no others. In the journal of a run of two stations, with any number of links each
-/// that handles of 12 bits can name, where each has eight buffers for packets of its host, a side
-/// opens a link as its peripheral only where it heard the CONNECT_IND of that link in the same
-/// turn, and all these conditions held as it came (sections as above).
+/// In the journal of a run of two stations, with any number of links each that handles of 12 bits
+/// can name, where each has eight buffers for packets of its host, a side opens a link as its
+/// peripheral only where it heard the CONNECT_IND of that link in the same turn, and was to open
+/// the link by the lines before that: under the conditions of `each_heard_link_is_opened`, and
+/// under no others (Core 5.2, volume 6 part B, sections 2.3.1, 2.3.3.1, 4.3.2, 4.4.2.3, 4.4.2.4 and
+/// 4.5, and volume 4 part E, sections 7.8.5 and 7.8.15 to 7.8.17).
 pub fn each_opened_link_was_to_open()
     ensures { (given : Given) → given.stations ≡ 0 ∷ 1 ∷ [] → HaveAddresses given
         → ((station : ℕ) → (setup_at given station).links ≤ 4096)

@@ -10,5 +10,6 @@ pub use crate::hearings::{
     each_taken_link_is_heard,
 };
 pub use crate::rows::{
-    worked_connects, worked_offers, worked_openings, worked_requests, worked_settings,
+    worked_connects, worked_offers, worked_openings, worked_refusals, worked_requests,
+    worked_settings,
 };

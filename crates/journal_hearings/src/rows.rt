@@ -15,6 +15,7 @@ ghost use Rattle.journal_hearings.specs.Rows.{completing_octets, device_a, devic
 ghost use Rattle.journal_hearings.specs.Rows.{listing_octets, offered_journal, policy_octets};
 ghost use Rattle.journal_hearings.specs.Rows.{refusal};
 ghost use Rattle.journal_hearings.specs.Settings.{accept_list, filter_policy};
+ghost use Rattle.journal_hearings.specs.Taken.{HasHeardConnect};
 ghost use Rattle.run_laws.specs.Rows.{one_event_fields};
 ghost use Rattle.run_model.specs.Rows.{answer, connect_packet, connectable_packet};
 ghost use Rattle.run_model.specs.Rows.{connecting_octets, one_connection_journal, reset};
@@ -87,4 +88,16 @@ pub fn worked_openings()
     ensures peer { is_linked B device_b device_a one_connection_journal ≡ true }
     ensures crossed { is_linked A device_b device_a one_connection_journal ≡ false }
     ensures not_yet { is_linked A device_a device_b offered_journal ≡ false }
+{}
+
+/// No link is opened where no CONNECT_IND was heard, where it was lost, in a later turn, or by the
+/// side that sent it.
+pub fn worked_refusals()
+    ensures unheard { HasHeardConnect A 1 offered_journal → ⊥ }
+    ensures lost { HasHeardConnect A 1
+        (offered_journal ++ Air B 37 connect_packet Lost Missed ∷ []) → ⊥ }
+    ensures other_turn { HasHeardConnect A 1
+        (offered_journal ++ Air B 37 connect_packet Passed Good ∷ turn_entry 1 ∷ []) → ⊥ }
+    ensures other_side { HasHeardConnect A 1
+        (offered_journal ++ Air A 37 connect_packet Passed Good ∷ []) → ⊥ }
 {}
