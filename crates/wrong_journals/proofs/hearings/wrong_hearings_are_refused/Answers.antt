@@ -1,5 +1,5 @@
 -- A CONNECT_IND is missed, or not followed.
-use Rattle.std.proofs.Common.{Bool, true, false, Option, Some, None, [], ◌∷◌, refl, sym, ap}
+use Rattle.std.proofs.Common.{true, Some, [], ◌∷◌, refl, sym, ap}
 use Rattle.adv_pdu.specs.Header.{kept_bits}
 use Rattle.adv_pdu.specs.Reading.{read_of}
 use Rattle.adv_pdu.specs.declared.pdu.AdvPdu.TheVariants.{Connect}
@@ -7,7 +7,6 @@ use Rattle.air_frame.specs.Hearing.{heard_in}
 use Rattle.ble_base.specs.ChannelMap.{data_channels, used_channels}
 use Rattle.ble_base.specs.declared.roles.Role.TheVariants.{Central}
 use Rattle.ble_base.specs.declared.roles.Side.TheVariants.{A, B}
-use Rattle.ble_base.specs.declared.verdicts.Verdict.{Verdict}
 use Rattle.ble_base.specs.declared.verdicts.Verdict.TheVariants.{Missed}
 use Rattle.frame_bits.specs.Crc.{crc, crc_octets, crc_of_bits, remainder}
 use Rattle.frame_bits.specs.Whitening.{mask_of, next_mask, whitening_bit, whitening_of}
@@ -25,7 +24,7 @@ use Rattle.run_model.specs.Rows.{connect_packet}
 use Rattle.wire_fields.specs.Field.{little_endian}
 use Rattle.wrong_journals.specs.Hearings.{broken_connect, heard_connect, lost_connect, unasked_connect}
 use Rattle.wrong_journals.proofs.Differing.{truths_differ}
-use Rattle.wrong_journals.proofs.Hearing.{is_heard_packet, none_heard, unasked}
+use Rattle.wrong_journals.proofs.Hearing.{none_heard, unasked}
 use Rattle.wrong_journals.proofs.hearings.wrong_hearings_are_refused.Goals as goal
 
 pub returns-clause-missed : goal.returns-clause-missed
