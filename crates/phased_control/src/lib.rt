@@ -2,6 +2,8 @@
 //! 5.2, volume 6 part B, section 5.1.3). Definitions and laws; no code.
 #![tactic(auto)]
 
+mod laws;
 mod rows;
 
+pub use crate::laws::{a_phase_says_whether_a_pdu_is_kept, an_end_moves_by_control_steps};
 pub use crate::rows::{a_start_is_secure, a_start_without_a_key_is_clear};
