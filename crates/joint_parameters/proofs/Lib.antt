@@ -1,5 +1,7 @@
 -- The lemmas of this crate.
 pub mod Drafts
+pub mod Ends
 pub mod Outcomes
 pub mod PlainEnds
+pub mod Taking
 pub mod Tracks
