@@ -34,7 +34,7 @@ use Rattle.phased_control.specs.Taken.{PhasedStep, Answers, Asks, Disconnects, E
 use Rattle.phased_control.specs.Steps.{code_if, control_steps, end_by_phase, ended_if, kept_steps, later_steps, owed_entering, owed_for, owed_steps, seen}
 use Rattle.phased_control.proofs.Moving.{moves_by_steps}
 use Rattle.phased_control.proofs.Tables.{same_role}
-use Rattle.joint_parameters.specs.Indications.{indication_in}
+use Rattle.joint_parameters.specs.Indications.{LetsIn, indication_in}
 use Rattle.joint_parameters.proofs.Outcomes.{IsOther, indication_by}
 use Rattle.joint_parameters.proofs.Taking.{EndsAs, GoesWith, TakenAs, is_over, lets_end, takes_as}
 
@@ -349,3 +349,35 @@ module _ (s : Phased) (lasts : s.control.ends ≡ None) (at : role_now s ≡ Per
       by : (b : Bool) → TakenAs None s.control (ended_if (if b then None else Some (record { 0 = mic_failure })) s.control)
       by true = inr (record { lasts = lasts; track = refl; in_time = refl })
       by false = inl (record { code = record { 0 = mic_failure }; is = refl; track = refl; over = λ h. absurd (cc) })
+
+  -- ---- where the phase, the queue and the table let the PDU in, an instant that has passed ends the link
+
+  seen_itself : (ctrl : Ctrl) → is_over s.control.track (indication_in ctrl) ≡ true → seen_as (Known ctrl) s ≡ Known ctrl
+  seen_itself (ConnectionUpdateInd win_size win_offset interval latency timeout instant) over = rw (never_unknown s.phase (role_now s)) refl
+  seen_itself (ChannelMapInd map instant) over = rw (never_unknown s.phase (role_now s)) refl
+  seen_itself other over = absurd (cc)
+
+  pub lets_one : (slot : ℕ) (response ctrl : Ctrl) → LetsIn slot ctrl s → is_over s.control.track (indication_in ctrl) ≡ true
+      → (phased_after (Takes (Known ctrl) slot response) s).control.ends ≡ Some (record { 0 = instant_passed })
+  lets_one slot response ctrl lets over =
+      subst (λ (c : Control). c.ends ≡ Some (record { 0 = instant_passed })) (sym (moves_by_steps (Takes (Known ctrl) slot response) s lasts))
+      (by (is_allowed (Known ctrl) s) (does_keep (Known ctrl) s) (lacks_room_now (Known ctrl) s) lets.phase
+      (not_kept (class_of_read (Known ctrl)) (role_now s) (is_quiet_now s) at) lets.room)
+    where
+      same : seen_as (Known ctrl) s ≡ Known ctrl
+      same = seen_itself ctrl over
+
+      here : (after (control_takes (seen_as (Known ctrl) s) slot (is_quiet_now s)) s.control).ends ≡ Some (record { 0 = instant_passed })
+      here =
+          subst (λ (read : CtrlRead). (after (control_takes read slot (is_quiet_now s)) s.control).ends ≡ Some (record { 0 = instant_passed })) (sym same)
+          (lets_end s.control (Known ctrl) slot (is_quiet_now s) lasts lets.table
+          (subst (λ (role : Role). is_over s.control.track (indication_by role (Known ctrl)) ≡ true) (sym at) over))
+
+      by : (allowed keeps full : Bool) → allowed ≡ true → keeps ≡ false → full ≡ false
+          → (ended_if (if allowed then (if keeps then None else code_if full memory_capacity_exceeded) else Some (record { 0 = mic_failure }))
+          (after_all (if allowed then (if keeps then [] else (if full then [] else control_takes (seen_as (Known ctrl) s) slot (is_quiet_now s)
+          ∷ rest slot response (Known ctrl))) else []) s.control)).ends ≡ Some (record { 0 = instant_passed })
+      by false keeps full is1 is2 is3 = absurd (cc)
+      by true true full is1 is2 is3 = absurd (cc)
+      by true false true is1 is2 is3 = absurd (cc)
+      by true false false is1 is2 is3 = rest_ends slot response (Known ctrl) ∙ here

@@ -1,4 +1,5 @@
 -- The lemmas of this crate.
+pub mod Codes
 pub mod Drafts
 pub mod Ends
 pub mod Outcomes
