@@ -5,5 +5,6 @@ pub mod Ends
 pub mod Meeting
 pub mod Outcomes
 pub mod PlainEnds
+pub mod Runs
 pub mod Taking
 pub mod Tracks
