@@ -26,7 +26,7 @@ use Rattle.control_model.proofs.Indicating.{Indicates}
 use Rattle.control_model.proofs.Sending.{may_of}
 use Rattle.phased_control.specs.Phased.{Phased, is_quiet_now}
 use Rattle.phased_control.specs.Taken.{Enters, PhasedStep, SeesAcknowledged, Sends, phased_after, role_now}
-use Rattle.joint_controls.specs.Joint.{AnswersRequest, AsksFor, CentralAcked, CentralEnters, CentralHost, CentralSends, CentralSendsData, CentralTakes, Clear, Control as control_item, Data, Ends, Fixed, HasKey, HasNoKey, HostStep, Item, Joint, JointStep, OnAir, PeripheralAcked, PeripheralEnters, PeripheralFixes, PeripheralFixesData, PeripheralHost, PeripheralSends, PeripheralTakes, Shuts, Taken, Way, act, after, after_all, central_takes, event_now, host_step, instant_now, is_clear, is_free, is_indication, is_item, is_late, is_running, is_same_event, is_supervised, is_taken, item_by, item_on_air, last_change, latency_now, may, may_transmit, next_item, next_out, on_air, peripheral_takes, sends_data, taking}
+use Rattle.joint_controls.specs.Joint.{AnswersRequest, AsksFor, CentralAcked, CentralEnters, CentralHost, CentralSends, CentralSendsData, CentralTakes, Clear, Control as control_item, Data, Ends, Fixed, HasKey, HasNoKey, HostStep, Item, Joint, JointStep, OnAir, PeripheralAcked, PeripheralEnters, PeripheralFixes, PeripheralFixesData, PeripheralHost, PeripheralSends, PeripheralTakes, Shuts, Taken, Way, act, after, after_all, central_takes, event_now, has_passed, host_step, instant_now, is_clear, is_free, is_indication, is_item, is_last, is_late, is_near, is_running, is_same_event, is_supervised, is_taken, item_by, item_on_air, last_change, latency_now, may, may_transmit, next_item, next_out, on_air, peripheral_takes, sends_data, taking}
 use Rattle.joint_controls.proofs.Running.{GoesOn, clear_way, comes_by, comes_on, goes_on, taken_way}
 use Rattle.joint_parameters.specs.Indications.{changes_taken, indication_in, indication_of_item, indication_read, new_change}
 use Rattle.joint_parameters.specs.Views.{View, change_on_air, view}
@@ -35,7 +35,7 @@ use Rattle.joint_parameters.proofs.Ends.{enters_one, enters_sent, indication_nex
 use Rattle.joint_parameters.proofs.Meeting.{IsComing, Known, MayTake, Meets, MeetsBy, all_over, central_enters, central_enters_on, none_on_air, peripheral_enters, peripheral_enters_on, same, same_known, sends_known, sends_meets, test, with_indication}
 use Rattle.joint_parameters.proofs.Outcomes.{IsOther}
 use Rattle.joint_parameters.proofs.PlainEnds.{IsPlainEnd}
-use Rattle.joint_parameters.proofs.Taking.{EndsAs, GoesWith, TakenAs}
+use Rattle.joint_parameters.proofs.Taking.{EndsAs, GoesWith, TakenAs, is_over, track_with}
 use Rattle.joint_parameters.proofs.Tracks.{HasTaken, free_if_over, none_new, none_new_entered, taken_more}
 
 -- what is known of each end alone
@@ -247,3 +247,116 @@ module _ (first : Params) (slot : ℕ) where
         → is_clear s.down ≡ true → Next taken s (sends_with now o)
     sends_goes now None is some clear = absurd (cc)
     sends_goes now (Some ctrl) is some clear = sends_by now ctrl (indication_next s.central) refl is clear
+
+    -- ---- the peripheral takes what is on its way
+
+    abbrev takes_with : (item : Item) (now : ℕ) (response : Ctrl) → Joint
+    takes_with item now response =
+        record s { peripheral = phased_after (taking item now response) s.peripheral; down = Taken item; stopped = is_last item }
+
+    taken_as : (item : Item) (now : ℕ) (response : Ctrl)
+        → TakenAs (indication_of_item item) s.peripheral.control (phased_after (taking item now response) s.peripheral).control
+    taken_as Data now response = takes_data s.peripheral g.peripheral f.peripheral f.kept
+    taken_as (control_item outgoing ctrl) now response = takes_one s.peripheral g.peripheral f.peripheral f.kept now response ctrl
+
+    -- no indication, or none that is followed
+    takes_other : (item : Item) (t : Joint) → view t ≡ record (view s) { down = Taken item } → change_on_air (view s) ≡ None → Next taken s t
+    takes_other item t is none = way_changes taken s t (Taken item) is none refl refl k m
+
+    not_running : (t : Joint) (code : ErrCode) → t.peripheral.control.ends ≡ Some code → is_running t ≡ true → ⊥
+    not_running t code is running =
+        let both : ◌≡◌ {A = Option ErrCode} (Some code) None = sym is ∙ (goes_on t running).peripheral in absurd (cc)
+
+    -- it ends the link
+    takes_ending : (item : Item) (t : Joint) (code : ErrCode) → view t ≡ record (view s) { down = Taken item } → t.peripheral.control.ends ≡ Some code → Next taken s t
+    takes_ending item t code is ends =
+        stays_at taken s t (record (view s) { down = Taken item }) is (none_new (waiting s))
+        (record { known = same_known first slot taken (view s) (Taken item) k; meets = λ running. absurd (not_running t code ends running) })
+
+    module _ (change : Change) (some : change_on_air (view s) ≡ Some change)
+        (may_take : MayTake s.central.control.track s.peripheral.control.track change) where
+      coming : IsComing taken s.central.control.track change
+      coming = subst (λ (o : Option Change). IfSome o (IsComing taken s.central.control.track)) some m.coming
+
+      pub nothing_waits : s.peripheral.control.track.waits ≡ None
+      nothing_waits =
+          free_if_over first slot taken s.peripheral.control.track k.peripheral
+          (all_over taken s.central.control.track s.peripheral.control.track change coming may_take)
+
+      all_sent : s.central.control.sent ≡ taken ++ change ∷ []
+      all_sent = subst (λ (o : Option Change). s.central.control.sent ≡ taken ++ option_to_list o) some m.all
+
+      takes_change : (item : Item) (t : Joint) → view t ≡ record (view s) { down = Taken item; peripheral = track_after_take s.peripheral.control.track change.indication }
+          → nat_lt change.at.0 (event_now s.peripheral) ≡ false → Next taken s t
+      takes_change item t is in_time =
+          let p = s.peripheral.control.track in
+          let named = same taken s.central.control.track p change coming may_take in_time in
+          let v = record (view s) { down = Taken item; peripheral = track_after_take p change.indication } in
+          let all : s.central.control.sent ≡ (taken ++ change ∷ []) ++ [] = all_sent ∙ sym (append-nil (taken ++ change ∷ [])) in
+          let new : new_change (waiting s) (Some (change_of (event_of p) change.indication)) ≡ change ∷ [] =
+          ap (λ (w : Option Change). new_change w (Some (change_of (event_of p) change.indication))) nothing_waits ∙ ap (λ (c : Change). c ∷ []) named in
+          goes_to taken (change ∷ []) s t v is new
+          (record {
+            known = record {
+              central = k.central;
+              peripheral = taken_more first slot taken p change.indication change nothing_waits named coming.started k.peripheral;
+              last = None;
+              all = all;
+            };
+            meets = λ running. record { all = all; coming = tt; read = refl };
+          })
+
+      late_is : nat_lt change.at.0 (event_now s.peripheral) ≡ two_ends.has_passed s.peripheral.control.track change
+      late_is = sym (test taken s.central.control.track s.peripheral.control.track change coming may_take)
+
+    takes_by : (item : Item) (now : ℕ) (response : Ctrl) (o : Option Change) → change_on_air (view s) ≡ o
+        → indication_of_item item ≡ option_map (λ (change : Change). change.indication) o
+        → ((change : Change) → o ≡ Some change → MayTake s.central.control.track s.peripheral.control.track change)
+        → TakenAs (indication_of_item item) s.peripheral.control (phased_after (taking item now response) s.peripheral).control
+        → Next taken s (takes_with item now response)
+    takes_by item now response o is reads rule (inl over) =
+        takes_ending item (takes_with item now response) over.code (λ i. record (view s) { down = Taken item; peripheral = over.track i }) over.is
+    takes_by item now response None is reads rule (inr goes) =
+        let track = subst (λ (i : Option Indication). (phased_after (taking item now response) s.peripheral).control.track ≡ track_with i s.peripheral.control.track) reads goes.track in
+        takes_other item (takes_with item now response) (λ i. record (view s) { down = Taken item; peripheral = track i }) is
+    takes_by item now response (Some change) is reads rule (inr goes) =
+        let may_take = rule change refl in
+        let track = subst (λ (i : Option Indication). (phased_after (taking item now response) s.peripheral).control.track ≡ track_with i s.peripheral.control.track) reads goes.track in
+        let in_time : two_ends.has_passed s.peripheral.control.track change ≡ false =
+        subst (λ (i : Option Indication). is_over s.peripheral.control.track i ≡ false) reads goes.in_time in
+        takes_change change is may_take item (takes_with item now response) (λ i. record (view s) { down = Taken item; peripheral = track i })
+        (late_is change is may_take ∙ in_time)
+
+    takes_goes : (way : Way) (now : ℕ) (response : Ctrl) → s.down ≡ way
+        → ((change : Change) → instant_now s ≡ Some change → MayTake s.central.control.track s.peripheral.control.track change)
+        → Next taken s (peripheral_takes way now response s)
+    takes_goes Clear now response is rule = same_all s refl
+    takes_goes (Fixed item sealed) now response is rule = same_all s refl
+    takes_goes (Taken item) now response is rule = same_all s refl
+    takes_goes (OnAir item sealed) now response is rule =
+        takes_by item now response (change_on_air (view s)) refl
+        (subst (λ (way : Way). indication_read (item_on_air way) ≡ option_map (λ (change : Change). change.indication) (change_on_air (view s))) is m.read)
+        rule (taken_as item now response)
+
+-- ---- when it may take
+
+or_parts : (a b : Bool) → (a || b) ≡ true → (a ≡ true) ⊎ (b ≡ true)
+or_parts true b is = inl refl
+or_parts false b is = inr is
+
+pub may_take_of : (s : Joint) (now : ℕ) (response : Ctrl) (change : Change) → may (PeripheralTakes now response) s ≡ true → instant_now s ≡ Some change
+    → MayTake s.central.control.track s.peripheral.control.track change
+may_take_of s now response change comes is =
+    let one = and_parts (is_some (item_on_air s.down)) _ (comes_by (PeripheralTakes now response) s comes) in
+    let two = and_parts (not (is_taken s.up)) _ one.1 in
+    let three = and_parts (is_same_event s || is_late s) (is_supervised s) two.1 in
+    let near : nat_lt (event_now s.peripheral) (change.at.0 + 32769) ≡ true =
+    subst (λ (o : Option Change). is_near o (event_now s.peripheral) ≡ true) is three.1 in
+    record { meets = by (or_parts (is_same_event s) (is_late s) three.0); near = grind arith }
+  where
+    late : is_late s ≡ true → nat_lt change.at.0 (event_now s.peripheral) ≡ true
+    late h = subst (λ (o : Option Change). has_passed o (event_now s.peripheral) ≡ true) is h
+
+    by : (is_same_event s ≡ true) ⊎ (is_late s ≡ true) → (event_now s.central ≡ event_now s.peripheral) ⊎ (change.at.0 < event_now s.peripheral)
+    by (inl h) = inl (grind arith)
+    by (inr h) = let over = late h in inr (grind arith)
