@@ -26,7 +26,12 @@ use Rattle.control_model.proofs.Indicating.{Indicates}
 use Rattle.control_model.proofs.Sending.{may_of}
 use Rattle.phased_control.specs.Phased.{Phased, is_quiet_now}
 use Rattle.phased_control.specs.Taken.{Enters, PhasedStep, SeesAcknowledged, Sends, phased_after, role_now}
-use Rattle.joint_controls.specs.Joint.{AnswersRequest, AsksFor, CentralAcked, CentralEnters, CentralHost, CentralSends, CentralSendsData, CentralTakes, Clear, Control as control_item, Data, Ends, Fixed, HasKey, HasNoKey, HostStep, Item, Joint, JointStep, OnAir, PeripheralAcked, PeripheralEnters, PeripheralFixes, PeripheralFixesData, PeripheralHost, PeripheralSends, PeripheralTakes, Shuts, Taken, Way, act, after, after_all, central_takes, event_now, has_passed, host_step, instant_now, is_clear, is_free, is_indication, is_item, is_last, is_late, is_near, is_running, is_same_event, is_supervised, is_taken, item_by, item_on_air, last_change, latency_now, may, may_transmit, next_item, next_out, on_air, peripheral_takes, sends_data, taking}
+use Rattle.phased_control.proofs.Kept.{none_at_peripheral}
+use Rattle.phased_control.proofs.Moving.{keeps_role}
+use Rattle.joint_controls.specs.Joint.{AnswersRequest, AsksFor, CentralAcked, CentralEnters, CentralHost, CentralSends, CentralSendsData, CentralTakes, Clear, Control as control_item, Data, Ends, Fixed, HasKey, HasNoKey, HostStep, Item, Joint, JointStep, OnAir, PeripheralAcked, PeripheralEnters, PeripheralFixes, PeripheralFixesData, PeripheralHost, PeripheralSends, PeripheralTakes, Shuts, Taken, Way, act, after, after_all, beginning, central_takes, event_now, has_passed, host_step, instant_now, is_clear, is_free, is_indication, is_item, is_last, is_late, is_near, is_running, is_same_event, is_supervised, is_taken, item_by, item_on_air, last_change, latency_now, may, may_act, may_transmit, next_item, next_out, on_air, peripheral_takes, sends_data, taking}
+use Rattle.joint_controls.specs.Ends.{AreStepsInRange, IsStepInRange, steps_of_central, steps_of_peripheral}
+use Rattle.joint_controls.proofs.ControlRuns.{central_indicates}
+use Rattle.joint_controls.proofs.EndSteps.{central_runs, peripheral_runs}
 use Rattle.joint_controls.proofs.Running.{GoesOn, clear_way, comes_by, comes_on, goes_on, taken_way}
 use Rattle.joint_parameters.specs.Indications.{changes_taken, indication_in, indication_of_item, indication_read, new_change}
 use Rattle.joint_parameters.specs.Views.{View, change_on_air, view}
@@ -34,9 +39,9 @@ use Rattle.joint_parameters.proofs.Drafts.{IsPlainOut, next_is_plain}
 use Rattle.joint_parameters.proofs.Ends.{enters_one, enters_sent, indication_next, sends_one, stays, stays_sent, stays_track, takes_data, takes_one}
 use Rattle.joint_parameters.proofs.Meeting.{IsComing, Known, MayTake, Meets, MeetsBy, all_over, central_enters, central_enters_on, none_on_air, peripheral_enters, peripheral_enters_on, same, same_known, sends_known, sends_meets, test, with_indication}
 use Rattle.joint_parameters.proofs.Outcomes.{IsOther}
-use Rattle.joint_parameters.proofs.PlainEnds.{IsPlainEnd}
+use Rattle.joint_parameters.proofs.PlainEnds.{IsPlainEnd, plain_now}
 use Rattle.joint_parameters.proofs.Taking.{EndsAs, GoesWith, TakenAs, is_over, track_with}
-use Rattle.joint_parameters.proofs.Tracks.{HasTaken, free_if_over, none_new, none_new_entered, taken_more}
+use Rattle.joint_parameters.proofs.Tracks.{HasTaken, free_if_over, none_new, none_new_entered, taken_first, taken_more}
 
 -- what is known of each end alone
 pub record Facts (s : Joint) : Type 0 where
@@ -360,3 +365,122 @@ may_take_of s now response change comes is =
     by : (is_same_event s ≡ true) ⊎ (is_late s ≡ true) → (event_now s.central ≡ event_now s.peripheral) ⊎ (change.at.0 < event_now s.peripheral)
     by (inl h) = inl (grind arith)
     by (inr h) = let over = late h in inr (grind arith)
+
+-- ---- every step
+
+module _ (first : Params) (slot : ℕ) where
+  step_keeps : (step : JointStep) (s : Joint) (taken : List Change) → Facts s → Inv first slot taken s → may step s ≡ true → Next first slot taken s (act step s)
+  step_keeps step s taken f inv comes = by step comes
+    where
+      g : GoesOn s
+      g = comes_on step s comes
+
+      k : Known first slot taken (view s)
+      k = inv.known
+
+      m : Meets taken (view s)
+      m = inv.meets (and_parts (is_running s) (may_act step s) comes).0
+
+      by : (step : JointStep) → may step s ≡ true → Next first slot taken s (act step s)
+      by (CentralEnters now) c = central_goes first slot taken s f g k m now
+      by (CentralHost host) c =
+          same_all first slot taken s f g k m (act (CentralHost host) s) (central_stays s f g (host_step host) s.down (host_stays Central host))
+      by (CentralSends now) c =
+          let parts = and_parts (may_transmit s.down s.up) (is_some (next_item s.central)) (comes_by (CentralSends now) s c) in
+          sends_goes first slot taken s f g k m now (ctrl_of_outgoing (next_out s.central) (event_now s.central) (latency_now s.central)) refl parts.1
+          (and_parts (is_clear s.down) (is_free s.up) parts.0).0
+      by CentralSendsData c =
+          let clear = (and_parts (is_clear s.down) (is_free s.up) (and_parts (may_transmit s.down s.up) (sends_data s.central) (comes_by CentralSendsData s c)).0).0 in
+          way_changes first slot taken s (act CentralSendsData s) (OnAir Data (seals Central s.central.phase)) refl
+          (none_clear s.down s.central.control.sent clear) refl refl k m
+      by CentralAcked c =
+          way_changes first slot taken s (act CentralAcked s) Clear (central_stays s f g SeesAcknowledged Clear refl)
+          (none_taken s.down s.central.control.sent (and_parts (is_taken s.down) (is_same_event s) (comes_by CentralAcked s c)).0) refl refl k m
+      by (CentralTakes now) c = same_all first slot taken s f g k m (act (CentralTakes now) s) (up_stays s f g s.up now)
+      by (PeripheralEnters now) c = peripheral_goes first slot taken s f g k m now
+      by (PeripheralHost host) c =
+          same_all first slot taken s f g k m (act (PeripheralHost host) s) (peripheral_stays s f g (host_step host) (host_stays Peripheral host))
+      by (PeripheralFixes now) c = same_all first slot taken s f g k m (act (PeripheralFixes now) s) (peripheral_stays s f g (Sends now) refl)
+      by PeripheralFixesData c = same_all first slot taken s f g k m (act PeripheralFixesData s) refl
+      by PeripheralSends c = same_all first slot taken s f g k m (act PeripheralSends s) refl
+      by PeripheralAcked c = same_all first slot taken s f g k m (act PeripheralAcked s) (peripheral_stays s f g SeesAcknowledged refl)
+      by (PeripheralTakes now response) c =
+          takes_goes first slot taken s f g k m s.down now response refl (λ change is. may_take_of s now response change c is)
+      by Shuts c = same_all first slot taken s f g k m (act Shuts s) refl
+
+  after_keeps : (step : JointStep) (s : Joint) (taken : List Change) → Facts s → Inv first slot taken s → Next first slot taken s (after step s)
+  after_keeps step s taken f inv = by (may step s) refl
+    where
+      by : (b : Bool) → may step s ≡ b → Next first slot taken s (if b then act step s else s)
+      by true is = step_keeps step s taken f inv is
+      by false is =
+          subst (λ (xs : List Change). Inv first slot (taken ++ xs) s) (sym (none_new (waiting first slot s)))
+          (subst (λ (xs : List Change). Inv first slot xs s) (sym (append-nil taken)) inv)
+
+-- ---- all steps of a run
+
+pub after_joined : (steps more : List JointStep) (s : Joint) → after_all (steps ++ more) s ≡ after_all more (after_all steps s)
+after_joined [] more s = refl
+after_joined (step ∷ steps) more s = after_joined steps more (after step s)
+
+range_joined : (steps more : List JointStep) → AreStepsInRange steps → AreStepsInRange more → AreStepsInRange (steps ++ more)
+range_joined [] more of_s of_m = of_m
+range_joined (step ∷ steps) more of_s of_m = (of_s.0, range_joined steps more of_s.1 of_m)
+
+module _ (central_rx peripheral_rx : ℕ) (first : Params) (slot : ℕ) (latency : first.latency ≤ 499) where
+  abbrev pub start : Joint
+  start = beginning central_rx peripheral_rx first slot
+
+  pub facts_of : (steps : List JointStep) → AreStepsInRange steps → Facts (after_all steps start)
+  facts_of steps range =
+      let of_central = central_runs steps start in
+      let of_peripheral = peripheral_runs steps start in
+      record {
+        central = subst IsPlainEnd (sym of_central) (plain_now central_rx first slot (steps_of_central steps start));
+        peripheral =
+            subst (λ (p : Phased). role_now p ≡ Peripheral) (sym of_peripheral)
+            (keeps_role Peripheral peripheral_rx first slot (steps_of_peripheral steps start));
+        kept =
+            subst (λ (p : Phased). p.kept ≡ None) (sym of_peripheral)
+            (none_at_peripheral peripheral_rx first slot (steps_of_peripheral steps start));
+        indicates = λ lasts. central_indicates central_rx peripheral_rx first slot steps range latency lasts;
+      }
+
+  -- a state that a run comes to
+  pub record IsReached (s : Joint) : Type 0 where
+    pub steps : List JointStep
+    pub range : AreStepsInRange steps
+    pub reaches : after_all steps start ≡ s
+
+  pub reached_facts : (s : Joint) → IsReached s → Facts s
+  reached_facts s r = subst Facts r.reaches (facts_of r.steps r.range)
+
+  pub reached_next : (step : JointStep) (s : Joint) → IsStepInRange step → IsReached s → IsReached (after step s)
+  reached_next step s range r =
+      record {
+        steps = r.steps ++ step ∷ [];
+        range = range_joined r.steps (step ∷ []) r.range (range, tt);
+        reaches = after_joined r.steps (step ∷ []) start ∙ ap (after step) r.reaches;
+      }
+
+  pub keeps_on : (steps : List JointStep) (s : Joint) (taken : List Change) → AreStepsInRange steps → IsReached s → Inv first slot taken s
+      → Inv first slot (taken ++ changes_taken steps s) (after_all steps s)
+  keeps_on [] s taken range r inv = subst (λ (xs : List Change). Inv first slot xs s) (sym (append-nil taken)) inv
+  keeps_on (step ∷ steps) s taken range r inv =
+      let new = new_change (waiting first slot s) (waiting first slot (after step s)) in
+      subst (λ (xs : List Change). Inv first slot xs (after_all steps (after step s))) (append_assoc taken new (changes_taken steps (after step s)))
+      (keeps_on steps (after step s) (taken ++ new) range.1 (reached_next step s range.0 r) (after_keeps first slot step s taken (reached_facts s r) inv))
+
+  first_inv : Inv first slot [] start
+  first_inv =
+      record {
+        known = record { central = taken_first first slot; peripheral = taken_first first slot; last = None; all = refl };
+        meets = λ running. record { all = refl; coming = tt; read = refl };
+      }
+
+  first_reached : IsReached start
+  first_reached = record { steps = []; range = tt; reaches = refl }
+
+  -- what holds after any steps
+  pub holds_after : (steps : List JointStep) → AreStepsInRange steps → Inv first slot (changes_taken steps start) (after_all steps start)
+  holds_after steps range = keeps_on steps start [] range first_reached first_inv
