@@ -2,6 +2,7 @@
 pub mod Codes
 pub mod Drafts
 pub mod Ends
+pub mod Laws
 pub mod Meeting
 pub mod Outcomes
 pub mod PlainEnds

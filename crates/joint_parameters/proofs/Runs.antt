@@ -52,7 +52,7 @@ pub record Facts (s : Joint) : Type 0 where
 
 -- ---- what a PDU of the central is read as
 
-some_indication : (outgoing : Outgoing) (event latency : ℕ) → is_some (indication_of outgoing 0 0) ≡ is_some (indication_of outgoing event latency)
+pub some_indication : (outgoing : Outgoing) (event latency : ℕ) → is_some (indication_of outgoing 0 0) ≡ is_some (indication_of outgoing event latency)
 some_indication Nothing event latency = refl
 some_indication (Rejection rejection) event latency = refl
 some_indication (Disconnect code) event latency = refl
@@ -122,6 +122,13 @@ module _ (s : Joint) (f : Facts s) (g : GoesOn s) where
   up_stays (Fixed item sealed) slot = refl
   up_stays (Taken item) slot = refl
   up_stays (OnAir item sealed) slot = central_stays (taking item slot (TerminateInd 0)) s.down (taking_stays item slot (TerminateInd 0))
+
+-- ---- a peripheral takes what is on its way
+
+pub taken_as : (s : Joint) → Facts s → GoesOn s → (item : Item) (now : ℕ) (response : Ctrl)
+    → TakenAs (indication_of_item item) s.peripheral.control (phased_after (taking item now response) s.peripheral).control
+taken_as s f g Data now response = takes_data s.peripheral g.peripheral f.peripheral f.kept
+taken_as s f g (control_item outgoing ctrl) now response = takes_one s.peripheral g.peripheral f.peripheral f.kept now response ctrl
 
 -- ---- no indication is on its way
 
@@ -259,11 +266,6 @@ module _ (first : Params) (slot : ℕ) where
     takes_with item now response =
         record s { peripheral = phased_after (taking item now response) s.peripheral; down = Taken item; stopped = is_last item }
 
-    taken_as : (item : Item) (now : ℕ) (response : Ctrl)
-        → TakenAs (indication_of_item item) s.peripheral.control (phased_after (taking item now response) s.peripheral).control
-    taken_as Data now response = takes_data s.peripheral g.peripheral f.peripheral f.kept
-    taken_as (control_item outgoing ctrl) now response = takes_one s.peripheral g.peripheral f.peripheral f.kept now response ctrl
-
     -- no indication, or none that is followed
     takes_other : (item : Item) (t : Joint) → view t ≡ record (view s) { down = Taken item } → change_on_air (view s) ≡ None → Next taken s t
     takes_other item t is none = way_changes taken s t (Taken item) is none refl refl k m
@@ -341,7 +343,7 @@ module _ (first : Params) (slot : ℕ) where
     takes_goes (OnAir item sealed) now response is rule =
         takes_by item now response (change_on_air (view s)) refl
         (subst (λ (way : Way). indication_read (item_on_air way) ≡ option_map (λ (change : Change). change.indication) (change_on_air (view s))) is m.read)
-        rule (taken_as item now response)
+        rule (taken_as s f g item now response)
 
 -- ---- when it may take
 

@@ -13,6 +13,7 @@ use Rattle.instants.specs.Follows.{Follows, new_changes}
 use Rattle.instants.proofs.Following.{Follows-first, Follows-taken, Follows-entered}
 use Rattle.two_tracks.specs.TwoEnds.{change_of}
 use Rattle.joint_parameters.specs.Indications.{new_change}
+use Rattle.joint_parameters.specs.Views.{HaveEqual}
 
 -- an indication was taken before event 0: it holds from a later event on
 pub record IsEarly (first : Params) (slot : ℕ) (held : List Change) (t : TrackFacts) : Type 0 where
@@ -205,10 +206,6 @@ follows_front first slot taken more sent t h all started = rw (held_is_front fir
     by held (inr e) = let start : t.entered ≡ 0 = ap (λ (u : TrackFacts). u.entered) e.is in absurd (omega (arith, start, started))
 
 -- two ends in events of one number, in which as many indications hold
-pub record HaveEqual (a b : TrackFacts) : Type 0 where
-  pub params : a.params ≡ b.params
-  pub anchor : a.anchor ≡ b.anchor
-
 pub equal_in : (first : Params) (slot : ℕ) (taken_a more_a taken_b more_b sent : List Change) (a b : TrackFacts) → HasTaken first slot taken_a a
     → HasTaken first slot taken_b b → sent ≡ taken_a ++ more_a → sent ≡ taken_b ++ more_b → event_of a ≡ event_of b → a.applied ≡ b.applied
     → HaveEqual a b
