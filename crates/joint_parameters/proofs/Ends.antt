@@ -165,6 +165,12 @@ stays Central (Sends slot) = false
 stays Peripheral (Takes read slot response) = false
 stays role step = true
 
+-- nor do the steps in which it takes nothing end the link
+abbrev pub takes_none : PhasedStep → Bool
+takes_none (Takes read slot response) = false
+takes_none TakesData = false
+takes_none step = true
+
 module _ (s : Phased) where
   kept_apart : (slot : ℕ) (kept : Option Ctrl) → AreApart Central (kept_steps slot kept)
   kept_apart slot None = tt
@@ -223,6 +229,30 @@ module _ (s : Phased) where
   stays_sent step lasts is =
       ap (λ (c : Control). c.sent) (moves_by_steps step s lasts) ∙ ended_sent (end_by_phase step s) (after_all (control_steps step s) s.control)
       ∙ sent_all (control_steps step s) s.control (steps_apart Central step is)
+
+  -- ---- only a PDU of the peer ends the link
+
+  pub ends_still : (step : PhasedStep) → s.control.ends ≡ None → takes_none step ≡ true → (phased_after step s).control.ends ≡ s.control.ends
+  ends_still step lasts none =
+      ap (λ (c : Control). c.ends) (moves_by_steps step s lasts) ∙ not_ended step (after_all (control_steps step s) s.control) none
+      ∙ ends_all (control_steps step s) s.control (steps_none step none)
+    where
+      not_ended : (step : PhasedStep) (c : Control) → takes_none step ≡ true → (ended_if (end_by_phase step s) c).ends ≡ c.ends
+      not_ended (Takes read slot response) c is = absurd (cc)
+      not_ended TakesData c is = absurd (cc)
+      not_ended other c is = refl
+
+      steps_none : (step : PhasedStep) → takes_none step ≡ true → TakeNone (control_steps step s)
+      steps_none (Takes read slot response) is = absurd (cc)
+      steps_none TakesData is = absurd (cc)
+      steps_none (Enters slot) is = (refl, owed_none (owed_entering slot s))
+      steps_none (Sends slot) is = (refl, tt)
+      steps_none (Asks ask) is = (refl, tt)
+      steps_none (Answers answer) is = (refl, tt)
+      steps_none GivesKey is = owed_none _
+      steps_none LacksKey is = owed_none _
+      steps_none (Disconnects reason) is = (refl, tt)
+      steps_none SeesAcknowledged is = (refl, owed_none _)
 
   -- ---- an event is entered
 

@@ -52,7 +52,7 @@ module _ (central_rx peripheral_rx : ℕ) (first : Params) (slot : ℕ) (steps :
   k : Known first slot taken (view s)
   k = inv.known
 
-  meets : is_running s ≡ true → Meets taken (view s)
+  pub meets : is_running s ≡ true → Meets taken (view s)
   meets running = inv.meets running
 
   -- ---- what was taken of what was sent

@@ -5,6 +5,7 @@ pub mod Ends
 pub mod Laws
 pub mod Meeting
 pub mod Outcomes
+pub mod Passing
 pub mod PlainEnds
 pub mod Runs
 pub mod Taking
