@@ -1,8 +1,9 @@
 -- The lemmas of this crate.
+pub mod Arriving
 pub mod Codes
 pub mod Drafts
 pub mod Ends
-pub mod Laws
+pub mod Equal
 pub mod Meeting
 pub mod Outcomes
 pub mod Passing

@@ -19,7 +19,7 @@ use Rattle.joint_controls.proofs.Running.{GoesOn, comes_on, goes_on}
 use Rattle.joint_parameters.specs.Indications.{changes_taken, indication_of_item, indication_read, takes_late}
 use Rattle.joint_parameters.specs.Views.{change_on_air, view}
 use Rattle.joint_parameters.proofs.Ends.{ends_still, takes_none}
-use Rattle.joint_parameters.proofs.Laws.{meets, test_is_late}
+use Rattle.joint_parameters.proofs.Arriving.{meets, test_is_late}
 use Rattle.joint_parameters.proofs.Meeting.{Meets}
 use Rattle.joint_parameters.proofs.Runs.{Facts, facts_of, taken_as}
 use Rattle.joint_parameters.proofs.Taking.{EndsAs, GoesWith, TakenAs, is_over}

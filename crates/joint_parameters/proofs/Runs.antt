@@ -425,7 +425,7 @@ pub after_joined : (steps more : List JointStep) (s : Joint) → after_all (step
 after_joined [] more s = refl
 after_joined (step ∷ steps) more s = after_joined steps more (after step s)
 
-range_joined : (steps more : List JointStep) → AreStepsInRange steps → AreStepsInRange more → AreStepsInRange (steps ++ more)
+pub range_joined : (steps more : List JointStep) → AreStepsInRange steps → AreStepsInRange more → AreStepsInRange (steps ++ more)
 range_joined [] more of_s of_m = of_m
 range_joined (step ∷ steps) more of_s of_m = (of_s.0, range_joined steps more of_s.1 of_m)
 

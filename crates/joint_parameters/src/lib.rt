@@ -2,3 +2,10 @@
 //! that both ends have equal parameters in an event (Core 5.2, volume 6 part B, sections 5.1.1,
 //! 5.1.2 and 5.5). Definitions and laws; no code.
 #![tactic(auto)]
+
+mod laws;
+
+pub use crate::laws::{
+    an_indication_finds_no_other, both_ends_have_equal_parameters, indications_arrive_in_order,
+    instants_have_one_event, only_a_late_indication_ends_the_link,
+};
