@@ -4,8 +4,10 @@
 #![tactic(auto)]
 
 mod laws;
+mod rows;
 
 pub use crate::laws::{
     an_indication_finds_no_other, both_ends_have_equal_parameters, indications_arrive_in_order,
     instants_have_one_event, only_a_late_indication_ends_the_link,
 };
+pub use crate::rows::{a_late_update_ends_the_link, an_update_holds_at_both_ends};
