@@ -1,18 +1,13 @@
 -- What follows of what is known of both tracks in a joint run.
-use Rattle.std.proofs.Common.{◌≡◌, ◌⊎◌, inl, inr, ℕ, ◌≤◌, ◌<◌, nat_lt, Bool, true, false, not, ◌&&◌, ◌||◌, ◌==◌, if◌then◌else◌, List, [], ◌∷◌, ◌++◌, take, Option, Some, None, IfSome, is_none, is_some, option_map, option_to_list, refl, sym, ap, subst, ◌∙◌, arith, append_assoc}
+use Rattle.std.proofs.Common.{◌≡◌, inl, inr, ℕ, ◌≤◌, ◌<◌, nat_lt, Bool, true, false, ◌==◌, if◌then◌else◌, List, ◌++◌, Option, Some, None, IfSome, is_none, is_some, option_map, option_to_list, refl, sym, ap, subst, ◌∙◌}
 use Rattle.std.specs.List.{All}
 use Rattle.std.proofs.lemmas.Bool.{and_parts}
-use Rattle.std.proofs.lemmas.List.{append-nil}
 use Rattle.ble_base.specs.ErrorCodes.{instant_passed}
 use Rattle.ble_base.specs.declared.error_codes.ErrCode.{ErrCode}
-use Rattle.ble_base.specs.declared.procedure_kinds.Kind.{Kind}
-use Rattle.ble_base.specs.declared.roles.Role.TheVariants.{Central, Peripheral}
 use Rattle.data_pdu.specs.declared.ctrl.Ctrl.{Ctrl}
 use Rattle.instants.specs.declared.indications.Indication.{Indication}
 use Rattle.instants.specs.declared.indications.Params.{Params}
 use Rattle.instants.specs.declared.track.Change.{Change}
-use Rattle.instants.specs.Follows.{Follows}
-use Rattle.instants.specs.Track.{TrackFacts, event_of, track_after_take}
 use Rattle.procedure_values.specs.Drafts.{ctrl_of_outgoing, indication_of}
 use Rattle.two_tracks.specs.TwoEnds.{MayIndicate, MayIndicateIf, TwoEnds, change_of}
 use Rattle.two_tracks.specs.TwoEnds as two_ends
@@ -20,21 +15,21 @@ use Rattle.control_model.specs.Control.{Control}
 use Rattle.control_model.proofs.Sending.{may_of}
 use Rattle.control_model.specs.Waits.{kind_awaited, kind_waiting}
 use Rattle.phased_control.specs.Phased.{Phased, is_quiet_now}
-use Rattle.phased_control.specs.Taken.{Answers, Asks, Disconnects, Enters, GivesKey, LacksKey, PhasedStep, SeesAcknowledged, Sends, Takes, TakesData, phased_after, role_now}
-use Rattle.joint_controls.specs.Joint.{CentralAcked, CentralEnters, CentralHost, CentralSends, CentralSendsData, CentralTakes, Clear, Control as control_item, Data, Fixed, HostStep, Item, Joint, JointStep, OnAir, PeripheralAcked, PeripheralEnters, PeripheralFixes, PeripheralFixesData, PeripheralHost, PeripheralSends, PeripheralTakes, Shuts, Taken, Way, act, after, after_all, beginning, central_takes, event_now, has_passed, host_step, instant_now, is_indication, is_item, is_late, is_running, is_same_event, item_by, item_on_air, last_change, latency_now, may, may_act, next_item, next_out, peripheral_takes, taking}
+use Rattle.phased_control.specs.Taken.{phased_after}
+use Rattle.joint_controls.specs.Joint.{CentralSends, Clear, Control as control_item, Data, Fixed, Item, Joint, JointStep, OnAir, PeripheralTakes, Taken, Way, after, after_all, beginning, event_now, has_passed, instant_now, is_indication, is_item, is_late, is_running, item_by, item_on_air, last_change, latency_now, may, may_act, next_item, next_out, peripheral_takes, taking}
 use Rattle.joint_controls.specs.Ends.{AreStepsInRange, steps_of_central}
 use Rattle.joint_controls.proofs.ControlRuns.{peripheral_awaits}
 use Rattle.joint_controls.proofs.EndSteps.{central_runs}
 use Rattle.joint_controls.proofs.Running.{GoesOn, comes_on, goes_on}
-use Rattle.joint_parameters.specs.Indications.{AreAllButLast, LetsItemIn, changes_taken, indication_of_item, indication_read, takes_late}
-use Rattle.joint_parameters.specs.Views.{HaveEqual, View, change_on_air, view}
+use Rattle.joint_parameters.specs.Indications.{AreAllButLast, LetsItemIn, changes_taken, indication_of_item, indication_read}
+use Rattle.joint_parameters.specs.Views.{view}
 use Rattle.joint_parameters.proofs.Codes.{central_other}
-use Rattle.joint_parameters.proofs.Ends.{enters_sent, indication_next, lets_one, sends_one, stays_sent, takes_data, takes_one}
+use Rattle.joint_parameters.proofs.Ends.{indication_next, lets_one}
 use Rattle.joint_parameters.proofs.Meeting.{IsComing, Known, MayTake, Meets, same, test}
 use Rattle.joint_parameters.proofs.Outcomes.{IsOther}
-use Rattle.joint_parameters.proofs.Runs.{Facts, Inv, IsReached, after_joined, facts_of, holds_after, keeps_on, may_take_of, nothing_waits, some_indication, taken_as}
-use Rattle.joint_parameters.proofs.Taking.{EndsAs, GoesWith, TakenAs, is_over, track_with}
-use Rattle.joint_parameters.proofs.Tracks.{HasTaken, equal_in, follows_front, free_if_over}
+use Rattle.joint_parameters.proofs.Runs.{Facts, Inv, facts_of, holds_after, may_take_of, nothing_waits, some_indication, taken_as}
+use Rattle.joint_parameters.proofs.Taking.{TakenAs, is_over}
+use Rattle.joint_parameters.proofs.Tracks.{free_if_over}
 
 module _ (central_rx peripheral_rx : ℕ) (first : Params) (slot : ℕ) (steps : List JointStep) (latency : first.latency ≤ 499) (range : AreStepsInRange steps) where
   abbrev s : Joint

@@ -1,6 +1,5 @@
 -- No step of a central ends the link for an instant that has passed.
-use Rattle.std.proofs.Common.{◌≡◌, ℕ, ◌==◌, Bool, true, false, if◌then◌else◌, List, [], ◌∷◌, Option, Some, None, is_none, refl, sym, ap, subst, ◌∙◌}
-use Rattle.std.specs.Prelude.{⊤}
+use Rattle.std.proofs.Common.{◌≡◌, ℕ, ◌==◌, Bool, true, false, if◌then◌else◌, List, [], ◌∷◌, Option, Some, None, is_none, refl, sym, subst}
 use Rattle.ble_base.specs.ErrorCodes.{instant_passed, memory_capacity_exceeded, mic_failure}
 use Rattle.ble_base.specs.declared.error_codes.ErrCode.{ErrCode}
 use Rattle.ble_base.specs.declared.roles.Role.{Role}
@@ -21,8 +20,8 @@ use Rattle.phased_control.proofs.Moving.{moves_by_steps}
 use Rattle.phased_control.proofs.Tables.{same_role}
 use Rattle.joint_parameters.proofs.Ends.{ends_all, is_taking}
 use Rattle.joint_parameters.proofs.Outcomes.{IsOther, indication_by}
-use Rattle.joint_parameters.proofs.Taking.{EndsAs, GoesWith, TakenAs, is_over, not_both, takes_as}
-use Rattle.std.proofs.Common.{◌⊎◌, inl, inr}
+use Rattle.joint_parameters.proofs.Taking.{TakenAs, takes_as}
+use Rattle.std.proofs.Common.{inl, inr}
 
 abbrev pub IsOtherAt : Control → Type 0
 IsOtherAt c = (role_of c.table.progress ≡ Central) × IsOther c.ends

@@ -1,14 +1,13 @@
 -- No PDU of the encryption that waits at a central is an indication: what each step of the control part leaves of that.
-use Rattle.std.proofs.Common.{◌≡◌, ℕ, Bool, true, false, not, ◌&&◌, if◌then◌else◌, List, [], ◌∷◌, ◌++◌, Option, Some, None, is_none, is_some, Result, Ok, Err, refl, sym, ap, subst}
+use Rattle.std.proofs.Common.{◌≡◌, ℕ, Bool, true, false, not, ◌&&◌, if◌then◌else◌, List, [], ◌∷◌, ◌++◌, Option, Some, None, is_none, is_some, Result, Ok, Err, refl}
 use Rattle.std.specs.Prelude.{⊤}
 use Rattle.std.specs.List.{All}
-use Rattle.std.proofs.lemmas.List.Elements.{All-drop, All-head, All-nil, All-push}
+use Rattle.std.proofs.lemmas.List.Elements.{All-drop, All-head, All-push}
 use Rattle.ble_base.specs.declared.error_codes.ErrCode.{ErrCode}
 use Rattle.ble_base.specs.declared.roles.Role.{Role}
 use Rattle.ble_base.specs.declared.roles.Role.TheVariants.{Central as central_role, Peripheral as peripheral_role}
-use Rattle.data_pdu.specs.declared.ctrl.Ctrl.{Ctrl}
 use Rattle.instants.specs.declared.indications.Indication.{Indication}
-use Rattle.instants.specs.Track.{event_of, next_number, track_after_take}
+use Rattle.instants.specs.Track.{event_of, next_number}
 use Rattle.procedure_values.specs.declared.asks.Ask.{Ask}
 use Rattle.procedure_values.specs.declared.asks.Ask.TheVariants.{Update as ask_update, Features as ask_features, Version as ask_version, Encrypt as ask_encrypt}
 use Rattle.procedure_values.specs.declared.drafts.Draft.{Draft}
@@ -24,13 +23,13 @@ use Rattle.procedure_stages.specs.Closing.{is_disconnecting, is_open}
 use Rattle.procedure_stages.specs.InProgress.{is_host_asked}
 use Rattle.procedure_stages.specs.Kinds.{role_of}
 use Rattle.procedure_stages.specs.Queue.{QueueFacts, is_past_instant, next_by, next_disconnect, next_draft, with_reply, without_next}
-use Rattle.procedures.specs.Beginning.{ask_at, begin_at, begin_step, first_draft, place_to_begin, with_first_draft}
+use Rattle.procedures.specs.Beginning.{ask_at, begin_at, first_draft, place_to_begin, with_first_draft}
 use Rattle.procedures.specs.Going.{entered_step, host_answer_step, is_answer}
 use Rattle.procedures.specs.Queue.{next_of}
 use Rattle.procedures.specs.Sending.{acked_step}
 use Rattle.procedures.specs.Table.{TableFacts}
 use Rattle.procedures.specs.Taking.{facts_with, outcome_of}
-use Rattle.control_model.specs.Control.{Control, Step, Enters, Asks, Answers, Disconnects, Sends, SeesAcknowledged, Takes, Owes, after, after_all, ended, following, goes_out, indicated_by, is_to_come, moved, taken, table_if, went}
+use Rattle.control_model.specs.Control.{Control, Step, Enters, Asks, Answers, Disconnects, Sends, SeesAcknowledged, Takes, Owes, after, after_all, following, goes_out, indicated_by, is_to_come, moved, taken, table_if, went}
 use Rattle.control_model.proofs.Calls.{any_step, either_way, took_by}
 use Rattle.joint_parameters.specs.Indications.{indication_in}
 use Rattle.joint_parameters.proofs.Outcomes.{IsPlain, IsPlainReply, reads}

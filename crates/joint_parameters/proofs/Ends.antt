@@ -1,5 +1,5 @@
 -- How the steps of an end move its track, what it sent, and the end of its link.
-use Rattle.std.proofs.Common.{◌≡◌, ◌⊎◌, inl, inr, ℕ, ◌==◌, Bool, true, false, not, ◌&&◌, if◌then◌else◌, List, [], ◌∷◌, ◌++◌, Option, Some, None, is_none, refl, sym, ap, subst, ◌∙◌}
+use Rattle.std.proofs.Common.{◌≡◌, inl, inr, ℕ, Bool, true, false, not, ◌&&◌, if◌then◌else◌, List, [], ◌∷◌, ◌++◌, Option, Some, None, is_none, refl, sym, ap, subst, ◌∙◌}
 use Rattle.std.specs.Prelude.{⊤}
 use Rattle.ble_base.specs.ErrorCodes.{instant_passed, memory_capacity_exceeded, mic_failure}
 use Rattle.ble_base.specs.declared.error_codes.ErrCode.{ErrCode}
@@ -8,7 +8,7 @@ use Rattle.ble_base.specs.declared.roles.Role.TheVariants.{Central, Peripheral}
 use Rattle.data_pdu.specs.declared.ctrl.Ctrl.{Ctrl}
 use Rattle.data_pdu.specs.declared.ctrl.Ctrl.TheVariants.{ConnectionUpdateInd, ChannelMapInd}
 use Rattle.data_pdu.specs.declared.ctrl.CtrlRead.{CtrlRead}
-use Rattle.data_pdu.specs.declared.ctrl.CtrlRead.TheVariants.{Known, Unknown, Bare}
+use Rattle.data_pdu.specs.declared.ctrl.CtrlRead.TheVariants.{Known}
 use Rattle.enc_phase.specs.declared.classes.PduClass.{PduClass}
 use Rattle.enc_phase.specs.declared.classes.PduClass.TheVariants.{Data, Other, Request}
 use Rattle.enc_phase.specs.declared.facts.PhaseFacts.{PhaseFacts}
@@ -16,7 +16,7 @@ use Rattle.enc_phase.specs.declared.facts.PhaseFacts.TheVariants.{Clear, Secure}
 use Rattle.enc_phase.specs.Taking.{allows, is_unknown}
 use Rattle.instants.specs.declared.indications.Indication.{Indication}
 use Rattle.instants.specs.declared.track.Change.{Change}
-use Rattle.instants.specs.Track.{TrackFacts, first_facts, track_after_enter}
+use Rattle.instants.specs.Track.{track_after_enter}
 use Rattle.procedure_values.specs.Drafts.{is_out}
 use Rattle.procedure_stages.specs.Closing.{is_open}
 use Rattle.procedure_stages.specs.InProgress.{is_host_asked}
@@ -24,8 +24,7 @@ use Rattle.procedure_stages.specs.Kinds.{role_of}
 use Rattle.procedures.specs.Going.{is_answer}
 use Rattle.procedures.specs.Table.{TableFacts}
 use Rattle.two_tracks.specs.TwoEnds.{TwoEnds, after_sending}
-use Rattle.two_tracks.specs.TwoEnds as two_ends
-use Rattle.control_model.specs.Control.{Control, Step, after, after_all, ended, following, goes_out, is_to_come, moved, table_if, taken, went}
+use Rattle.control_model.specs.Control.{Control, Step, after, after_all, following, goes_out, is_to_come, moved, table_if, taken, went}
 use Rattle.control_model.specs.Control.{Answers as control_answers, Asks as control_asks, Disconnects as control_disconnects, Enters as control_enters, Owes, SeesAcknowledged as control_sees_acknowledged, Sends as control_sends, Takes as control_takes}
 use Rattle.control_model.proofs.Calls.{any_step, either_way}
 use Rattle.control_model.proofs.Moving.{central_takes, enters_track, peripheral_sends, sends_all, sends_track, table_alone}
@@ -35,8 +34,8 @@ use Rattle.phased_control.specs.Steps.{code_if, control_steps, end_by_phase, end
 use Rattle.phased_control.proofs.Moving.{moves_by_steps}
 use Rattle.phased_control.proofs.Tables.{same_role}
 use Rattle.joint_parameters.specs.Indications.{LetsIn, indication_in}
-use Rattle.joint_parameters.proofs.Outcomes.{IsOther, indication_by}
-use Rattle.joint_parameters.proofs.Taking.{EndsAs, GoesWith, TakenAs, is_over, lets_end, takes_as}
+use Rattle.joint_parameters.proofs.Outcomes.{indication_by}
+use Rattle.joint_parameters.proofs.Taking.{TakenAs, is_over, lets_end, takes_as}
 
 -- ---- steps that leave the track
 
@@ -278,9 +277,10 @@ module _ (s : Phased) where
   pub sends_one : (slot : ℕ) (t : TwoEnds) → s.control.ends ≡ None → role_now s ≡ Central → t.central ≡ s.control.track → t.sent ≡ s.control.sent
       → ((phased_after (Sends slot) s).control.track ≡ (after_sending indication_next t).central)
       × ((phased_after (Sends slot) s).control.sent ≡ (after_sending indication_next t).sent)
-  sends_one slot t lasts at is_track is_sent =
-      (ap (λ (c : Control). c.track) (moves_by_steps (Sends slot) s lasts) ∙ sends_track s.control slot (is_quiet_now s) t at lasts is_track is_sent,
-      ap (λ (c : Control). c.sent) (moves_by_steps (Sends slot) s lasts) ∙ sends_all s.control slot (is_quiet_now s) t at lasts is_track is_sent)
+  sends_one slot t lasts at is_track is_sent = (
+    ap (λ (c : Control). c.track) (moves_by_steps (Sends slot) s lasts) ∙ sends_track s.control slot (is_quiet_now s) t at lasts is_track is_sent,
+    ap (λ (c : Control). c.sent) (moves_by_steps (Sends slot) s lasts) ∙ sends_all s.control slot (is_quiet_now s) t at lasts is_track is_sent,
+  )
 
 -- ---- a peripheral takes a control PDU
 

@@ -1,5 +1,5 @@
 -- Both ends of a joint run follow the first indications that the central sent, so they have equal parameters in an event.
-use Rattle.std.proofs.Common.{◌≡◌, ◌⊎◌, inl, inr, ℕ, ◌≤◌, ◌==◌, Bool, true, false, if◌then◌else◌, List, [], ◌∷◌, ◌++◌, take, Option, Some, None, option_to_list, refl, sym, ap, subst, ◌∙◌, arith, append_assoc}
+use Rattle.std.proofs.Common.{◌≡◌, ℕ, ◌≤◌, Bool, true, false, if◌then◌else◌, List, [], ◌∷◌, ◌++◌, take, Option, Some, None, option_to_list, refl, sym, ap, subst, ◌∙◌, arith, append_assoc}
 use Rattle.std.proofs.lemmas.List.{append-nil}
 use Rattle.ble_base.specs.declared.roles.Role.TheVariants.{Central}
 use Rattle.data_pdu.specs.declared.ctrl.Ctrl.TheVariants.{TerminateInd}
@@ -7,21 +7,21 @@ use Rattle.instants.specs.declared.indications.Indication.{Indication}
 use Rattle.instants.specs.declared.indications.Params.{Params}
 use Rattle.instants.specs.declared.track.Change.{Change}
 use Rattle.instants.specs.Follows.{Follows}
-use Rattle.instants.specs.Track.{TrackFacts, event_of}
+use Rattle.instants.specs.Track.{event_of}
 use Rattle.two_tracks.specs.TwoEnds.{TwoEnds}
 use Rattle.two_tracks.specs.TwoEnds as two_ends
 use Rattle.phased_control.specs.Phased.{Phased}
 use Rattle.phased_control.specs.Taken.{Enters, PhasedStep, SeesAcknowledged, Sends, phased_after, phased_after_all, role_now}
 use Rattle.joint_controls.specs.Joint.{CentralAcked, CentralEnters, CentralHost, CentralSends, CentralSendsData, CentralTakes, Item, Joint, JointStep, PeripheralAcked, PeripheralEnters, PeripheralFixes, PeripheralFixesData, PeripheralHost, PeripheralSends, PeripheralTakes, Shuts, act, after, after_all, beginning, event_now, host_step, is_same_event, item_on_air, may, taking}
-use Rattle.joint_controls.specs.Ends.{AreStepsInRange, IsStepInRange, central_does, takes_if}
+use Rattle.joint_controls.specs.Ends.{AreStepsInRange, central_does, takes_if}
 use Rattle.joint_controls.proofs.EndSteps.{central_acts}
 use Rattle.joint_controls.proofs.Running.{GoesOn, comes_on}
 use Rattle.joint_parameters.specs.Indications.{changes_taken}
 use Rattle.joint_parameters.specs.Views.{HaveEqual, view}
 use Rattle.joint_parameters.proofs.Ends.{enters_sent, indication_next, sends_one, stays, stays_sent}
 use Rattle.joint_parameters.proofs.Meeting.{Known}
-use Rattle.joint_parameters.proofs.Runs.{Facts, IsReached, after_joined, facts_of, holds_after, range_joined, reached_facts, reached_next}
-use Rattle.joint_parameters.proofs.Tracks.{HasTaken, equal_in, follows_front}
+use Rattle.joint_parameters.proofs.Runs.{Facts, IsReached, after_joined, holds_after, range_joined, reached_facts, reached_next}
+use Rattle.joint_parameters.proofs.Tracks.{equal_in, follows_front}
 
 -- ---- a central sends more and more
 

@@ -1,7 +1,6 @@
 -- What holds of both tracks at any time of a joint run, and why each step keeps it.
-use Rattle.std.proofs.Common.{◌≡◌, ◌⊎◌, inl, inr, ℕ, ◌+◌, ◌-◌, ◌<◌, ◌≤◌, nat_lt, Bool, true, false, if◌then◌else◌, List, [], ◌∷◌, ◌++◌, Option, Some, None, IfSome, option_map, option_to_list, refl, sym, ap, subst, ◌∙◌, arith}
+use Rattle.std.proofs.Common.{◌≡◌, ◌⊎◌, inl, inr, ℕ, ◌+◌, ◌<◌, ◌≤◌, nat_lt, Bool, true, false, if◌then◌else◌, List, [], ◌∷◌, ◌++◌, Option, Some, None, IfSome, option_map, option_to_list, refl, sym, ap, subst, ◌∙◌, arith}
 use Rattle.std.specs.List.{All}
-use Rattle.std.proofs.lemmas.List.{append-nil}
 use Rattle.std.proofs.lemmas.List.Elements.{All-weaker}
 use Rattle.instants.specs.declared.indications.Params.{Params}
 use Rattle.instants.specs.declared.indications.Indication.{Indication}
@@ -11,7 +10,7 @@ use Rattle.two_tracks.specs.TwoEnds.{change_of, has_passed}
 use Rattle.two_tracks.proofs.Anchors.{count_as_entered}
 use Rattle.two_tracks.proofs.Gaps.{IsNamed, gap_to, named_as_sent, not_passed, passed}
 use Rattle.two_tracks.proofs.Meeting.{same_change}
-use Rattle.joint_controls.specs.Joint.{Item, OnAir, Taken, Way, is_indication, is_item, item_on_air, last_change}
+use Rattle.joint_controls.specs.Joint.{Item, OnAir, Way, is_indication, is_item, item_on_air, last_change}
 use Rattle.joint_parameters.specs.Indications.{indication_of_item, indication_read}
 use Rattle.joint_parameters.specs.Views.{View, change_on_air}
 use Rattle.joint_parameters.proofs.Tracks.{HasTaken, free_if_over, taken_entered, taken_more}

@@ -32,7 +32,7 @@ use Rattle.procedure_stages.specs.Collisions.{are_incompatible, collision, colli
 use Rattle.procedure_stages.specs.Kinds.{kind_at_central, kind_at_peripheral, own_exchange, role_of}
 use Rattle.procedure_stages.specs.Opcodes.{connection_param_req_opcode, first_opcode, later_opcode, is_opcode, phy_req_opcode}
 use Rattle.procedures.specs.declared.outcome.Outcome.{Outcome}
-use Rattle.procedures.specs.Encryption.{cipher_at_central, secured, start_rsp_at_central}
+use Rattle.procedures.specs.Encryption.{cipher_at_central, start_rsp_at_central}
 use Rattle.procedures.specs.Features.{features_taken}
 use Rattle.procedures.specs.Length.{length_taken}
 use Rattle.procedures.specs.Outcomes.{ended, unchanged}
@@ -41,7 +41,7 @@ use Rattle.procedures.specs.Refusals.{refused_if}
 use Rattle.procedures.specs.Request.{after_grant, against_central, collided, outlived, request_judged}
 use Rattle.procedures.specs.Table.{TableFacts}
 use Rattle.procedures.specs.Taking.{outcome_of, taken_by, taken_by_central, taken_by_either, taken_by_peripheral}
-use Rattle.procedures.specs.Update.{ahead_code, follow, update_taken}
+use Rattle.procedures.specs.Update.{follow, update_taken}
 use Rattle.procedures.specs.Version.{version_reply, version_taken}
 use Rattle.control_model.specs.Control.{indicated_by}
 use Rattle.joint_parameters.specs.Indications.{indication_in}

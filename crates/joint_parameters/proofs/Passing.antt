@@ -1,28 +1,25 @@
 -- Only in a step in which it takes an indication whose instant it has passed does a peripheral end the link for that.
-use Rattle.std.proofs.Common.{◌≡◌, ◌⊎◌, inl, inr, ℕ, ◌≤◌, ◌==◌, Bool, true, false, not, ◌&&◌, ◌||◌, if◌then◌else◌, List, [], ◌∷◌, ◌++◌, Option, Some, None, is_none, is_some, option_map, option_to_list, refl, sym, ap, subst, ◌∙◌}
+use Rattle.std.proofs.Common.{◌≡◌, inl, inr, ℕ, ◌≤◌, ◌==◌, Bool, true, false, if◌then◌else◌, List, [], ◌∷◌, Option, Some, None, option_map, refl, sym, ap, subst, ◌∙◌}
 use Rattle.std.specs.Prelude.{⊤}
-use Rattle.std.proofs.lemmas.Bool.{and_parts}
 use Rattle.ble_base.specs.ErrorCodes.{instant_passed}
 use Rattle.ble_base.specs.declared.error_codes.ErrCode.{ErrCode}
 use Rattle.data_pdu.specs.declared.ctrl.Ctrl.{Ctrl}
 use Rattle.instants.specs.declared.indications.Indication.{Indication}
 use Rattle.instants.specs.declared.indications.Params.{Params}
 use Rattle.instants.specs.declared.track.Change.{Change}
-use Rattle.two_tracks.specs.TwoEnds as two_ends
-use Rattle.control_model.specs.Control.{Control}
 use Rattle.phased_control.specs.Phased.{Phased}
 use Rattle.phased_control.specs.Taken.{PhasedStep, phased_after, phased_after_all}
-use Rattle.joint_controls.specs.Joint.{AnswersRequest, AsksFor, CentralAcked, CentralEnters, CentralHost, CentralSends, CentralSendsData, CentralTakes, Clear, Ends, Fixed, HasKey, HasNoKey, HostStep, Item, Joint, JointStep, OnAir, PeripheralAcked, PeripheralEnters, PeripheralFixes, PeripheralFixesData, PeripheralHost, PeripheralSends, PeripheralTakes, Shuts, Taken, Way, act, after, after_all, beginning, event_now, has_passed, host_step, instant_now, is_late, is_running, item_on_air, may, may_act, peripheral_takes, taking}
+use Rattle.joint_controls.specs.Joint.{AnswersRequest, AsksFor, CentralAcked, CentralEnters, CentralHost, CentralSends, CentralSendsData, CentralTakes, Clear, Ends, Fixed, HasKey, HasNoKey, HostStep, Item, Joint, JointStep, OnAir, PeripheralAcked, PeripheralEnters, PeripheralFixes, PeripheralFixesData, PeripheralHost, PeripheralSends, PeripheralTakes, Shuts, Taken, Way, act, after, after_all, beginning, host_step, instant_now, is_late, is_running, item_on_air, may, peripheral_takes, taking}
 use Rattle.joint_controls.specs.Ends.{AreStepsInRange, peripheral_does}
 use Rattle.joint_controls.proofs.EndSteps.{peripheral_acts}
-use Rattle.joint_controls.proofs.Running.{GoesOn, comes_on, goes_on}
+use Rattle.joint_controls.proofs.Running.{GoesOn, goes_on}
 use Rattle.joint_parameters.specs.Indications.{changes_taken, indication_of_item, indication_read, takes_late}
-use Rattle.joint_parameters.specs.Views.{change_on_air, view}
+use Rattle.joint_parameters.specs.Views.{view}
 use Rattle.joint_parameters.proofs.Ends.{ends_still, takes_none}
 use Rattle.joint_parameters.proofs.Arriving.{meets, test_is_late}
 use Rattle.joint_parameters.proofs.Meeting.{Meets}
 use Rattle.joint_parameters.proofs.Runs.{Facts, facts_of, taken_as}
-use Rattle.joint_parameters.proofs.Taking.{EndsAs, GoesWith, TakenAs, is_over}
+use Rattle.joint_parameters.proofs.Taking.{TakenAs, is_over}
 
 abbrev is_passed : Option ErrCode → Bool
 is_passed None = false

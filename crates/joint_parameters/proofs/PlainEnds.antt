@@ -1,5 +1,5 @@
 -- Of a central, at any time: no PDU of the encryption that waits or is asked for is an indication.
-use Rattle.std.proofs.Common.{◌≡◌, ℕ, Bool, true, false, ◌&&◌, if◌then◌else◌, List, [], ◌∷◌, ◌++◌, Option, Some, None, is_none, refl, sym, ap, subst, ◌∙◌}
+use Rattle.std.proofs.Common.{◌≡◌, ℕ, Bool, true, false, ◌&&◌, if◌then◌else◌, List, [], ◌∷◌, ◌++◌, Option, Some, None, is_none, refl, sym, ap, subst}
 use Rattle.std.specs.Prelude.{⊤}
 use Rattle.std.proofs.lemmas.List.Elements.{All-nil}
 use Rattle.ble_base.specs.declared.error_codes.ErrCode.{ErrCode}
@@ -19,9 +19,9 @@ use Rattle.procedure_values.specs.declared.asks.Ask.TheVariants.{Encrypt}
 use Rattle.procedure_stages.specs.Kinds.{role_of}
 use Rattle.procedures.specs.Beginning.{begin_step}
 use Rattle.control_model.specs.Control.{Control, Step, after, after_all}
-use Rattle.phased_control.specs.Phased.{Phased, ask_begun, asking_if, asks_again, encrypting, encrypting_if, first_phased, is_encrypt, is_open_now, is_quiet_now, key_given, key_lacking, refused_if, request_of, table_entered, with_owed_if, with_step}
+use Rattle.phased_control.specs.Phased.{Phased, ask_begun, asking_if, asks_again, encrypting, encrypting_if, first_phased, is_encrypt, is_open_now, is_quiet_now, key_given, key_lacking, refused_if, request_of, table_entered, with_owed_if}
 use Rattle.phased_control.specs.Taken.{PhasedStep, Answers, Asks, Disconnects, Enters, GivesKey, LacksKey, SeesAcknowledged, Sends, Takes, TakesData, answered_kept, ciphered, does_keep, is_allowed, lacks_room_now, phased_after, phased_after_all, phased_moved, role_now, seen_as, took}
-use Rattle.phased_control.specs.Steps.{control_steps, ctrl_if, end_by_phase, ended_if, first_owed, first_owed_if, kept_steps, later_steps, owed_by_central, owed_for, owed_steps, owed_without_key, seen}
+use Rattle.phased_control.specs.Steps.{control_steps, ctrl_if, end_by_phase, ended_if, first_owed, first_owed_if, kept_steps, later_steps, owed_by_central, owed_for, owed_steps, seen}
 use Rattle.phased_control.proofs.Answering.{answers}
 use Rattle.phased_control.proofs.Moving.{moves_by_steps}
 use Rattle.phased_control.proofs.Tables.{same_role}

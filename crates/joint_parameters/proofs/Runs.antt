@@ -1,6 +1,5 @@
 -- Each step of a joint run keeps what is known of both tracks.
-use Rattle.std.proofs.Common.{◌≡◌, ◌⊎◌, inl, inr, ℕ, ◌+◌, ◌<◌, ◌≤◌, ◌==◌, nat_lt, Bool, true, false, not, ◌&&◌, ◌||◌, if◌then◌else◌, List, [], ◌∷◌, ◌++◌, Option, Some, None, is_none, is_some, IfSome, option_map, option_to_list, refl, sym, ap, subst, ◌∙◌, arith, append_assoc}
-use Rattle.std.specs.List.{All}
+use Rattle.std.proofs.Common.{◌≡◌, ◌⊎◌, inl, inr, ℕ, ◌+◌, ◌<◌, ◌≤◌, nat_lt, Bool, true, false, not, ◌||◌, if◌then◌else◌, List, [], ◌∷◌, ◌++◌, Option, Some, None, is_none, is_some, IfSome, option_map, option_to_list, refl, sym, ap, subst, ◌∙◌, arith, append_assoc}
 use Rattle.std.proofs.lemmas.Bool.{and_parts}
 use Rattle.std.proofs.lemmas.List.{append-nil}
 use Rattle.ble_base.specs.declared.error_codes.ErrCode.{ErrCode}
@@ -21,11 +20,10 @@ use Rattle.procedure_values.specs.declared.drafts.Outgoing.TheVariants.{Nothing,
 use Rattle.procedure_values.specs.Drafts.{ctrl_of_draft, ctrl_of_outgoing, indication_of, indication_of_draft}
 use Rattle.two_tracks.specs.TwoEnds.{MayIndicate, MayIndicateIf, TwoEnds, change_of}
 use Rattle.two_tracks.specs.TwoEnds as two_ends
-use Rattle.control_model.specs.Control.{Control}
 use Rattle.control_model.proofs.Indicating.{Indicates}
 use Rattle.control_model.proofs.Sending.{may_of}
 use Rattle.phased_control.specs.Phased.{Phased, is_quiet_now}
-use Rattle.phased_control.specs.Taken.{Enters, PhasedStep, SeesAcknowledged, Sends, phased_after, role_now}
+use Rattle.phased_control.specs.Taken.{PhasedStep, SeesAcknowledged, Sends, phased_after, role_now}
 use Rattle.phased_control.proofs.Kept.{none_at_peripheral}
 use Rattle.phased_control.proofs.Moving.{keeps_role}
 use Rattle.joint_controls.specs.Joint.{AnswersRequest, AsksFor, CentralAcked, CentralEnters, CentralHost, CentralSends, CentralSendsData, CentralTakes, Clear, Control as control_item, Data, Ends, Fixed, HasKey, HasNoKey, HostStep, Item, Joint, JointStep, OnAir, PeripheralAcked, PeripheralEnters, PeripheralFixes, PeripheralFixesData, PeripheralHost, PeripheralSends, PeripheralTakes, Shuts, Taken, Way, act, after, after_all, beginning, central_takes, event_now, has_passed, host_step, instant_now, is_clear, is_free, is_indication, is_item, is_last, is_late, is_near, is_running, is_same_event, is_supervised, is_taken, item_by, item_on_air, last_change, latency_now, may, may_act, may_transmit, next_item, next_out, on_air, peripheral_takes, sends_data, taking}
@@ -37,11 +35,10 @@ use Rattle.joint_parameters.specs.Indications.{changes_taken, indication_in, ind
 use Rattle.joint_parameters.specs.Views.{View, change_on_air, view}
 use Rattle.joint_parameters.proofs.Drafts.{IsPlainOut, next_is_plain}
 use Rattle.joint_parameters.proofs.Ends.{enters_one, enters_sent, indication_next, sends_one, stays, stays_sent, stays_track, takes_data, takes_one}
-use Rattle.joint_parameters.proofs.Meeting.{IsComing, Known, MayTake, Meets, MeetsBy, all_over, central_enters, central_enters_on, none_on_air, peripheral_enters, peripheral_enters_on, same, same_known, sends_known, sends_meets, test, with_indication}
-use Rattle.joint_parameters.proofs.Outcomes.{IsOther}
+use Rattle.joint_parameters.proofs.Meeting.{IsComing, Known, MayTake, Meets, all_over, central_enters, central_enters_on, none_on_air, peripheral_enters, peripheral_enters_on, same, same_known, sends_known, sends_meets, test, with_indication}
 use Rattle.joint_parameters.proofs.PlainEnds.{IsPlainEnd, plain_now}
-use Rattle.joint_parameters.proofs.Taking.{EndsAs, GoesWith, TakenAs, is_over, track_with}
-use Rattle.joint_parameters.proofs.Tracks.{HasTaken, free_if_over, none_new, none_new_entered, taken_first, taken_more}
+use Rattle.joint_parameters.proofs.Taking.{TakenAs, is_over, track_with}
+use Rattle.joint_parameters.proofs.Tracks.{free_if_over, none_new, none_new_entered, taken_first, taken_more}
 
 -- what is known of each end alone
 pub record Facts (s : Joint) : Type 0 where

@@ -1,5 +1,5 @@
 -- A control PDU of the peer is taken: what becomes of the track, and with which code the link ends.
-use Rattle.std.proofs.Common.{◌≡◌, ◌⊎◌, inl, inr, ℕ, ◌==◌, Bool, true, false, not, if◌then◌else◌, Option, Some, None, is_none, refl, sym, ap, subst, ◌∙◌}
+use Rattle.std.proofs.Common.{◌≡◌, ◌⊎◌, inl, inr, ℕ, ◌==◌, Bool, true, false, not, if◌then◌else◌, Option, Some, None, refl, sym, ap, ◌∙◌}
 use Rattle.ble_base.specs.ErrorCodes.{instant_passed}
 use Rattle.ble_base.specs.declared.error_codes.ErrCode.{ErrCode}
 use Rattle.data_pdu.specs.declared.ctrl.CtrlRead.{CtrlRead}
@@ -11,7 +11,7 @@ use Rattle.procedures.specs.Table.{TableFacts}
 use Rattle.procedures.specs.Taking.{facts_with, lacks_room, outcome_of, took_step}
 use Rattle.control_model.specs.Control.{Control, Takes, after, ended, indicated_by, is_to_come, taken, took}
 use Rattle.control_model.proofs.Calls.{open_step, settled_as, taken_by_step}
-use Rattle.joint_parameters.proofs.Outcomes.{IsOther, Reads, indication_by, reads}
+use Rattle.joint_parameters.proofs.Outcomes.{IsOther, indication_by, reads}
 
 -- an indication is read as one whose instant has passed
 abbrev pub is_over : TrackFacts → Option Indication → Bool

@@ -3,7 +3,7 @@
 use Rattle.std.specs.Prelude.{ℕ, zero, suc, List, [], ◌∷◌, ◌++◌}
 use Rattle.data_pdu.specs.declared.ctrl.Ctrl.TheVariants.{EncRsp}
 use Rattle.procedure_values.specs.declared.asks.Ask.TheVariants.{Update}
-use Rattle.joint_controls.specs.Joint.{AsksFor, CentralEnters, CentralHost, CentralSends, JointStep, PeripheralEnters, PeripheralTakes}
+use Rattle.joint_controls.specs.Joint.{AsksFor, CentralHost, CentralSends, JointStep, PeripheralTakes}
 use Rattle.joint_controls.specs.Worked.{enter}
 
 abbrev pub sends_update : List JointStep
