@@ -6,6 +6,7 @@ pub mod Ends
 pub mod Equal
 pub mod Meeting
 pub mod Outcomes
+pub mod Pairing
 pub mod Passing
 pub mod PlainEnds
 pub mod Runs

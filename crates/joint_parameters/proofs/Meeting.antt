@@ -44,7 +44,7 @@ pub record MeetsBy (taken : List Change) (v : View) (change : Option Change) : T
 abbrev pub Meets : List Change → View → Type 0
 Meets taken v = MeetsBy taken v (change_on_air v)
 
-air_if : (b test : Bool) (change : Option Change) → b ≡ test → (if b then change else None) ≡ (if test then change else None)
+pub air_if : (b test : Bool) (change : Option Change) → b ≡ test → (if b then change else None) ≡ (if test then change else None)
 air_if b test change is = ap (λ (c : Bool). if c then change else None) is
 
 module _ (first : Params) (slot : ℕ) (taken : List Change) (v : View) where
@@ -93,7 +93,7 @@ module _ (first : Params) (slot : ℕ) (taken : List Change) (v : View) where
       subst (MeetsBy taken (record v { down = way })) (sym (air_if (is_item is_indication (item_on_air way)) false (last_change v.sent) is))
       (record { all = all; coming = tt; read = reads })
 
-last_of_more : (changes : List Change) (change : Change) → last_change (changes ++ change ∷ []) ≡ Some change
+pub last_of_more : (changes : List Change) (change : Change) → last_change (changes ++ change ∷ []) ≡ Some change
 last_of_more [] change = refl
 last_of_more (one ∷ []) change = refl
 last_of_more (one ∷ two ∷ more) change = last_of_more (two ∷ more) change
