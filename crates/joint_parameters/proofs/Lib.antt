@@ -4,6 +4,7 @@ pub mod Codes
 pub mod Drafts
 pub mod Ends
 pub mod Equal
+pub mod Hearing
 pub mod Meeting
 pub mod Outcomes
 pub mod Pairing

@@ -27,13 +27,13 @@ use Rattle.joint_parameters.proofs.Runs.{Facts, some_indication}
 
 -- ---- a step that may come
 
-after_may : (step : JointStep) (s : Joint) → may step s ≡ true → after step s ≡ act step s
+pub after_may : (step : JointStep) (s : Joint) → may step s ≡ true → after step s ≡ act step s
 after_may step s comes = ap (λ (b : Bool). if b then act step s else s) comes
 
-may_now : (step : JointStep) (s : Joint) → is_running s ≡ true → may_act step s ≡ true → may step s ≡ true
+pub may_now : (step : JointStep) (s : Joint) → is_running s ≡ true → may_act step s ≡ true → may step s ≡ true
 may_now step s running acts = and_from (is_running s) (may_act step s) running acts
 
-running_from : (s : Joint) → s.stopped ≡ false → s.central.control.ends ≡ None → s.peripheral.control.ends ≡ None → is_running s ≡ true
+pub running_from : (s : Joint) → s.stopped ≡ false → s.central.control.ends ≡ None → s.peripheral.control.ends ≡ None → is_running s ≡ true
 running_from s stopped central peripheral =
     and_from (not s.stopped) _ (ap (λ (b : Bool). not b) stopped)
     (and_from _ _ (ap (λ (o : Option ErrCode). is_none o) central) (ap (λ (o : Option ErrCode). is_none o) peripheral))
@@ -127,7 +127,7 @@ pub record Together (steps : List JointStep) (t : TwoEnds) (s : Joint) : Type 0 
   pub comes : may_all steps s ≡ true
   pub paired : is_running (after_all steps s) ≡ true → IsPairedWith t (view (after_all steps s))
 
-together : (steps : List JointStep) (t : TwoEnds) (s u : Joint) → Leads steps s u → (is_running u ≡ true → IsPairedWith t (view u)) → Together steps t s
+pub together : (steps : List JointStep) (t : TwoEnds) (s u : Joint) → Leads steps s u → (is_running u ≡ true → IsPairedWith t (view u)) → Together steps t s
 together steps t s u leads paired =
     record {
       comes = leads.comes;

@@ -104,17 +104,17 @@ abbrev view_of : Way → List Change → TrackFacts → TrackFacts → View
 view_of down sent central peripheral = record { down = down; sent = sent; central = central; peripheral = peripheral }
 
 module _ (s : Joint) (f : Facts s) (g : GoesOn s) where
-  central_stays : (step : PhasedStep) (way : Way) → stays Central step ≡ true
+  pub central_stays : (step : PhasedStep) (way : Way) → stays Central step ≡ true
       → view_of way (phased_after step s.central).control.sent (phased_after step s.central).control.track s.peripheral.control.track
       ≡ record (view s) { down = way }
   central_stays step way is =
       λ i. view_of way (stays_sent s.central step g.central is i) (stays_track s.central Central step g.central f.central.role is i) s.peripheral.control.track
 
-  peripheral_stays : (step : PhasedStep) → stays Peripheral step ≡ true
+  pub peripheral_stays : (step : PhasedStep) → stays Peripheral step ≡ true
       → record (view s) { peripheral = (phased_after step s.peripheral).control.track } ≡ view s
   peripheral_stays step is = λ i. record (view s) { peripheral = stays_track s.peripheral Peripheral step g.peripheral f.peripheral is i }
 
-  up_stays : (way : Way) (slot : ℕ) → view (central_takes way slot s) ≡ view s
+  pub up_stays : (way : Way) (slot : ℕ) → view (central_takes way slot s) ≡ view s
   up_stays Clear slot = refl
   up_stays (Fixed item sealed) slot = refl
   up_stays (Taken item) slot = refl
