@@ -186,10 +186,10 @@ module _ (taken : List Change) (t : TwoEnds) (s : Joint) (f : Facts s) (running 
 
 -- ---- the peripheral sees its own PDU acknowledged first
 
-abbrev meets_rule : View → Bool
+abbrev pub meets_rule : View → Bool
 meets_rule v = (event_of v.central == event_of v.peripheral) || has_passed (change_on_air v) (event_of v.peripheral)
 
-abbrev near_rule : View → Bool
+abbrev pub near_rule : View → Bool
 near_rule v = is_near (change_on_air v) (event_of v.peripheral)
 
 record AckedUp (s : Joint) : Type 0 where

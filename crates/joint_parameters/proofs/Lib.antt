@@ -5,6 +5,7 @@ pub mod Drafts
 pub mod Ends
 pub mod Equal
 pub mod Hearing
+pub mod Linking
 pub mod Meeting
 pub mod Outcomes
 pub mod Pairing

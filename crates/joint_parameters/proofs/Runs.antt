@@ -84,7 +84,7 @@ out_read outgoing event latency ctrl plain is = by outgoing plain is
 
 -- ---- the steps that leave the tracks
 
-host_stays : (role : Role) (step : HostStep) → stays role (host_step step) ≡ true
+pub host_stays : (role : Role) (step : HostStep) → stays role (host_step step) ≡ true
 host_stays Central (AsksFor ask) = refl
 host_stays Central (AnswersRequest answer) = refl
 host_stays Central (Ends reason) = refl

@@ -97,6 +97,11 @@ abbrev pub link_after_all : List LinkStep → Link → Link
 link_after_all [] l = l
 link_after_all (step ∷ steps) l = link_after_all steps (link_after step l)
 
+-- the steps of the joint run of all these
+abbrev pub all_joint_steps : List LinkStep → Link → List JointStep
+all_joint_steps [] l = []
+all_joint_steps (step ∷ steps) l = joint_steps step l ++ all_joint_steps steps (link_after step l)
+
 -- each of the steps of a joint run may come where those before it lead
 abbrev pub may_all : List JointStep → Joint → Bool
 may_all [] s = true
