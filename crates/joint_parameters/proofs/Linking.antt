@@ -24,7 +24,7 @@ use Rattle.joint_parameters.specs.Turns.{Alone, AreLinksInRange, Begins, Central
 use Rattle.joint_parameters.specs.Views.{View, change_on_air, view}
 use Rattle.joint_parameters.proofs.Hearing.{is_answered, is_heard, meets_rule, near_rule}
 use Rattle.joint_parameters.proofs.Meeting.{Meets}
-use Rattle.joint_parameters.proofs.Pairing.{Leads, Together, after_may, leads_one, may_now, sends_control, sends_data_too, sends_empty, together, turn_begins}
+use Rattle.joint_parameters.proofs.Pairing.{Leads, Together, after_may, leads_on, leads_one, may_now, sends_control, sends_data_too, sends_empty, together, turn_begins}
 use Rattle.joint_parameters.proofs.Runs.{Facts, Inv, IsReached, after_joined, central_stays, holds_after, host_stays, peripheral_stays, range_joined, reached_facts, reached_next}
 
 -- ---- the rules on events, by turns
@@ -235,3 +235,60 @@ module _ (central_rx peripheral_rx : ℕ) (first : Params) (slot : ℕ) (latency
   all_linked [] l linked may_links range = linked
   all_linked (step ∷ steps) l linked may_links range =
       all_linked steps (link_after step l) (linked_next step l linked may_links.0 may_links.1 range.0) may_links.2 range.1
+
+  all_lead : (steps : List LinkStep) (l : Link) → IsLinked l → MayLinkAll steps l → AreLinksInRange steps
+      → Leads (all_joint_steps steps l) l.joint (link_after_all steps l).joint
+  all_lead [] l linked may_links range = record { comes = refl; to = refl }
+  all_lead (step ∷ steps) l linked may_links range =
+      let goes = goes_by l linked may_links.0 step may_links.1 in
+      leads_on (joint_steps step l) (all_joint_steps steps (link_after step l)) l.joint (link_after step l).joint (link_after_all steps (link_after step l)).joint
+      (record { comes = goes.by_both.comes; to = refl })
+      (all_lead steps (link_after step l) (linked_next step l linked may_links.0 may_links.1 range.0) may_links.2 range.1)
+
+  linked_first : (turns : ℕ) → turns ≤ slot → 6 ≤ first.interval → IsLinked (first_link central_rx peripheral_rx first slot turns)
+  linked_first turns not_over interval =
+      record {
+        turns = reached_first first slot turns not_over interval;
+        joint = record { steps = []; range = tt; reaches = refl };
+        paired =
+            λ running. record {
+              central_open = refl;
+              peripheral_open = refl;
+              central = refl;
+              peripheral = refl;
+              sent = refl;
+              way = refl;
+              coming = refl;
+            };
+      }
+
+  -- ---- from the beginning of a link
+
+  module _ (turns : ℕ) (not_over : turns ≤ slot) (interval : 6 ≤ first.interval) (steps : List LinkStep)
+      (range : AreLinksInRange steps) (may_links : MayLinkAll steps (first_link central_rx peripheral_rx first slot turns)) where
+    abbrev l : Link
+    l = link_after_all steps (first_link central_rx peripheral_rx first slot turns)
+
+    linked : IsLinked l
+    linked = all_linked steps (first_link central_rx peripheral_rx first slot turns) (linked_first turns not_over interval) may_links range
+
+    leads : Leads (all_joint_steps steps (first_link central_rx peripheral_rx first slot turns)) (beginning central_rx peripheral_rx first slot) l.joint
+    leads = all_lead steps (first_link central_rx peripheral_rx first slot turns) (linked_first turns not_over interval) may_links range
+
+    pub turn_comes : (step : LinkStep) → is_running l.joint ≡ true → MayLink step l → AllMay (turn_steps step l) l.turns
+    turn_comes step running may_link = (goes_by l linked running step may_link).by_turn
+
+    pub joint_comes : (step : LinkStep) → is_running l.joint ≡ true → MayLink step l → may_all (joint_steps step l) l.joint ≡ true
+    joint_comes step running may_link = (goes_by l linked running step may_link).by_both.comes
+
+    pub stays_paired : is_running l.joint ≡ true → IsPaired l
+    stays_paired running = linked.paired running
+
+    pub turns_reached : by_turns.IsReached first slot l.turns
+    turns_reached = linked.turns
+
+    pub joint_run : after_all (all_joint_steps steps (first_link central_rx peripheral_rx first slot turns)) (beginning central_rx peripheral_rx first slot) ≡ l.joint
+    joint_run = leads.to
+
+    pub joint_all_come : may_all (all_joint_steps steps (first_link central_rx peripheral_rx first slot turns)) (beginning central_rx peripheral_rx first slot) ≡ true
+    joint_all_come = leads.comes

@@ -10,6 +10,7 @@ ghost use Rattle.instants.specs.declared.indications.Params.{Params};
 ghost use Rattle.instants.specs.declared.track.Change.{Change};
 ghost use Rattle.instants.specs.Follows.{Follows};
 ghost use Rattle.two_tracks.specs.TwoEnds.{change_of, has_passed};
+ghost use Rattle.two_tracks.specs.Reached.{AllMay, IsReached};
 ghost use Rattle.control_model.specs.Waits.{kind_awaited};
 ghost use Rattle.joint_controls.specs.Ends.{AreStepsInRange};
 ghost use Rattle.joint_controls.specs.Joint.{Joint, JointStep, after, after_all, beginning};
@@ -18,6 +19,9 @@ ghost use Rattle.joint_controls.specs.Joint.{is_late, is_running, is_same_event,
 ghost use Rattle.joint_controls.specs.Joint.{may, next_item};
 ghost use Rattle.joint_parameters.specs.Indications.{AreAllButLast, LetsItemIn, changes_taken};
 ghost use Rattle.joint_parameters.specs.Indications.{indication_read, takes_late};
+ghost use Rattle.joint_parameters.specs.Turns.{AreLinksInRange, IsPaired, LinkStep, MayLink};
+ghost use Rattle.joint_parameters.specs.Turns.{MayLinkAll, all_joint_steps, first_link};
+ghost use Rattle.joint_parameters.specs.Turns.{joint_steps, link_after_all, may_all, turn_steps};
 ghost use Rattle.joint_parameters.specs.Views.{HaveEqual};
 
 /// The indications that the peripheral took are the first that the central sent, each with the same
@@ -165,4 +169,52 @@ pub fn both_ends_have_equal_parameters()
         event_now s.central ≡ event_now t.peripheral
         → s.central.control.track.applied ≡ t.peripheral.control.track.applied
         → HaveEqual s.central.control.track t.peripheral.control.track }
+{}
+
+/// A link by turns and packets is a joint run too, and both have one state of the tracks while the
+/// run goes on. The rules of a joint run on the numbers of events follow: where a packet of the
+/// central reaches the peripheral, or the reply the central, both ends are in events of one number,
+/// or the peripheral has passed the Instant of the indication in the packet, by fewer than 32,769
+/// events. So a link has to keep the other rules alone: an end sends a further PDU only after the
+/// one before was acknowledged, the central sends one only where the last PDU of the peripheral was
+/// taken or is data, and each end takes what it hears, but for data without room (sections 4.5.2,
+/// 4.5.9 and 5.5).
+pub fn a_link_by_turns_is_a_joint_run()
+    ensures turn_comes { (central_rx peripheral_rx : ℕ) (first : Params) (slot turns : ℕ)
+        (steps : List LinkStep) (step : LinkStep) → first.latency ≤ 499 → turns ≤ slot
+        → 6 ≤ first.interval → AreLinksInRange steps
+        → MayLinkAll steps (first_link central_rx peripheral_rx first slot turns)
+        → let l = link_after_all steps (first_link central_rx peripheral_rx first slot turns) in
+        is_running l.joint ≡ true → MayLink step l → AllMay (turn_steps step l) l.turns }
+    ensures joint_comes { (central_rx peripheral_rx : ℕ) (first : Params) (slot turns : ℕ)
+        (steps : List LinkStep) (step : LinkStep) → first.latency ≤ 499 → turns ≤ slot
+        → 6 ≤ first.interval → AreLinksInRange steps
+        → MayLinkAll steps (first_link central_rx peripheral_rx first slot turns)
+        → let l = link_after_all steps (first_link central_rx peripheral_rx first slot turns) in
+        is_running l.joint ≡ true → MayLink step l
+        → may_all (joint_steps step l) l.joint ≡ true }
+    ensures paired { (central_rx peripheral_rx : ℕ) (first : Params) (slot turns : ℕ)
+        (steps : List LinkStep) → first.latency ≤ 499 → turns ≤ slot → 6 ≤ first.interval
+        → AreLinksInRange steps
+        → MayLinkAll steps (first_link central_rx peripheral_rx first slot turns)
+        → let l = link_after_all steps (first_link central_rx peripheral_rx first slot turns) in
+        is_running l.joint ≡ true → IsPaired l }
+    ensures reached { (central_rx peripheral_rx : ℕ) (first : Params) (slot turns : ℕ)
+        (steps : List LinkStep) → first.latency ≤ 499 → turns ≤ slot → 6 ≤ first.interval
+        → AreLinksInRange steps
+        → MayLinkAll steps (first_link central_rx peripheral_rx first slot turns)
+        → let l = link_after_all steps (first_link central_rx peripheral_rx first slot turns) in
+        IsReached first slot l.turns }
+    ensures joint { (central_rx peripheral_rx : ℕ) (first : Params) (slot turns : ℕ)
+        (steps : List LinkStep) → first.latency ≤ 499 → turns ≤ slot → 6 ≤ first.interval
+        → AreLinksInRange steps
+        → MayLinkAll steps (first_link central_rx peripheral_rx first slot turns)
+        → let b = first_link central_rx peripheral_rx first slot turns in
+        after_all (all_joint_steps steps b) b.joint ≡ (link_after_all steps b).joint }
+    ensures joint_all_come { (central_rx peripheral_rx : ℕ) (first : Params) (slot turns : ℕ)
+        (steps : List LinkStep) → first.latency ≤ 499 → turns ≤ slot → 6 ≤ first.interval
+        → AreLinksInRange steps
+        → MayLinkAll steps (first_link central_rx peripheral_rx first slot turns)
+        → let b = first_link central_rx peripheral_rx first slot turns in
+        may_all (all_joint_steps steps b) b.joint ≡ true }
 {}

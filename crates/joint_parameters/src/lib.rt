@@ -7,7 +7,7 @@ mod laws;
 mod rows;
 
 pub use crate::laws::{
-    an_indication_finds_no_other, both_ends_have_equal_parameters, indications_arrive_in_order,
-    instants_have_one_event, only_a_late_indication_ends_the_link,
+    a_link_by_turns_is_a_joint_run, an_indication_finds_no_other, both_ends_have_equal_parameters,
+    indications_arrive_in_order, instants_have_one_event, only_a_late_indication_ends_the_link,
 };
 pub use crate::rows::{a_late_update_ends_the_link, an_update_holds_at_both_ends};
