@@ -1,30 +1,26 @@
 -- A packet of the central is good at the peripheral, and the reply at the central, by turns and in a joint run.
-use Rattle.std.proofs.Common.{◌≡◌, ◌⊎◌, inl, inr, ℕ, ◌+◌, ◌≤◌, ◌<◌, ◌==◌, nat_lt, Bool, true, false, not, ◌&&◌, ◌||◌, if◌then◌else◌, List, [], ◌∷◌, ◌++◌, Option, Some, None, IfSome, is_none, is_some, option_map, option_to_list, refl, sym, ap, subst, ◌∙◌, arith}
-use Rattle.std.proofs.lemmas.Bool.{and_from, and_parts}
+use Rattle.std.proofs.Common.{◌≡◌, inl, inr, ℕ, ◌==◌, Bool, true, false, not, ◌||◌, if◌then◌else◌, List, [], ◌∷◌, ◌++◌, Option, Some, None, is_some, option_map, refl, sym, ap, subst, ◌∙◌}
+use Rattle.std.proofs.lemmas.Bool.{and_from}
 use Rattle.ble_base.specs.declared.error_codes.ErrCode.{ErrCode}
-use Rattle.ble_base.specs.declared.roles.Role.TheVariants.{Central, Peripheral}
 use Rattle.data_pdu.specs.declared.ctrl.Ctrl.{Ctrl}
-use Rattle.data_pdu.specs.declared.ctrl.Ctrl.TheVariants.{TerminateInd}
 use Rattle.instants.specs.declared.indications.Indication.{Indication}
-use Rattle.instants.specs.declared.indications.Params.{Params}
 use Rattle.instants.specs.declared.track.Change.{Change}
 use Rattle.instants.specs.Track.{TrackFacts, event_of, track_after_take}
 use Rattle.control_model.specs.Control.{Control}
 use Rattle.two_tracks.specs.TwoEnds.{LastPdu, Untaken, Acknowledged, TwoEnds, after_indication, after_pdu, heard_by_peripheral, last_after_reply}
 use Rattle.two_tracks.specs.TwoEnds as two_ends
-use Rattle.two_tracks.specs.Reached.{IsLate, untaken}
-use Rattle.phased_control.specs.Phased.{Phased}
-use Rattle.phased_control.specs.Taken.{SeesAcknowledged, phased_after, role_now}
-use Rattle.joint_controls.specs.Joint.{CentralAcked, CentralTakes, Clear, Control as control_item, Data, Fixed, Item, Joint, JointStep, OnAir, PeripheralAcked, PeripheralTakes, Taken, Way, act, after, after_all, central_takes, event_now, has_passed, instant_now, is_clear, is_data, is_free, is_indication, is_item, is_last, is_late, is_near, is_running, is_same_event, is_supervised, is_taken, item_on_air, last_change, may, may_act, peripheral_takes, taking}
-use Rattle.joint_controls.proofs.Running.{GoesOn, comes_by, comes_on, goes_on}
+use Rattle.two_tracks.specs.Reached.{untaken}
+use Rattle.phased_control.specs.Taken.{SeesAcknowledged, phased_after}
+use Rattle.joint_controls.specs.Joint.{CentralAcked, CentralTakes, Clear, Control as control_item, Data, Fixed, Item, Joint, JointStep, OnAir, PeripheralAcked, PeripheralTakes, Taken, Way, act, central_takes, has_passed, is_free, is_last, is_late, is_near, is_running, is_same_event, is_taken, item_on_air, may, peripheral_takes, taking}
+use Rattle.joint_controls.proofs.Running.{GoesOn, goes_on}
 use Rattle.joint_parameters.specs.Indications.{indication_of_item, indication_read}
-use Rattle.joint_parameters.specs.Turns.{IsPairedWith, fits, may_all, step_if, takes_item}
+use Rattle.joint_parameters.specs.Turns.{IsPairedWith, fits, step_if, takes_item}
 use Rattle.joint_parameters.specs.Views.{View, change_on_air, view}
 use Rattle.joint_parameters.proofs.Ends.{ends_still}
 use Rattle.joint_parameters.proofs.Meeting.{Meets}
 use Rattle.joint_parameters.proofs.Pairing.{Leads, Together, leads_none, leads_on, leads_one, may_now, running_from, together}
 use Rattle.joint_parameters.proofs.Runs.{Facts, central_stays, peripheral_stays, taken_as, up_stays}
-use Rattle.joint_parameters.proofs.Taking.{EndsAs, GoesWith, TakenAs, is_over, track_with}
+use Rattle.joint_parameters.proofs.Taking.{TakenAs, is_over, track_with}
 
 -- ---- where the last PDU is
 

@@ -1,8 +1,7 @@
 -- A link by turns and packets is a joint run at once, and both have one state of the tracks.
-use Rattle.std.proofs.Common.{◌≡◌, ◌⊎◌, inl, inr, ℕ, ◌+◌, ◌≤◌, ◌<◌, ◌==◌, nat_lt, Bool, true, false, not, ◌&&◌, ◌||◌, if◌then◌else◌, List, [], ◌∷◌, ◌++◌, Option, Some, None, is_some, refl, sym, ap, subst, ◌∙◌, arith}
-use Rattle.std.proofs.lemmas.Bool.{and_from, and_parts, or_left, or_right}
+use Rattle.std.proofs.Common.{◌≡◌, ◌⊎◌, inl, inr, ℕ, ◌≤◌, ◌==◌, Bool, true, false, ◌||◌, List, [], ◌∷◌, Option, Some, None, refl, sym, subst, arith}
+use Rattle.std.proofs.lemmas.Bool.{or_left, or_right}
 use Rattle.ble_base.specs.declared.roles.Role.TheVariants.{Central, Peripheral}
-use Rattle.data_pdu.specs.declared.ctrl.Ctrl.{Ctrl}
 use Rattle.instants.specs.declared.indications.Indication.{Indication}
 use Rattle.instants.specs.declared.indications.Params.{Params}
 use Rattle.instants.specs.declared.track.Change.{Change}
@@ -16,16 +15,16 @@ use Rattle.two_tracks.proofs.Read.{near, packets, replies}
 use Rattle.control_model.proofs.Sending.{may_of}
 use Rattle.phased_control.specs.Phased.{is_quiet_now}
 use Rattle.phased_control.specs.Taken.{Sends}
-use Rattle.joint_controls.specs.Joint.{CentralAcked, CentralEnters, CentralHost, CentralSends, CentralSendsData, CentralTakes, HostStep, Joint, JointStep, PeripheralAcked, PeripheralEnters, PeripheralFixes, PeripheralFixesData, PeripheralHost, PeripheralSends, PeripheralTakes, Shuts, act, after, after_all, beginning, has_passed, host_step, is_near, is_running, is_taken, item_on_air, may}
+use Rattle.joint_controls.specs.Joint.{CentralAcked, CentralEnters, CentralHost, CentralSends, CentralSendsData, CentralTakes, Joint, JointStep, PeripheralAcked, PeripheralEnters, PeripheralFixes, PeripheralFixesData, PeripheralHost, PeripheralSends, PeripheralTakes, Shuts, act, after, after_all, beginning, has_passed, host_step, is_near, is_running, is_taken, may}
 use Rattle.joint_controls.specs.Ends.{AreStepsInRange, IsStepInRange}
 use Rattle.joint_controls.proofs.Running.{GoesOn, goes_on}
 use Rattle.joint_parameters.specs.Indications.{changes_taken}
-use Rattle.joint_parameters.specs.Turns.{Alone, AreLinksInRange, Begins, CentralShuts, IsAnswered, IsHeard, IsLinkInRange, IsPaired, IsPairedWith, Link, LinkStep, MayLink, MayLinkAll, MayTransmit, PeripheralShuts, SendsControl, SendsData, SendsEmpty, all_joint_steps, first_link, is_alone, joint_steps, link_after, link_after_all, may_all, next_indication, step_if, takes_item, turn_steps}
+use Rattle.joint_parameters.specs.Turns.{Alone, AreLinksInRange, Begins, CentralShuts, IsAnswered, IsHeard, IsLinkInRange, IsPaired, IsPairedWith, Link, LinkStep, MayLink, MayLinkAll, MayTransmit, PeripheralShuts, SendsControl, SendsData, SendsEmpty, all_joint_steps, first_link, is_alone, joint_steps, link_after, link_after_all, may_all, next_indication, step_if, turn_steps}
 use Rattle.joint_parameters.specs.Views.{View, change_on_air, view}
 use Rattle.joint_parameters.proofs.Hearing.{is_answered, is_heard, meets_rule, near_rule}
 use Rattle.joint_parameters.proofs.Meeting.{Meets}
 use Rattle.joint_parameters.proofs.Pairing.{Leads, Together, after_may, leads_on, leads_one, may_now, sends_control, sends_data_too, sends_empty, together, turn_begins}
-use Rattle.joint_parameters.proofs.Runs.{Facts, Inv, IsReached, after_joined, central_stays, holds_after, host_stays, peripheral_stays, range_joined, reached_facts, reached_next}
+use Rattle.joint_parameters.proofs.Runs.{Facts, Inv, IsReached, central_stays, holds_after, host_stays, peripheral_stays, range_joined, reached_facts, reached_next}
 
 -- ---- the rules on events, by turns
 
@@ -163,9 +162,11 @@ module _ (central_rx peripheral_rx : ℕ) (first : Params) (slot : ℕ) (latency
         }
     goes_by (SendsControl now) may_link =
         record {
-          by_turn =
-              (may_send (next_indication l.joint.central) may_link.0
-              (may_of l.joint.central.control now (is_quiet_now l.joint.central) (f.indicates g.central) l.turns p.central p.sent), tt);
+          by_turn = (
+            may_send (next_indication l.joint.central) may_link.0
+                (may_of l.joint.central.control now (is_quiet_now l.joint.central) (f.indicates g.central) l.turns p.central p.sent),
+            tt,
+          );
           by_both = sends_control l.turns l.joint f running p may_link.0.acknowledged now may_link.1 may_link.2;
         }
     goes_by SendsData may_link =

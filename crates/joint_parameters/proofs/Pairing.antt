@@ -1,25 +1,20 @@
 -- A joint run and the run of both tracks by turns go on together: what a turn and a packet do in both.
-use Rattle.std.proofs.Common.{◌≡◌, ◌⊎◌, inl, inr, ℕ, ◌+◌, ◌≤◌, ◌<◌, ◌==◌, nat_lt, Bool, true, false, not, ◌&&◌, ◌||◌, if◌then◌else◌, List, [], ◌∷◌, ◌++◌, Option, Some, None, IfSome, is_none, is_some, option_map, option_to_list, refl, sym, ap, subst, ◌∙◌, arith}
+use Rattle.std.proofs.Common.{◌≡◌, ℕ, Bool, true, false, not, if◌then◌else◌, List, [], ◌∷◌, ◌++◌, Option, Some, None, is_none, is_some, refl, sym, ap, subst, ◌∙◌}
 use Rattle.std.proofs.lemmas.Bool.{and_from, and_parts}
 use Rattle.ble_base.specs.declared.error_codes.ErrCode.{ErrCode}
 use Rattle.ble_base.specs.declared.roles.Role.TheVariants.{Central, Peripheral}
 use Rattle.data_pdu.specs.declared.ctrl.Ctrl.{Ctrl}
-use Rattle.data_pdu.specs.declared.ctrl.Ctrl.TheVariants.{TerminateInd}
 use Rattle.enc_phase.specs.Phases.{seals}
 use Rattle.instants.specs.declared.indications.Indication.{Indication}
-use Rattle.instants.specs.declared.indications.Params.{Params}
-use Rattle.instants.specs.declared.track.Change.{Change}
-use Rattle.instants.specs.Track.{TrackFacts, event_of, track_after_enter, track_after_take}
+use Rattle.instants.specs.Track.{event_of, track_after_enter}
 use Rattle.procedure_values.specs.Drafts.{ctrl_of_outgoing, indication_of}
 use Rattle.two_tracks.specs.TwoEnds.{LastPdu, Untaken, Acknowledged, TwoEnds, after_indication, after_pdu, after_sending, track_if}
 use Rattle.two_tracks.specs.TwoEnds as two_ends
-use Rattle.two_tracks.specs.Reached.{IsLate, untaken}
-use Rattle.phased_control.specs.Phased.{Phased}
-use Rattle.phased_control.specs.Taken.{Enters, SeesAcknowledged, Sends, phased_after, role_now}
-use Rattle.joint_controls.specs.Joint.{CentralAcked, CentralEnters, CentralHost, CentralSends, CentralSendsData, CentralTakes, Clear, Control as control_item, Data, Fixed, HostStep, Item, Joint, JointStep, OnAir, PeripheralAcked, PeripheralEnters, PeripheralFixes, PeripheralFixesData, PeripheralHost, PeripheralSends, PeripheralTakes, Shuts, Taken, Way, act, after, after_all, central_takes, event_now, has_passed, host_step, instant_now, is_clear, is_data, is_free, is_indication, is_item, is_late, is_near, is_running, is_same_event, is_supervised, is_taken, item_by, item_on_air, last_change, latency_now, may, may_act, may_transmit, next_item, next_out, on_air, peripheral_takes, sends_data, taking}
-use Rattle.joint_controls.proofs.Running.{GoesOn, comes_by, comes_on, goes_on}
-use Rattle.joint_parameters.specs.Indications.{indication_of_item, indication_read}
-use Rattle.joint_parameters.specs.Turns.{IsPairedWith, fits, may_all, next_indication, step_if, takes_item}
+use Rattle.two_tracks.specs.Reached.{untaken}
+use Rattle.phased_control.specs.Taken.{Enters, Sends, phased_after, role_now}
+use Rattle.joint_controls.specs.Joint.{CentralEnters, CentralSends, CentralSendsData, Clear, Control as control_item, Data, Fixed, Item, Joint, JointStep, OnAir, PeripheralEnters, Taken, Way, act, after, after_all, event_now, is_clear, is_free, is_running, item_by, last_change, latency_now, may, may_act, may_transmit, next_item, next_out, on_air, sends_data}
+use Rattle.joint_controls.proofs.Running.{GoesOn, goes_on}
+use Rattle.joint_parameters.specs.Turns.{IsPairedWith, fits, may_all, next_indication, step_if}
 use Rattle.joint_parameters.specs.Views.{View, change_on_air, view}
 use Rattle.joint_parameters.proofs.Ends.{ends_still, enters_one, enters_sent, indication_next, sends_one}
 use Rattle.joint_parameters.proofs.Meeting.{air_if, last_of_more}

@@ -1,5 +1,5 @@
--- The indications of a central as the peripheral of a joint run reads and takes them (Core 5.2, volume 6 part B, sections
--- 2.4.2, 5.1.1, 5.1.2 and 5.5).
+-- The indications of a central as the peripheral of a joint run reads and takes them (Core 5.2, volume 6 part B,
+-- sections 2.4.2, 5.1.1, 5.1.2 and 5.5).
 use Rattle.std.specs.Prelude.{◌≡◌, ℕ, Bool, true, false, List, [], ◌∷◌, ◌++◌, Option, Some, None, option_to_list, ⊤}
 use Rattle.data_pdu.specs.declared.ctrl.Ctrl.{Ctrl}
 use Rattle.data_pdu.specs.declared.ctrl.Ctrl.TheVariants.{ConnectionUpdateInd, ChannelMapInd}

@@ -1,5 +1,5 @@
--- A joint run and the run of both tracks by turns and packets at once: what each turn and each packet is in both, and the
--- rules of a link that are left (our choice of words; Core 5.2, volume 6 part B, sections 4.5.1, 4.5.2, 4.5.9 and 5.5).
+-- A joint run and the run of both tracks by turns and packets at once: what each turn and each packet is in both, and
+-- the rules of a link that are left (our choice of words; Core 5.2, volume 6 part B, sections 4.5.2, 4.5.9 and 5.5).
 use Rattle.std.specs.Prelude.{◌≡◌, ℕ, ◌≤◌, Bool, true, false, not, ◌&&◌, ◌||◌, List, [], ◌∷◌, ◌++◌, Option, Some, None, is_some, if◌then◌else◌, ⊤}
 use Rattle.data_pdu.specs.declared.ctrl.Ctrl.{Ctrl}
 use Rattle.instants.specs.declared.indications.Indication.{Indication}
@@ -32,8 +32,8 @@ pub data LinkStep : Type 0 where
   SendsControl : (slot : ℕ) → LinkStep
   SendsData : LinkStep
   SendsEmpty : LinkStep
-  -- a packet of the central is good at the peripheral, which has room for data or not; the LL_ENC_RSP with which it would
-  -- answer LL_ENC_REQ
+  -- a packet of the central is good at the peripheral, which has room for data or not; with the LL_ENC_RSP with which
+  -- it would answer LL_ENC_REQ
   IsHeard : (room : Bool) → (slot : ℕ) → (response : Ctrl) → LinkStep
   -- the reply to it is good at the central, which has room for data or not
   IsAnswered : (room : Bool) → (slot : ℕ) → LinkStep
@@ -81,7 +81,8 @@ joint_steps (IsHeard room slot response) l =
     step_if (is_taken l.joint.up) PeripheralAcked
     ++ step_if (takes_item room (item_on_air l.joint.down)) (PeripheralTakes slot response)
 joint_steps (IsAnswered room slot) l =
-    step_if (is_taken l.joint.down) CentralAcked ++ step_if (takes_item room (item_on_air l.joint.up)) (CentralTakes slot)
+    step_if (is_taken l.joint.down) CentralAcked
+    ++ step_if (takes_item room (item_on_air l.joint.up)) (CentralTakes slot)
 joint_steps (Alone step) l = step ∷ []
 joint_steps CentralShuts l = Shuts ∷ []
 joint_steps PeripheralShuts l = Shuts ∷ []

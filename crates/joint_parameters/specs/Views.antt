@@ -1,5 +1,5 @@
--- What the parameters of both ends see of a joint run: the tracks, the indications that the central sent, and its last PDU
--- (our choice).
+-- What the parameters of both ends see of a joint run: the tracks, the indications that the central sent, and its last
+-- PDU (our choice).
 use Rattle.std.specs.Prelude.{◌≡◌, List, Option, None, if◌then◌else◌}
 use Rattle.instants.specs.declared.track.Change.{Change}
 use Rattle.instants.specs.Track.{TrackFacts}
