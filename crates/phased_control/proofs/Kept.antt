@@ -191,7 +191,7 @@ is_some_in (Known ctrl) is = refl
 is_some_in (Unknown opcode) is = absurd (cc)
 is_some_in Bare is = absurd (cc)
 
-apart : {X : Type 0} → ◌≡◌ {A = Role} Central Peripheral → X
+pub apart : {X : Type 0} → ◌≡◌ {A = Role} Central Peripheral → X
 apart is = absurd (cc)
 
 -- ---- a PDU is answered
@@ -260,7 +260,7 @@ module _ (role : Role) where
         asked_at = tied.asked_at;
       }
 
-  role_owed : (owed : Option Ctrl) (c : Control) → role_of c.table.progress ≡ role → role_of (after_all (owed_steps owed) c).table.progress ≡ role
+  pub role_owed : (owed : Option Ctrl) (c : Control) → role_of c.table.progress ≡ role → role_of (after_all (owed_steps owed) c).table.progress ≡ role
   role_owed None c is = is
   role_owed (Some ctrl) c is = same_role role (Owes ctrl) c is
 

@@ -126,7 +126,7 @@ data_moves s = by (allows s.phase (role_now s) Data)
 
 -- ---- every step
 
-open_moves : (step : PhasedStep) (s : Phased)
+pub open_moves : (step : PhasedStep) (s : Phased)
     → (phased_moved step s).control ≡ ended_if (end_by_phase step s) (after_all (control_steps step s) s.control)
 open_moves (Enters slot) s =
     enters_with (is_encrypt (begin_step (table_entered s) slot (is_quiet_now s)).1) (request_of (ask_begun (table_entered s) (is_quiet_now s)))
@@ -157,7 +157,7 @@ moves_by_steps step s lasts =
 none_now : (step : PhasedStep) (s : Phased) (code : ErrCode) → s.control.ends ≡ Some code → steps_now step s ≡ []
 none_now step s code is = subst (λ (ends : Option ErrCode). (if is_none ends then control_steps step s else []) ≡ []) (sym is) refl
 
-same_after : (step : PhasedStep) (s : Phased) (code : ErrCode) → s.control.ends ≡ Some code → phased_after step s ≡ s
+pub same_after : (step : PhasedStep) (s : Phased) (code : ErrCode) → s.control.ends ≡ Some code → phased_after step s ≡ s
 same_after step s code is = subst (λ (ends : Option ErrCode). (if is_none ends then phased_moved step s else s) ≡ s) (sym is) refl
 
 none_after_end : (steps : List PhasedStep) (s : Phased) (code : ErrCode) → s.control.ends ≡ Some code → all_control_steps steps s ≡ []

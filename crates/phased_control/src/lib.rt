@@ -5,5 +5,13 @@
 mod laws;
 mod rows;
 
-pub use crate::laws::{a_phase_says_whether_a_pdu_is_kept, an_end_moves_by_control_steps};
-pub use crate::rows::{a_start_is_secure, a_start_without_a_key_is_clear};
+pub use crate::laws::{
+    a_central_has_the_request_of_its_encryption, a_central_only_encrypts_outside_clear_and_secure,
+    a_phase_says_whether_a_pdu_is_kept, an_end_moves_by_control_steps, calls_of_an_end_may_come,
+    each_change_of_a_phase_owes_its_pdu, encryption_runs_outside_clear_and_secure,
+    few_pdus_of_the_encryption_wait,
+};
+pub use crate::rows::{
+    a_peer_that_answers_too_early_breaks_the_rules, a_peer_that_goes_on_too_early_lets_three_wait,
+    a_start_is_secure, a_start_without_a_key_is_clear, another_answer_leaves_the_phase_alone,
+};
