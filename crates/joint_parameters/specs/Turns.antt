@@ -142,9 +142,10 @@ MayLinkAll [] l = ⊤
 MayLinkAll (step ∷ steps) l =
     (is_running l.joint ≡ true) × MayLink step l × MayLinkAll steps (link_after step l)
 
--- what the hosts ask is in its range
+-- what the hosts ask is in its range, and so is what a peripheral would answer
 abbrev pub IsLinkInRange : LinkStep → Type 0
 IsLinkInRange (Alone step) = IsStepInRange step
+IsLinkInRange (IsHeard room slot response) = IsStepInRange (PeripheralTakes slot response)
 IsLinkInRange step = ⊤
 
 abbrev pub AreLinksInRange : List LinkStep → Type 0

@@ -1,6 +1,6 @@
 //! The laws of the parameters in a joint run. The bodies do nothing: the contracts are the laws. In
-//! all of them the link begins with a latency of at most 499 events, and what the hosts ask is in
-//! its range (Core 5.2, volume 6 part B, section 4.5.1).
+//! all of them the link begins with a latency of at most 499 events, and what the hosts ask and the
+//! peripheral answers is in its range (Core 5.2, volume 6 part B, section 4.5.1).
 ghost use Rattle.std.specs.Prelude.{◌≡◌, ◌≤◌, ◌<◌, ◌++◌, ℕ, List, Some, None, true, false};
 ghost use Rattle.std.specs.Prelude.{is_none, option_map, option_to_list, take};
 ghost use Rattle.std.specs.List.{All};
