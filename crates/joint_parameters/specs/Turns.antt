@@ -55,6 +55,7 @@ takes_item room None = false
 takes_item room (Some Data) = room
 takes_item room (Some (Control outgoing ctrl)) = true
 
+-- a control PDU finds room always
 abbrev pub turn_steps : LinkStep → Link → List Step
 turn_steps (Begins slot) l = TurnBegins ∷ []
 turn_steps (SendsControl slot) l = two_ends.CentralSends (next_indication l.joint.central) ∷ []
