@@ -21,10 +21,10 @@ use Rattle.joint_controls.specs.Ends.{AreStepsInRange, steps_of_central}
 use Rattle.joint_controls.proofs.ControlRuns.{peripheral_awaits}
 use Rattle.joint_controls.proofs.EndSteps.{central_runs}
 use Rattle.joint_controls.proofs.Running.{GoesOn, comes_on, goes_on}
-use Rattle.joint_parameters.specs.Indications.{AreAllButLast, LetsItemIn, changes_taken, indication_of_item, indication_read}
+use Rattle.joint_parameters.specs.Indications.{AreAllButLast, EndsLate, changes_taken, indication_of_item, indication_read}
 use Rattle.joint_parameters.specs.Views.{view}
 use Rattle.joint_parameters.proofs.Codes.{central_other}
-use Rattle.joint_parameters.proofs.Ends.{indication_next, lets_one}
+use Rattle.joint_parameters.proofs.Ends.{indication_next, late_one}
 use Rattle.joint_parameters.proofs.Meeting.{IsComing, Known, MayTake, Meets, same, test}
 use Rattle.joint_parameters.proofs.Outcomes.{IsOther}
 use Rattle.joint_parameters.proofs.Runs.{Facts, Inv, facts_of, holds_after, may_take_of, nothing_waits, some_indication, taken_as}
@@ -192,19 +192,16 @@ module _ (central_rx peripheral_rx : ℕ) (first : Params) (slot : ℕ) (steps :
     pub only_in_time : (after (PeripheralTakes now response) s).peripheral.control.ends ≡ None → is_late s ≡ false
     only_in_time lasts = (went_in_time lasts).not_late
 
-    late_ends : is_late s ≡ true → (item : Item) (sealed : Bool) → s.down ≡ OnAir item sealed → LetsItemIn now (Some item) s.peripheral
-        → (peripheral_takes (OnAir item sealed) now response s).peripheral.control.ends ≡ Some (record { 0 = instant_passed })
-    late_ends late Data sealed on lets = absurd (let reads = reads_as Data sealed on in cc)
-    late_ends late (control_item outgoing ctrl) sealed on lets =
-        lets_one s.peripheral goes.peripheral facts.peripheral facts.kept now response ctrl lets
+    late_ends : is_late s ≡ true → (item : Item) (sealed : Bool) → s.down ≡ OnAir item sealed
+        → EndsLate (peripheral_takes (OnAir item sealed) now response s).peripheral.control.ends
+    late_ends late Data sealed on = absurd (let reads = reads_as Data sealed on in cc)
+    late_ends late (control_item outgoing ctrl) sealed on =
+        late_one s.peripheral goes.peripheral facts.peripheral facts.kept now response ctrl
         (subst (λ (i : Option Indication). is_over s.peripheral.control.track i ≡ true) (sym (reads_as (control_item outgoing ctrl) sealed on))
         (test_is_late ∙ late))
 
-    pub late_ends_link : is_late s ≡ true → LetsItemIn now (item_on_air s.down) s.peripheral
-        → (after (PeripheralTakes now response) s).peripheral.control.ends ≡ Some (record { 0 = instant_passed })
-    late_ends_link late lets =
-        then_next (λ t. t.peripheral.control.ends ≡ Some (record { 0 = instant_passed }))
-        (λ item sealed on. late_ends late item sealed on (subst (λ (way : Way). LetsItemIn now (item_on_air way) s.peripheral) on lets))
+    pub late_ends_link : is_late s ≡ true → EndsLate (after (PeripheralTakes now response) s).peripheral.control.ends
+    late_ends_link late = then_next (λ t. EndsLate t.peripheral.control.ends) (λ item sealed on. late_ends late item sealed on)
 
   -- ---- the code of an instant that has passed
 

@@ -1,7 +1,7 @@
 -- How the steps of an end move its track, what it sent, and the end of its link.
-use Rattle.std.proofs.Common.{◌≡◌, inl, inr, ℕ, Bool, true, false, not, ◌&&◌, if◌then◌else◌, List, [], ◌∷◌, ◌++◌, Option, Some, None, is_none, refl, sym, ap, subst, ◌∙◌}
+use Rattle.std.proofs.Common.{nat_le, ◌≡◌, inl, inr, ℕ, Bool, true, false, not, ◌&&◌, if◌then◌else◌, List, [], ◌∷◌, ◌++◌, Option, Some, None, is_none, refl, sym, ap, subst, ◌∙◌}
 use Rattle.std.specs.Prelude.{⊤}
-use Rattle.ble_base.specs.ErrorCodes.{instant_passed, memory_capacity_exceeded, mic_failure}
+use Rattle.ble_base.specs.ErrorCodes.{memory_capacity_exceeded, mic_failure}
 use Rattle.ble_base.specs.declared.error_codes.ErrCode.{ErrCode}
 use Rattle.ble_base.specs.declared.roles.Role.{Role}
 use Rattle.ble_base.specs.declared.roles.Role.TheVariants.{Central, Peripheral}
@@ -21,6 +21,7 @@ use Rattle.procedure_values.specs.Drafts.{is_out}
 use Rattle.procedure_stages.specs.Closing.{is_open}
 use Rattle.procedure_stages.specs.InProgress.{is_host_asked}
 use Rattle.procedure_stages.specs.Kinds.{role_of}
+use Rattle.procedure_stages.specs.Queue.{waiting_in}
 use Rattle.procedures.specs.Going.{is_answer}
 use Rattle.procedures.specs.Table.{TableFacts}
 use Rattle.two_tracks.specs.TwoEnds.{TwoEnds, after_sending}
@@ -28,14 +29,14 @@ use Rattle.control_model.specs.Control.{Control, Step, after, after_all, followi
 use Rattle.control_model.specs.Control.{Answers as control_answers, Asks as control_asks, Disconnects as control_disconnects, Enters as control_enters, Owes, SeesAcknowledged as control_sees_acknowledged, Sends as control_sends, Takes as control_takes}
 use Rattle.control_model.proofs.Calls.{any_step, either_way}
 use Rattle.control_model.proofs.Moving.{central_takes, enters_track, peripheral_sends, sends_all, sends_track, table_alone}
-use Rattle.phased_control.specs.Phased.{Phased, is_quiet_now}
-use Rattle.phased_control.specs.Taken.{PhasedStep, Answers, Asks, Disconnects, Enters, GivesKey, LacksKey, SeesAcknowledged, Sends, Takes, TakesData, class_of_read, ciphered, does_keep, is_allowed, keeps_class, lacks_room_now, phased_after, role_now, seen_as, seen_if}
+use Rattle.phased_control.specs.Phased.{is_open_now, Phased, is_quiet_now}
+use Rattle.phased_control.specs.Taken.{is_answered_at, PhasedStep, Answers, Asks, Disconnects, Enters, GivesKey, LacksKey, SeesAcknowledged, Sends, Takes, TakesData, class_of_read, ciphered, does_keep, is_allowed, keeps_class, lacks_room_now, phased_after, role_now, seen_as, seen_if}
 use Rattle.phased_control.specs.Steps.{code_if, control_steps, end_by_phase, ended_if, kept_steps, later_steps, owed_entering, owed_for, owed_steps, seen}
 use Rattle.phased_control.proofs.Moving.{moves_by_steps}
 use Rattle.phased_control.proofs.Tables.{same_role}
-use Rattle.joint_parameters.specs.Indications.{LetsIn, indication_in}
+use Rattle.joint_parameters.specs.Indications.{EndsLate, indication_in}
 use Rattle.joint_parameters.proofs.Outcomes.{indication_by}
-use Rattle.joint_parameters.proofs.Taking.{TakenAs, is_over, lets_end, takes_as}
+use Rattle.joint_parameters.proofs.Taking.{TakenAs, is_over, late_end, takes_as}
 
 -- ---- steps that leave the track
 
@@ -380,34 +381,48 @@ module _ (s : Phased) (lasts : s.control.ends ≡ None) (at : role_now s ≡ Per
       by true = inr (record { lasts = lasts; track = refl; in_time = refl })
       by false = inl (record { code = record { 0 = mic_failure }; is = refl; track = refl; over = λ h. absurd (cc) })
 
-  -- ---- where the phase, the queue and the table let the PDU in, an instant that has passed ends the link
+  -- ---- an instant that has passed ends the link
 
   seen_itself : (ctrl : Ctrl) → is_over s.control.track (indication_in ctrl) ≡ true → seen_as (Known ctrl) s ≡ Known ctrl
   seen_itself (ConnectionUpdateInd win_size win_offset interval latency timeout instant) over = rw (never_unknown s.phase (role_now s)) refl
   seen_itself (ChannelMapInd map instant) over = rw (never_unknown s.phase (role_now s)) refl
   seen_itself other over = absurd (cc)
 
-  pub lets_one : (slot : ℕ) (response ctrl : Ctrl) → LetsIn slot ctrl s → is_over s.control.track (indication_in ctrl) ≡ true
-      → (phased_after (Takes (Known ctrl) slot response) s).control.ends ≡ Some (record { 0 = instant_passed })
-  lets_one slot response ctrl lets over =
-      subst (λ (c : Control). c.ends ≡ Some (record { 0 = instant_passed })) (sym (moves_by_steps (Takes (Known ctrl) slot response) s lasts))
-      (by (is_allowed (Known ctrl) s) (does_keep (Known ctrl) s) (lacks_room_now (Known ctrl) s) lets.phase
-      (not_kept (class_of_read (Known ctrl)) (role_now s) (is_quiet_now s) at) lets.room)
+  -- no answer is owed for an indication
+  no_answer : (ctrl : Ctrl) (role : Role) (phase : PhaseFacts) → is_over s.control.track (indication_in ctrl) ≡ true → is_answered_at role ctrl phase ≡ false
+  no_answer (ConnectionUpdateInd win_size win_offset interval latency timeout instant) Central phase over = refl
+  no_answer (ConnectionUpdateInd win_size win_offset interval latency timeout instant) Peripheral phase over = refl
+  no_answer (ChannelMapInd map instant) Central phase over = refl
+  no_answer (ChannelMapInd map instant) Peripheral phase over = refl
+  no_answer other role phase over = absurd (cc)
+
+  and_no : (a b : Bool) → (a && (b && false)) ≡ false
+  and_no true true = refl
+  and_no true false = refl
+  and_no false b = refl
+
+  has_room : (ctrl : Ctrl) → is_over s.control.track (indication_in ctrl) ≡ true → lacks_room_now (Known ctrl) s ≡ false
+  has_room ctrl over =
+      ap (λ (b : Bool). is_open_now s && (nat_le 16 (waiting_in s.control.table.queue) && b)) (no_answer ctrl (role_now s) s.phase over)
+      ∙ and_no (is_open_now s) (nat_le 16 (waiting_in s.control.table.queue))
+
+  pub late_one : (slot : ℕ) (response ctrl : Ctrl) → is_over s.control.track (indication_in ctrl) ≡ true
+      → EndsLate (phased_after (Takes (Known ctrl) slot response) s).control.ends
+  late_one slot response ctrl over =
+      subst (λ (c : Control). EndsLate c.ends) (sym (moves_by_steps (Takes (Known ctrl) slot response) s lasts))
+      (by (is_allowed (Known ctrl) s) (does_keep (Known ctrl) s) (lacks_room_now (Known ctrl) s)
+      (not_kept (class_of_read (Known ctrl)) (role_now s) (is_quiet_now s) at) (has_room ctrl over))
     where
-      same : seen_as (Known ctrl) s ≡ Known ctrl
-      same = seen_itself ctrl over
-
-      here : (after (control_takes (seen_as (Known ctrl) s) slot (is_quiet_now s)) s.control).ends ≡ Some (record { 0 = instant_passed })
+      here : EndsLate (after (control_takes (seen_as (Known ctrl) s) slot (is_quiet_now s)) s.control).ends
       here =
-          subst (λ (read : CtrlRead). (after (control_takes read slot (is_quiet_now s)) s.control).ends ≡ Some (record { 0 = instant_passed })) (sym same)
-          (lets_end s.control (Known ctrl) slot (is_quiet_now s) lasts lets.table
-          (subst (λ (role : Role). is_over s.control.track (indication_by role (Known ctrl)) ≡ true) (sym at) over))
+          subst (λ (read : CtrlRead). EndsLate (after (control_takes read slot (is_quiet_now s)) s.control).ends) (sym (seen_itself ctrl over))
+          (late_end s.control ctrl slot (is_quiet_now s) lasts at over)
 
-      by : (allowed keeps full : Bool) → allowed ≡ true → keeps ≡ false → full ≡ false
-          → (ended_if (if allowed then (if keeps then None else code_if full memory_capacity_exceeded) else Some (record { 0 = mic_failure }))
+      by : (allowed keeps full : Bool) → keeps ≡ false → full ≡ false
+          → EndsLate (ended_if (if allowed then (if keeps then None else code_if full memory_capacity_exceeded) else Some (record { 0 = mic_failure }))
           (after_all (if allowed then (if keeps then [] else (if full then [] else control_takes (seen_as (Known ctrl) s) slot (is_quiet_now s)
-          ∷ rest slot response (Known ctrl))) else []) s.control)).ends ≡ Some (record { 0 = instant_passed })
-      by false keeps full is1 is2 is3 = absurd (cc)
-      by true true full is1 is2 is3 = absurd (cc)
-      by true false true is1 is2 is3 = absurd (cc)
-      by true false false is1 is2 is3 = rest_ends slot response (Known ctrl) ∙ here
+          ∷ rest slot response (Known ctrl))) else []) s.control)).ends
+      by false keeps full is2 is3 = inr (inl refl)
+      by true true full is2 is3 = absurd (cc)
+      by true false true is2 is3 = absurd (cc)
+      by true false false is2 is3 = subst EndsLate (sym (rest_ends slot response (Known ctrl))) here

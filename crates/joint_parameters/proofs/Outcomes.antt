@@ -1,5 +1,5 @@
 -- What a control PDU of the peer does at an end, as an indication, as the end of the link and as an answer, by PDU.
-use Rattle.std.proofs.Common.{◌≡◌, ℕ, Bool, true, false, ◌||◌, ◌==◌, if◌then◌else◌, Option, Some, None, is_none, is_some, refl}
+use Rattle.std.proofs.Common.{inl, inr, ◌≡◌, ℕ, Bool, true, false, ◌||◌, ◌==◌, if◌then◌else◌, Option, Some, None, is_none, is_some, refl}
 use Rattle.std.specs.Prelude.{⊤}
 use Rattle.ble_base.specs.ErrorCodes.{instant_passed}
 use Rattle.ble_base.specs.declared.error_codes.ErrCode.{ErrCode}
@@ -43,7 +43,10 @@ use Rattle.procedures.specs.Table.{TableFacts}
 use Rattle.procedures.specs.Taking.{outcome_of, taken_by, taken_by_central, taken_by_either, taken_by_peripheral}
 use Rattle.procedures.specs.Update.{follow, update_taken}
 use Rattle.procedures.specs.Version.{version_reply, version_taken}
+use Rattle.procedure_stages.specs.Queue.{has_reply}
+use Rattle.procedure_stages.specs.Steps.{asks_host}
 use Rattle.control_model.specs.Control.{indicated_by}
+use Rattle.control_model.specs.Waits.{EndsByCollision}
 use Rattle.joint_parameters.specs.Indications.{indication_in}
 
 -- a PDU of the encryption that waits is no indication
@@ -248,3 +251,67 @@ module _ (f : TableFacts) where
   reads quiet (Known ctrl) = by_progress f.progress quiet ctrl
   reads quiet (Unknown opcode) = plain _ refl refl refl
   reads quiet Bare = nothing f.progress
+
+-- ---- an indication at a peripheral: it needs no room, and only a collision ends the link
+
+abbrev pub IsCollision : Option ErrCode → Type 0
+IsCollision None = ⊤
+IsCollision (Some code) = EndsByCollision (Some code)
+
+pub record IsDirect (o : Outcome) : Type 0 where
+  pub ends : IsCollision o.step.ends
+  pub room : (has_reply o.reply || asks_host o.step.effect) ≡ false
+
+module _ (f : TableFacts) where
+  ended_direct : (p : Progress) (code : ErrCode) → EndsByCollision (Some code) → IsDirect (ended (at f p) code)
+  ended_direct p code is = record { ends = is; room = refl }
+
+  either_direct : (b : Bool) (x y : Outcome) → IsDirect x → IsDirect y → IsDirect (if b then x else y)
+  either_direct true x y hx hy = hx
+  either_direct false x y hx hy = hy
+
+  follow_direct : (p : Peripheral) (ahead new : Ahead) (o : Outcome) → IsDirect o → IsDirect (follow (at f (peripheral p)) ahead new o)
+  follow_direct p Nothing new o h = h
+  follow_direct p update_ahead update_ahead o h = ended_direct (peripheral p) _ (inl refl)
+  follow_direct p update_ahead other o h = ended_direct (peripheral p) _ (inr refl)
+  follow_direct p map_ahead map_ahead o h = ended_direct (peripheral p) _ (inl refl)
+  follow_direct p map_ahead other o h = ended_direct (peripheral p) _ (inr refl)
+
+  code_collides : (b : Bool) → IsCollision (Some (if b then record { 0 = 0x23 } else record { 0 = 0x2A }))
+  code_collides true = inl refl
+  code_collides false = inr refl
+
+  if_collides : (b : Bool) (p q : Kind) → IsCollision (if b then Some (collision_code p q) else None)
+  if_collides true p q = code_collides (is_same_kind p q)
+  if_collides false p q = tt
+
+  is_collision : (own : Option Kind) (q : Kind) → IsCollision (collision own q)
+  is_collision None q = tt
+  is_collision (Some p) q = if_collides (are_incompatible p q) p q
+
+  grant_direct : (p : Peripheral) (kind : Kind) (o : Outcome) → IsDirect o → IsDirect (after_grant (at f (peripheral p)) p kind o)
+  grant_direct p kind o h =
+      either_direct (central_answered (peripheral_stage p.own)) _ _
+      (by (collision (kind_at_peripheral p.own) kind) (is_collision (kind_at_peripheral p.own) kind)) h
+    where
+      by : (code : Option ErrCode) → IsCollision code → IsDirect (outlived (at f (peripheral p)) code o)
+      by None is = h
+      by (Some code) is = ended_direct (peripheral p) code is
+
+  peripheral_direct : (p : Peripheral) (quiet : Bool) (ctrl : Ctrl) → is_some (indication_in ctrl) ≡ true
+      → IsDirect (taken_by_peripheral (at f (peripheral p)) p quiet ctrl)
+  peripheral_direct p quiet (ConnectionUpdateInd win_size win_offset interval latency timeout instant) is =
+      follow_direct p p.ahead update_ahead _
+      (either_direct (reads_as_answer (peripheral_stage p.own)) _ _ (record { ends = tt; room = refl }) (record { ends = tt; room = refl }))
+  peripheral_direct p quiet (ChannelMapInd map instant) is =
+      grant_direct p map_kind _ (follow_direct p p.ahead map_ahead _ (record { ends = tt; room = refl }))
+  peripheral_direct p quiet other is = absurd (cc)
+
+  progress_direct : (p : Progress) (quiet : Bool) (ctrl : Ctrl) → role_of p ≡ peripheral_role → is_some (indication_in ctrl) ≡ true
+      → IsDirect (taken_by p (at f p) quiet ctrl)
+  progress_direct (central c) quiet ctrl role is = absurd (cc)
+  progress_direct (peripheral p) quiet ctrl role is = peripheral_direct p quiet ctrl is
+
+  pub direct : (quiet : Bool) (ctrl : Ctrl) → role_of f.progress ≡ peripheral_role → is_some (indication_in ctrl) ≡ true
+      → IsDirect (outcome_of f quiet (Known ctrl))
+  direct quiet ctrl role is = progress_direct f.progress quiet ctrl role is

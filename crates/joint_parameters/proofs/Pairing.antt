@@ -163,8 +163,8 @@ module _ (t : TwoEnds) (s : Joint) (f : Facts s) (running : is_running s ≡ tru
   clear : is_clear s.down ≡ true
   clear = clear_there t.last s.down last p.way
 
-  abbrev sealed : Bool
-  sealed = seals Central s.central.phase
+  abbrev seals_now : Bool
+  seals_now = seals Central s.central.phase
 
   -- data, or an empty PDU
   pub sends_plain : (way : Way) (u : Joint) (steps : List JointStep) → Leads steps s u → view u ≡ record (view s) { down = way }
@@ -192,7 +192,7 @@ module _ (t : TwoEnds) (s : Joint) (f : Facts s) (running : is_running s ≡ tru
 
   pub sends_data_too : is_free s.up ≡ true → sends_data s.central ≡ true → Together (CentralSendsData ∷ []) (after_sending None t) s
   sends_data_too free sends =
-      sends_plain (OnAir Data sealed) (act CentralSendsData s) (CentralSendsData ∷ [])
+      sends_plain (OnAir Data seals_now) (act CentralSendsData s) (CentralSendsData ∷ [])
       (leads_one CentralSendsData s (may_now CentralSendsData s running (and_from (may_transmit s.down s.up) _ (and_from (is_clear s.down) _ clear free) sends)))
       refl refl refl
 
@@ -202,7 +202,7 @@ module _ (t : TwoEnds) (s : Joint) (f : Facts s) (running : is_running s ≡ tru
     item = control_item (next_out s.central) ctrl
 
     abbrev sent_then : Joint
-    sent_then = record s { central = phased_after (Sends slot) s.central; down = OnAir item sealed }
+    sent_then = record s { central = phased_after (Sends slot) s.central; down = OnAir item seals_now }
 
     goes : GoesOn s
     goes = goes_on s running
@@ -243,7 +243,7 @@ module _ (t : TwoEnds) (s : Joint) (f : Facts s) (running : is_running s ≡ tru
         }
 
   abbrev then_sent : (slot : ℕ) → Option Ctrl → Joint
-  then_sent slot o = record s { central = phased_after (Sends slot) s.central; down = on_air (item_by (next_out s.central) o) sealed }
+  then_sent slot o = record s { central = phased_after (Sends slot) s.central; down = on_air (item_by (next_out s.central) o) seals_now }
 
   goes_by : (slot : ℕ) (o : Option Ctrl) → is_some (item_by (next_out s.central) o) ≡ true
       → IsPairedWith (after_sending (next_indication s.central) t) (view (then_sent slot o))

@@ -200,12 +200,12 @@ module _ (first : Params) (slot : ℕ) where
     abbrev latency : ℕ
     latency = latency_now s.central
 
-    abbrev sealed : Bool
-    sealed = seals Central s.central.phase
+    abbrev seals_now : Bool
+    seals_now = seals Central s.central.phase
 
     abbrev sends_with : (now : ℕ) → Option Ctrl → Joint
     sends_with now o =
-        record s { central = phased_after (Sends now) s.central; down = on_air (item_by (next_out s.central) o) sealed }
+        record s { central = phased_after (Sends now) s.central; down = on_air (item_by (next_out s.central) o) seals_now }
 
     may_indicate : MayIndicateIf ends_of (indication_next s.central)
     may_indicate = may_of s.central.control 0 (is_quiet_now s.central) (f.indicates g.central) ends_of refl refl
@@ -215,17 +215,17 @@ module _ (first : Params) (slot : ℕ) where
 
     sends_view : (now : ℕ) (ctrl : Ctrl)
         → view (sends_with now (Some ctrl))
-        ≡ view_of (OnAir (control_item (next_out s.central) ctrl) sealed) (two_ends.after_sending (indication_next s.central) ends_of).sent
+        ≡ view_of (OnAir (control_item (next_out s.central) ctrl) seals_now) (two_ends.after_sending (indication_next s.central) ends_of).sent
         (two_ends.after_sending (indication_next s.central) ends_of).central s.peripheral.control.track
     sends_view now ctrl =
         let one = sends_one s.central now ends_of g.central f.central.role refl refl in
-        λ i. view_of (OnAir (control_item (next_out s.central) ctrl) sealed) (one.1 i) (one.0 i) s.peripheral.control.track
+        λ i. view_of (OnAir (control_item (next_out s.central) ctrl) seals_now) (one.1 i) (one.0 i) s.peripheral.control.track
 
     sends_by : (now : ℕ) (ctrl : Ctrl) (o : Option Indication) → indication_next s.central ≡ o → ctrl_of_outgoing (next_out s.central) event latency ≡ Some ctrl
         → is_clear s.down ≡ true → Next taken s (sends_with now (Some ctrl))
     sends_by now ctrl None none is clear =
         let t = sends_with now (Some ctrl) in
-        let way = OnAir (control_item (next_out s.central) ctrl) sealed in
+        let way = OnAir (control_item (next_out s.central) ctrl) seals_now in
         way_changes taken s t way
         (sends_view now ctrl
         ∙ ap (λ (o : Option Indication). view_of way (two_ends.after_sending o ends_of).sent (two_ends.after_sending o ends_of).central s.peripheral.control.track) none)
@@ -235,19 +235,19 @@ module _ (first : Params) (slot : ℕ) where
     sends_by now ctrl (Some indication) some is clear =
         let t = sends_with now (Some ctrl) in
         let item = control_item (next_out s.central) ctrl in
-        let way = OnAir item sealed in
+        let way = OnAir item seals_now in
         let none = none_clear s.down s.central.control.sent clear in
         let all : s.central.control.sent ≡ taken =
         subst (λ (o : Option Change). s.central.control.sent ≡ taken ++ option_to_list o) none m.all ∙ append-nil taken in
         let own : MayIndicate ends_of indication = subst (MayIndicateIf ends_of) some may_indicate in
-        stays_at taken s t (with_indication first slot taken (view s) indication item sealed)
+        stays_at taken s t (with_indication first slot taken (view s) indication item seals_now)
         (sends_view now ctrl
         ∙ ap (λ (o : Option Indication). view_of way (two_ends.after_sending o ends_of).sent (two_ends.after_sending o ends_of).central s.peripheral.control.track) some)
         (none_new (waiting s))
         (record {
-          known = sends_known first slot taken (view s) indication item sealed all own.over own.ahead k;
+          known = sends_known first slot taken (view s) indication item seals_now all own.over own.ahead k;
           meets =
-              λ running. sends_meets first slot taken (view s) indication item sealed all own.over own.ahead own.near
+              λ running. sends_meets first slot taken (view s) indication item seals_now all own.over own.ahead own.near
               (some_indication (next_out s.central) event latency ∙ ap (λ (o : Option Indication). is_some o) some)
               (out_read (next_out s.central) event latency ctrl out_plain is ∙ some);
         })

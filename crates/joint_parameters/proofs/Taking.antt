@@ -1,17 +1,24 @@
 -- A control PDU of the peer is taken: what becomes of the track, and with which code the link ends.
-use Rattle.std.proofs.Common.{◌≡◌, ◌⊎◌, inl, inr, ℕ, ◌==◌, Bool, true, false, not, if◌then◌else◌, Option, Some, None, refl, sym, ap, ◌∙◌}
+use Rattle.std.proofs.Common.{◌&&◌, nat_le, is_some, ◌≡◌, ◌⊎◌, inl, inr, ℕ, ◌==◌, Bool, true, false, not, if◌then◌else◌, Option, Some, None, refl, ap, ◌∙◌}
 use Rattle.ble_base.specs.ErrorCodes.{instant_passed}
 use Rattle.ble_base.specs.declared.error_codes.ErrCode.{ErrCode}
+use Rattle.ble_base.specs.declared.roles.Role.{Role}
+use Rattle.ble_base.specs.declared.roles.Role.TheVariants.{Peripheral}
+use Rattle.data_pdu.specs.declared.ctrl.Ctrl.{Ctrl}
 use Rattle.data_pdu.specs.declared.ctrl.CtrlRead.{CtrlRead}
+use Rattle.data_pdu.specs.declared.ctrl.CtrlRead.TheVariants.{Known}
+use Rattle.procedure_stages.specs.Closing.{is_open}
+use Rattle.procedure_stages.specs.Queue.{waiting_in}
 use Rattle.instants.specs.declared.indications.Indication.{Indication}
 use Rattle.instants.specs.Track.{TrackFacts, track_after_take}
 use Rattle.procedure_stages.specs.declared.steps.Step.{Step as TableStep}
 use Rattle.procedure_stages.specs.Kinds.{role_of}
 use Rattle.procedures.specs.Table.{TableFacts}
-use Rattle.procedures.specs.Taking.{facts_with, lacks_room, outcome_of, took_step}
+use Rattle.procedures.specs.Taking.{facts_with, lacks_room, outcome_of}
 use Rattle.control_model.specs.Control.{Control, Takes, after, ended, indicated_by, is_to_come, taken, took}
 use Rattle.control_model.proofs.Calls.{open_step, settled_as, taken_by_step}
-use Rattle.joint_parameters.proofs.Outcomes.{IsOther, indication_by, reads}
+use Rattle.joint_parameters.specs.Indications.{EndsLate, indication_in}
+use Rattle.joint_parameters.proofs.Outcomes.{IsCollision, IsOther, direct, indication_by, reads}
 
 -- an indication is read as one whose instant has passed
 abbrev pub is_over : TrackFacts → Option Indication → Bool
@@ -73,30 +80,41 @@ pub takes_as : (c : Control) (read : CtrlRead) (slot : ℕ) (quiet : Bool) → c
 takes_as c read slot quiet lasts =
     open_step (TakenAs (indication_by (role_of c.table.progress) read) c) (Takes read slot quiet) c lasts (took_as c read slot quiet lasts)
 
--- ---- the table lets it in: it ends the link only for an instant that has passed
+-- ---- an instant that has passed ends the link, unless a collision does
 
-in_by : (i : Option Indication) (c : Control) (full : Bool) (ends : Option ErrCode) (g : TableFacts) (step : TableStep) → c.ends ≡ None → step.ends ≡ ends
-    → (ends ≡ None → indicated_by step.effect ≡ i) → (settled_as full ends c.table g step).1.ends ≡ None → is_over c.track i ≡ true
-    → (taken_by_step (settled_as full ends c.table g step) c).ends ≡ Some (record { 0 = instant_passed })
-in_by i c true ends g step lasts is hands lets over = absurd (cc)
-in_by i c false (Some code) g step lasts is hands lets over = absurd (let both : ◌≡◌ {A = Option ErrCode} (Some code) None = sym is ∙ lets in cc)
-in_by i c false None g step lasts is hands lets over = rw (is, hands refl) (by i over)
+late_by : (i : Option Indication) (c : Control) (full : Bool) (ends : Option ErrCode) (g : TableFacts) (step : TableStep) → c.ends ≡ None → step.ends ≡ ends
+    → full ≡ false → IsCollision ends → (ends ≡ None → indicated_by step.effect ≡ i) → is_over c.track i ≡ true
+    → EndsLate (taken_by_step (settled_as full ends c.table g step) c).ends
+late_by i c true ends g step lasts is room collides hands over = absurd (cc)
+late_by i c false (Some code) g step lasts is room collides hands over = rw is (inr (inr collides))
+late_by i c false None g step lasts is room collides hands over = rw (is, hands refl) (by i over)
   where
-    by : (i : Option Indication) → is_over c.track i ≡ true → (taken g None i c).ends ≡ Some (record { 0 = instant_passed })
+    by : (i : Option Indication) → is_over c.track i ≡ true → EndsLate (taken g None i c).ends
     by None h = absurd (cc)
     by (Some indication) h = by_test (is_to_come c.track indication) h
       where
         by_test : (b : Bool) → not b ≡ true
-            → (if b then record c { table = g; track = track_after_take c.track indication } else ended (record { 0 = instant_passed }) c).ends
-            ≡ Some (record { 0 = instant_passed })
+            → EndsLate (if b then record c { table = g; track = track_after_take c.track indication } else ended (record { 0 = instant_passed }) c).ends
         by_test true k = absurd (cc)
-        by_test false k = refl
+        by_test false k = inl refl
 
-pub lets_end : (c : Control) (read : CtrlRead) (slot : ℕ) (quiet : Bool) → c.ends ≡ None → (took_step c.table read slot quiet).1.ends ≡ None
-    → is_over c.track (indication_by (role_of c.table.progress) read) ≡ true
-    → (after (Takes read slot quiet) c).ends ≡ Some (record { 0 = instant_passed })
-lets_end c read slot quiet lasts lets over =
-    let o = outcome_of c.table quiet read in
-    let r = reads c.table quiet read in
-    open_step (λ (d : Control). d.ends ≡ Some (record { 0 = instant_passed })) (Takes read slot quiet) c lasts
-    (in_by (indication_by (role_of c.table.progress) read) c (lacks_room c.table o) o.step.ends (facts_with c.table slot o) o.step lasts refl r.hands lets over)
+and_false : (a : Bool) → (a && false) ≡ false
+and_false true = refl
+and_false false = refl
+
+pub late_end : (c : Control) (ctrl : Ctrl) (slot : ℕ) (quiet : Bool) → c.ends ≡ None → role_of c.table.progress ≡ Peripheral
+    → is_over c.track (indication_in ctrl) ≡ true → EndsLate (after (Takes (Known ctrl) slot quiet) c).ends
+late_end c ctrl slot quiet lasts role over =
+    let o = outcome_of c.table quiet (Known ctrl) in
+    let r = reads c.table quiet (Known ctrl) in
+    let d = direct c.table quiet ctrl role (over_some c.track (indication_in ctrl) over) in
+    let room : lacks_room c.table o ≡ false =
+    ap (λ (b : Bool). (is_open c.table.closing && nat_le 16 (waiting_in c.table.queue)) && b) d.room
+    ∙ and_false (is_open c.table.closing && nat_le 16 (waiting_in c.table.queue)) in
+    open_step (λ (e : Control). EndsLate e.ends) (Takes (Known ctrl) slot quiet) c lasts
+    (late_by (indication_in ctrl) c (lacks_room c.table o) o.step.ends (facts_with c.table slot o) o.step lasts refl room d.ends
+    (λ goes. r.hands goes ∙ ap (λ (x : Role). indication_by x (Known ctrl)) role) over)
+  where
+    over_some : (t : TrackFacts) (i : Option Indication) → is_over t i ≡ true → is_some i ≡ true
+    over_some t None is = absurd (cc)
+    over_some t (Some indication) is = refl

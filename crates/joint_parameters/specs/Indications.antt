@@ -1,15 +1,14 @@
 -- The indications of a central as the peripheral of a joint run reads and takes them (Core 5.2, volume 6 part B,
 -- sections 2.4.2, 5.1.1, 5.1.2 and 5.5).
-use Rattle.std.specs.Prelude.{◌≡◌, ℕ, Bool, true, false, List, [], ◌∷◌, ◌++◌, Option, Some, None, option_to_list, ⊤}
+use Rattle.std.specs.Prelude.{◌≡◌, ◌⊎◌, Bool, false, List, [], ◌∷◌, ◌++◌, Option, Some, None, option_to_list}
+use Rattle.ble_base.specs.ErrorCodes.{instant_passed, mic_failure}
+use Rattle.ble_base.specs.declared.error_codes.ErrCode.{ErrCode}
 use Rattle.data_pdu.specs.declared.ctrl.Ctrl.{Ctrl}
 use Rattle.data_pdu.specs.declared.ctrl.Ctrl.TheVariants.{ConnectionUpdateInd, ChannelMapInd}
-use Rattle.data_pdu.specs.declared.ctrl.CtrlRead.TheVariants.{Known}
 use Rattle.instants.specs.declared.indications.Indication.{Indication}
 use Rattle.instants.specs.declared.indications.Indication.TheVariants.{Update, Map}
 use Rattle.instants.specs.declared.track.Change.{Change}
-use Rattle.procedures.specs.Taking.{took_step}
-use Rattle.phased_control.specs.Phased.{Phased, is_quiet_now}
-use Rattle.phased_control.specs.Taken.{is_allowed, lacks_room_now}
+use Rattle.control_model.specs.Waits.{EndsByCollision}
 use Rattle.joint_controls.specs.Joint.{Control, Data, Item, Joint, JointStep, PeripheralTakes, after, is_late}
 
 -- ---- what is read of a PDU
@@ -54,15 +53,7 @@ abbrev pub takes_late : JointStep → Joint → Bool
 takes_late (PeripheralTakes slot response) s = is_late s
 takes_late step s = false
 
--- the phase, the queue and the table of a peripheral let a PDU in: none of them ends the link
-pub record LetsIn (slot : ℕ) (ctrl : Ctrl) (s : Phased) : Type 0 where
-  -- the phase allows it
-  pub phase : is_allowed (Known ctrl) s ≡ true
-  -- there is room for an answer
-  pub room : lacks_room_now (Known ctrl) s ≡ false
-  -- no procedure of its own collides with it
-  pub table : (took_step s.control.table (Known ctrl) slot (is_quiet_now s)).1.ends ≡ None
-
-abbrev pub LetsItemIn : ℕ → Option Item → Phased → Type 0
-LetsItemIn slot (Some (Control outgoing ctrl)) s = LetsIn slot ctrl s
-LetsItemIn slot item s = ⊤
+-- the link ended, for an instant that has passed, for a PDU that the phase forbids or for procedures that collide
+abbrev pub EndsLate : Option ErrCode → Type 0
+EndsLate None = ⊥
+EndsLate (Some code) = (code.0 ≡ instant_passed) ⊎ ((code.0 ≡ mic_failure) ⊎ EndsByCollision (Some code))

@@ -17,7 +17,7 @@ ghost use Rattle.joint_controls.specs.Joint.{Joint, JointStep, after, after_all,
 ghost use Rattle.joint_controls.specs.Joint.{event_now, instant_now, is_indication, is_item};
 ghost use Rattle.joint_controls.specs.Joint.{is_late, is_running, is_same_event, item_on_air};
 ghost use Rattle.joint_controls.specs.Joint.{may, next_item};
-ghost use Rattle.joint_parameters.specs.Indications.{AreAllButLast, LetsItemIn, changes_taken};
+ghost use Rattle.joint_parameters.specs.Indications.{AreAllButLast, EndsLate, changes_taken};
 ghost use Rattle.joint_parameters.specs.Indications.{indication_read, takes_late};
 ghost use Rattle.joint_parameters.specs.Turns.{AreLinksInRange, IsPaired, LinkStep, MayLink};
 ghost use Rattle.joint_parameters.specs.Turns.{MayLinkAll, all_joint_steps, first_link};
@@ -108,8 +108,8 @@ pub fn instants_have_one_event()
 {}
 
 /// A link ends for an Instant that has passed at a peripheral alone, and only in a step in which it
-/// takes an indication that is late. Such a step ends the link so, unless the phase, the queue or
-/// the table of the peripheral ends it before.
+/// takes an indication that is late. Such a step ends the link so, unless the phase forbids the PDU
+/// or procedures collide, which ends it too.
 pub fn only_a_late_indication_ends_the_link()
     ensures central { (central_rx peripheral_rx : ℕ) (first : Params) (slot : ℕ)
         (steps : List JointStep) → first.latency ≤ 499 → AreStepsInRange steps
@@ -127,9 +127,8 @@ pub fn only_a_late_indication_ends_the_link()
         → first.latency ≤ 499 → AreStepsInRange steps
         → let s = after_all steps (beginning central_rx peripheral_rx first slot) in
         may (JointStep.PeripheralTakes now response) s ≡ true → instant_now s ≡ Some change
-        → is_late s ≡ true → LetsItemIn now (item_on_air s.down) s.peripheral
-        → (after (JointStep.PeripheralTakes now response) s).peripheral.control.ends
-        ≡ Some (record { 0 = instant_passed }) }
+        → is_late s ≡ true
+        → EndsLate (after (JointStep.PeripheralTakes now response) s).peripheral.control.ends }
 {}
 
 /// In each event that an end enters it has the parameters and the anchor that follow from the
