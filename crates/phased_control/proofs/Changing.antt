@@ -11,7 +11,7 @@ use Rattle.data_pdu.specs.declared.ctrl.CtrlRead.TheVariants.{Known, Unknown, Ba
 use Rattle.enc_phase.specs.declared.classes.PduClass.{PduClass}
 use Rattle.enc_phase.specs.declared.classes.PduClass.TheVariants.{Data, EncReq as enc_req, Refusal}
 use Rattle.enc_phase.specs.declared.facts.PhaseFacts.{PhaseFacts}
-use Rattle.enc_phase.specs.declared.facts.PhaseFacts.TheVariants.{Clear, Asked, Secure, HalfClear}
+use Rattle.enc_phase.specs.declared.facts.PhaseFacts.TheVariants.{Clear, Asked, Secure}
 use Rattle.enc_phase.specs.declared.facts.Transition.TheVariants.{Ask as AskTransition, Refuse}
 use Rattle.enc_phase.specs.Phases.{is_quiet, may_follow, phase_after}
 use Rattle.enc_phase.specs.Taking.{allows, ctrl_class}
@@ -20,10 +20,10 @@ use Rattle.procedure_stages.specs.Opcodes.{enc_req_opcode}
 use Rattle.procedures.specs.Beginning.{begin_step}
 use Rattle.control_model.specs.Control.{Step}
 use Rattle.control_model.specs.Control.{Enters as control_enters, SeesAcknowledged as control_sees_acknowledged, Takes as control_takes}
-use Rattle.phased_control.specs.Phased.{Phased, acknowledged, ask_begun, asking_if, asks_again, encrypting, encrypting_if, entered, first_phased, is_encrypt, is_open_now, is_pause_rsp, is_quiet_now, key_given, refused_if, request_of, table_entered, with_owed_if, with_step}
+use Rattle.phased_control.specs.Phased.{Phased, acknowledged, ask_begun, asking_if, asks_again, encrypting, encrypting_if, entered, first_phased, is_encrypt, is_open_now, is_pause_rsp, is_quiet_now, key_given, refused_if, request_of, table_entered, with_step}
 use Rattle.phased_control.specs.Taken.{PhasedStep, Answers, Asks, Disconnects, Enters, GivesKey, LacksKey, SeesAcknowledged, Sends, Takes, TakesData, answered_if_quiet, answered_kept, ciphered, class_of_read, does_keep, ended_with, handed_on, is_allowed, keeping, lacks_room_now, phased_after, phased_after_all, phased_moved, role_now, seen_as, took, took_data}
-use Rattle.phased_control.specs.Steps.{control_steps, ctrl_if, first_owed, first_owed_if, handed_steps, kept_steps, later_steps, owed_for, owed_steps, seen, taken_steps}
-use Rattle.phased_control.specs.Ends.{AllMayRespond, IsRequest, IsResponse, MayRespond, follows_no_pause}
+use Rattle.phased_control.specs.Steps.{control_steps, ctrl_if, first_owed, first_owed_if, handed_steps, kept_steps, later_steps, read_answer, owed_steps, seen_by_procedures, taken_steps}
+use Rattle.phased_control.specs.Ends.{AllMayRespond, IsRequest, IsResponse, MayRespond}
 use Rattle.phased_control.proofs.Agreeing.{Agrees, Sound, agrees_after, agrees_first, asks_at_central, responds, sound_after, sound_first}
 use Rattle.phased_control.proofs.Answering.{answers}
 use Rattle.phased_control.proofs.Kept.{Tied}
@@ -36,21 +36,21 @@ use Rattle.enc_phase.specs.Taking.{phase_taking}
 use Rattle.enc_phase.specs.declared.classes.PduClass.TheVariants.{EncRsp as enc_rsp, Other}
 use Rattle.enc_phase.specs.declared.facts.Transition.{Transition}
 use Rattle.enc_phase.specs.declared.facts.Transition.TheVariants.{Confirm, Pause, Unlock}
-use Rattle.phased_control.specs.Changes.{phase_answering, phase_refused_by}
-use Rattle.phased_control.specs.PhaseChanges.{Change, Moves, Starts, Stays, Took, change_at, change_at_central, change_at_peripheral, change_beginning, change_handed, change_of, change_taking, changed, may_change, moves_if, owed_by_step, owed_by_steps, owed_with, starts_if}
+use Rattle.phased_control.proofs.AnswerParts.{phase_answering, refused_phase}
+use Rattle.phased_control.specs.PhaseChanges.{Change, Moves, Starts, Stays, Took, answer_change, central_change, peripheral_change, first_change, handed_change, change_of, taken_change, changed, may_change, moves_if, step_pdus, all_step_pdus, change_pdus, starts_if}
 use Rattle.phased_control.proofs.Answering.{IsPlain, phase_stays, plain_ask, plain_confirm, plain_pause, plain_unlock, start_stays}
-use Rattle.phased_control.proofs.Lawful.{runs}
+use Rattle.phased_control.proofs.PhaseFacts.{phase_owed, loud_in_half_clear, runs}
 
 pub record Changes (role : Role) (change : Change) (p q : PhaseFacts) (owed : List PduClass) : Type 0 where
   pub may : may_change change p ≡ true
   pub phase : q ≡ changed change p
-  pub owed_too : owed ≡ owed_with role change
+  pub owed_too : owed ≡ change_pdus role change
 
-none_with : (role : Role) → [] ≡ owed_with role Stays
+none_with : (role : Role) → [] ≡ change_pdus role Stays
 none_with Central = refl
 none_with Peripheral = refl
 
-none_with_took : (role : Role) (pdu : PduClass) → [] ≡ owed_with role (Took pdu)
+none_with_took : (role : Role) (pdu : PduClass) → [] ≡ change_pdus role (Took pdu)
 none_with_took Central pdu = refl
 none_with_took Peripheral pdu = refl
 
@@ -58,11 +58,11 @@ stays : (role : Role) (p q : PhaseFacts) → q ≡ p → Changes role Stays p q 
 stays role p q is = record { may = refl; phase = is; owed_too = none_with role }
 
 abbrev queued : Option Ctrl → List PduClass
-queued owed = owed_by_steps (owed_steps owed)
+queued owed = all_step_pdus (owed_steps owed)
 
 -- ---- a PDU is answered
 
-moves_with : (role : Role) (t : Transition) (ctrl : Ctrl) (p : PhaseFacts) → IsPlain t → queued (Some ctrl) ≡ owed_with role (Moves t)
+moves_with : (role : Role) (t : Transition) (ctrl : Ctrl) (p : PhaseFacts) → IsPlain t → queued (Some ctrl) ≡ change_pdus role (Moves t)
     → Changes role (moves_if t p) p (phase_after t p) (queued (ctrl_if (may_follow t p) ctrl))
 moves_with role t ctrl p plain owed = by (may_follow t p) refl
   where
@@ -70,7 +70,7 @@ moves_with role t ctrl p plain owed = by (may_follow t p) refl
     by true is = record { may = is; phase = refl; owed_too = owed }
     by false is = stays role p (phase_after t p) (phase_stays t p plain is)
 
-moves_alone : (role : Role) (t : Transition) (p : PhaseFacts) → IsPlain t → [] ≡ owed_with role (Moves t) → Changes role (moves_if t p) p (phase_after t p) []
+moves_alone : (role : Role) (t : Transition) (p : PhaseFacts) → IsPlain t → [] ≡ change_pdus role (Moves t) → Changes role (moves_if t p) p (phase_after t p) []
 moves_alone role t p plain owed = by (may_follow t p) refl
   where
     by : (b : Bool) → may_follow t p ≡ b → Changes role (if b then Moves t else Stays) p (phase_after t p) []
@@ -84,7 +84,7 @@ starts_with p = by (is_asked p) refl
     by true is = record { may = is; phase = refl; owed_too = refl }
     by false is = stays Central p (phase_starting p) (start_stays p is)
 
-refuses : (b : Bool) (p : PhaseFacts) → allows p Central Refusal ≡ true → Changes Central (change_at_central Refusal b p) p (phase_refused_by Refusal b p) []
+refuses : (b : Bool) (p : PhaseFacts) → allows p Central Refusal ≡ true → Changes Central (central_change Refusal b p) p (refused_phase Refusal b p) []
 refuses true p may = stays Central p p refl
 refuses false (Asked true enc_rsp_taken kept) may = absurd (cc)
 refuses false (Asked false enc_rsp_taken kept) may = record { may = refl; phase = refl; owed_too = refl }
@@ -99,8 +99,8 @@ response_owed (EncRsp skd_s iv_s) is = refl
 response_owed ctrl is = absurd is
 
 answers_change : (role : Role) (response : Ctrl) (read : CtrlRead) (b : Bool) (p : PhaseFacts) → allows p role (class_of_read read) ≡ true → (role ≡ Peripheral → IsResponse response)
-    → Changes role (change_at role (class_of_read read) b p) p (phase_answering role read b (phase_taking (class_of_read read) p))
-    (queued (owed_for role response read (phase_taking (class_of_read read) p)))
+    → Changes role (answer_change role (class_of_read read) b p) p (phase_answering role read b (phase_taking (class_of_read read) p))
+    (queued (read_answer role response read (phase_taking (class_of_read read) p)))
 answers_change Central response (Known StartEncReq) b p allowed may = starts_with p
 answers_change Central response (Known StartEncRsp) b p allowed may = moves_alone Central Confirm p plain_confirm refl
 answers_change Central response (Known PauseEncRsp) b p allowed may = moves_with Central Unlock PauseEncRsp p plain_unlock refl
@@ -108,7 +108,7 @@ answers_change Central response (Known (RejectInd code)) b p allowed may = refus
 answers_change Central response (Known (RejectExtInd opcode code)) b p allowed may = by (opcode == 3) allowed
   where
     by : (three : Bool) → let pdu = (if three then Refusal else Other) in
-        allows p Central pdu ≡ true → Changes Central (change_at_central pdu b p) p (phase_refused_by pdu b (phase_taking pdu p)) []
+        allows p Central pdu ≡ true → Changes Central (central_change pdu b p) p (refused_phase pdu b (phase_taking pdu p)) []
     by true h = refuses b p h
     by false h = takes_as_it_is Central Other p
 answers_change Central response (Known ctrl) b p allowed may = takes_as_it_is Central (ctrl_class ctrl) p
@@ -118,7 +118,7 @@ answers_change Peripheral response (Known StartEncRsp) b p allowed may = moves_w
 answers_change Peripheral response (Known PauseEncRsp) b p allowed may = moves_alone Peripheral Unlock p plain_unlock refl
 answers_change Peripheral response (Known (RejectExtInd opcode code)) b p allowed may = by (opcode == 3)
   where
-    by : (three : Bool) → let pdu = (if three then Refusal else Other) in Changes Peripheral (change_at_peripheral pdu p) p (phase_taking pdu p) []
+    by : (three : Bool) → let pdu = (if three then Refusal else Other) in Changes Peripheral (peripheral_change pdu p) p (phase_taking pdu p) []
     by true = takes_as_it_is Peripheral Refusal p
     by false = takes_as_it_is Peripheral Other p
 answers_change Peripheral response (Known ctrl) b p allowed may = takes_as_it_is Peripheral (ctrl_class ctrl) p
@@ -129,22 +129,22 @@ answers_change Peripheral response Bare b p allowed may = takes_as_it_is Periphe
 
 -- ---- what steps queue
 
-queued_joined : (xs ys : List Step) → owed_by_steps (xs ++ ys) ≡ owed_by_steps xs ++ owed_by_steps ys
+queued_joined : (xs ys : List Step) → all_step_pdus (xs ++ ys) ≡ all_step_pdus xs ++ all_step_pdus ys
 queued_joined [] ys = refl
-queued_joined (x ∷ xs) ys = ap (λ (pdus : List PduClass). owed_by_step x ++ pdus) (queued_joined xs ys) ∙ sym (append_assoc (owed_by_step x) (owed_by_steps xs) (owed_by_steps ys))
+queued_joined (x ∷ xs) ys = ap (λ (pdus : List PduClass). step_pdus x ++ pdus) (queued_joined xs ys) ∙ sym (append_assoc (step_pdus x) (all_step_pdus xs) (all_step_pdus ys))
 
-queued_kept : (b : Bool) (slot : ℕ) (kept : Option Ctrl) → owed_by_steps (if b then kept_steps slot kept else []) ≡ []
+queued_kept : (b : Bool) (slot : ℕ) (kept : Option Ctrl) → all_step_pdus (if b then kept_steps slot kept else []) ≡ []
 queued_kept false slot kept = refl
 queued_kept true slot None = refl
 queued_kept true slot (Some ctrl) = refl
 
 queued_later : (slot : ℕ) (response : Ctrl) (read : CtrlRead) (t : Phased)
-    → owed_by_steps (later_steps slot response read t) ≡ queued (owed_for (role_now t) response read t.phase)
+    → all_step_pdus (later_steps slot response read t) ≡ queued (read_answer (role_now t) response read t.phase)
 queued_later slot response read t =
-    let owed = owed_steps (owed_for (role_now t) response read t.phase) in
+    let owed = owed_steps (read_answer (role_now t) response read t.phase) in
     let quiet = is_quiet_now (ciphered response read t) in
     queued_joined owed (if quiet then kept_steps slot t.kept else [])
-    ∙ ap (λ (pdus : List PduClass). owed_by_steps owed ++ pdus) (queued_kept quiet slot t.kept) ∙ append-nil (owed_by_steps owed)
+    ∙ ap (λ (pdus : List PduClass). all_step_pdus owed ++ pdus) (queued_kept quiet slot t.kept) ∙ append-nil (all_step_pdus owed)
 
 -- ---- a PDU is taken
 
@@ -155,41 +155,41 @@ phase_kept slot true (Some ctrl) u = refl
 
 module _ (role : Role) (slot : ℕ) (response : Ctrl) (read : CtrlRead) (s : Phased) (tied : Tied role s) (may : role ≡ Peripheral → IsResponse response) where
   abbrev t : Phased
-  t = seen read slot s
+  t = seen_by_procedures read slot s
 
   answered_changes : is_allowed read s ≡ true
-      → Changes role (change_at (role_now s) (class_of_read read) (encrypts t) s.phase) s.phase (answered_if_quiet slot (ciphered response read t)).phase
-      (owed_by_steps (later_steps slot response read t))
+      → Changes role (answer_change (role_now s) (class_of_read read) (encrypts t) s.phase) s.phase (answered_if_quiet slot (ciphered response read t)).phase
+      (all_step_pdus (later_steps slot response read t))
   answered_changes allowed =
       let u = ciphered response read t in
       let role_t : role_now t ≡ role_now s = same_role (role_now s) (control_takes (seen_as read s) slot (is_quiet_now s)) s.control refl in
       let h = answers_change (role_now s) response read (encrypts t) s.phase allowed (λ is. may (sym tied.is_role ∙ is)) in
       let phase : (answered_if_quiet slot u).phase ≡ phase_answering (role_now s) read (encrypts t) t.phase =
       phase_kept slot (is_quiet_now u) u.kept u ∙ ap (λ (v : Phased). v.phase) (answers t response read) ∙ ap (λ (r : Role). phase_answering r read (encrypts t) t.phase) role_t in
-      let owed : owed_by_steps (later_steps slot response read t) ≡ queued (owed_for (role_now s) response read t.phase) =
-      queued_later slot response read t ∙ ap (λ (r : Role). queued (owed_for r response read t.phase)) role_t in
+      let owed : all_step_pdus (later_steps slot response read t) ≡ queued (read_answer (role_now s) response read t.phase) =
+      queued_later slot response read t ∙ ap (λ (r : Role). queued (read_answer r response read t.phase)) role_t in
       record {
         may = h.may;
         phase = phase ∙ h.phase;
-        owed_too = owed ∙ h.owed_too ∙ ap (λ (r : Role). owed_with r (change_at (role_now s) (class_of_read read) (encrypts t) s.phase)) tied.is_role;
+        owed_too = owed ∙ h.owed_too ∙ ap (λ (r : Role). change_pdus r (answer_change (role_now s) (class_of_read read) (encrypts t) s.phase)) tied.is_role;
       }
 
-  took_changes : Changes role (change_taking read slot s) s.phase (took slot response read s).phase (owed_by_steps (taken_steps slot response read s))
+  took_changes : Changes role (taken_change read slot s) s.phase (took slot response read s).phase (all_step_pdus (taken_steps slot response read s))
   took_changes = by (is_allowed read s) (does_keep read s) (lacks_room_now read s) refl
     where
-      handed : is_allowed read s ≡ true → Changes role (change_handed read slot s) s.phase (handed_on slot response read s).phase (owed_by_steps (handed_steps slot response read s))
+      handed : is_allowed read s ≡ true → Changes role (handed_change read slot s) s.phase (handed_on slot response read s).phase (all_step_pdus (handed_steps slot response read s))
       handed allowed = more (is_none t.control.ends)
         where
           more : (b : Bool)
-              → Changes role (if b then change_at (role_now s) (class_of_read read) (encrypts t) s.phase else Took (class_of_read read)) s.phase
-              (if b then answered_if_quiet slot (ciphered response read t) else t).phase (owed_by_steps (if b then later_steps slot response read t else []))
+              → Changes role (if b then answer_change (role_now s) (class_of_read read) (encrypts t) s.phase else Took (class_of_read read)) s.phase
+              (if b then answered_if_quiet slot (ciphered response read t) else t).phase (all_step_pdus (if b then later_steps slot response read t else []))
           more true = answered_changes allowed
           more false = takes_as_it_is role (class_of_read read) s.phase
 
       by : (a k f : Bool) → is_allowed read s ≡ a
-          → Changes role (if a then (if k then Took (class_of_read read) else (if f then Stays else change_handed read slot s)) else Stays) s.phase
+          → Changes role (if a then (if k then Took (class_of_read read) else (if f then Stays else handed_change read slot s)) else Stays) s.phase
           (if a then (if k then keeping read s else (if f then ended_with memory_capacity_exceeded s else handed_on slot response read s)) else ended_with mic_failure s).phase
-          (owed_by_steps (if a then (if k then [] else (if f then [] else handed_steps slot response read s)) else []))
+          (all_step_pdus (if a then (if k then [] else (if f then [] else handed_steps slot response read s)) else []))
       by false k f is = stays role s.phase s.phase refl
       by true true f is = takes_as_it_is role (class_of_read read) s.phase
       by true false true is = stays role s.phase s.phase refl
@@ -202,19 +202,15 @@ request_queued (Some (EncReq rand ediv skd_m iv_m)) is = refl
 request_queued (Some ctrl) is = absurd is
 request_queued None is = absurd is
 
-phase_owed : (request : Option Ctrl) (s : Phased) → (with_owed_if request s).phase ≡ s.phase
-phase_owed None s = refl
-phase_owed (Some ctrl) s = refl
-
 begins_change : (p : PhaseFacts) (request : Option Ctrl) (s : Phased) → s.phase ≡ p → s.request ≡ request → is_quiet p ≡ true → IsRequest request
-    → Changes Central (change_beginning p) p (encrypting p s).phase (queued (first_owed p request))
+    → Changes Central (first_change p) p (encrypting p s).phase (queued (first_owed p request))
 begins_change Clear request s is same quiet is_request =
     record { may = refl; phase = phase_owed s.request (record s { phase = phase_after AskTransition s.phase }) ∙ ap (phase_after AskTransition) is; owed_too = request_queued request is_request }
 begins_change Secure request s is same quiet is_request = record { may = refl; phase = ap (phase_after Pause) is; owed_too = refl }
 begins_change p request s is same quiet is_request = absurd (cc)
 
 entered_changes : (role : Role) (slot : ℕ) (s : Phased) → role_now s ≡ role
-    → Changes role (change_of (Enters slot) s) s.phase (entered slot s).phase (owed_by_steps (control_steps (Enters slot) s))
+    → Changes role (change_of (Enters slot) s) s.phase (entered slot s).phase (all_step_pdus (control_steps (Enters slot) s))
 entered_changes role slot s is_role = by (is_encrypt (begin_step (table_entered s) slot (is_quiet_now s)).1) refl
   where
     request : Option Ctrl
@@ -224,20 +220,15 @@ entered_changes role slot s is_role = by (is_encrypt (begin_step (table_entered 
     t = with_step (control_enters slot (is_quiet_now s)) s
 
     by : (b : Bool) → is_encrypt (begin_step (table_entered s) slot (is_quiet_now s)).1 ≡ b
-        → Changes role (if b then change_beginning s.phase else Stays) s.phase (encrypting_if b request t).phase (queued (first_owed_if b s.phase request))
+        → Changes role (if b then first_change s.phase else Stays) s.phase (encrypting_if b request t).phase (queued (first_owed_if b s.phase request))
     by false is = stays role s.phase s.phase refl
     by true is =
         let begins = begins_encryption (table_entered s) slot (is_quiet_now s) is in
-        subst (λ (r : Role). Changes r (change_beginning s.phase) s.phase (encrypting_if true request t).phase (queued (first_owed s.phase request)))
+        subst (λ (r : Role). Changes r (first_change s.phase) s.phase (encrypting_if true request t).phase (queued (first_owed s.phase request)))
         (sym begins.role ∙ role_entered s ∙ is_role) (begins_change s.phase request (record t { request = request }) refl refl begins.is_quiet begins.request)
 
-asked_loudly : (p : PhaseFacts) → may_follow AskTransition p ≡ true → follows_no_pause p ≡ false → is_quiet p ≡ false
-asked_loudly (HalfClear kept) may paused = refl
-asked_loudly Clear may paused = absurd (cc)
-asked_loudly p may paused = absurd (cc)
-
 acked_changes : (role : Role) (s : Phased) → Sound role s → Agrees s
-    → Changes role (change_of SeesAcknowledged s) s.phase (acknowledged s).phase (owed_by_steps (control_steps SeesAcknowledged s))
+    → Changes role (change_of SeesAcknowledged s) s.phase (acknowledged s).phase (all_step_pdus (control_steps SeesAcknowledged s))
 acked_changes role s sound agrees = by (asks_again s) refl
   where
     t : Phased
@@ -248,27 +239,27 @@ acked_changes role s sound agrees = by (asks_again s) refl
     by true is =
         let at = asks_at_central role s is sound.requests in
         let may = (and_parts (may_follow AskTransition s.phase) _ (and_parts (is_pause_rsp s.control.table.out) _ is).1).0 in
-        let loud = asked_loudly s.phase may (asks_in_half_clear s is (sound.unpaused at)) in
+        let loud = loud_in_half_clear s.phase may (asks_in_half_clear s is (sound.unpaused at)) in
         record {
           may = may;
           phase = phase_owed t.request (record t { phase = phase_after AskTransition t.phase });
           owed_too =
               request_queued s.request (sound.requests.central at (runs (encrypts s) (sym loud ∙ agrees)))
-              ∙ ap (λ (r : Role). owed_with r (Moves AskTransition)) (sym at);
+              ∙ ap (λ (r : Role). change_pdus r (Moves AskTransition)) (sym at);
         }
 
 -- ---- the host of a peripheral has a key, or none
 
-given_changes : (role : Role) (s : Phased) → Tied role s → Changes role (change_of GivesKey s) s.phase (phased_moved GivesKey s).phase (owed_by_steps (control_steps GivesKey s))
+given_changes : (role : Role) (s : Phased) → Tied role s → Changes role (change_of GivesKey s) s.phase (phased_moved GivesKey s).phase (all_step_pdus (control_steps GivesKey s))
 given_changes role s tied = by (s.asks_key && is_open_now s) refl
   where
     by : (b : Bool) → (s.asks_key && is_open_now s) ≡ b → Changes role (starts_if b) s.phase (if b then key_given s else s).phase (queued (ctrl_if b StartEncReq))
     by false is = stays role s.phase s.phase refl
     by true is =
         let asked = (and_parts s.asks_key (is_open_now s) is).0 in
-        record { may = tied.asked asked; phase = refl; owed_too = ap (λ (r : Role). owed_with r Starts) (sym (tied.asked_at asked)) }
+        record { may = tied.asked asked; phase = refl; owed_too = ap (λ (r : Role). change_pdus r Starts) (sym (tied.asked_at asked)) }
 
-lacking_changes : (role : Role) (s : Phased) → Tied role s → Changes role (change_of LacksKey s) s.phase (phased_moved LacksKey s).phase (owed_by_steps (control_steps LacksKey s))
+lacking_changes : (role : Role) (s : Phased) → Tied role s → Changes role (change_of LacksKey s) s.phase (phased_moved LacksKey s).phase (all_step_pdus (control_steps LacksKey s))
 lacking_changes role s tied = by (s.asks_key && is_open_now s) (may_follow Refuse s.phase) refl refl
   where
     by : (b r : Bool) → (s.asks_key && is_open_now s) ≡ b → may_follow Refuse s.phase ≡ r
@@ -277,12 +268,12 @@ lacking_changes role s tied = by (s.asks_key && is_open_now s) (may_follow Refus
     by false r is may = stays role s.phase s.phase refl
     by true false is may = stays role s.phase s.phase refl
     by true true is may =
-        record { may = may; phase = refl; owed_too = ap (λ (r : Role). owed_with r (Moves Refuse)) (sym (tied.asked_at (and_parts s.asks_key (is_open_now s) is).0)) }
+        record { may = may; phase = refl; owed_too = ap (λ (r : Role). change_pdus r (Moves Refuse)) (sym (tied.asked_at (and_parts s.asks_key (is_open_now s) is).0)) }
 
 -- ---- every step
 
 moved_changes : (role : Role) (step : PhasedStep) (s : Phased) → Sound role s → Agrees s → MayRespond role step
-    → Changes role (change_of step s) s.phase (phased_moved step s).phase (owed_by_steps (control_steps step s))
+    → Changes role (change_of step s) s.phase (phased_moved step s).phase (all_step_pdus (control_steps step s))
 moved_changes role (Enters slot) s sound agrees may = entered_changes role slot s sound.tied.is_role
 moved_changes role (Asks ask) s sound agrees may = stays role s.phase s.phase refl
 moved_changes role (Answers answer) s sound agrees may = stays role s.phase s.phase refl
@@ -315,9 +306,9 @@ module _ (role : Role) (max_rx : ℕ) (first : Params) (slot : ℕ) (steps : Lis
   known : Settled role s
   known = known_all role steps (first_phased role max_rx first slot) all (record { sound = sound_first role max_rx first slot; agrees = agrees_first role max_rx first slot })
 
-  changes : s.control.ends ≡ None → Changes role (change_of step s) s.phase (phased_after step s).phase (owed_by_steps (control_steps step s))
+  changes : s.control.ends ≡ None → Changes role (change_of step s) s.phase (phased_after step s).phase (all_step_pdus (control_steps step s))
   changes lasts =
-      open_phased (λ (t : Phased). Changes role (change_of step s) s.phase t.phase (owed_by_steps (control_steps step s))) step s lasts
+      open_phased (λ (t : Phased). Changes role (change_of step s) s.phase t.phase (all_step_pdus (control_steps step s))) step s lasts
       (moved_changes role step s known.sound known.agrees may)
 
   -- ---- the laws
@@ -328,5 +319,5 @@ module _ (role : Role) (max_rx : ℕ) (first : Params) (slot : ℕ) (steps : Lis
   pub phase_changes : s.control.ends ≡ None → (phased_after step s).phase ≡ changed (change_of step s) s.phase
   phase_changes lasts = (changes lasts).phase
 
-  pub owed_with_it : s.control.ends ≡ None → owed_by_steps (control_steps step s) ≡ owed_with role (change_of step s)
+  pub owed_with_it : s.control.ends ≡ None → all_step_pdus (control_steps step s) ≡ change_pdus role (change_of step s)
   owed_with_it lasts = (changes lasts).owed_too

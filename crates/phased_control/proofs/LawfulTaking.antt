@@ -26,8 +26,8 @@ use Rattle.phased_control.specs.Calls.{all_calls, calls_now}
 use Rattle.phased_control.specs.Ciphers.{IsInTurn, ciphers_waiting, is_of_encryption}
 use Rattle.phased_control.specs.Phased.{Phased, is_open_now, is_quiet_now}
 use Rattle.phased_control.specs.Taken.{Takes, answered_if_quiet, answered_kept, ciphered, class_of_read, does_keep, ended_with, is_allowed, is_answered, handed_on, keeping, lacks_room_now, role_now, seen_as, seen_if}
-use Rattle.phased_control.specs.Steps.{handed_steps, kept_steps, later_steps, owed_for, owed_steps, seen}
-use Rattle.phased_control.specs.Changes.{key_answering}
+use Rattle.phased_control.specs.Steps.{handed_steps, kept_steps, later_steps, read_answer, owed_steps, seen_by_procedures}
+use Rattle.phased_control.proofs.AnswerParts.{key_answering}
 use Rattle.phased_control.specs.Ends.{IsResponse}
 use Rattle.phased_control.proofs.Agreeing.{Agrees, agrees_taking, lasts_answered}
 use Rattle.phased_control.proofs.Answering.{answers}
@@ -82,7 +82,7 @@ module _ (role : Role) (max_rx : ℕ) (past : List Call) (slot : ℕ) (response 
   x = control_takes (seen_as read s) slot (is_quiet_now s)
 
   abbrev t : Phased
-  t = seen read slot s
+  t = seen_by_procedures read slot s
 
   abbrev g : TableFacts
   g = (took_step f (seen_as read s) slot (is_quiet_now s)).0
@@ -122,13 +122,13 @@ module _ (role : Role) (max_rx : ℕ) (past : List Call) (slot : ℕ) (response 
   role_t = same_role (role_now s) x s.control refl
 
   abbrev owed : Option Ctrl
-  owed = owed_for (role_now t) response read t.phase
+  owed = read_answer (role_now t) response read t.phase
 
   owed_may : does_keep read s ≡ false → lacks_room_now read s ≡ false → t.control.ends ≡ None → OwedMay t.control key owed
   owed_may keeps full goes = by owed here
     where
       here : AreAnswers (role_now s) read s.phase owed
-      here = subst (λ (r : Role). AreAnswers (role_now s) read s.phase (owed_for r response read t.phase)) (sym role_t) (answers_of (role_now s) response read s.phase (λ is. may (sym tied.is_role ∙ is)))
+      here = subst (λ (r : Role). AreAnswers (role_now s) read s.phase (read_answer r response read t.phase)) (sym role_t) (answers_of (role_now s) response read s.phase (λ is. may (sym tied.is_role ∙ is)))
 
       table : t.control.table ≡ g
       table = (takes_as (seen_as read s) slot (is_quiet_now s) s.control lasts).goes goes
