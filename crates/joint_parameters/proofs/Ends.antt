@@ -31,7 +31,7 @@ use Rattle.control_model.proofs.Calls.{any_step, either_way}
 use Rattle.control_model.proofs.Moving.{central_takes, enters_track, peripheral_sends, sends_all, sends_track, table_alone}
 use Rattle.phased_control.specs.Phased.{is_open_now, Phased, is_quiet_now}
 use Rattle.phased_control.specs.Taken.{is_answered_at, PhasedStep, Answers, Asks, Disconnects, Enters, GivesKey, LacksKey, SeesAcknowledged, Sends, Takes, TakesData, class_of_read, ciphered, does_keep, is_allowed, keeps_class, lacks_room_now, phased_after, role_now, seen_as, seen_if}
-use Rattle.phased_control.specs.Steps.{code_if, control_steps, end_by_phase, ended_if, kept_steps, later_steps, owed_entering, owed_for, owed_steps, seen}
+use Rattle.phased_control.specs.Steps.{code_if, control_steps, end_by_phase, ended_if, kept_steps, later_steps, owed_entering, read_answer, owed_steps, seen_by_procedures}
 use Rattle.phased_control.proofs.Moving.{moves_by_steps}
 use Rattle.phased_control.proofs.Tables.{same_role}
 use Rattle.joint_parameters.specs.Indications.{EndsLate, indication_in}
@@ -178,7 +178,7 @@ module _ (s : Phased) where
 
   handed_apart : (slot : ℕ) (response : Ctrl) (read : CtrlRead) (t : Phased) → AreApart Central (later_steps slot response read t)
   handed_apart slot response read t =
-      both_apart Central (owed_steps (owed_for (role_now t) response read t.phase)) _ (owed_apart Central _)
+      both_apart Central (owed_steps (read_answer (role_now t) response read t.phase)) _ (owed_apart Central _)
       (apart_if Central (is_quiet_now (ciphered response read t)) _ (kept_apart slot t.kept))
 
   taken_apart : (slot : ℕ) (response : Ctrl) (read : CtrlRead) → AreApart Central (control_steps (Takes read slot response) s)
@@ -187,10 +187,10 @@ module _ (s : Phased) where
     where
       by : (keeps full : Bool)
           → AreApart Central (if keeps then [] else (if full then [] else control_takes (seen_as read s) slot (is_quiet_now s)
-          ∷ (if is_none (seen read slot s).control.ends then later_steps slot response read (seen read slot s) else [])))
+          ∷ (if is_none (seen_by_procedures read slot s).control.ends then later_steps slot response read (seen_by_procedures read slot s) else [])))
       by true full = tt
       by false true = tt
-      by false false = (refl, apart_if Central (is_none (seen read slot s).control.ends) _ (handed_apart slot response read (seen read slot s)))
+      by false false = (refl, apart_if Central (is_none (seen_by_procedures read slot s).control.ends) _ (handed_apart slot response read (seen_by_procedures read slot s)))
 
   pub steps_apart : (role : Role) (step : PhasedStep) → stays role step ≡ true → AreApart role (control_steps step s)
   steps_apart role (Enters slot) is = absurd (cc)
@@ -324,10 +324,10 @@ module _ (s : Phased) (lasts : s.control.ends ≡ None) (at : role_now s ≡ Per
 
   module _ (slot : ℕ) (response : Ctrl) (read : CtrlRead) where
     abbrev then_seen : Phased
-    then_seen = seen read slot s
+    then_seen = seen_by_procedures read slot s
 
     abbrev owed : List Step
-    owed = owed_steps (owed_for (role_now then_seen) response read then_seen.phase)
+    owed = owed_steps (read_answer (role_now then_seen) response read then_seen.phase)
 
     abbrev rest : List Step
     rest = if is_none then_seen.control.ends then later_steps slot response read then_seen else []
@@ -336,14 +336,14 @@ module _ (s : Phased) (lasts : s.control.ends ≡ None) (at : role_now s ≡ Per
     rest_apart =
         apart_if Peripheral (is_none then_seen.control.ends) (later_steps slot response read then_seen)
         (both_apart Peripheral owed (if is_quiet_now (ciphered response read then_seen) then kept_steps slot s.kept else [])
-        (owed_apart Peripheral (owed_for (role_now then_seen) response read then_seen.phase))
+        (owed_apart Peripheral (read_answer (role_now then_seen) response read then_seen.phase))
         (no_kept (AreApart Peripheral) (is_quiet_now (ciphered response read then_seen)) slot s.kept none tt))
 
     rest_none : TakeNone rest
     rest_none =
         none_if (is_none then_seen.control.ends) (later_steps slot response read then_seen)
         (both_none owed (if is_quiet_now (ciphered response read then_seen) then kept_steps slot s.kept else [])
-        (owed_none (owed_for (role_now then_seen) response read then_seen.phase))
+        (owed_none (read_answer (role_now then_seen) response read then_seen.phase))
         (no_kept TakeNone (is_quiet_now (ciphered response read then_seen)) slot s.kept none tt))
 
     abbrev taking : Step

@@ -21,7 +21,7 @@ use Rattle.procedures.specs.Beginning.{begin_step}
 use Rattle.control_model.specs.Control.{Control, Step, after, after_all}
 use Rattle.phased_control.specs.Phased.{Phased, ask_begun, asking_if, asks_again, encrypting, encrypting_if, first_phased, is_encrypt, is_open_now, is_quiet_now, key_given, key_lacking, refused_if, request_of, table_entered, with_owed_if}
 use Rattle.phased_control.specs.Taken.{PhasedStep, Answers, Asks, Disconnects, Enters, GivesKey, LacksKey, SeesAcknowledged, Sends, Takes, TakesData, answered_kept, ciphered, does_keep, is_allowed, lacks_room_now, phased_after, phased_after_all, phased_moved, role_now, seen_as, took}
-use Rattle.phased_control.specs.Steps.{control_steps, ctrl_if, end_by_phase, ended_if, first_owed, first_owed_if, kept_steps, later_steps, owed_by_central, owed_for, owed_steps, seen}
+use Rattle.phased_control.specs.Steps.{control_steps, ctrl_if, end_by_phase, ended_if, first_owed, first_owed_if, kept_steps, later_steps, central_answer, read_answer, owed_steps, seen_by_procedures}
 use Rattle.phased_control.proofs.Answering.{answers}
 use Rattle.phased_control.proofs.Moving.{moves_by_steps}
 use Rattle.phased_control.proofs.Tables.{same_role}
@@ -75,12 +75,12 @@ key_plain : (b : Bool) (x y : Ctrl) → IsPlainCtrl (Some x) → IsPlainCtrl (So
 key_plain true x y of_x of_y = of_x
 key_plain false x y of_x of_y = of_y
 
-central_plain : (ctrl : Ctrl) (phase : PhaseFacts) → IsPlainCtrl (owed_by_central ctrl phase)
+central_plain : (ctrl : Ctrl) (phase : PhaseFacts) → IsPlainCtrl (central_answer ctrl phase)
 central_plain StartEncReq phase = plain_if (is_asked phase) _ refl
 central_plain PauseEncRsp phase = plain_if (may_follow Unlock phase) _ refl
 central_plain other phase = tt
 
-answer_plain : (role : Role) (response : Ctrl) (read : CtrlRead) (phase : PhaseFacts) → role ≡ Central → IsPlainCtrl (owed_for role response read phase)
+answer_plain : (role : Role) (response : Ctrl) (read : CtrlRead) (phase : PhaseFacts) → role ≡ Central → IsPlainCtrl (read_answer role response read phase)
 answer_plain Central response (Known ctrl) phase is = central_plain ctrl phase
 answer_plain Central response (Unknown opcode) phase is = tt
 answer_plain Central response Bare phase is = tt
@@ -96,24 +96,24 @@ steps_if false xs are = tt
 
 later_plain : (slot : ℕ) (response : Ctrl) (read : CtrlRead) (s : Phased) → role_now s ≡ Central → ArePlainSteps (later_steps slot response read s)
 later_plain slot response read s role =
-    plain_both (owed_steps (owed_for (role_now s) response read s.phase)) _
-    (plain_owed (owed_for (role_now s) response read s.phase) (answer_plain (role_now s) response read s.phase role))
+    plain_both (owed_steps (read_answer (role_now s) response read s.phase)) _
+    (plain_owed (read_answer (role_now s) response read s.phase) (answer_plain (role_now s) response read s.phase role))
     (steps_if (is_quiet_now (ciphered response read s)) _ (kept_plain slot s.kept))
 
 taken_plain : (slot : ℕ) (response : Ctrl) (read : CtrlRead) (s : Phased) → role_now s ≡ Central → ArePlainSteps (control_steps (Takes read slot response) s)
 taken_plain slot response read s role = by (is_allowed read s) (does_keep read s) (lacks_room_now read s)
   where
-    role_seen : role_now (seen read slot s) ≡ Central
+    role_seen : role_now (seen_by_procedures read slot s) ≡ Central
     role_seen = same_role Central (control_takes (seen_as read s) slot (is_quiet_now s)) s.control role
 
     by : (allowed keeps full : Bool)
         → ArePlainSteps (if allowed then (if keeps then [] else (if full then [] else control_takes (seen_as read s) slot (is_quiet_now s)
-        ∷ (if is_none (seen read slot s).control.ends then later_steps slot response read (seen read slot s) else []))) else [])
+        ∷ (if is_none (seen_by_procedures read slot s).control.ends then later_steps slot response read (seen_by_procedures read slot s) else []))) else [])
     by false keeps full = tt
     by true true full = tt
     by true false true = tt
     by true false false =
-        (tt, steps_if (is_none (seen read slot s).control.ends) _ (later_plain slot response read (seen read slot s) role_seen))
+        (tt, steps_if (is_none (seen_by_procedures read slot s).control.ends) _ (later_plain slot response read (seen_by_procedures read slot s) role_seen))
 
 control_plain : (step : PhasedStep) (s : Phased) → IsPlainEnd s → ArePlainSteps (control_steps step s)
 control_plain (Enters slot) s p =
@@ -162,8 +162,8 @@ taken_request slot response read s is =
     took_ways AsksPlain slot response read s (λ h. is) (λ h k. is) (λ h k l. is)
     (λ h k l. handed_ways AsksPlain slot response read s (λ code over. is) (λ lasts loud. answered) (λ lasts quiet. answered_request slot _ _ answered))
   where
-    answered : AsksPlain (ciphered response read (seen read slot s))
-    answered = subst IsPlainCtrl (sym (ap (λ (t : Phased). t.request) (answers (seen read slot s) response read))) is
+    answered : AsksPlain (ciphered response read (seen_by_procedures read slot s))
+    answered = subst IsPlainCtrl (sym (ap (λ (t : Phased). t.request) (answers (seen_by_procedures read slot s) response read))) is
 
 moved_request : (step : PhasedStep) (s : Phased) → AsksPlain s → AsksPlain (phased_moved step s)
 moved_request (Enters slot) s is =
