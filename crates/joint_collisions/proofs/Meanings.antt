@@ -54,7 +54,7 @@ other_known Clear = refl
 other_known Secure = refl
 other_known phase = refl
 
-same_ctrl : (a b : Ctrl) → ◌≡◌ {A = Option Ctrl} (Some a) (Some b) → a ≡ b
+pub same_ctrl : (a b : Ctrl) → ◌≡◌ {A = Option Ctrl} (Some a) (Some b) → a ≡ b
 same_ctrl a b is = cc
 
 -- ---- a rejection of LL_ENC_REQ does nothing to them
