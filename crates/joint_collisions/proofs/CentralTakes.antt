@@ -102,11 +102,11 @@ pub record GoesAs (p : Control) (down up : Way) (s : Phased) : Type 0 where
   pub goes : s.control.ends ≡ None → SeenAt p down up (kept_part s.kept) s.control
   pub never : EndsByCollision s.control.ends → ⊥
 
-not_room : EndsByCollision (Some (record { 0 = memory_capacity_exceeded })) → ⊥
+pub not_room : EndsByCollision (Some (record { 0 = memory_capacity_exceeded })) → ⊥
 not_room (inl h) = omega (arith, h)
 not_room (inr h) = omega (arith, h)
 
-not_forged : EndsByCollision (Some (record { 0 = mic_failure })) → ⊥
+pub not_forged : EndsByCollision (Some (record { 0 = mic_failure })) → ⊥
 not_forged (inl h) = omega (arith, h)
 not_forged (inr h) = omega (arith, h)
 
@@ -161,7 +161,7 @@ module _ (p : Control) (down up : Way) where
 
 -- ---- the whole of a PDU
 
-not_stopping : (b : Bool) (ctrl : Ctrl) → is_terminate ctrl ≡ false → stops_run (seen_if b (Known ctrl)) ≡ false
+pub not_stopping : (b : Bool) (ctrl : Ctrl) → is_terminate ctrl ≡ false → stops_run (seen_if b (Known ctrl)) ≡ false
 not_stopping true ctrl live = refl
 not_stopping false (TerminateInd code) live = absurd (cc)
 not_stopping false ctrl live = refl

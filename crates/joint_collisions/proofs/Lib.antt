@@ -6,6 +6,7 @@ pub mod DownMeanings
 pub mod Fixing
 pub mod Instants
 pub mod Meanings
+pub mod PeripheralPhase
 pub mod PeripheralSteps
 pub mod PeripheralTakes
 pub mod Reaching
