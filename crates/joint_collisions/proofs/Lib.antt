@@ -10,6 +10,7 @@ pub mod Fixing
 pub mod Instants
 pub mod Meanings
 pub mod PeripheralEnd
+pub mod PeripheralJoint
 pub mod PeripheralPhase
 pub mod PeripheralSteps
 pub mod PeripheralTakes
