@@ -1,4 +1,5 @@
 -- The lemmas of this crate.
+pub mod Agreeing
 pub mod Answers
 pub mod CentralEnd
 pub mod CentralJoint
@@ -17,5 +18,6 @@ pub mod PeripheralTakes
 pub mod Reaching
 pub mod Readings
 pub mod Resting
+pub mod Runs
 pub mod Sending
 pub mod Terminated

@@ -1,3 +1,10 @@
 //! Joint runs of both ends of a link are joint runs of the procedures that exclude each other (Core
 //! 5.2, volume 6 part B, section 5.3). Definitions and laws; no code.
 #![tactic(auto)]
+
+mod laws;
+
+pub use crate::laws::{
+    joint_runs_are_runs_of_exclusive_procedures, no_joint_run_ends_by_a_collision,
+    tables_of_a_joint_run_agree,
+};
