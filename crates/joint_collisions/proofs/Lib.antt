@@ -17,6 +17,7 @@ pub mod PeripheralSteps
 pub mod PeripheralTakes
 pub mod Reaching
 pub mod Readings
+pub mod Findings
 pub mod Resting
 pub mod Runs
 pub mod Sending

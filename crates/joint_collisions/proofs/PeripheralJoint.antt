@@ -113,7 +113,7 @@ module _ (s : Joint) (b : Before s) where
       let passed : nat_le over_event event ≡ true = le-leb over_event event (omega (arith, less, over)) in
       rw (passed, timed_way s.down way) refl
 
-  in_time : (is_same_event s || is_late s) ≡ true → IsInTime s.central.control (way_part outgoing_part s.down) s.peripheral.control
+  pub in_time : (is_same_event s || is_late s) ≡ true → IsInTime s.central.control (way_part outgoing_part s.down) s.peripheral.control
   in_time h = by (is_same_event s) (is_late s) refl h
     where
       by : (same late : Bool) → is_late s ≡ late → (same || late) ≡ true

@@ -11,7 +11,7 @@ use Rattle.joint_controls.specs.Ends.{AreStepsInRange, IsStepInRange}
 use Rattle.joint_controls.proofs.ControlRuns.{AreRuns, awaits_from, first_runs, indicates_from, runs_step}
 use Rattle.joint_controls.proofs.LastPdus.{Tied, first_tied, tied_step}
 use Rattle.joint_controls.proofs.Running.{after_one, comes_by, goes_on}
-use Rattle.joint_collisions.specs.Facts.{AllFacts, Facts}
+use Rattle.joint_collisions.specs.Facts.{AllFacts, Facts, IsState}
 use Rattle.joint_collisions.specs.Views.{IsReached, view_of}
 use Rattle.joint_collisions.proofs.CentralJoint.{central_acked, central_enters, central_hosts, central_sends, central_sends_data, central_takes}
 use Rattle.joint_collisions.proofs.EachStep.{After, Before, Holds}
@@ -116,3 +116,9 @@ module _ (central_rx peripheral_rx : ℕ) (first : Params) (slot : ℕ) (latency
 
   pub walk : (steps : List JointStep) → AreStepsInRange steps → AllFacts steps first_joint → Walk (after_all steps first_joint)
   walk steps range facts = walk_from steps first_joint range facts first_walk
+
+pub before_of : (s : Joint) → IsState s → is_running s ≡ true → Before s
+before_of s state runs =
+    let w = walk state.central_rx state.peripheral_rx state.first state.slot state.latency state.steps state.in_range state.before in
+    before state.central_rx state.peripheral_rx state.first state.slot state.latency s
+    (subst (Walk state.central_rx state.peripheral_rx state.first state.slot state.latency) state.reaches w) runs state.now

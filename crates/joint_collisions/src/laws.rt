@@ -1,13 +1,29 @@
 //! The laws of joint runs about the procedures that exclude each other. What they need to know of
 //! one end, of the PDUs of the encryption and of those that are not supported is a premise. The
 //! bodies do nothing: the contracts are the laws.
-ghost use Rattle.std.specs.Prelude.{◌≡◌, ◌≤◌, ℕ, List, true};
+ghost use Rattle.std.specs.Prelude.{◌≡◌, ◌≤◌, ℕ, List, true, false, Some, None, is_none};
+ghost use Rattle.data_pdu.specs.declared.ctrl.Ctrl.{Ctrl};
+ghost use Rattle.exclusive_stages.specs.declared.pdus.Pdu.{Pdu};
+ghost use Rattle.exclusive_stages.specs.declared.pdus.Pdu.TheVariants.{RejectParam, RejectPhy};
+ghost use Rattle.exclusive_stages.specs.declared.pdus.Reason.{Reason};
+ghost use Rattle.exclusive_stages.specs.Awaited.{reads_as_answer};
+ghost use Rattle.exclusive_stages.specs.Pdus.{is_timed};
+ghost use Rattle.procedure_values.specs.declared.drafts.Draft.{Draft};
+ghost use Rattle.procedure_values.specs.declared.drafts.Outgoing.{Outgoing};
+ghost use Rattle.procedure_values.specs.declared.drafts.Rejection.{Rejection};
+ghost use Rattle.procedure_values.specs.declared.values.NewParams.{NewParams};
+ghost use Rattle.procedure_stages.specs.Exclusive.{pdu_of_outgoing};
+ghost use Rattle.collisions.specs.PeripheralTable.{is_phy_sent, is_requesting};
+ghost use Rattle.collisions.specs.Meaning.{central_reads, peripheral_reads};
+ghost use Rattle.collision_steps.specs.Parts.{outgoing_part, rejection_part};
+ghost use Rattle.collision_steps.specs.PeripheralPart.{peripheral_of};
 ghost use Rattle.instants.specs.declared.indications.Params.{Params};
 ghost use Rattle.control_model.specs.Waits.{EndsByCollision};
-ghost use Rattle.joint_controls.specs.Joint.{JointStep, after_all, beginning, is_running};
+ghost use Rattle.joint_controls.specs.Joint.{Joint, JointStep, after_all, beginning, is_running};
 ghost use Rattle.joint_controls.specs.Ends.{AreStepsInRange};
-ghost use Rattle.joint_collisions.specs.Facts.{AllFacts};
-ghost use Rattle.joint_collisions.specs.Views.{IsReached, TablesAgree, view_of};
+ghost use Rattle.joint_collisions.specs.Arrivals.{CentralMayTake, PeripheralMayTake};
+ghost use Rattle.joint_collisions.specs.Facts.{AllFacts, IsState};
+ghost use Rattle.joint_collisions.specs.Views.{IsReached, TablesAgree, kept_part, link_of, view_of};
 
 /// As long as it goes on, a joint run of both ends is one of the procedures that exclude each other,
 /// with the numbers of events: the tables, the PDUs on their way, the PDU that the central keeps
@@ -41,4 +57,38 @@ pub fn tables_of_a_joint_run_agree()
         → let s = beginning central_rx peripheral_rx first slot in first.latency ≤ 499
         → AreStepsInRange steps → AllFacts steps s → is_running (after_all steps s) ≡ true
         → TablesAgree (after_all steps s) }
+{}
+
+/// A PDU of these procedures that an end of a joint run takes means what it was sent as: it is not
+/// ignored, it is not treated anew in place of an earlier one, and the central keeps nothing then.
+/// An indication finds none that waits. LL_CONNECTION_UPDATE_IND is read as the answer to the
+/// peripheral's request exactly where it was sent as that. A rejection finds the procedure that it
+/// rejects.
+pub fn pdus_of_a_joint_run_mean_what_they_were_sent_as()
+    ensures down { (s : Joint) (outgoing : Outgoing) (ctrl : Ctrl) (pdu : Pdu) → IsState s
+        → PeripheralMayTake s outgoing ctrl → outgoing_part outgoing ≡ Some pdu
+        → peripheral_reads pdu (link_of s) ≡ true }
+    ensures up { (s : Joint) (outgoing : Outgoing) (ctrl : Ctrl) (pdu : Pdu) → IsState s
+        → CentralMayTake s outgoing ctrl → pdu_of_outgoing outgoing ≡ Some pdu
+        → central_reads pdu (link_of s) ≡ true }
+    ensures alone { (s : Joint) (outgoing : Outgoing) (ctrl : Ctrl) (pdu : Pdu) → IsState s
+        → CentralMayTake s outgoing ctrl → pdu_of_outgoing outgoing ≡ Some pdu
+        → kept_part s.central.kept ≡ None }
+    ensures free { (s : Joint) (outgoing : Outgoing) (ctrl : Ctrl) (pdu : Pdu) → IsState s
+        → PeripheralMayTake s outgoing ctrl → outgoing_part outgoing ≡ Some pdu
+        → is_timed pdu ≡ true → is_none s.peripheral.control.track.waits ≡ true }
+    ensures update { (s : Joint) (params : NewParams) (ctrl : Ctrl) → IsState s
+        → PeripheralMayTake s (Outgoing.Other (Draft.Update params)) ctrl
+        → reads_as_answer (peripheral_of s.peripheral.control.table).own ≡ false }
+    ensures answer { (s : Joint) (params : NewParams) (ctrl : Ctrl) → IsState s
+        → PeripheralMayTake s (Outgoing.Other (Draft.Grant params)) ctrl
+        → reads_as_answer (peripheral_of s.peripheral.control.table).own ≡ true }
+    ensures request { (s : Joint) (rejection : Rejection) (ctrl : Ctrl) (reason : Reason)
+        → IsState s → PeripheralMayTake s (Outgoing.Rejection rejection) ctrl
+        → rejection_part rejection ≡ Some (RejectParam reason)
+        → is_requesting (peripheral_of s.peripheral.control.table).own ≡ true }
+    ensures phy { (s : Joint) (rejection : Rejection) (ctrl : Ctrl) (reason : Reason)
+        → IsState s → PeripheralMayTake s (Outgoing.Rejection rejection) ctrl
+        → rejection_part rejection ≡ Some (RejectPhy reason)
+        → is_phy_sent (peripheral_of s.peripheral.control.table).own ≡ true }
 {}
