@@ -5,11 +5,13 @@ pub mod CentralEnd
 pub mod CentralJoint
 pub mod CentralSteps
 pub mod CentralTakes
+pub mod Colliding
 pub mod DownMeanings
 pub mod EachStep
 pub mod Fixing
 pub mod Instants
 pub mod Meanings
+pub mod NextRejection
 pub mod PeripheralEnd
 pub mod PeripheralJoint
 pub mod PeripheralPhase

@@ -1,6 +1,7 @@
 -- What the laws of joint runs of exclusive procedures need to know of one end, and of the PDUs of the encryption and of those
 -- that are not supported (Core 5.2, volume 6 part B, sections 5.1.3 and 5.3; our choice of words).
 use Rattle.std.specs.Prelude.{◌≡◌, ◌≤◌, ℕ, ◌==◌, Bool, true, false, List, [], ◌∷◌, Option, Some, None, is_some, ⊤}
+use Rattle.std.specs.List.{All}
 use Rattle.ble_base.specs.declared.roles.Role.TheVariants.{Central}
 use Rattle.data_pdu.specs.declared.ctrl.Ctrl.{Ctrl}
 use Rattle.data_pdu.specs.declared.ctrl.Ctrl.TheVariants.{EncReq, EncRsp, PauseEncReq, PauseEncRsp, RejectExtInd, StartEncReq, StartEncRsp, TerminateInd}
@@ -28,6 +29,8 @@ pub record CentralFacts (s : Phased) : Type 0 where
   pub first : (ctrl : Ctrl) → s.kept ≡ Some ctrl → ctrl_class ctrl ≡ Request
   pub own : is_quiet_now s ≡ false → (central_of s.control.table).own ≡ Idle
   pub drafts : is_quiet_now s ≡ false → drafts_part s.control.table.queue.drafts ≡ []
+  -- it rejects the procedures of the peripheral that exclude others, and nothing else
+  pub rejections : All (λ rejection. is_some (rejection_part rejection) ≡ true) s.control.table.queue.rejections
   -- until it takes LL_TERMINATE_IND it is to end only by the Disconnect of its host
   pub closing : is_open_now s ≡ false → is_disconnecting s.control.table.closing ≡ true
 
