@@ -269,3 +269,6 @@ module _ (s : Joint) (b : Before s) (p q : Exclusive) (outgoing : Outgoing) (ctr
   quiet_after goes =
       ap (λ (u : Phased). is_quiet_now u) (becomes goes) ∙ ap (λ (pdu : PduClass). is_quiet (phase_taking pdu s.central.phase)) first.class
       ∙ still_quiet s.central.phase quiet
+
+  pub role_kept : t.control.ends ≡ None → role_of t.control.table.progress ≡ central_role
+  role_kept goes = ap (λ (u : Phased). role_of u.control.table.progress) (becomes goes) ∙ read_next.same.role

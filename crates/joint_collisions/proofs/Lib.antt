@@ -6,6 +6,7 @@ pub mod CentralJoint
 pub mod CentralSteps
 pub mod CentralTakes
 pub mod Colliding
+pub mod CollisionLaws
 pub mod DownMeanings
 pub mod EachStep
 pub mod Fixing
@@ -20,6 +21,7 @@ pub mod PeripheralTakes
 pub mod Reaching
 pub mod Readings
 pub mod Findings
+pub mod RejectedNext
 pub mod Resting
 pub mod Runs
 pub mod Sending

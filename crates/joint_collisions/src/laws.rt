@@ -3,9 +3,11 @@
 //! bodies do nothing: the contracts are the laws.
 ghost use Rattle.std.specs.Prelude.{◌≡◌, ◌≤◌, ℕ, List, true, false, Some, None, is_none};
 ghost use Rattle.data_pdu.specs.declared.ctrl.Ctrl.{Ctrl};
+ghost use Rattle.exclusive_stages.specs.declared.pdus.Exclusive.{Exclusive};
 ghost use Rattle.exclusive_stages.specs.declared.pdus.Pdu.{Pdu};
 ghost use Rattle.exclusive_stages.specs.declared.pdus.Pdu.TheVariants.{RejectParam, RejectPhy};
 ghost use Rattle.exclusive_stages.specs.declared.pdus.Reason.{Reason};
+ghost use Rattle.exclusive_stages.specs.declared.stages.PeerAtCentral.TheVariants.{Absent};
 ghost use Rattle.exclusive_stages.specs.Awaited.{reads_as_answer};
 ghost use Rattle.exclusive_stages.specs.Pdus.{is_timed};
 ghost use Rattle.procedure_values.specs.declared.drafts.Draft.{Draft};
@@ -13,16 +15,21 @@ ghost use Rattle.procedure_values.specs.declared.drafts.Outgoing.{Outgoing};
 ghost use Rattle.procedure_values.specs.declared.drafts.Rejection.{Rejection};
 ghost use Rattle.procedure_values.specs.declared.values.NewParams.{NewParams};
 ghost use Rattle.procedure_stages.specs.Exclusive.{pdu_of_outgoing};
+ghost use Rattle.procedure_stages.specs.Queue.{next_disconnect};
 ghost use Rattle.collisions.specs.PeripheralTable.{is_phy_sent, is_requesting};
 ghost use Rattle.collisions.specs.Meaning.{central_reads, peripheral_reads};
+ghost use Rattle.collision_steps.specs.CentralPart.{central_of};
 ghost use Rattle.collision_steps.specs.Parts.{outgoing_part, rejection_part};
 ghost use Rattle.collision_steps.specs.PeripheralPart.{peripheral_of};
 ghost use Rattle.instants.specs.declared.indications.Params.{Params};
 ghost use Rattle.control_model.specs.Waits.{EndsByCollision};
 ghost use Rattle.joint_controls.specs.Joint.{Joint, JointStep, after_all, beginning, is_running};
+ghost use Rattle.joint_controls.specs.Joint.{next_out};
 ghost use Rattle.joint_controls.specs.Ends.{AreStepsInRange};
-ghost use Rattle.joint_collisions.specs.Arrivals.{CentralMayTake, PeripheralMayTake};
-ghost use Rattle.joint_collisions.specs.Facts.{AllFacts, IsState};
+ghost use Rattle.phased_control.specs.Phased.{is_open_now};
+ghost use Rattle.joint_collisions.specs.Arrivals.{CentralMayTake, Collides, PeripheralMayTake};
+ghost use Rattle.joint_collisions.specs.Arrivals.{RejectsNext, collided, is_silent};
+ghost use Rattle.joint_collisions.specs.Facts.{AllFacts, CentralFacts, IsState};
 ghost use Rattle.joint_collisions.specs.Views.{IsReached, TablesAgree, kept_part, link_of, view_of};
 
 /// As long as it goes on, a joint run of both ends is one of the procedures that exclude each other,
@@ -91,4 +98,33 @@ pub fn pdus_of_a_joint_run_mean_what_they_were_sent_as()
         → IsState s → PeripheralMayTake s (Outgoing.Rejection rejection) ctrl
         → rejection_part rejection ≡ Some (RejectPhy reason)
         → is_phy_sent (peripheral_of s.peripheral.control.table).own ≡ true }
+{}
+
+/// Of two procedures that collide the central's goes on, and nothing of the peripheral's is left at
+/// the central. The next control PDU that the central sends, whatever comes between, is the
+/// rejection of the peripheral's procedure, with 0x23 where the two are of one kind and 0x2A where
+/// they are not. A central that is to end the link rejects nothing any more: LL_TERMINATE_IND comes
+/// next, or nothing (section 5.3).
+pub fn a_collision_of_a_joint_run_is_rejected_next()
+    ensures own { (s : Joint) (p q : Exclusive) (outgoing : Outgoing) (ctrl : Ctrl)
+        (c : Collides s p q outgoing ctrl) → IsState s
+        → is_running (collided s p q outgoing ctrl c) ≡ true
+        → (central_of (collided s p q outgoing ctrl c).central.control.table).own
+        ≡ (central_of s.central.control.table).own }
+    ensures peer { (s : Joint) (p q : Exclusive) (outgoing : Outgoing) (ctrl : Ctrl)
+        (c : Collides s p q outgoing ctrl) → IsState s
+        → is_running (collided s p q outgoing ctrl c) ≡ true
+        → (central_of (collided s p q outgoing ctrl c).central.control.table).peer ≡ Absent }
+    ensures rejected { (s : Joint) (p q : Exclusive) (outgoing : Outgoing) (ctrl : Ctrl)
+        (c : Collides s p q outgoing ctrl) (later : List JointStep) → IsState s
+        → is_running (collided s p q outgoing ctrl c) ≡ true
+        → CentralFacts (collided s p q outgoing ctrl c).central → is_open_now s.central ≡ true
+        → is_silent later ≡ true
+        → RejectsNext (after_all later (collided s p q outgoing ctrl c)) p q }
+    ensures closing { (s : Joint) (p q : Exclusive) (outgoing : Outgoing) (ctrl : Ctrl)
+        (c : Collides s p q outgoing ctrl) → IsState s
+        → is_running (collided s p q outgoing ctrl c) ≡ true
+        → CentralFacts (collided s p q outgoing ctrl c).central → is_open_now s.central ≡ false
+        → next_out (collided s p q outgoing ctrl c).central ≡ next_disconnect
+        (collided s p q outgoing ctrl c).central.control.table.queue.disconnect }
 {}
