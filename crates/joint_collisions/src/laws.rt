@@ -16,6 +16,9 @@ ghost use Rattle.procedure_values.specs.declared.drafts.Rejection.{Rejection};
 ghost use Rattle.procedure_values.specs.declared.values.NewParams.{NewParams};
 ghost use Rattle.procedure_stages.specs.Exclusive.{pdu_of_outgoing};
 ghost use Rattle.procedure_stages.specs.Queue.{next_disconnect};
+ghost use Rattle.exclusive_stages.specs.Kinds.{is_idle_at_central};
+ghost use Rattle.collisions.specs.CentralTable.{has_no_peer};
+ghost use Rattle.collisions.specs.JointRun.{is_empty};
 ghost use Rattle.collisions.specs.PeripheralTable.{is_phy_sent, is_requesting};
 ghost use Rattle.collisions.specs.Meaning.{central_reads, peripheral_reads};
 ghost use Rattle.collision_steps.specs.CentralPart.{central_of};
@@ -29,6 +32,7 @@ ghost use Rattle.joint_controls.specs.Ends.{AreStepsInRange};
 ghost use Rattle.phased_control.specs.Phased.{is_open_now};
 ghost use Rattle.joint_collisions.specs.Arrivals.{CentralMayTake, Collides, PeripheralMayTake};
 ghost use Rattle.joint_collisions.specs.Arrivals.{RejectsNext, collided, is_silent};
+ghost use Rattle.joint_collisions.specs.FirstPdus.{has_own_first};
 ghost use Rattle.joint_collisions.specs.Facts.{AllFacts, CentralFacts, IsState};
 ghost use Rattle.joint_collisions.specs.Views.{IsReached, TablesAgree, kept_part, link_of, view_of};
 
@@ -127,4 +131,16 @@ pub fn a_collision_of_a_joint_run_is_rejected_next()
         → CentralFacts (collided s p q outgoing ctrl c).central → is_open_now s.central ≡ false
         → next_out (collided s p q outgoing ctrl c).central ≡ next_disconnect
         (collided s p q outgoing ctrl c).central.control.table.queue.disconnect }
+{}
+
+/// A first PDU of the peripheral that waits, is not taken or is kept belongs to the procedure that
+/// it runs: where it runs none of these, there is no such PDU. At a central with no procedure of
+/// either end in progress no PDU of these but rejections waits.
+pub fn no_pdu_of_a_joint_run_outlives_its_procedure()
+    ensures first { (s : Joint) → IsState s → is_running s ≡ true
+        → has_own_first (link_of s) ≡ true }
+    ensures queued { (s : Joint) → IsState s → is_running s ≡ true
+        → is_idle_at_central (central_of s.central.control.table).own ≡ true
+        → has_no_peer (central_of s.central.control.table).peer ≡ true
+        → is_empty (central_of s.central.control.table).queue.items ≡ true }
 {}
