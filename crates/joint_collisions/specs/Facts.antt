@@ -1,6 +1,5 @@
--- What the laws of joint runs of exclusive procedures need to know of one end, and of the PDUs of the encryption and of those
--- that are not supported (Core 5.2, volume 6 part B, sections 5.1.3 and 5.3; our choice of words).
-use Rattle.std.specs.Prelude.{◌≡◌, ◌≤◌, ℕ, ◌==◌, Bool, true, false, List, [], ◌∷◌, Option, Some, None, is_some, ⊤}
+-- What the laws of joint runs of exclusive procedures need to know of each end alone (Core 5.2, volume 6 part B, sections 5.1.3 and 5.3; our choice of words).
+use Rattle.std.specs.Prelude.{◌≡◌, ◌≤◌, ℕ, ◌==◌, ◌||◌, Bool, true, false, not, List, [], ◌∷◌, Option, Some, None, is_some, ⊤}
 use Rattle.std.specs.List.{All}
 use Rattle.ble_base.specs.declared.roles.Role.TheVariants.{Central}
 use Rattle.data_pdu.specs.declared.ctrl.Ctrl.{Ctrl}
@@ -12,7 +11,7 @@ use Rattle.procedure_values.specs.declared.drafts.Outgoing.{Outgoing}
 use Rattle.procedure_values.specs.declared.drafts.Outgoing.TheVariants.{Other, Rejection}
 use Rattle.procedure_values.specs.declared.drafts.Draft.TheVariants.{Cipher, UnknownRsp}
 use Rattle.procedure_stages.specs.Closing.{is_disconnecting}
-use Rattle.procedure_stages.specs.Opcodes.{enc_req_opcode}
+use Rattle.procedure_stages.specs.Opcodes.{channel_map_ind_opcode, connection_param_req_opcode, connection_update_ind_opcode, enc_req_opcode, phy_req_opcode}
 use Rattle.collision_steps.specs.CentralPart.{central_of}
 use Rattle.collision_steps.specs.Parts.{drafts_part, rejection_part}
 use Rattle.phased_control.specs.Phased.{Phased, is_open_now, is_quiet_now}
@@ -59,17 +58,25 @@ is_cipher_down PauseEncRsp = true
 is_cipher_down (TerminateInd code) = true
 is_cipher_down ctrl = false
 
--- a peripheral rejects nothing but the start of an encryption, and each PDU of the other end is known
+-- the first PDUs of the central's procedures that exclude others, and those of the peripheral: each end knows them
+abbrev pub is_first_down : ℕ → Bool
+is_first_down opcode =
+    (connection_update_ind_opcode == opcode) || ((channel_map_ind_opcode == opcode) || (phy_req_opcode == opcode))
+
+abbrev pub is_first_up : ℕ → Bool
+is_first_up opcode = (connection_param_req_opcode == opcode) || (phy_req_opcode == opcode)
+
+-- a peripheral rejects nothing but the start of an encryption
 abbrev pub fits_up : Outgoing → Bool
 fits_up (Rejection rejection) = false
-fits_up (Other (UnknownRsp opcode)) = false
+fits_up (Other (UnknownRsp opcode)) = not (is_first_down opcode)
 fits_up (Other (Cipher ctrl)) = is_cipher_up ctrl
 fits_up outgoing = true
 
 -- a central rejects the procedures of the peripheral that exclude others, and nothing else
 abbrev pub fits_down : Outgoing → Bool
 fits_down (Rejection rejection) = is_some (rejection_part rejection)
-fits_down (Other (UnknownRsp opcode)) = false
+fits_down (Other (UnknownRsp opcode)) = not (is_first_up opcode)
 fits_down (Other (Cipher ctrl)) = is_cipher_down ctrl
 fits_down outgoing = true
 
