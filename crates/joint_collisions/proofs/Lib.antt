@@ -1,5 +1,8 @@
 -- The lemmas of this crate.
 pub mod Agreeing
+pub mod Alone
+pub mod AloneSteps
+pub mod AloneTaking
 pub mod Answers
 pub mod CentralEnd
 pub mod CentralJoint

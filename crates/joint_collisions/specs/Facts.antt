@@ -6,28 +6,26 @@ use Rattle.data_pdu.specs.declared.ctrl.Ctrl.{Ctrl}
 use Rattle.data_pdu.specs.declared.ctrl.Ctrl.TheVariants.{EncReq, EncRsp, PauseEncReq, PauseEncRsp, RejectExtInd, StartEncReq, StartEncRsp, TerminateInd}
 use Rattle.enc_phase.specs.declared.classes.PduClass.TheVariants.{Request}
 use Rattle.enc_phase.specs.Taking.{allows, ctrl_class}
-use Rattle.exclusive_stages.specs.declared.stages.CentralStage.TheVariants.{Idle}
 use Rattle.procedure_values.specs.declared.drafts.Outgoing.{Outgoing}
 use Rattle.procedure_values.specs.declared.drafts.Outgoing.TheVariants.{Other, Rejection}
 use Rattle.procedure_values.specs.declared.drafts.Draft.TheVariants.{Cipher, UnknownRsp}
 use Rattle.procedure_stages.specs.Closing.{is_disconnecting}
 use Rattle.procedure_stages.specs.Opcodes.{channel_map_ind_opcode, connection_param_req_opcode, connection_update_ind_opcode, enc_req_opcode, phy_req_opcode}
-use Rattle.collision_steps.specs.CentralPart.{central_of}
-use Rattle.collision_steps.specs.Parts.{drafts_part, rejection_part}
-use Rattle.phased_control.specs.Phased.{Phased, is_open_now, is_quiet_now}
+use Rattle.collision_steps.specs.Parts.{rejection_part}
+use Rattle.phased_control.specs.Phased.{Phased, is_open_now, is_pause_rsp, is_quiet_now}
 use Rattle.joint_controls.specs.Joint.{Control, Data, Item, Joint, JointStep, after, after_all, beginning, is_running, item_on_air}
 use Rattle.joint_controls.specs.Ends.{AreStepsInRange}
 use Rattle.instants.specs.declared.indications.Params.{Params}
 
 -- ---- one end
 
--- a central outside the phases Clear and Secure runs an encryption and nothing else
+-- a central
 pub record CentralFacts (s : Phased) : Type 0 where
   -- it keeps one first PDU, and allows no other until that is answered
   pub kept : (ctrl : Ctrl) → s.kept ≡ Some ctrl → allows s.phase Central Request ≡ false
   pub first : (ctrl : Ctrl) → s.kept ≡ Some ctrl → ctrl_class ctrl ≡ Request
-  pub own : is_quiet_now s ≡ false → (central_of s.control.table).own ≡ Idle
-  pub drafts : is_quiet_now s ≡ false → drafts_part s.control.table.queue.drafts ≡ []
+  -- it asks for encryption again only after a pause
+  pub pauses : is_pause_rsp s.control.table.out ≡ true → is_quiet_now s ≡ false
   -- it rejects the procedures of the peripheral that exclude others, and nothing else
   pub rejections : All (λ rejection. is_some (rejection_part rejection) ≡ true) s.control.table.queue.rejections
   -- until it takes LL_TERMINATE_IND it is to end only by the Disconnect of its host
