@@ -1,0 +1,4 @@
+-- The lemmas of this crate.
+pub mod MachineFacts
+pub mod CentralQueue
+pub mod PeripheralQueue

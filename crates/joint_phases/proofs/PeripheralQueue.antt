@@ -1,0 +1,189 @@
+-- What waits at a peripheral, as a PDU is queued, and as the version of the central becomes known.
+use Rattle.std.proofs.Common.{◌≡◌, Bool, true, false, not, ◌&&◌, ◌||◌, List, [], ◌∷◌, ◌++◌, Option, Some, None, is_none, is_some, refl, ap, sym, subst, ◌∙◌, if◌then◌else◌}
+use Rattle.std.proofs.lemmas.Bool.{and_from, and_parts}
+use Rattle.data_pdu.specs.declared.ctrl.Ctrl.{Ctrl}
+use Rattle.data_pdu.specs.declared.ctrl.Ctrl.TheVariants.{VersionInd}
+use Rattle.enc_phase.specs.declared.classes.PduClass.{PduClass}
+use Rattle.enc_phase.specs.declared.classes.PduClass.TheVariants.{Data, Empty, Other, Request, Terminate}
+use Rattle.procedure_values.specs.declared.drafts.Draft.{Draft}
+use Rattle.procedure_values.specs.Drafts.{ctrl_of_draft}
+use Rattle.phase_pairs.specs.declared.peripheral.PhasePeripheral.{PhasePeripheral}
+use Rattle.phase_pairs.specs.declared.peripheral.UnsentRequest.{UnsentRequest}
+use Rattle.phase_pairs.specs.declared.peripheral.UnsentRequest.TheVariants.{Absent, First, Last}
+use Rattle.phase_pairs.specs.Agreement.{is_encryption}
+use Rattle.phase_pairs.specs.Central.{is_queued}
+use Rattle.phase_pairs.specs.JointRun.{is_request}
+use Rattle.phase_pairs.specs.Peripheral.{has_unsent, is_next, is_unsent, is_waiting, peripheral_begins, peripheral_popping}
+use Rattle.joint_phases.specs.Classes.{class_up, draft_up}
+use Rattle.joint_phases.specs.Parts.{goes_up, is_emptied, wait_up, without_up}
+use Rattle.joint_phases.proofs.MachineFacts.{is_after}
+
+-- a peripheral with these waiting
+abbrev pub with_waits : PhasePeripheral → Option PduClass → Option PduClass → UnsentRequest → Bool → PhasePeripheral
+with_waits p first second request owes = record p { first = first; second = second; request = request; owes = owes }
+
+-- a PDU of the encryption, or the LL_TERMINATE_IND for want of a key
+abbrev pub is_queued_class : PduClass → Bool
+is_queued_class Request = false
+is_queued_class Other = false
+is_queued_class Data = false
+is_queued_class Empty = false
+is_queued_class k = true
+
+no_one : (k : PduClass) → is_queued k None ≡ true → ⊥
+no_one Request h = absurd (cc)
+no_one k h = absurd (cc)
+
+queued_itself : (k : PduClass) → is_queued k (Some k) ≡ true
+queued_itself Request = refl
+queued_itself k = refl
+
+module _ (class_of : Draft → PduClass) (p : PhasePeripheral) where
+  abbrev pub here : List Draft → Option PduClass → Option PduClass → UnsentRequest → Bool → Type 0
+  here drafts first second request owes = wait_up class_of drafts (with_waits p first second request owes) ≡ true
+
+  -- ---- nothing waits
+
+  none_goes : (k : PduClass) → goes_up k (with_waits p None None Absent false) ≡ true → ⊥
+  none_goes Request goes = absurd (cc)
+  none_goes Other goes = absurd (cc)
+  none_goes k goes = absurd (cc)
+
+  pub nothing_waits : (drafts : List Draft) → here drafts None None Absent false → drafts ≡ []
+  nothing_waits [] waits = refl
+  nothing_waits (draft ∷ drafts) waits =
+      absurd (none_goes (class_of draft) (and_parts (goes_up (class_of draft) (with_waits p None None Absent false)) _ waits).0)
+
+  -- ---- a procedure begins
+
+  abbrev begun : Option PduClass → UnsentRequest
+  begun first = (if is_some first then Last else First)
+
+  begins_over : (k : PduClass) (first second : Option PduClass) (owes : Bool) (draft : Draft) (drafts : List Draft)
+      → goes_up k (with_waits p first second Absent owes) ≡ true
+      → ((f s : Option PduClass) (o : Bool) → here drafts f s Absent o → here (drafts ++ draft ∷ []) f s (begun f) o)
+      → wait_up class_of drafts (without_up k (with_waits p first second Absent owes)) ≡ true
+      → (goes_up k (with_waits p first second (begun first) owes) ≡ true)
+      × (wait_up class_of (drafts ++ draft ∷ []) (without_up k (with_waits p first second (begun first) owes)) ≡ true)
+  begins_over Request first second owes draft drafts goes more waits = absurd (cc)
+  begins_over Data first second owes draft drafts goes more waits = absurd (cc)
+  begins_over Other first second owes draft drafts goes more waits = (goes, more first second false waits)
+  begins_over k None second owes draft drafts goes more waits = absurd (cc)
+  begins_over k (Some pdu) None owes draft drafts goes more waits = (goes, more None None owes waits)
+  begins_over k (Some pdu) (Some next) owes draft drafts goes more waits = (goes, more (Some next) None owes waits)
+
+  emptied_begins : (first second : Option PduClass) (owes : Bool) → is_emptied (with_waits p first second Absent owes) ≡ true
+      → (is_next (begun first) ≡ true) × (is_emptied (with_waits p first second Absent owes) ≡ true)
+  emptied_begins None second owes is = (refl, is)
+  emptied_begins (Some pdu) second owes is = absurd (cc)
+
+  request_goes : (k : PduClass) (first second : Option PduClass) (request : UnsentRequest) (owes : Bool) → k ≡ Request
+      → (is_next request ≡ true) × (is_emptied (with_waits p first second Absent owes) ≡ true)
+      → goes_up k (with_waits p first second request owes)
+      && is_emptied (without_up k (with_waits p first second request owes)) ≡ true
+  request_goes k first second request owes is both = rw is (and_from _ _ both.0 both.1)
+
+  pub begins_more : (drafts : List Draft) (first second : Option PduClass) (owes : Bool) (draft : Draft) → class_of draft ≡ Request
+      → here drafts first second Absent owes → here (drafts ++ draft ∷ []) first second (begun first) owes
+  begins_more [] first second owes draft is waits =
+      request_goes (class_of draft) first second (begun first) owes is (emptied_begins first second owes waits)
+  begins_more (d ∷ drafts) first second owes draft is waits =
+      let h = and_parts (goes_up (class_of d) (with_waits p first second Absent owes)) _ waits in
+      let both = begins_over (class_of d) first second owes draft drafts h.0 (λ f s o. begins_more drafts f s o draft is) h.1 in
+      and_from _ _ both.0 both.1
+
+  -- ---- an answer is queued where no PDU of the encryption waits
+
+  owes_over : (k : PduClass) (request : UnsentRequest) (draft : Draft) (drafts : List Draft) → goes_up k (with_waits p None None request false) ≡ true
+      → ((r : UnsentRequest) → here drafts None None r false → here (drafts ++ draft ∷ []) None None r true)
+      → wait_up class_of drafts (without_up k (with_waits p None None request false)) ≡ true
+      → (goes_up k (with_waits p None None request true) ≡ true)
+      × (wait_up class_of (drafts ++ draft ∷ []) (without_up k (with_waits p None None request true)) ≡ true)
+  owes_over Request request draft drafts goes more waits = (goes, more Absent waits)
+  owes_over Other request draft drafts goes more waits = absurd (cc)
+  owes_over k request draft drafts goes more waits = absurd (cc)
+
+  answer_goes : (k : PduClass) (request : UnsentRequest) → k ≡ Other → is_emptied (with_waits p None None request false) ≡ true
+      → goes_up k (with_waits p None None request true)
+      && is_emptied (without_up k (with_waits p None None request true)) ≡ true
+  answer_goes k request is emptied = rw is emptied
+
+  pub owes_more : (drafts : List Draft) (request : UnsentRequest) (draft : Draft) → class_of draft ≡ Other
+      → here drafts None None request false → here (drafts ++ draft ∷ []) None None request true
+  owes_more [] request draft is waits = answer_goes (class_of draft) request is waits
+  owes_more (d ∷ drafts) request draft is waits =
+      let h = and_parts (goes_up (class_of d) (with_waits p None None request false)) _ waits in
+      let both = owes_over (class_of d) request draft drafts h.0 (λ r. owes_more drafts r draft is) h.1 in
+      and_from _ _ both.0 both.1
+
+  -- ---- a PDU of the encryption is queued where none waits
+
+  emptied_queued : (k : PduClass) (request : UnsentRequest) (owes : Bool) → is_queued_class k ≡ true → is_emptied (with_waits p None None request owes) ≡ true
+      → goes_up k (with_waits p (Some k) None request owes)
+      && is_emptied (without_up k (with_waits p (Some k) None request owes)) ≡ true
+  emptied_queued Terminate Absent false is emptied = refl
+  emptied_queued k Absent true is emptied = absurd (cc)
+  emptied_queued k First owes is emptied = absurd (cc)
+  emptied_queued k Last owes is emptied = absurd (cc)
+  emptied_queued Request Absent false is emptied = absurd (cc)
+  emptied_queued Other Absent false is emptied = absurd (cc)
+  emptied_queued Data Absent false is emptied = absurd (cc)
+  emptied_queued Empty Absent false is emptied = absurd (cc)
+  emptied_queued k Absent false is emptied = refl
+
+  queues_over : (k : PduClass) (request : UnsentRequest) (owes : Bool) (pdu : PduClass) (draft : Draft) (drafts : List Draft)
+      → goes_up k (with_waits p None None request owes) ≡ true
+      → ((r : UnsentRequest) (o : Bool) → here drafts None None r o → here (drafts ++ draft ∷ []) (Some pdu) None r o)
+      → wait_up class_of drafts (without_up k (with_waits p None None request owes)) ≡ true
+      → (goes_up k (with_waits p (Some pdu) None request owes) ≡ true)
+      × (wait_up class_of (drafts ++ draft ∷ []) (without_up k (with_waits p (Some pdu) None request owes)) ≡ true)
+  queues_over Request request owes pdu draft drafts goes more waits = (goes, more Absent owes waits)
+  queues_over Other request owes pdu draft drafts goes more waits = (goes, more request false waits)
+  queues_over k request owes pdu draft drafts goes more waits = absurd (cc)
+
+  first_goes : (k pdu : PduClass) (request : UnsentRequest) (owes : Bool) → k ≡ pdu → is_queued_class pdu ≡ true → is_emptied (with_waits p None None request owes) ≡ true
+      → goes_up k (with_waits p (Some pdu) None request owes)
+      && is_emptied (without_up k (with_waits p (Some pdu) None request owes)) ≡ true
+  first_goes k pdu request owes is waits emptied = rw is (emptied_queued pdu request owes waits emptied)
+
+  pub queues_first : (drafts : List Draft) (request : UnsentRequest) (owes : Bool) (pdu : PduClass) (draft : Draft) → class_of draft ≡ pdu → is_queued_class pdu ≡ true
+      → here drafts None None request owes → here (drafts ++ draft ∷ []) (Some pdu) None request owes
+  queues_first [] request owes pdu draft is one waits = first_goes (class_of draft) pdu request owes is one waits
+  queues_first (d ∷ drafts) request owes pdu draft is one waits =
+      let h = and_parts (goes_up (class_of d) (with_waits p None None request owes)) _ waits in
+      let both = queues_over (class_of d) request owes pdu draft drafts h.0 (λ r o. queues_first drafts r o pdu draft is one) h.1 in
+      and_from _ _ both.0 both.1
+
+  -- ---- or after one that waits, where no first PDU is after that
+
+  second_over : (k : PduClass) (first : PduClass) (request : UnsentRequest) (owes : Bool) (pdu : PduClass) (draft : Draft) (drafts : List Draft)
+      → not (is_after request) ≡ true → class_of draft ≡ pdu → is_queued_class pdu ≡ true
+      → goes_up k (with_waits p (Some first) None request owes) ≡ true
+      → ((r : UnsentRequest) (o : Bool) → not (is_after r) ≡ true → here drafts (Some first) None r o → here (drafts ++ draft ∷ []) (Some first) (Some pdu) r o)
+      → wait_up class_of drafts (without_up k (with_waits p (Some first) None request owes)) ≡ true
+      → (goes_up k (with_waits p (Some first) (Some pdu) request owes) ≡ true)
+      × (wait_up class_of (drafts ++ draft ∷ []) (without_up k (with_waits p (Some first) (Some pdu) request owes)) ≡ true)
+  second_over Request first request owes pdu draft drafts apart is one goes more waits = (goes, more Absent owes refl waits)
+  second_over Other first request owes pdu draft drafts apart is one goes more waits = (goes, more request false apart waits)
+  second_over Data first request owes pdu draft drafts apart is one goes more waits = absurd (cc)
+  second_over k first Last owes pdu draft drafts apart is one goes more waits = absurd (cc)
+  second_over k first First owes pdu draft drafts apart is one goes more waits = absurd (not_next _ goes)
+    where
+      not_next : (a : Bool) → (a && false) ≡ true → ⊥
+      not_next true h = absurd (cc)
+      not_next false h = absurd (cc)
+  second_over k first Absent true pdu draft drafts apart is one goes more waits = absurd (not_next _ goes)
+    where
+      not_next : (a : Bool) → (a && false) ≡ true → ⊥
+      not_next true h = absurd (cc)
+      not_next false h = absurd (cc)
+  second_over k first Absent false pdu draft drafts apart is one goes more waits = (goes, queues_first drafts Absent false pdu draft is one waits)
+
+  pub queues_second : (drafts : List Draft) (first : PduClass) (request : UnsentRequest) (owes : Bool) (pdu : PduClass) (draft : Draft)
+      → class_of draft ≡ pdu → is_queued_class pdu ≡ true → not (is_after request) ≡ true
+      → here drafts (Some first) None request owes → here (drafts ++ draft ∷ []) (Some first) (Some pdu) request owes
+  queues_second [] first request owes pdu draft is one apart waits = absurd (cc)
+  queues_second (d ∷ drafts) first request owes pdu draft is one apart waits =
+      let h = and_parts (goes_up (class_of d) (with_waits p (Some first) None request owes)) _ waits in
+      let both = second_over (class_of d) first request owes pdu draft drafts apart is one h.0 (λ r o a. queues_second drafts first r o pdu draft is one a) h.1 in
+      and_from _ _ both.0 both.1

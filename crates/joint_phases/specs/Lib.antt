@@ -1,0 +1,4 @@
+-- The definitions of this crate.
+pub mod Classes
+pub mod Events
+pub mod Parts
