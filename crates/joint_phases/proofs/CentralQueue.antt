@@ -14,7 +14,7 @@ use Rattle.procedure_values.specs.Drafts.{ctrl_of_draft}
 use Rattle.phase_pairs.specs.Agreement.{is_encryption}
 use Rattle.phase_pairs.specs.Central.{is_ahead, is_queued}
 use Rattle.phase_pairs.specs.JointRun.{is_request}
-use Rattle.joint_phases.specs.Classes.{class_down, draft_down}
+use Rattle.joint_phases.specs.Classes.{class_down, draft_down, has_request}
 use Rattle.joint_phases.specs.Parts.{goes_down, may_reject, queued_then, wait_down}
 
 -- a class of other procedures
@@ -73,10 +73,6 @@ module _ (class_of : Draft → PduClass) where
 
   -- ---- an encryption begins: its first PDU goes after all that waits
 
-  abbrev pub has_request : List Draft → Bool
-  has_request [] = false
-  has_request (draft ∷ drafts) = is_request (class_of draft) || has_request drafts
-
   goes_ahead : (k : PduClass) (phase next : PhaseFacts) (queued : Option PduClass) → is_request k ≡ false → goes_down k phase None ≡ true
       → is_ahead next queued ≡ true → (goes_down k next queued ≡ true) × (queued_then k queued ≡ queued) × (queued_then k None ≡ None)
   goes_ahead Other phase next queued apart goes ahead = (or_right _ _ ahead, refl, refl)
@@ -88,12 +84,12 @@ module _ (class_of : Draft → PduClass) where
   or_false false b h = (refl, h)
 
   pub begins_after : (phase next : PhaseFacts) (drafts : List Draft) (draft : Draft) (pdu : PduClass)
-      → has_request drafts ≡ false → wait_down class_of phase drafts None ≡ true
+      → has_request class_of drafts ≡ false → wait_down class_of phase drafts None ≡ true
       → is_ahead next (Some pdu) ≡ true → goes_down (class_of draft) next (Some pdu) ≡ true → queued_then (class_of draft) (Some pdu) ≡ None
       → wait_down class_of next (drafts ++ draft ∷ []) (Some pdu) ≡ true
   begins_after phase next [] draft pdu none waits ahead goes gone = and_from _ _ goes (rw gone refl)
   begins_after phase next (first ∷ drafts) draft pdu none waits ahead goes gone =
-      let n = or_false (is_request (class_of first)) (has_request drafts) none in
+      let n = or_false (is_request (class_of first)) (has_request class_of drafts) none in
       let h = and_parts (goes_down (class_of first) phase None) _ waits in
       let g = goes_ahead (class_of first) phase next (Some pdu) n.0 h.0 ahead in
       and_from _ _ g.0

@@ -2,3 +2,6 @@
 pub mod MachineFacts
 pub mod CentralQueue
 pub mod PeripheralQueue
+pub mod Stages
+pub mod CentralEnters
+pub mod CentralSends
