@@ -5,3 +5,4 @@ pub mod PeripheralQueue
 pub mod Stages
 pub mod CentralEnters
 pub mod CentralSends
+pub mod CentralGoes

@@ -33,11 +33,11 @@ use Rattle.machines.proofs.Trees.{all_tree, find, find_is}
 abbrev if_so : Bool → Bool → Bool
 if_so a b = not a || b
 
-abbrev is_half_clear : PhaseFacts → Bool
+abbrev pub is_half_clear : PhaseFacts → Bool
 is_half_clear (HalfClear kept) = true
 is_half_clear phase = false
 
-abbrev is_keyless : PhaseClosing → Bool
+abbrev pub is_keyless : PhaseClosing → Bool
 is_keyless HasNoKey = true
 is_keyless closing = false
 
