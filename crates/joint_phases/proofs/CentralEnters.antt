@@ -61,12 +61,12 @@ none_of_two false E a b = absurd (cc)
 
 -- ---- in Clear and Secure, with the phase as it was
 
-pub quiet_step : (s : Phased) (c : PhaseCentral) (k : Control) (knows : Bool) → IsCentral s c → is_quiet c.phase ≡ true
+pub quiet_step : (s : Phased) (c : PhaseCentral) (k : Control) (knows awaited : Bool) → IsCentral s c → is_quiet c.phase ≡ true
     → role_of k.table.progress ≡ central_role → k.table.closing ≡ closing_down c.closed
-    → (c.awaits ≡ true → is_awaiting k.table.progress ≡ true) → has_encryption k.table.progress ≡ false
+    → (awaited ≡ true → is_awaiting k.table.progress ≡ true) → has_encryption k.table.progress ≡ false
     → wait_down (draft_down knows) c.phase k.table.queue.drafts c.queued ≡ true
-    → IsCentral (record s { control = k; knows_version = knows }) c
-quiet_step s c k knows is quiet role closing awaits none waits =
+    → IsCentral (record s { control = k; knows_version = knows }) (record c { awaits = awaited })
+quiet_step s c k knows awaited is quiet role closing awaits none waits =
     record {
       role = role;
       phase = is.phase;
@@ -218,7 +218,7 @@ module _ (s : Phased) (c : PhaseCentral) (track : TrackFacts) (g : TableFacts) (
       → wait_down (draft_down s.knows_version) phase drafts c.queued ≡ true
       → IsCentral (phased_at phase table) (central_at phase)
   other_begun phase used own drafts table is may progress closing queue none waits =
-      quiet_step (phased_at phase (table_at used)) (central_at phase) _ s.knows_version is may.quiet (ap role_of progress)
+      quiet_step (phased_at phase (table_at used)) (central_at phase) _ s.knows_version c.awaits is may.quiet (ap role_of progress)
       (closing ∙ sym (ap closing_down may.lasts))
       (λ a. none_of_two _ _ may.none (is.awaits a))
       (ap has_encryption progress ∙ none) (rw queue waits)

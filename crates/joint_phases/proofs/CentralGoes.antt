@@ -91,13 +91,13 @@ module _ (s : Phased) (c : PhaseCentral) (is : IsCentral (opened s) c) where
       → IsCentral (record s { control = control_at (host_answer_step s.control.table answer) }) c
   answers_quiet (Ok (ask_update interval latency timeout)) quiet =
       let same = peer_same _ s.control.table.progress in
-      quiet_step (opened s) c _ s.knows_version is quiet (same.role ∙ is.role) is.closing (λ a. same.awaits ∙ is.awaits a)
+      quiet_step (opened s) c _ s.knows_version c.awaits is quiet (same.role ∙ is.role) is.closing (λ a. same.awaits ∙ is.awaits a)
       (same.encrypts ∙ is.encrypts ∙ ap not quiet)
       (draft_more s.knows_version (is_open s.control.table.closing) c.phase s.control.table.queue c.queued _ quiet is.waits)
   answers_quiet (Ok ask) quiet = is
   answers_quiet (Err code) quiet =
       let same = peer_same _ s.control.table.progress in
-      quiet_step (opened s) c _ s.knows_version is quiet (same.role ∙ is.role) is.closing (λ a. same.awaits ∙ is.awaits a)
+      quiet_step (opened s) c _ s.knows_version c.awaits is quiet (same.role ∙ is.role) is.closing (λ a. same.awaits ∙ is.awaits a)
       (same.encrypts ∙ is.encrypts ∙ ap not quiet)
       (rejection_more s.knows_version (is_open s.control.table.closing) c.phase s.control.table.queue c.queued _ is.waits)
 

@@ -6,3 +6,5 @@ pub mod Stages
 pub mod CentralEnters
 pub mod CentralSends
 pub mod CentralGoes
+pub mod Outcomes
+pub mod CentralTakes

@@ -18,7 +18,7 @@ use Rattle.procedure_stages.specs.InProgress.{is_host_asked}
 use Rattle.procedure_stages.specs.Kinds.{own_exchange}
 use Rattle.phase_pairs.specs.JointRun.{is_pause_rsp_taken, is_request, keeps_request}
 use Rattle.phased_control.specs.Phased.{Phased, is_open_now, is_pause_rsp, is_quiet_now}
-use Rattle.joint_controls.specs.Joint.{Item, Joint, JointStep, Way, Fixed, OnAir, PeripheralTakes, is_item, is_taken}
+use Rattle.joint_controls.specs.Joint.{Item, Joint, JointStep, Way, Fixed, OnAir, PeripheralTakes, is_item, is_taken, item_on_air}
 use Rattle.joint_phases.specs.Classes.{class_up, draft_down, draft_up, has_request, has_version, is_version, is_version_ctrl, item_class}
 use Rattle.joint_phases.specs.Events.{does_begin}
 use Rattle.joint_phases.specs.Parts.{way_down}
@@ -91,7 +91,7 @@ pub record Facts (s : Joint) : Type 0 where
   -- a procedure of the peripheral begins only where no first PDU of it waits, is untaken or is kept
   pub begins_alone : does_begin s.peripheral ≡ true → has_no_first s ≡ true
   -- the LL_VERSION_IND of the central is taken once; so is that of the peripheral, if it was queued
-  pub known_down : s.peripheral.knows_version ≡ true → is_version_coming s.down ≡ false
+  pub known_down : s.peripheral.knows_version ≡ true → is_item is_version (item_on_air s.down) ≡ false
   pub known_up : s.central.knows_version ≡ true → s.peripheral.control.table.version_used ≡ true
   pub known_queue : s.central.knows_version ≡ true → has_version (drafts_of s.peripheral) ≡ false
   pub known_way : s.central.knows_version ≡ true → is_version_coming s.up ≡ false
@@ -104,7 +104,7 @@ pub record Facts (s : Joint) : Type 0 where
   -- the central's own exchange of versions is sent: its LL_VERSION_IND is on the air, or was taken
   pub sent_comes :
       is_version_sent (own_exchange s.central.control.table.progress) ≡ true → s.central.knows_version ≡ false
-      → s.peripheral.knows_version ≡ false → is_version_coming s.down ≡ true
+      → s.peripheral.knows_version ≡ false → is_item is_version (item_on_air s.down) ≡ true
   -- a peripheral that knows the version of the central has used its own, unless the link is to end
   pub known_used :
       s.peripheral.knows_version ≡ true → is_open_now s.peripheral ≡ true → s.peripheral.control.table.version_used ≡ true

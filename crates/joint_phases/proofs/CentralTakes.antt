@@ -1,0 +1,130 @@
+-- A central takes a PDU of another procedure in phase Clear or Secure: what the machine of phases sees of it.
+use Rattle.std.proofs.Common.{◌≡◌, ℕ, Bool, true, false, not, ◌&&◌, ◌||◌, List, [], ◌∷◌, ◌++◌, Option, Some, None, is_none, is_some, refl, ap, ap₂, sym, subst, ◌∙◌, if◌then◌else◌, nat_le}
+use Rattle.std.proofs.lemmas.Bool.{and_parts, false_from_ne_true}
+use Rattle.ble_base.specs.declared.error_codes.ErrCode.{ErrCode}
+use Rattle.ble_base.specs.declared.procedure_kinds.Kind.TheVariants.{Phy as phy_kind, Request as request_kind}
+use Rattle.ble_base.specs.declared.roles.Role.{Role}
+use Rattle.ble_base.specs.declared.roles.Role.TheVariants.{Central as central_role, Peripheral as peripheral_role}
+use Rattle.data_pdu.specs.declared.ctrl.Ctrl.{Ctrl}
+use Rattle.data_pdu.specs.declared.ctrl.Ctrl.TheVariants.{ConnectionParamReq, LengthReq, PeripheralFeatureReq, PhyReq, RejectExtInd, RejectInd, StartEncReq, StartEncRsp, PauseEncRsp, VersionInd}
+use Rattle.data_pdu.specs.declared.ctrl.CtrlRead.{CtrlRead}
+use Rattle.data_pdu.specs.declared.ctrl.CtrlRead.TheVariants.{Known}
+use Rattle.enc_phase.specs.declared.classes.PduClass.{PduClass}
+use Rattle.enc_phase.specs.declared.classes.PduClass.TheVariants.{Other, Refusal, Request}
+use Rattle.enc_phase.specs.declared.facts.PhaseFacts.{PhaseFacts}
+use Rattle.enc_phase.specs.Phases.{is_quiet}
+use Rattle.enc_phase.specs.Taking.{ctrl_class}
+use Rattle.instants.specs.declared.indications.Indication.{Indication}
+use Rattle.procedure_values.specs.declared.drafts.Draft.{Draft}
+use Rattle.procedure_values.specs.declared.drafts.Draft.TheVariants.{FeatureRsp, LengthRsp, PhyInd, UnknownRsp, VersionInd as version_draft}
+use Rattle.procedure_values.specs.declared.drafts.Rejection.{Rejection}
+use Rattle.procedure_values.specs.Values.{are_valid}
+use Rattle.procedure_stages.specs.declared.closing.Closing.{Closing}
+use Rattle.procedure_stages.specs.declared.reply.Reply.{Reply}
+use Rattle.procedure_stages.specs.declared.reply.Reply.TheVariants.{Answer, Nothing as no_reply, Reject}
+use Rattle.procedure_stages.specs.declared.stages.Central.{Central}
+use Rattle.procedure_stages.specs.declared.stages.Progress.{Progress}
+use Rattle.procedure_stages.specs.declared.stages.Progress.TheVariants.{Central as central, Peripheral as peripheral}
+use Rattle.procedure_stages.specs.Closing.{is_open}
+use Rattle.procedure_stages.specs.Queue.{QueueFacts, with_draft, with_reply}
+use Rattle.procedures.specs.declared.outcome.Outcome.{Outcome}
+use Rattle.procedures.specs.Calls.{takes}
+use Rattle.procedures.specs.Table.{TableFacts}
+use Rattle.procedures.specs.Taking.{facts_with, lacks_room, outcome_of, taken_by_central}
+use Rattle.table_laws.specs.Encrypting.{MayBeginBy, has_encryption}
+use Rattle.table_laws.proofs.Outcomes.{is_answer, is_reply, took as table_took}
+use Rattle.ble_base.specs.ErrorCodes.{instant_passed}
+use Rattle.instants.specs.Track.{track_after_take}
+use Rattle.procedure_stages.specs.Kinds.{role_of}
+use Rattle.control_model.specs.Control.{Control, ended, indicated_by, is_to_come, taken, took}
+use Rattle.phase_pairs.specs.declared.central.PhaseCentral.{PhaseCentral}
+use Rattle.phased_control.specs.Phased.{Phased}
+use Rattle.phased_control.specs.Taken.{is_version}
+use Rattle.joint_controls.specs.Joint.{is_terminate}
+use Rattle.joint_phases.specs.Classes.{draft_down}
+use Rattle.joint_phases.specs.Parts.{IsCentral, closing_down, is_awaiting, wait_down}
+use Rattle.joint_phases.proofs.CentralEnters.{none_of_two, opened, quiet_step}
+use Rattle.joint_phases.proofs.CentralQueue.{is_of_others, knows_then, others_more}
+use Rattle.joint_phases.proofs.Outcomes.{keeps_open, none_begins, took_goes}
+
+-- ---- what is sent for it waits
+
+answer_others : (knows used : Bool) (draft : Draft) → is_answer central_role used draft ≡ true → is_of_others (draft_down knows draft) ≡ true
+answer_others true used version_draft is = refl
+answer_others false used version_draft is = refl
+answer_others knows used FeatureRsp is = refl
+answer_others knows used (LengthRsp rx tx) is = refl
+answer_others knows used (UnknownRsp opcode) is = refl
+answer_others knows used PhyInd is = refl
+answer_others knows used draft is = absurd (cc)
+
+module _ (knows used : Bool) (phase : PhaseFacts) (queue : QueueFacts) (queued : Option PduClass) (quiet : is_quiet phase ≡ true)
+    (waits : wait_down (draft_down knows) phase queue.drafts queued ≡ true) where
+  answer_waits : (b : Bool) (draft : Draft) → is_answer central_role used draft ≡ true
+      → wait_down (draft_down knows) phase (if b then record queue { drafts = queue.drafts ++ draft ∷ [] } else queue).drafts queued ≡ true
+  answer_waits true draft is = others_more (draft_down knows) phase queue.drafts queued draft quiet (answer_others knows used draft is) waits
+  answer_waits false draft is = waits
+
+  reject_waits : (b : Bool) (rejection : Rejection)
+      → wait_down (draft_down knows) phase (if b then record queue { rejections = queue.rejections ++ rejection ∷ [] } else queue).drafts queued ≡ true
+  reject_waits true rejection = waits
+  reject_waits false rejection = waits
+
+  reply_waits : (closing : Closing) (reply : Reply) → is_reply central_role used reply ≡ true
+      → wait_down (draft_down knows) phase (with_reply closing reply queue).drafts queued ≡ true
+  reply_waits closing no_reply is = waits
+  reply_waits closing (Reject rejection) is = reject_waits (is_open closing) rejection
+  reply_waits closing (Answer draft) is = answer_waits (is_open closing) draft is
+
+no_begin : (p : Progress) (read : CtrlRead) (slot : ℕ) (quiet : Bool) → role_of p ≡ central_role → MayBeginBy p (takes read slot quiet) → ⊥
+no_begin (central x) read slot quiet role begins = begins
+no_begin (peripheral x) read slot quiet role begins = absurd (cc)
+
+-- ---- a PDU is taken in Clear or Secure
+
+module _ (s : Phased) (c : PhaseCentral) (ctrl : Ctrl) (slot : ℕ) (awaited : Bool) (is : IsCentral (opened s) c) (quiet : is_quiet c.phase ≡ true)
+    (apart : is_terminate ctrl ≡ false)
+    (awaits : awaited ≡ true → is_awaiting (outcome_of s.control.table true (Known ctrl)).progress ≡ true) where
+  abbrev outcome : Outcome
+  outcome = outcome_of s.control.table true (Known ctrl)
+
+  abbrev knows : Bool
+  knows = s.knows_version || is_version (Known ctrl)
+
+  abbrev Holds : Control → Type 0
+  Holds k = k.ends ≡ None → IsCentral (record s { control = k; knows_version = knows }) (record c { awaits = awaited })
+
+  abbrev table_after : TableFacts
+  table_after = facts_with s.control.table slot outcome
+
+  holds_with : lacks_room s.control.table outcome ≡ false → outcome.step.ends ≡ None → (k : Control) → k.table ≡ table_after → Holds k
+  holds_with room goes k is_table lasts =
+      let took = table_took s.control.table true (Known ctrl) in
+      let role : role_of k.table.progress ≡ central_role = ap (λ (f : TableFacts). role_of f.progress) is_table ∙ took.role ∙ is.role in
+      let closing : k.table.closing ≡ closing_down c.closed =
+          ap (λ (f : TableFacts). f.closing) is_table ∙ keeps_open s.control.table true ctrl apart s.control.table.closing ∙ is.closing in
+      let none : has_encryption outcome.progress ≡ false =
+          none_begins s.control.table (Known ctrl) slot true room goes (no_begin s.control.table.progress (Known ctrl) slot true is.role)
+          (is.encrypts ∙ ap not quiet) in
+      let waits : wait_down (draft_down knows) c.phase table_after.queue.drafts c.queued ≡ true =
+          reply_waits knows s.control.table.version_used c.phase s.control.table.queue c.queued quiet
+          (knows_then s.knows_version (is_version (Known ctrl)) c.phase s.control.table.queue.drafts c.queued quiet is.waits)
+          s.control.table.closing outcome.reply (subst (λ (r : Role). is_reply r s.control.table.version_used outcome.reply ≡ true) is.role took.reply) in
+      quiet_step (opened s) c k knows awaited is quiet role closing
+      (λ a. ap (λ (f : TableFacts). is_awaiting f.progress) is_table ∙ awaits a)
+      (ap (λ (f : TableFacts). has_encryption f.progress) is_table ∙ none)
+      (subst (λ (f : TableFacts). wait_down (draft_down knows) c.phase f.queue.drafts c.queued ≡ true) (sym is_table) waits)
+
+  indication_holds : lacks_room s.control.table outcome ≡ false → outcome.step.ends ≡ None → (indication : Option Indication)
+      → Holds (taken table_after None indication (record s.control { ends = None }))
+  indication_holds room goes None = holds_with room goes _ refl
+  indication_holds room goes (Some indication) = by (is_to_come s.control.track indication)
+    where
+      by : (b : Bool) → Holds (if b then record s.control { table = table_after; track = track_after_take s.control.track indication; ends = None } else ended (record { 0 = instant_passed }) (record s.control { ends = None }))
+      by true = holds_with room goes _ refl
+      by false = λ lasts. absurd (cc)
+
+  pub takes_quiet : Holds (took (Known ctrl) slot true (record s.control { ends = None }))
+  takes_quiet =
+      took_goes Holds (record s.control { ends = None }) (Known ctrl) slot true (λ e. λ lasts. absurd (cc))
+      (λ room. λ goes. indication_holds room goes (indicated_by outcome.step.effect))
