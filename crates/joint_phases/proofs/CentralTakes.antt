@@ -38,8 +38,14 @@ use Rattle.instants.specs.Track.{track_after_take}
 use Rattle.procedure_stages.specs.Kinds.{role_of}
 use Rattle.control_model.specs.Control.{Control, ended, indicated_by, is_to_come, taken, took}
 use Rattle.phase_pairs.specs.declared.central.PhaseCentral.{PhaseCentral}
-use Rattle.phased_control.specs.Phased.{Phased}
-use Rattle.phased_control.specs.Taken.{is_version}
+use Rattle.ble_base.specs.ErrorCodes.{memory_capacity_exceeded, mic_failure}
+use Rattle.enc_phase.specs.Taking.{allows, is_unknown, phase_taking}
+use Rattle.procedure_stages.specs.Queue.{waiting_in}
+use Rattle.phase_pairs.specs.Agreement.{is_encryption}
+use Rattle.control_model.specs.Control.{Takes as control_takes}
+use Rattle.phased_control.specs.Phased.{Phased, is_quiet_now, with_step}
+use Rattle.phased_control.specs.Taken.{Takes, answered_if_quiet, answered_kept, ciphered, ciphered_at, ended_with, goes_on, is_answered_at, is_version, keeping, keeps_class, knowing, phased_after, role_now, seen_if, with_phase_taking}
+use Rattle.joint_phases.proofs.Plain.{allows_quiet, keeps_quiet, never_unknown, plain_at_central, room_now, taking_quiet, unanswered}
 use Rattle.joint_controls.specs.Joint.{is_terminate}
 use Rattle.joint_phases.specs.Classes.{draft_down}
 use Rattle.joint_phases.specs.Parts.{IsCentral, closing_down, is_awaiting, wait_down}
@@ -128,3 +134,66 @@ module _ (s : Phased) (c : PhaseCentral) (ctrl : Ctrl) (slot : ℕ) (awaited : B
   takes_quiet =
       took_goes Holds (record s.control { ends = None }) (Known ctrl) slot true (λ e. λ lasts. absurd (cc))
       (λ room. λ goes. indication_holds room goes (indicated_by outcome.step.effect))
+
+-- ---- one that is not of the encryption
+
+pub some_none : (e : ErrCode) (E : Type 0) → ◌≡◌ {A = Option ErrCode} (Some e) None → E
+some_none e E is = absurd (cc)
+
+module _ (s : Phased) (c : PhaseCentral) (ctrl response : Ctrl) (slot : ℕ) (awaited : Bool) (is : IsCentral (opened s) c) (quiet : is_quiet c.phase ≡ true)
+    (apart : is_terminate ctrl ≡ false) (plain : is_encryption (ctrl_class ctrl) ≡ false)
+    (awaits : awaited ≡ true → is_awaiting (outcome_of s.control.table true (Known ctrl)).progress ≡ true) where
+  abbrev control_after : Bool → Control
+  control_after q = took (Known ctrl) slot q (record s.control { ends = None })
+
+  abbrev seen : Bool → Bool → Phased
+  seen unknown q =
+      with_phase_taking (Known ctrl) (with_step (control_takes (seen_if unknown (Known ctrl)) slot q) (knowing (Known ctrl) (opened s)))
+
+  taken_as : Bool → Bool → Bool → Bool → Bool → Phased
+  taken_as allowed keeps full unknown q =
+      (if allowed then (if keeps then keeping (Known ctrl) (opened s)
+      else (if full then ended_with memory_capacity_exceeded (opened s) else goes_on slot response (Known ctrl) (seen unknown q)))
+      else ended_with mic_failure (opened s))
+
+  quiet_here : is_quiet s.phase ≡ true
+  quiet_here = ap is_quiet is.phase ∙ quiet
+
+  taken_is : phased_after (Takes (Known ctrl) slot response) (opened s) ≡ goes_on slot response (Known ctrl) (seen false true)
+  unfolding taken_as
+  taken_is =
+      λ i. taken_as (allows_quiet s.phase (role_now s) (ctrl_class ctrl) quiet_here i)
+      (keeps_quiet (ctrl_class ctrl) (role_now s) (is_quiet s.phase) quiet_here i)
+      (room_now (is_open s.control.table.closing) (nat_le 16 (waiting_in s.control.table.queue)) (is_answered_at (role_now s) ctrl s.phase) (unanswered (role_now s) ctrl s.phase plain) i)
+      (never_unknown s.phase (role_now s) (ctrl_class ctrl) plain i)
+      (quiet_here i)
+
+  after_is : (control_after true).ends ≡ None → IsCentral (seen false true) (record c { awaits = awaited })
+  after_is lasts =
+      subst (λ (p : PhaseFacts). IsCentral (record s { control = control_after true; knows_version = s.knows_version || is_version (Known ctrl); phase = p }) (record c { awaits = awaited }))
+      (sym (taking_quiet (ctrl_class ctrl) s.phase quiet_here)) (takes_quiet s c ctrl slot awaited is quiet apart awaits lasts)
+
+  same_if : (b : Bool) (t : Phased) → (if b then t else t) ≡ t
+  same_if true t = refl
+  same_if false t = refl
+
+  none_kept : (t : Phased) → t.kept ≡ None → answered_if_quiet slot t ≡ t
+  none_kept t none = ap (λ (k : Option Ctrl). if is_quiet_now t then answered_kept slot k t else t) none ∙ same_if (is_quiet_now t) t
+
+  goes_then : (t : Phased) → role_now t ≡ central_role → t.kept ≡ None → answered_if_quiet slot (ciphered response (Known ctrl) t) ≡ t
+  goes_then t role none =
+      ap (λ r. answered_if_quiet slot (ciphered_at r response ctrl t)) role ∙ ap (answered_if_quiet slot) (plain_at_central ctrl t plain) ∙ none_kept t none
+
+  by_ends : (e : Option ErrCode) → (control_after true).ends ≡ e
+      → (if is_none e then answered_if_quiet slot (ciphered response (Known ctrl) (seen false true)) else seen false true).control.ends ≡ None
+      → IsCentral (if is_none e then answered_if_quiet slot (ciphered response (Known ctrl) (seen false true)) else seen false true) (record c { awaits = awaited })
+  by_ends (Some e) ends lasts = some_none e _ (sym ends ∙ lasts)
+  by_ends None ends lasts =
+      let h = after_is ends in
+      subst (λ (t : Phased). IsCentral t (record c { awaits = awaited })) (sym (goes_then (seen false true) h.role (h.kept quiet))) h
+
+  pub takes_plain : (phased_after (Takes (Known ctrl) slot response) (opened s)).control.ends ≡ None
+      → IsCentral (phased_after (Takes (Known ctrl) slot response) (opened s)) (record c { awaits = awaited })
+  takes_plain lasts =
+      subst (λ (t : Phased). IsCentral t (record c { awaits = awaited })) (sym taken_is)
+      (by_ends (control_after true).ends refl (ap (λ (t : Phased). t.control.ends) (sym taken_is) ∙ lasts))

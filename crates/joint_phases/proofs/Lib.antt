@@ -8,3 +8,4 @@ pub mod CentralSends
 pub mod CentralGoes
 pub mod Outcomes
 pub mod CentralTakes
+pub mod Plain
