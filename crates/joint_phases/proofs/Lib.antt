@@ -9,3 +9,4 @@ pub mod CentralGoes
 pub mod Outcomes
 pub mod CentralTakes
 pub mod Plain
+pub mod CentralCipher
