@@ -10,3 +10,5 @@ pub mod Outcomes
 pub mod CentralTakes
 pub mod Plain
 pub mod CentralCipher
+pub mod CentralUnquiet
+pub mod CentralTable
