@@ -43,7 +43,7 @@ use Rattle.joint_phases.proofs.Stages.{unsent_is_one}
 
 -- ---- the phase keeps what matters of a PDU
 
-taking_same : (k : PduClass) (phase : PhaseFacts) → LetsSame phase (phase_taking k phase)
+pub taking_same : (k : PduClass) (phase : PhaseFacts) → LetsSame phase (phase_taking k phase)
 taking_same EncRsp (Asked after_pause rsp kept) = record { quiet = refl; ahead = asked_same }
   where
     asked_same : (queued : Option PduClass) → is_ahead (Asked after_pause true kept) queued ≡ is_ahead (Asked after_pause rsp kept) queued

@@ -64,7 +64,7 @@ module _ (u : Phased) (c : PhaseCentral) (slot : ℕ) (is : IsCentral (record u 
 -- ---- the encryption is over
 
 module _ (s : Phased) (c : PhaseCentral) (is : IsCentral (opened s) c) (unquiet : is_quiet c.phase ≡ false) (none : c.queued ≡ None) (unawaited : c.awaits ≡ false) where
-  unsent_none : is_encryption_unsent s.control.table.progress ≡ false
+  pub unsent_none : is_encryption_unsent s.control.table.progress ≡ false
   unsent_none = false_from_ne_true _ (λ h. none_some c.queued none (is.begins h))
     where
       none_some : (q : Option PduClass) → q ≡ None → is_some q ≡ true → ⊥

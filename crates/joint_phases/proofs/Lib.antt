@@ -12,3 +12,4 @@ pub mod Plain
 pub mod CentralCipher
 pub mod CentralUnquiet
 pub mod CentralTable
+pub mod CentralMoves
