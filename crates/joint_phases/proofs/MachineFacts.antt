@@ -17,7 +17,7 @@ use Rattle.phase_pairs.specs.declared.peripheral.UnsentRequest.{UnsentRequest}
 use Rattle.phase_pairs.specs.declared.peripheral.UnsentRequest.TheVariants.{Last}
 use Rattle.phase_pairs.specs.Agreement.{is_encryption}
 use Rattle.phase_pairs.specs.Central.{is_queued}
-use Rattle.phase_pairs.specs.JointRun.{encryption, is_coming, is_on_air, is_pause_rsp, is_pause_rsp_taken, is_request, phases_start}
+use Rattle.phase_pairs.specs.JointRun.{encryption, is_coming, is_on_air, is_pause_rsp, is_pause_rsp_taken, is_request, is_way_fixed, phases_start}
 use Rattle.phase_pairs.specs.Peripheral.{has_unsent, is_waiting}
 use Rattle.phase_pairs.proofs.Closed.{all_closed, start_known}
 use Rattle.phase_pairs.proofs.Events.{coded, is_coded}
@@ -64,7 +64,9 @@ all_hold s =
     && (if_so (is_queued Terminate s.peripheral.first) (is_keyless s.peripheral.closing)
     && (if_so (is_queued Terminate s.peripheral.second) (is_keyless s.peripheral.closing)
     && (if_so (is_quiet s.central.phase) (is_none s.central.queued)
-    && if_so (is_on_air is_encryption s.up) (is_none s.central.queued)))))))))))))
+    && (if_so (is_on_air is_encryption s.up) (is_none s.central.queued)
+    && (if_so (is_none s.peripheral.first) (is_none s.peripheral.second)
+    && not (is_way_fixed s.down)))))))))))))))
 
 abbrev holds_in : ℕ → Bool
 holds_in n = all_hold (decode n)
@@ -94,6 +96,9 @@ pub record Settled (s : PhaseLink) : Type 0 where
   pub second_keyless : is_queued Terminate s.peripheral.second ≡ true → is_keyless s.peripheral.closing ≡ true
   pub quiet_queued : is_quiet s.central.phase ≡ true → is_none s.central.queued ≡ true
   pub up_queued : is_on_air is_encryption s.up ≡ true → is_none s.central.queued ≡ true
+  pub second_after : is_none s.peripheral.first ≡ true → is_none s.peripheral.second ≡ true
+  -- a central fixes and sends in one step
+  pub never_fixed : not (is_way_fixed s.down) ≡ true
 
 so_then : (a b : Bool) → if_so a b ≡ true → a ≡ true → b ≡ true
 so_then true b both is = both
@@ -121,6 +126,8 @@ settled_by s a0 =
     let a11 = tail _ _ a10 in
     let a12 = tail _ _ a11 in
     let a13 = tail _ _ a12 in
+    let a14 = tail _ _ a13 in
+    let a15 = tail _ _ a14 in
     record {
       request_awaited = so_then _ _ (head _ _ a0);
       request_alone = so_then _ _ (head _ _ a1);
@@ -135,7 +142,9 @@ settled_by s a0 =
       first_keyless = so_then _ _ (head _ _ a10);
       second_keyless = so_then _ _ (head _ _ a11);
       quiet_queued = so_then _ _ (head _ _ a12);
-      up_queued = so_then _ _ a13;
+      up_queued = so_then _ _ (head _ _ a13);
+      second_after = so_then _ _ (head _ _ a14);
+      never_fixed = a15;
     }
 
 known : (events : List PhaseEvent) → is_known coded states (run encryption events) ≡ true

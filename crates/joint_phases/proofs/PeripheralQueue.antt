@@ -14,7 +14,9 @@ use Rattle.phase_pairs.specs.Agreement.{is_encryption}
 use Rattle.phase_pairs.specs.Central.{is_queued}
 use Rattle.phase_pairs.specs.JointRun.{is_request}
 use Rattle.phase_pairs.specs.Peripheral.{has_unsent, is_next, is_unsent, is_waiting, peripheral_begins, peripheral_popping}
-use Rattle.joint_phases.specs.Classes.{class_up, draft_up}
+use Rattle.enc_phase.specs.declared.facts.PhaseFacts.{PhaseFacts}
+use Rattle.phase_pairs.specs.declared.peripheral.PhaseClosing.{PhaseClosing}
+use Rattle.joint_phases.specs.Classes.{class_up, draft_up, has_request, has_version, is_version_ctrl}
 use Rattle.joint_phases.specs.Parts.{goes_up, is_emptied, wait_up, without_up}
 use Rattle.joint_phases.proofs.MachineFacts.{is_after}
 
@@ -187,3 +189,131 @@ module _ (class_of : Draft → PduClass) (p : PhasePeripheral) where
       let h = and_parts (goes_up (class_of d) (with_waits p (Some first) None request owes)) _ waits in
       let both = second_over (class_of d) first request owes pdu draft drafts apart is one h.0 (λ r o a. queues_second drafts first r o pdu draft is one a) h.1 in
       and_from _ _ both.0 both.1
+
+-- ---- what does not matter to what waits
+
+abbrev pub with_state : PhasePeripheral → PhaseFacts → Bool → PhaseClosing → PhasePeripheral
+with_state p phase asks_key closing = record p { phase = phase; asks_key = asks_key; closing = closing }
+
+state_goes : (k : PduClass) (p : PhasePeripheral) (phase : PhaseFacts) (asks_key : Bool) (closing : PhaseClosing)
+    → (goes_up k (with_state p phase asks_key closing) ≡ goes_up k p)
+    × (without_up k (with_state p phase asks_key closing) ≡ with_state (without_up k p) phase asks_key closing)
+state_goes Request p phase asks_key closing = (refl, refl)
+state_goes Other p phase asks_key closing = (refl, refl)
+state_goes Data p phase asks_key closing = (refl, refl)
+state_goes k p phase asks_key closing = (refl, refl)
+
+pub state_waits : (class_of : Draft → PduClass) (drafts : List Draft) (p : PhasePeripheral) (phase : PhaseFacts) (asks_key : Bool) (closing : PhaseClosing)
+    → wait_up class_of drafts p ≡ true → wait_up class_of drafts (with_state p phase asks_key closing) ≡ true
+state_waits class_of [] p phase asks_key closing waits = waits
+state_waits class_of (draft ∷ drafts) p phase asks_key closing waits =
+    let h = and_parts (goes_up (class_of draft) p) _ waits in
+    let same = state_goes (class_of draft) p phase asks_key closing in
+    and_from _ _ (same.0 ∙ h.0) (rw same.1 (state_waits class_of drafts (without_up (class_of draft) p) phase asks_key closing h.1))
+
+-- ---- a PDU of the encryption is queued, unless the link is to end
+
+none_is : (o : Option PduClass) → is_none o ≡ true → o ≡ None
+none_is None h = refl
+none_is (Some k) h = absurd (cc)
+
+module _ (class_of : Draft → PduClass) (p : PhasePeripheral) (drafts : List Draft) (k : PduClass) (draft : Draft) (class : class_of draft ≡ k) (one : is_queued_class k ≡ true)
+    (waits : wait_up class_of drafts p ≡ true) (after : is_none p.first ≡ true → is_none p.second ≡ true)
+    (room : is_none p.first ≡ false → is_none p.second ≡ true) (request : is_none p.first ≡ false → not (is_after p.request) ≡ true) where
+  abbrev queued_at : Option PduClass → PhasePeripheral
+  queued_at first = (if is_some first then record p { second = Some k } else record p { first = Some k })
+
+  queued_by : (first : Option PduClass) → p.first ≡ first → wait_up class_of (drafts ++ draft ∷ []) (queued_at first) ≡ true
+  queued_by None at =
+      let second : p.second ≡ None = none_is p.second (after (ap is_none at)) in
+      let h : here class_of p drafts None None p.request p.owes =
+          subst (λ (s : Option PduClass). here class_of p drafts None s p.request p.owes) second
+          (subst (λ (f : Option PduClass). here class_of p drafts f p.second p.request p.owes) at waits) in
+      let done = queues_first class_of p drafts p.request p.owes k draft class one h in
+      subst (λ (s : Option PduClass). here class_of p (drafts ++ draft ∷ []) (Some k) s p.request p.owes) (sym second) done
+  queued_by (Some first) at =
+      let second : p.second ≡ None = none_is p.second (room (ap is_none at)) in
+      let h : here class_of p drafts (Some first) None p.request p.owes =
+          subst (λ (s : Option PduClass). here class_of p drafts (Some first) s p.request p.owes) second
+          (subst (λ (f : Option PduClass). here class_of p drafts f p.second p.request p.owes) at waits) in
+      let done = queues_second class_of p drafts first p.request p.owes k draft class one (request (ap is_none at)) h in
+      subst (λ (f : Option PduClass). here class_of p (drafts ++ draft ∷ []) f (Some k) p.request p.owes) (sym at) done
+
+  pub queues_more : wait_up class_of (drafts ++ draft ∷ []) (if is_waiting p then record p { second = Some k } else record p { first = Some k }) ≡ true
+  queues_more = queued_by p.first refl
+
+-- ---- no first PDU waits where none is among the drafts
+
+popped_absent : (second : Option PduClass) (request : UnsentRequest) → (if is_unsent request && not (is_some second) then First else request) ≡ Absent → request ≡ Absent
+popped_absent second Absent h = refl
+popped_absent (Some k) First h = absurd (cc)
+popped_absent None First h = absurd (cc)
+popped_absent (Some k) Last h = absurd (cc)
+popped_absent None Last h = absurd (cc)
+
+absent_after : (k : PduClass) (p : PhasePeripheral) → is_request k ≡ false → (without_up k p).request ≡ Absent → p.request ≡ Absent
+absent_after Request p apart h = absurd (cc)
+absent_after Other p apart h = h
+absent_after k p apart h = popped_absent p.second p.request h
+
+not_unsent : (request : UnsentRequest) → not (is_unsent request) ≡ true → request ≡ Absent
+not_unsent Absent h = refl
+not_unsent First h = absurd (cc)
+not_unsent Last h = absurd (cc)
+
+or_parts_false : (a b : Bool) → (a || b) ≡ false → (a ≡ false) × (b ≡ false)
+or_parts_false true b h = absurd (cc)
+or_parts_false false b h = (refl, h)
+
+pub no_first_waits : (class_of : Draft → PduClass) (drafts : List Draft) (p : PhasePeripheral) → has_request class_of drafts ≡ false
+    → wait_up class_of drafts p ≡ true → p.request ≡ Absent
+no_first_waits class_of [] p none waits =
+    let one = (and_parts (not (is_waiting p)) _ waits).1 in
+    let two = (and_parts (is_none p.second) _ one).1 in
+    not_unsent p.request (and_parts (not (is_unsent p.request)) (not p.owes) two).0
+no_first_waits class_of (draft ∷ drafts) p none waits =
+    let n = or_parts_false (is_request (class_of draft)) (has_request class_of drafts) none in
+    let h = and_parts (goes_up (class_of draft) p) _ waits in
+    absent_after (class_of draft) p n.0 (no_first_waits class_of drafts (without_up (class_of draft) p) n.1 h.1)
+
+-- ---- the version of the central is known from now on
+
+class_same : (ctrl : Ctrl) (knows now : Bool) → is_version_ctrl ctrl ≡ false → class_up now ctrl ≡ class_up knows ctrl
+class_same (VersionInd version company sub) knows now apart = absurd (cc)
+class_same ctrl knows now apart = refl
+
+-- where no LL_VERSION_IND waits
+pub unversioned : (drafts : List Draft) (p : PhasePeripheral) (knows now : Bool) → has_version drafts ≡ false
+    → wait_up (draft_up knows) drafts p ≡ true → wait_up (draft_up now) drafts p ≡ true
+unversioned [] p knows now none waits = waits
+unversioned (draft ∷ drafts) p knows now none waits =
+    let n = or_parts_false (is_version_ctrl (ctrl_of_draft draft 0 0)) (has_version drafts) none in
+    let same = class_same (ctrl_of_draft draft 0 0) knows now n.0 in
+    let h = and_parts (goes_up (draft_up knows draft) p) _ waits in
+    rw same (and_from _ _ h.0 (unversioned drafts (without_up (draft_up knows draft) p) knows now n.1 h.1))
+
+-- the own one is the only one that waits: it is the answer from now on
+crosses_by : (ctrl : Ctrl) (p : PhasePeripheral) (request : UnsentRequest) (drafts : List Draft) → goes_up (class_up false ctrl) (with_waits p None None request false) ≡ true
+    → wait_up (draft_up false) drafts (without_up (class_up false ctrl) (with_waits p None None request false)) ≡ true
+    → is_version_ctrl ctrl || has_version drafts ≡ true
+    → (goes_up (class_up true ctrl) (with_waits p None None Absent true) && wait_up (draft_up true) drafts (without_up (class_up true ctrl) (with_waits p None None Absent true))) ≡ true
+crosses_by (VersionInd version company sub) p request drafts goes waits has = rw (nothing_waits (draft_up false) p drafts waits) refl
+crosses_by ctrl p request drafts goes waits has = by (class_up false ctrl) goes waits
+  where
+    none_version : (drafts : List Draft) → drafts ≡ [] → has_version drafts ≡ true → ⊥
+    none_version [] at h = absurd (cc)
+    none_version (draft ∷ drafts) at h = absurd (cc)
+
+    by : (k : PduClass) → goes_up k (with_waits p None None request false) ≡ true → wait_up (draft_up false) drafts (without_up k (with_waits p None None request false)) ≡ true
+        → (goes_up (class_up true ctrl) (with_waits p None None Absent true) && wait_up (draft_up true) drafts (without_up (class_up true ctrl) (with_waits p None None Absent true))) ≡ true
+    by Request goes waits = absurd (none_version drafts (nothing_waits (draft_up false) p drafts waits) has)
+    by Other goes waits = absurd (cc)
+    by k goes waits = absurd (cc)
+
+pub crosses : (drafts : List Draft) (p : PhasePeripheral) (request : UnsentRequest) → has_version drafts ≡ true
+    → wait_up (draft_up false) drafts (with_waits p None None request false) ≡ true
+    → wait_up (draft_up true) drafts (with_waits p None None Absent true) ≡ true
+crosses [] p request has waits = absurd (cc)
+crosses (draft ∷ drafts) p request has waits =
+    let h = and_parts (goes_up (draft_up false draft) (with_waits p None None request false)) _ waits in
+    crosses_by (ctrl_of_draft draft 0 0) p request drafts h.0 h.1 has
