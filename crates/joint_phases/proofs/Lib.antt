@@ -13,3 +13,4 @@ pub mod CentralCipher
 pub mod CentralUnquiet
 pub mod CentralTable
 pub mod CentralMoves
+pub mod PeripheralEnters
