@@ -14,3 +14,4 @@ pub mod CentralUnquiet
 pub mod CentralTable
 pub mod CentralMoves
 pub mod PeripheralEnters
+pub mod PeripheralGoes
