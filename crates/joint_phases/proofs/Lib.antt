@@ -15,3 +15,4 @@ pub mod CentralTable
 pub mod CentralMoves
 pub mod PeripheralEnters
 pub mod PeripheralGoes
+pub mod PeripheralSends
