@@ -19,6 +19,8 @@ use Rattle.procedure_values.specs.declared.drafts.Rejection.{Rejection as TheRej
 use Rattle.procedure_values.specs.Drafts.{ctrl_of_draft, ctrl_of_outgoing, indication_of, is_out, waits_for_instant}
 use Rattle.procedure_stages.specs.declared.stages.Progress.{Progress}
 use Rattle.procedure_stages.specs.declared.stages.Progress.TheVariants.{Central as central, Peripheral as peripheral}
+use Rattle.procedure_stages.specs.declared.closing.Closing.{Closing}
+use Rattle.procedure_stages.specs.declared.closing.Closing.TheVariants.{Closed, Disconnecting, Open}
 use Rattle.procedure_stages.specs.Acked.{progress_acked}
 use Rattle.procedure_stages.specs.Closing.{is_disconnecting, is_open}
 use Rattle.procedure_stages.specs.Exclusive.{pdu_of_outgoing}
@@ -256,3 +258,99 @@ module _ (s : Phased) (p : PhasePeripheral) (slot : ℕ) (keyless : is_queued Te
         h.may, h.control,
         goes_if (is_some (ctrl_of_outgoing out event skips)) _ _ _ goes (followed (role_of s.control.table.progress) (indication_of out event skips) _ _ h.is),
       )
+
+-- ---- data is fixed where nothing waits
+
+module _ (s : Phased) (p : PhasePeripheral) where
+  abbrev event_here : ℕ
+  event_here = event_of s.control.track
+
+  abbrev skips_here : ℕ
+  skips_here = s.control.track.params.latency
+
+  past : (q : Progress) → role_of q ≡ peripheral_role → is_past_instant q event_here ≡ true
+  past (peripheral x) role = refl
+  past (central x) role = absurd (cc)
+
+  abbrev none_next : Outgoing → Bool
+  none_next out = is_none (item_by out (ctrl_of_outgoing out event_here skips_here))
+
+  waits_not : (waits passed : Bool) (draft : Draft) → passed ≡ true → none_next (if waits && not passed then Nothing else other_out draft) ≡ true → ⊥
+  waits_not true true draft at h = absurd (cc)
+  waits_not false true draft at h = absurd (cc)
+  waits_not waits false draft at h = absurd (cc)
+
+  nothing_by : (drafts : List Draft) → role_of s.control.table.progress ≡ peripheral_role → none_next (next_draft s.control.table.progress event_here drafts) ≡ true
+      → drafts ≡ []
+  nothing_by [] role h = refl
+  nothing_by (draft ∷ drafts) role h =
+      absurd (waits_not (waits_for_instant draft) (is_past_instant s.control.table.progress event_here) draft (past s.control.table.progress role) h)
+
+  by_ends : (b : Bool) (drafts : List Draft) (disconnect : Option ErrCode) → b ≡ false → role_of s.control.table.progress ≡ peripheral_role
+      → none_next (if b then next_disconnect disconnect else next_draft s.control.table.progress event_here drafts) ≡ true → drafts ≡ []
+  by_ends true drafts disconnect at role h = absurd (cc)
+  by_ends false drafts disconnect at role h = nothing_by drafts role h
+
+  by_none : (rejections : List TheRejection) (drafts : List Draft) (disconnect : Option ErrCode) → rejections ≡ []
+      → (is_disconnecting s.control.table.closing && is_quiet s.phase) ≡ false → role_of s.control.table.progress ≡ peripheral_role
+      → none_next (next_by rejections (if is_disconnecting s.control.table.closing && is_quiet s.phase then next_disconnect disconnect else next_draft s.control.table.progress event_here drafts)) ≡ true
+      → drafts ≡ []
+  by_none [] drafts disconnect none ends role h = by_ends (is_disconnecting s.control.table.closing && is_quiet s.phase) drafts disconnect ends role h
+  by_none (rejection ∷ rejections) drafts disconnect none ends role h = absurd (cc)
+
+  open_goes_on : (closing : Closing) (quiet : Bool) → is_open closing ≡ true → (is_disconnecting closing && quiet) ≡ false
+  open_goes_on Open quiet opens = refl
+  open_goes_on Closed quiet opens = refl
+  open_goes_on Disconnecting quiet opens = absurd (cc)
+
+  fixes_data : (quiet waiting ends : Bool) → quiet ≡ true → waiting ≡ false → ends ≡ false
+      → (if ends && quiet then is_terminate Data else (quiet && not waiting)) ≡ true
+  fixes_data true false false q w e = refl
+  fixes_data true false true q w e = absurd (cc)
+  fixes_data true true ends q w e = absurd (cc)
+  fixes_data false waiting ends q w e = absurd (cc)
+
+  none_waits : (drafts : List Draft) → drafts ≡ [] → wait_up (draft_up s.knows_version) drafts p ≡ true → is_waiting p ≡ false
+  none_waits [] at waits = not_then (is_waiting p) (and_parts (not (is_waiting p)) _ waits).0
+    where
+      not_then : (b : Bool) → not b ≡ true → b ≡ false
+      not_then true h = absurd (cc)
+      not_then false h = refl
+  none_waits (draft ∷ drafts) at waits = absurd (cc)
+
+  open_ends : (closing : PhaseClosing) → is_open (closing_up closing) ≡ true → is_disconnecting_up closing ≡ false
+  open_ends open_closing h = refl
+  open_ends HasNoKey h = refl
+  open_ends Disconnects h = absurd (cc)
+
+  pub peripheral_fixes_data : IsPeripheral (opened s) p → sends_data s ≡ true → may_fix Data p ≡ true
+  peripheral_fixes_data is sends =
+      let one = and_parts (is_none (next_item s)) _ sends in
+      let two = and_parts (is_quiet s.phase) (is_open s.control.table.closing) one.1 in
+      let empty = by_none s.control.table.queue.rejections s.control.table.queue.drafts s.control.table.queue.disconnect is.rejects
+          (open_goes_on s.control.table.closing (is_quiet s.phase) two.1) is.role one.0 in
+      fixes_data (is_quiet p.phase) (is_waiting p) (is_disconnecting_up p.closing) (ap is_quiet (sym is.phase) ∙ two.0)
+      (none_waits s.control.table.queue.drafts empty is.waits) (open_ends p.closing (ap is_open (sym is.closing) ∙ two.1))
+
+  -- ---- its PDU is acknowledged
+
+  acked_role : (out : Outgoing) (q : Progress) → role_of (progress_acked out q) ≡ role_of q
+  acked_role out (central x) = refl
+  acked_role out (peripheral x) = refl
+
+  acked_same : (b : Bool) → SameAtPeripheral s.control.table (table_if b (acked_step s.control.table).0 (record s.control { ends = None })).table
+  acked_same true = record { role = acked_role s.control.table.out s.control.table.progress; closing = refl; rejections = refl; drafts = refl }
+  acked_same false = record { role = refl; closing = refl; rejections = refl; drafts = refl }
+
+  never_again : (a b d : Bool) (request : Option Ctrl) (t : Phased) → request ≡ None → asking_if (a && (b && (d && is_some request))) t ≡ t
+  never_again true true true (Some ctrl) t none = absurd (cc)
+  never_again true true true None t none = refl
+  never_again true true false request t none = refl
+  never_again true false d request t none = refl
+  never_again false b d request t none = refl
+
+  pub peripheral_acked : IsPeripheral (opened s) p → IsPeripheral (phased_after SeesAcknowledged (opened s)) p
+  peripheral_acked is =
+      subst (λ (t : Phased). IsPeripheral t p)
+      (sym (never_again (is_pause_rsp s.control.table.out) (may_follow AskTransition s.phase) (is_open s.control.table.closing) s.request _ is.request))
+      (same_peripheral (opened s) p _ is (acked_same (is_out s.control.table.out)))
