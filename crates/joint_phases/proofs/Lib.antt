@@ -16,3 +16,4 @@ pub mod CentralMoves
 pub mod PeripheralEnters
 pub mod PeripheralGoes
 pub mod PeripheralSends
+pub mod PeripheralTable
