@@ -60,10 +60,14 @@ module _ (control : Control) (ctrl : Ctrl) (slot : ℕ) (quiet : Bool) (P : Tabl
       by true = λ lasts. h
       by false = λ lasts. some_none (record { 0 = instant_passed }) _ lasts
 
-  pub took_table : P table_after → (took (Known ctrl) slot quiet opened_control).ends ≡ None → P (took (Known ctrl) slot quiet opened_control).table
-  took_table h =
+  pub took_table_if : ((outcome_of control.table quiet (Known ctrl)).step.ends ≡ None → P table_after)
+      → (took (Known ctrl) slot quiet opened_control).ends ≡ None → P (took (Known ctrl) slot quiet opened_control).table
+  took_table_if h =
       took_goes (λ k. k.ends ≡ None → P k.table) opened_control (Known ctrl) slot quiet (λ e. λ lasts. some_none e _ lasts)
-      (λ room. λ goes. by_indication (indicated_by (outcome_of control.table quiet (Known ctrl)).step.effect) h)
+      (λ room. λ goes. by_indication (indicated_by (outcome_of control.table quiet (Known ctrl)).step.effect) (h goes))
+
+  took_table : P table_after → (took (Known ctrl) slot quiet opened_control).ends ≡ None → P (took (Known ctrl) slot quiet opened_control).table
+  took_table h = took_table_if (λ goes. h)
 
 -- ---- the encryption goes on
 

@@ -17,3 +17,4 @@ pub mod PeripheralEnters
 pub mod PeripheralGoes
 pub mod PeripheralSends
 pub mod PeripheralTable
+pub mod PeripheralTakes

@@ -334,9 +334,9 @@ module _ (s : Phased) (p : PhasePeripheral) where
 
   -- ---- its PDU is acknowledged
 
-  acked_role : (out : Outgoing) (q : Progress) → role_of (progress_acked out q) ≡ role_of q
-  acked_role out (central x) = refl
-  acked_role out (peripheral x) = refl
+  acked_role : (outgoing : Outgoing) (q : Progress) → role_of (progress_acked outgoing q) ≡ role_of q
+  acked_role outgoing (central x) = refl
+  acked_role outgoing (peripheral x) = refl
 
   acked_same : (b : Bool) → SameAtPeripheral s.control.table (table_if b (acked_step s.control.table).0 (record s.control { ends = None })).table
   acked_same true = record { role = acked_role s.control.table.out s.control.table.progress; closing = refl; rejections = refl; drafts = refl }
