@@ -19,3 +19,4 @@ pub mod PeripheralSends
 pub mod PeripheralTable
 pub mod PeripheralTakes
 pub mod PeripheralPlain
+pub mod PeripheralCipher
