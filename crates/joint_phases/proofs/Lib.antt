@@ -20,3 +20,4 @@ pub mod PeripheralTable
 pub mod PeripheralTakes
 pub mod PeripheralPlain
 pub mod PeripheralCipher
+pub mod Knowing
