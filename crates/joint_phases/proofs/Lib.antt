@@ -21,3 +21,4 @@ pub mod PeripheralTakes
 pub mod PeripheralPlain
 pub mod PeripheralCipher
 pub mod Knowing
+pub mod JointCentral

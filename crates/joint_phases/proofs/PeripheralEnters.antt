@@ -206,6 +206,11 @@ module _ (s : Phased) (p : PhasePeripheral) (slot : ℕ) (is : IsPeripheral (ope
 
 -- ---- its host
 
+-- it ends the link, or did before
+abbrev pub ClosesAs : PhasePeripheral → Bool → Phased → Type 0
+ClosesAs p true t = (is_peripheral_open p ≡ true) × IsPeripheral t (peripheral_closes p)
+ClosesAs p false t = IsPeripheral t p
+
 module _ (s : Phased) (p : PhasePeripheral) (is : IsPeripheral (opened s) p) where
   pub peripheral_asks : (ask : Ask) → IsPeripheral (phased_after (Asks ask) (opened s)) p
   peripheral_asks ask = same_peripheral (opened s) p _ is (record { role = refl; closing = refl; rejections = refl; drafts = refl })
@@ -223,10 +228,6 @@ module _ (s : Phased) (p : PhasePeripheral) (is : IsPeripheral (opened s) p) whe
   peripheral_answers answer = answers_if (is_host_asked s.control.table.progress) (is_answer answer) answer (unasked s.control.table.progress is.role)
 
   -- it ends the link
-  abbrev pub ClosesAs : Bool → Phased → Type 0
-  ClosesAs true t = (is_peripheral_open p ≡ true) × IsPeripheral t (peripheral_closes p)
-  ClosesAs false t = IsPeripheral t p
-
   same_queue : (b : Bool) (reason : ErrCode)
       → ((if b then record s.control.table.queue { disconnect = Some reason } else s.control.table.queue).rejections ≡ s.control.table.queue.rejections)
       × ((if b then record s.control.table.queue { disconnect = Some reason } else s.control.table.queue).drafts ≡ s.control.table.queue.drafts)
@@ -234,7 +235,7 @@ module _ (s : Phased) (p : PhasePeripheral) (is : IsPeripheral (opened s) p) whe
   same_queue false reason = (refl, refl)
 
   closes_if : (b : Bool) (reason : ErrCode) → is_open s.control.table.closing ≡ b
-      → ClosesAs b (record s { control = table_if b (terminate_step s.control.table reason) (record s.control { ends = None }) })
+      → ClosesAs p b (record s { control = table_if b (terminate_step s.control.table reason) (record s.control { ends = None }) })
   closes_if false reason opens = is
   closes_if true reason opens =
       let same = same_queue (is_open s.control.table.closing) reason in
@@ -254,5 +255,5 @@ module _ (s : Phased) (p : PhasePeripheral) (is : IsPeripheral (opened s) p) whe
         },
       )
 
-  pub peripheral_disconnects : (reason : ErrCode) → ClosesAs (is_open s.control.table.closing) (phased_after (disconnects_step reason) (opened s))
+  pub peripheral_disconnects : (reason : ErrCode) → ClosesAs p (is_open s.control.table.closing) (phased_after (disconnects_step reason) (opened s))
   peripheral_disconnects reason = closes_if (is_open s.control.table.closing) reason refl
