@@ -22,3 +22,4 @@ pub mod PeripheralPlain
 pub mod PeripheralCipher
 pub mod Knowing
 pub mod JointCentral
+pub mod JointPeripheral

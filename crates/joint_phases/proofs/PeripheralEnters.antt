@@ -204,6 +204,25 @@ module _ (s : Phased) (p : PhasePeripheral) (slot : ℕ) (is : IsPeripheral (ope
       enters_by (place_to_begin table (is_quiet s.phase)) (ask_at (place_to_begin table (is_quiet s.phase)) table.wanted) refl refl
       (absent_where (ask_at (place_to_begin table (is_quiet s.phase)) table.wanted) refl)
 
+-- what begins does so in Clear or Secure, while the link is not to end
+pub begins_quiet : (s : Phased) → does_begin (opened s) ≡ true → (is_quiet s.phase ≡ true) × (is_open s.control.table.closing ≡ true)
+begins_quiet s begins_it =
+    by (place_to_begin f (is_quiet s.phase)) (ask_at (place_to_begin f (is_quiet s.phase)) f.wanted) refl refl begins_it
+  where
+    f : TableFacts
+    f = (entered_step s.control.table (is_some (next_number s.control.track))).0
+
+    by : (place : Option ℕ) (ask : Option Ask) → place_to_begin (entered_step s.control.table (is_some (next_number s.control.track))).0 (is_quiet s.phase) ≡ place
+        → ask_at place (entered_step s.control.table (is_some (next_number s.control.track))).0.wanted ≡ ask
+        → has_first_draft (entered_step s.control.table (is_some (next_number s.control.track))).0 ask ≡ true
+        → (is_quiet s.phase ≡ true) × (is_open s.control.table.closing ≡ true)
+    by None None at a h = absurd (cc)
+    by None (Some ask) at a h = absurd (cc)
+    by (Some place) None at a h = absurd (cc)
+    by (Some place) (Some ask) at a h =
+        let may = begins_of (entered_step s.control.table (is_some (next_number s.control.track))).0 (is_quiet s.phase) place ask at a in
+        (may.is_quiet, ap is_open (sym (entered_same s.control.table (is_some (next_number s.control.track))).closing) ∙ may.lasts)
+
 -- ---- its host
 
 -- it ends the link, or did before
