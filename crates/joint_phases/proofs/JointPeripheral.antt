@@ -193,3 +193,62 @@ module _ (s : Joint) (m : PhaseLink) (is : IsShown s m) (runs_on : Runs s) where
           up = ap (λ (p : PhaseFacts). way_fixed data_class (seals peripheral_role p)) (sym is.peripheral.phase);
         },
       )
+
+  -- ---- it is sent
+
+  free_down : (knows : Bool) (w : Way) → is_free w ≡ true → not (is_control_coming (way_down knows w)) ≡ true
+  free_down knows Clear h = refl
+  free_down knows (Fixed item sealed) h = refl
+  free_down knows (OnAir Data sealed) h = refl
+  free_down knows (OnAir (Control outgoing ctrl) sealed) h = absurd (cc)
+  free_down knows (Taken item) h = refl
+
+  fixed_up : (knows : Bool) (w : Way) → is_fixed w ≡ true → is_way_fixed (way_up knows w) ≡ true
+  fixed_up knows (Fixed item sealed) h = refl
+  fixed_up knows w h = absurd (cc)
+
+  abbrev sends_to : Way → PhaseWay → Type 0
+  sends_to w u = IsShown (record s { up = sent_up w (seals peripheral_role s.peripheral.phase) }) (peripheral_sends u m)
+
+  sent_control : (k : PduClass) (sealed : Bool) (w : Way) → is_data k ≡ false
+      → way_on_air k (seals peripheral_role s.peripheral.phase) ≡ way_up s.peripheral.knows_version w
+      → IsShown (record s { up = w }) (record m { up = way_on_air k (if is_data k then sealed else seals peripheral_role m.peripheral.phase) })
+  sent_control k sealed w control at =
+      record {
+        central = is.central;
+        peripheral = is.peripheral;
+        down = is.down;
+        up = (λ i. way_on_air k (if control i then sealed else seals peripheral_role (sym is.peripheral.phase i))) ∙ at;
+      }
+
+  sends_by : (w : Way) → is_fixed w ≡ true → sends_to w (way_up s.peripheral.knows_version w)
+  sends_by (Fixed Data sealed) h = record { central = is.central; peripheral = is.peripheral; down = is.down; up = refl }
+  sends_by (Fixed (Control outgoing ctrl) sealed) h =
+      sent_control (class_up s.peripheral.knows_version ctrl) sealed (OnAir (Control outgoing ctrl) (seals peripheral_role s.peripheral.phase))
+      (control_up s.peripheral.knows_version ctrl) refl
+  sends_by w h = absurd (cc)
+
+  pub goes_sends : may_act PeripheralSends s ≡ true → Goes (event_of_step PeripheralSends s) (act PeripheralSends s) m
+  goes_sends may =
+      let two = and_parts (is_fixed s.up) (is_free s.down) may in
+      (
+        and_from _ _ (ap is_way_fixed is.up ∙ fixed_up s.peripheral.knows_version s.up two.0)
+        (ap (λ w. not (is_control_coming w)) is.down ∙ free_down s.central.knows_version s.down two.1),
+        subst (λ (u : PhaseWay). sends_to s.up u) (sym is.up) (sends_by s.up two.0),
+      )
+
+  -- ---- it is acknowledged
+
+  taken_up : (knows : Bool) (w : Way) → is_taken w ≡ true → is_way_taken (way_up knows w) ≡ true
+  taken_up knows (Taken item) h = refl
+  taken_up knows w h = absurd (cc)
+
+  pub goes_acked : may_act PeripheralAcked s ≡ true → Goes (event_of_step PeripheralAcked s) (act PeripheralAcked s) m
+  goes_acked may =
+      let taken = (and_parts (is_taken s.up) _ may).0 in
+      let P : Phased → Type 0 = λ c. IsPeripheral c m.peripheral → IsPeripheral (phased_after SeesAcknowledged c) m.peripheral in
+      let h = at_open P s.peripheral runs_on.peripheral (peripheral_acked s.peripheral m.peripheral) is.peripheral in
+      (
+        ap is_way_taken is.up ∙ taken_up s.peripheral.knows_version s.up taken,
+        record { central = is.central; peripheral = h; down = is.down; up = refl },
+      )
