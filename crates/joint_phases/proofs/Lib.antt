@@ -23,3 +23,4 @@ pub mod PeripheralCipher
 pub mod Knowing
 pub mod JointCentral
 pub mod JointPeripheral
+pub mod CentralAwaits
