@@ -24,3 +24,4 @@ pub mod Knowing
 pub mod JointCentral
 pub mod JointPeripheral
 pub mod CentralAwaits
+pub mod Ways
