@@ -25,3 +25,4 @@ pub mod JointCentral
 pub mod JointPeripheral
 pub mod CentralAwaits
 pub mod Ways
+pub mod JointCentralTakes
