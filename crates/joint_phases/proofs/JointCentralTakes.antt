@@ -1,6 +1,7 @@
 -- The central of a joint run takes a PDU: the machine's event.
 use Rattle.std.proofs.Common.{◌≡◌, ℕ, Bool, true, false, not, ◌&&◌, ◌||◌, List, [], ◌∷◌, Option, Some, None, is_none, is_some, refl, ap, ap₂, sym, subst, ◌∙◌, if◌then◌else◌}
 use Rattle.std.proofs.lemmas.Bool.{and_from, and_left, and_parts, and_right, false_from_ne_true}
+use Rattle.ble_base.specs.ErrorCodes.{mic_failure}
 use Rattle.ble_base.specs.declared.roles.Role.TheVariants.{Central as central_role}
 use Rattle.data_pdu.specs.declared.ctrl.Ctrl.{Ctrl}
 use Rattle.data_pdu.specs.declared.ctrl.Ctrl.TheVariants.{TerminateInd, VersionInd}
@@ -24,8 +25,8 @@ use Rattle.phase_pairs.specs.Agreement.{has_meaning, is_encryption, is_step_righ
 use Rattle.phase_pairs.specs.Central.{central_taken}
 use Rattle.phase_pairs.specs.JointRun.{is_crossing_down, is_on_air, is_request, is_way_fixed, is_way_taken, phases_act, phases_may, way_kept}
 use Rattle.phased_control.specs.Phased.{Phased}
-use Rattle.phased_control.specs.Taken.{Takes, TakesData, is_version as is_version_read, phased_after}
-use Rattle.joint_controls.specs.Joint.{Item, Joint, JointStep, Way, CentralTakes, Control, Data, OnAir, Taken, act, is_item, is_running, is_taken, is_terminate, item_on_air, may_act}
+use Rattle.phased_control.specs.Taken.{Takes, TakesData, ended_with, is_version as is_version_read, phased_after}
+use Rattle.joint_controls.specs.Joint.{Item, Joint, JointStep, Way, CentralTakes, Clear, Control, Data, Fixed, OnAir, Taken, act, is_item, is_running, is_taken, is_terminate, item_on_air, may_act}
 use Rattle.joint_phases.specs.Classes.{class_down, class_up, is_version, is_version_ctrl, item_class, version_class}
 use Rattle.joint_phases.specs.Events.{does_cross_up, event_if, event_of_step}
 use Rattle.joint_phases.specs.Facts.{Facts, is_version_coming, is_version_sent}
@@ -34,9 +35,9 @@ use Rattle.joint_phases.proofs.CentralAwaits.{request_awaits, version_awaits}
 use Rattle.joint_phases.proofs.CentralEnters.{at_open, none_of_two, opened}
 use Rattle.joint_phases.proofs.CentralMoves.{takes_unquiet}
 use Rattle.joint_phases.proofs.CentralQueue.{is_of_others}
-use Rattle.joint_phases.proofs.CentralTakes.{plain_knows, takes_plain}
+use Rattle.joint_phases.proofs.CentralTakes.{plain_knows, some_none, takes_plain}
 use Rattle.joint_phases.proofs.JointCentral.{Goes, Runs, none_of, runs}
-use Rattle.joint_phases.proofs.Knowing.{knows_grows}
+use Rattle.joint_phases.proofs.Knowing.{knows_grows, knows_stays}
 use Rattle.joint_phases.proofs.MachineFacts.{Settled}
 use Rattle.joint_phases.proofs.PeripheralPlain.{or_not, version_read}
 use Rattle.joint_phases.proofs.Plain.{taking_quiet}
@@ -198,3 +199,156 @@ module _ (s : Joint) (m : PhaseLink) (outgoing : Outgoing) (ctrl : Ctrl) (sealed
       quiet_part =
           subst (λ (c : PhaseCentral). IsCentral after_it c)
           (sym (others_taken crossed class m.central (others_up s.peripheral.knows_version ctrl apart plain) quiet)) both.0
+
+      same_now : (knows : Bool) → after_it.knows_version ≡ s.central.knows_version || is_version_read (Known ctrl) → is_version_ctrl ctrl ≡ false
+          → m.down ≡ way_down after_it.knows_version s.down
+      same_now knows now plain_one =
+          is.down ∙ ap (λ b. way_down b s.down) (sym (now ∙ or_not s.central.knows_version (is_version_read (Known ctrl)) (version_read ctrl ∙ plain_one)))
+
+      not_crossed_down : (air known peer : Bool) → is_item is_version (item_on_air s.down) ≡ air → s.central.knows_version ≡ known → s.peripheral.knows_version ≡ peer
+          → is_version_ctrl ctrl ≡ true → crossed ≡ false → m.down ≡ way_down after_it.knows_version s.down
+      not_crossed_down false known peer at_air at_known at_peer version not_crossed =
+          is.down ∙ sym (unversioned_down s.central.knows_version after_it.knows_version s.down never_fixed at_air)
+      not_crossed_down true true peer at_air at_known at_peer version not_crossed =
+          is.down ∙ ap (λ b. way_down b s.down) (at_known ∙ sym (both.1 ∙ ap (λ b. b || is_version_read (Known ctrl)) at_known))
+      not_crossed_down true false true at_air at_known at_peer version not_crossed = none_of_two _ _ (facts.known_down at_peer) at_air
+      not_crossed_down true false false at_air at_known at_peer version not_crossed =
+          none_of_two _ _ not_crossed (and_from _ _ version (and_from _ _ (and_from _ _ (ap not at_known) (ap not at_peer)) at_air))
+
+      down_by : (b v : Bool) → crossed ≡ b → is_version_ctrl ctrl ≡ v → (if b then way_kept Other m.down else m.down) ≡ way_down after_it.knows_version s.down
+      down_by true v at at_version =
+          let c = crossing at in
+          ap (way_kept Other) is.down ∙ ap (λ b. way_kept Other (way_down b s.down)) c.central ∙ kept_down s.down c.on_air
+          ∙ ap (λ b. way_down b s.down) (sym (both.1 ∙ (λ i. c.central i || (version_read ctrl ∙ c.version) i)))
+      down_by false false at at_version = same_now false both.1 at_version
+      down_by false true at at_version =
+          not_crossed_down (is_item is_version (item_on_air s.down)) s.central.knows_version s.peripheral.knows_version refl refl refl at_version at
+
+      in_quiet : IsShown (record here { central = after_it; up = Taken item; stopped = is_terminate ctrl }) (phases_act (central_takes_event crossed) there)
+      in_quiet = shown_then quiet_part (down_by crossed (is_version_ctrl ctrl) refl refl)
+
+    -- ---- in another phase
+
+    module _ (unquiet : is_quiet m.central.phase ≡ false) where
+      unawaited : m.central.awaits ≡ false
+      unawaited = false_from_ne_true m.central.awaits (λ a. none_of_two _ _ unquiet (settled.awaits_in_quiet a))
+
+      not_crossed : crossed ≡ false
+      not_crossed = false_from_ne_true crossed (λ h. none_of_two _ _ unawaited (settled.request_awaited (crossing_air (crossing h))))
+
+      none_on_air : s.central.knows_version ≡ false → is_item is_version (item_on_air s.down) ≡ false
+      none_on_air unknown =
+          false_from_ne_true _ (λ air. none_of_two _ _ unawaited
+          (settled.request_awaited (ap (is_on_air is_request) is.down ∙ ap (λ b. is_on_air is_request (way_down b s.down)) unknown ∙ request_down s.down air)))
+
+      same_class : class ≡ ctrl_class ctrl
+      same_class = class_unquiet s.peripheral.knows_version ctrl m.central.phase unquiet right_here.0
+
+      none_queued : is_encryption (ctrl_class ctrl) ≡ true → m.central.queued ≡ None
+      none_queued enc = none_of _ (settled.up_queued (encryption_up s.peripheral.knows_version ctrl ∙ enc))
+
+      abbrev Part : Phased → Type 0
+      Part c =
+          IsCentral c m.central → (phased_after (Takes (Known ctrl) slot (TerminateInd 0)) c).control.ends ≡ None
+          → IsCentral (phased_after (Takes (Known ctrl) slot (TerminateInd 0)) c) (central_taken crossed (ctrl_class ctrl) m.central)
+
+      unquiet_part : IsCentral after_it (central_taken crossed class m.central)
+      unquiet_part =
+          let allowed : allows m.central.phase central_role (ctrl_class ctrl) ≡ true = ap (λ k. allows m.central.phase central_role k) (sym same_class) ∙ right_here.0 in
+          let part : IsCentral after_it (central_taken crossed (ctrl_class ctrl) m.central) =
+              at_open Part s.central runs_on.central
+              (λ p. λ l. takes_unquiet s.central m.central (TerminateInd 0) slot p unquiet unawaited crossed ctrl apart none_queued allowed l) is.central lasts in
+          subst (λ (k : PduClass). IsCentral after_it (central_taken crossed k m.central)) (sym same_class) part
+
+      known_by : (known : Bool) → s.central.knows_version ≡ known → m.down ≡ way_down after_it.knows_version s.down
+      known_by true at = is.down ∙ ap (λ b. way_down b s.down) (at ∙ sym (knows_grows s.central ctrl (TerminateInd 0) slot at))
+      known_by false at = is.down ∙ sym (unversioned_down s.central.knows_version after_it.knows_version s.down never_fixed (none_on_air at))
+
+      unquiet_down : (b : Bool) → crossed ≡ b → (if b then way_kept Other m.down else m.down) ≡ way_down after_it.knows_version s.down
+      unquiet_down true at = none_of_two _ _ not_crossed at
+      unquiet_down false at = known_by s.central.knows_version refl
+
+      in_unquiet : IsShown (record here { central = after_it; up = Taken item; stopped = is_terminate ctrl }) (phases_act (central_takes_event crossed) there)
+      in_unquiet = shown_then unquiet_part (unquiet_down crossed refl)
+
+    by_phase : (quiet : Bool) → is_quiet m.central.phase ≡ quiet
+        → IsShown (record here { central = after_it; up = Taken item; stopped = is_terminate ctrl }) (phases_act (central_takes_event crossed) there)
+    by_phase true at = in_quiet at
+    by_phase false at = in_unquiet at
+
+    takes_control : Goes (Some (central_takes_event crossed)) (act (CentralTakes slot) here) there
+    takes_control = (comes, by_phase (is_quiet m.central.phase) refl)
+
+    pub goes_control : Goes (event_of_step (CentralTakes slot) here) (act (CentralTakes slot) here) there
+    goes_control =
+        subst (λ (b : Bool). Goes (event_if b (central_takes_event crossed)) (act (CentralTakes slot) here) there) (sym (ap not apart)) takes_control
+
+-- ---- data
+
+module _ (s : Joint) (m : PhaseLink) (sealed : Bool) (slot : ℕ) where
+  abbrev with_data : Joint
+  with_data = record s { up = OnAir Data sealed }
+
+  abbrev with_data_class : PhaseLink
+  with_data_class = record m { up = way_on_air data_class sealed }
+
+  module _ (is : IsShown with_data with_data_class) (runs_on : Runs s) (may : not (is_taken s.down) ≡ true)
+      (lasts : (phased_after TakesData s.central).control.ends ≡ None) where
+    abbrev DataPart : Phased → Type 0
+    DataPart c = IsCentral c m.central → (phased_after TakesData c).control.ends ≡ None → IsCentral (phased_after TakesData c) m.central
+
+    data_by : (b : Bool) → IsCentral (opened s.central) m.central → (if b then opened s.central else ended_with mic_failure (opened s.central)).control.ends ≡ None
+        → IsCentral (if b then opened s.central else ended_with mic_failure (opened s.central)) m.central
+    data_by true part l = part
+    data_by false part l = some_none (record { 0 = mic_failure }) _ l
+
+    data_part : IsCentral (phased_after TakesData s.central) m.central
+    data_part = at_open DataPart s.central runs_on.central (λ p. λ l. data_by _ p l) is.central lasts
+
+    pub goes_data : Goes (event_of_step (CentralTakes slot) with_data) (act (CentralTakes slot) with_data) with_data_class
+    goes_data =
+        (
+          and_from _ _ (ap (λ b. not b) (ap is_way_taken is.down ∙ (taken_same s.central.knows_version s.down).0) ∙ may) refl,
+          record {
+            central = data_part;
+            peripheral = is.peripheral;
+            down = is.down ∙ ap (λ b. way_down b s.down) (sym (knows_stays TakesData s.central refl));
+            up = refl;
+          },
+        )
+
+-- ---- whichever comes
+
+module _ (s : Joint) (m : PhaseLink) (slot : ℕ) where
+  abbrev at_way : Way → Joint
+  at_way w = record s { up = w }
+
+  abbrev link_at : PhaseWay → PhaseLink
+  link_at u = record m { up = u }
+
+  -- the premises, with this on its way
+  record Takable (w : Way) (u : PhaseWay) : Type 0 where
+    is : IsShown (at_way w) (link_at u)
+    settled : Settled (link_at u)
+    facts : Facts (at_way w)
+    right : (event : PhaseEvent) → phases_may event (link_at u) ≡ true → is_step_right event (link_at u) ≡ true
+
+  takes_way : (w : Way) → Runs s → is_some (item_on_air w) ≡ true → not (is_taken s.down) ≡ true → is_running (act (CentralTakes slot) (at_way w)) ≡ true
+      → Takable w (way_up s.peripheral.knows_version w) → Goes (event_of_step (CentralTakes slot) (at_way w)) (act (CentralTakes slot) (at_way w)) (link_at (way_up s.peripheral.knows_version w))
+  takes_way (OnAir Data sealed) runs_on air may running t =
+      goes_data s m sealed slot t.is runs_on may (runs (act (CentralTakes slot) (at_way (OnAir Data sealed))) running).central
+  takes_way (OnAir (Control outgoing ctrl) sealed) runs_on air may running t =
+      let next = runs (act (CentralTakes slot) (at_way (OnAir (Control outgoing ctrl) sealed))) running in
+      goes_control s m outgoing ctrl sealed slot t.is runs_on t.settled t.facts t.right may next.goes next.central
+  takes_way Clear runs_on air may running t = absurd (cc)
+  takes_way (Fixed item sealed) runs_on air may running t = absurd (cc)
+  takes_way (Taken item) runs_on air may running t = absurd (cc)
+
+  pub goes_takes : IsShown s m → Runs s → Settled m → Facts s → ((event : PhaseEvent) → phases_may event m ≡ true → is_step_right event m ≡ true)
+      → may_act (CentralTakes slot) s ≡ true → is_running (act (CentralTakes slot) s) ≡ true → Goes (event_of_step (CentralTakes slot) s) (act (CentralTakes slot) s) m
+  goes_takes is runs_on settled facts right may running =
+      let one = and_parts (is_some (item_on_air s.up)) _ may in
+      let two = and_parts (not (is_taken s.down)) _ one.1 in
+      let P : PhaseWay → Type 0 = λ u. Takable s.up u → Goes (event_of_step (CentralTakes slot) s) (act (CentralTakes slot) s) (link_at u) in
+      let h : P (way_up s.peripheral.knows_version s.up) = takes_way s.up runs_on one.0 two.0 running in
+      subst P (sym is.up) h (record { is = is; settled = settled; facts = facts; right = right })
