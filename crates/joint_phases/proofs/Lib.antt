@@ -26,3 +26,4 @@ pub mod JointPeripheral
 pub mod CentralAwaits
 pub mod Ways
 pub mod JointCentralTakes
+pub mod JointPeripheralTakes
