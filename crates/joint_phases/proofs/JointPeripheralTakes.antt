@@ -350,3 +350,75 @@ module _ (s : Joint) (m : PhaseLink) (outgoing : Outgoing) (ctrl response : Ctrl
     pub goes_control : Goes (event_of_step (PeripheralTakes slot response) here) (act (PeripheralTakes slot response) here) there
     goes_control =
         subst (λ (b : Bool). Goes (event_if b (peripheral_takes_event crossed)) (act (PeripheralTakes slot response) here) there) (sym (ap not apart)) takes_control
+
+-- ---- data
+
+module _ (s : Joint) (m : PhaseLink) (response : Ctrl) (sealed : Bool) (slot : ℕ) where
+  abbrev with_data : Joint
+  with_data = record s { down = OnAir Data sealed }
+
+  abbrev with_data_class : PhaseLink
+  with_data_class = record m { down = way_on_air data_class sealed }
+
+  module _ (is : IsShown with_data with_data_class) (runs_on : Runs s) (may : not (is_taken s.up) ≡ true)
+      (lasts : (phased_after TakesData s.peripheral).control.ends ≡ None) where
+    abbrev DataPart : Phased → Type 0
+    DataPart c = IsPeripheral c m.peripheral → (phased_after TakesData c).control.ends ≡ None → IsPeripheral (phased_after TakesData c) m.peripheral
+
+    data_by : (b : Bool) → IsPeripheral (opened s.peripheral) m.peripheral → (if b then opened s.peripheral else ended_with mic_failure (opened s.peripheral)).control.ends ≡ None
+        → IsPeripheral (if b then opened s.peripheral else ended_with mic_failure (opened s.peripheral)) m.peripheral
+    data_by true part l = part
+    data_by false part l = some_none (record { 0 = mic_failure }) _ l
+
+    data_part : IsPeripheral (phased_after TakesData s.peripheral) m.peripheral
+    data_part = at_open DataPart s.peripheral runs_on.peripheral (λ p. λ l. data_by _ p l) is.peripheral lasts
+
+    pub goes_data : Goes (event_of_step (PeripheralTakes slot response) with_data) (act (PeripheralTakes slot response) with_data) with_data_class
+    goes_data =
+        (
+          and_from _ _ (ap (λ b. not b) (ap is_way_taken is.up ∙ (taken_same s.peripheral.knows_version s.up).1) ∙ may) refl,
+          record {
+            central = is.central;
+            peripheral = data_part;
+            down = refl;
+            up = is.up ∙ ap (λ b. way_up b s.up) (sym (knows_stays TakesData s.peripheral refl));
+          },
+        )
+
+-- ---- whichever comes
+
+module _ (s : Joint) (m : PhaseLink) (slot : ℕ) (response : Ctrl) (answers : is_enc_rsp response ≡ true) where
+  abbrev at_way : Way → Joint
+  at_way w = record s { down = w }
+
+  abbrev link_at : PhaseWay → PhaseLink
+  link_at u = record m { down = u }
+
+  -- the premises, with this on its way
+  record Takable (w : Way) (u : PhaseWay) : Type 0 where
+    is : IsShown (at_way w) (link_at u)
+    settled : Settled (link_at u)
+    facts : Facts (at_way w)
+    right : (event : PhaseEvent) → phases_may event (link_at u) ≡ true → is_step_right event (link_at u) ≡ true
+
+  takes_way : (w : Way) → Runs s → is_some (item_on_air w) ≡ true → not (is_taken s.up) ≡ true → is_running (act (PeripheralTakes slot response) (at_way w)) ≡ true
+      → Takable w (way_down s.central.knows_version w)
+      → Goes (event_of_step (PeripheralTakes slot response) (at_way w)) (act (PeripheralTakes slot response) (at_way w)) (link_at (way_down s.central.knows_version w))
+  takes_way (OnAir Data sealed) runs_on air may running t =
+      goes_data s m response sealed slot t.is runs_on may (runs (act (PeripheralTakes slot response) (at_way (OnAir Data sealed))) running).peripheral
+  takes_way (OnAir (Control outgoing ctrl) sealed) runs_on air may running t =
+      let next_runs = runs (act (PeripheralTakes slot response) (at_way (OnAir (Control outgoing ctrl) sealed))) running in
+      goes_control s m outgoing ctrl response sealed slot t.is runs_on t.settled t.facts t.right answers may next_runs.goes next_runs.peripheral
+  takes_way Clear runs_on air may running t = absurd (cc)
+  takes_way (Fixed item sealed) runs_on air may running t = absurd (cc)
+  takes_way (Taken item) runs_on air may running t = absurd (cc)
+
+  pub goes_takes : IsShown s m → Runs s → Settled m → Facts s → ((event : PhaseEvent) → phases_may event m ≡ true → is_step_right event m ≡ true)
+      → may_act (PeripheralTakes slot response) s ≡ true → is_running (act (PeripheralTakes slot response) s) ≡ true
+      → Goes (event_of_step (PeripheralTakes slot response) s) (act (PeripheralTakes slot response) s) m
+  goes_takes is runs_on settled facts right may running =
+      let one = and_parts (is_some (item_on_air s.down)) _ may in
+      let two = and_parts (not (is_taken s.up)) _ one.1 in
+      let P : PhaseWay → Type 0 = λ u. Takable s.down u → Goes (event_of_step (PeripheralTakes slot response) s) (act (PeripheralTakes slot response) s) (link_at u) in
+      let h : P (way_down s.central.knows_version s.down) = takes_way s.down runs_on one.0 two.0 running in
+      subst P (sym is.down) h (record { is = is; settled = settled; facts = facts; right = right })

@@ -27,3 +27,4 @@ pub mod CentralAwaits
 pub mod Ways
 pub mod JointCentralTakes
 pub mod JointPeripheralTakes
+pub mod Steps
