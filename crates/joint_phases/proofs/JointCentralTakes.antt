@@ -105,7 +105,7 @@ module _ (s : Joint) (m : PhaseLink) (outgoing : Outgoing) (ctrl : Ctrl) (sealed
 
   module _ (is : IsShown here there) (runs_on : Runs s) (settled : Settled there) (facts : Facts here)
       (right : (event : PhaseEvent) → phases_may event there ≡ true → is_step_right event there ≡ true)
-      (may : not (is_taken s.down) ≡ true) (apart : is_terminate ctrl ≡ false) (lasts : after_it.control.ends ≡ None) where
+      (may : not (is_taken s.down) ≡ true) (apart : is_terminate ctrl ≡ false) where
     crossing_air : Crossing → is_on_air is_request m.down ≡ true
     crossing_air c =
         ap (is_on_air is_request) is.down ∙ ap (λ b. is_on_air is_request (way_down b s.down)) c.central ∙ request_down s.down c.on_air
@@ -123,165 +123,166 @@ module _ (s : Joint) (m : PhaseLink) (outgoing : Outgoing) (ctrl : Ctrl) (sealed
         and_from _ _ (ap (λ b. not b) (ap is_way_taken is.down ∙ (taken_same s.central.knows_version s.down).0) ∙ may)
         (and_from _ _ (ap not (ends_up s.peripheral.knows_version ctrl apart)) (crossing_may crossed refl))
 
-    right_here : (allows m.central.phase central_role class ≡ true) × (has_meaning central_role m.central.phase class ≡ true)
+    pub right_here : (allows m.central.phase central_role class ≡ true) × (has_meaning central_role m.central.phase class ≡ true)
     right_here = and_parts (allows m.central.phase central_role class) (has_meaning central_role m.central.phase class) (right (central_takes_event crossed) comes)
 
-    never_fixed : is_way_fixed (way_down s.central.knows_version s.down) ≡ false
-    never_fixed = ap is_way_fixed (sym is.down) ∙ not_is _ settled.never_fixed
+    module _ (lasts : after_it.control.ends ≡ None) where
+      never_fixed : is_way_fixed (way_down s.central.knows_version s.down) ≡ false
+      never_fixed = ap is_way_fixed (sym is.down) ∙ not_is _ settled.never_fixed
 
-    -- what the machine has then, as this shows it
-    shown_then : IsCentral after_it (central_taken crossed class m.central)
-        → (if crossed then way_kept Other m.down else m.down) ≡ way_down after_it.knows_version s.down
-        → IsShown (record here { central = after_it; up = Taken item; stopped = is_terminate ctrl }) (phases_act (central_takes_event crossed) there)
-    shown_then part down = record { central = part; peripheral = is.peripheral; down = down; up = refl }
+      -- what the machine has then, as this shows it
+      shown_then : IsCentral after_it (central_taken crossed class m.central)
+          → (if crossed then way_kept Other m.down else m.down) ≡ way_down after_it.knows_version s.down
+          → IsShown (record here { central = after_it; up = Taken item; stopped = is_terminate ctrl }) (phases_act (central_takes_event crossed) there)
+      shown_then part down = record { central = part; peripheral = is.peripheral; down = down; up = refl }
 
-    -- ---- in Clear or Secure
+      -- ---- in Clear or Secure
 
-    module _ (quiet : is_quiet m.central.phase ≡ true) where
-      plain : is_encryption class ≡ false
-      plain = plain_in_quiet m.central.phase class quiet right_here.1
+      module _ (quiet : is_quiet m.central.phase ≡ true) where
+        plain : is_encryption class ≡ false
+        plain = plain_in_quiet m.central.phase class quiet right_here.1
 
-      plain_ctrl : is_encryption (ctrl_class ctrl) ≡ false
-      plain_ctrl = sym (encryption_up s.peripheral.knows_version ctrl) ∙ plain
+        plain_ctrl : is_encryption (ctrl_class ctrl) ≡ false
+        plain_ctrl = sym (encryption_up s.peripheral.knows_version ctrl) ∙ plain
 
-      -- the own exchange of versions does not await this one, unless the two cross
-      not_sent : (b : Bool) → is_version_ctrl ctrl ≡ true → class ≡ Request → crossed ≡ false → s.central.knows_version ≡ b
-          → is_version_sent (own_exchange s.central.control.table.progress) ≡ true → ⊥
-      not_sent true version request not_crossed known sent =
-          let none : is_version_ctrl ctrl ≡ false = facts.known_way known in
-          none_of_two _ _ none version
-      not_sent false version request not_crossed unknown sent =
-          let peer : s.peripheral.knows_version ≡ false = version_unknown s.peripheral.knows_version (sym (version_up s.peripheral.knows_version ctrl version) ∙ request) in
-          let air = facts.sent_comes sent unknown peer in
-          let cross : crossed ≡ true =
-              and_from _ _ version (and_from _ _ (and_from _ _ (ap not unknown) (ap not peer)) air) in
-          none_of_two _ _ not_crossed cross
-        where
-          version_unknown : (knows : Bool) → version_class knows ≡ Request → knows ≡ false
-          version_unknown true h = absurd (cc)
-          version_unknown false h = refl
+        -- the own exchange of versions does not await this one, unless the two cross
+        not_sent : (b : Bool) → is_version_ctrl ctrl ≡ true → class ≡ Request → crossed ≡ false → s.central.knows_version ≡ b
+            → is_version_sent (own_exchange s.central.control.table.progress) ≡ true → ⊥
+        not_sent true version request not_crossed known sent =
+            let none : is_version_ctrl ctrl ≡ false = facts.known_way known in
+            none_of_two _ _ none version
+        not_sent false version request not_crossed unknown sent =
+            let peer : s.peripheral.knows_version ≡ false = version_unknown s.peripheral.knows_version (sym (version_up s.peripheral.knows_version ctrl version) ∙ request) in
+            let air = facts.sent_comes sent unknown peer in
+            let cross : crossed ≡ true =
+                and_from _ _ version (and_from _ _ (and_from _ _ (ap not unknown) (ap not peer)) air) in
+            none_of_two _ _ not_crossed cross
+          where
+            version_unknown : (knows : Bool) → version_class knows ≡ Request → knows ≡ false
+            version_unknown true h = absurd (cc)
+            version_unknown false h = refl
 
-      awaits_here : (b : Bool) → is_version_ctrl ctrl ≡ b → class ≡ Request → crossed ≡ false → m.central.awaits ≡ true
-          → is_awaiting (outcome_of s.central.control.table true (Known ctrl)).progress ≡ true
-      awaits_here false version request not_crossed awaits =
-          request_awaits s.central.control.table s.central.control.table.progress ctrl is.central.role (sym (plain_up s.peripheral.knows_version ctrl version) ∙ request) version
-          ∙ is.central.awaits awaits
-      awaits_here true version request not_crossed awaits = by ctrl version (not_sent s.central.knows_version version request not_crossed refl)
-        where
-          by : (c : Ctrl) → is_version_ctrl c ≡ true → (is_version_sent (own_exchange s.central.control.table.progress) ≡ true → ⊥)
-              → is_awaiting (outcome_of s.central.control.table true (Known c)).progress ≡ true
-          by (VersionInd version company sub) v none =
-              version_awaits s.central.control.table s.central.control.table.progress version company sub is.central.role (is.central.awaits awaits) none
-          by c v none = absurd (cc)
+        awaits_here : (b : Bool) → is_version_ctrl ctrl ≡ b → class ≡ Request → crossed ≡ false → m.central.awaits ≡ true
+            → is_awaiting (outcome_of s.central.control.table true (Known ctrl)).progress ≡ true
+        awaits_here false version request not_crossed awaits =
+            request_awaits s.central.control.table s.central.control.table.progress ctrl is.central.role (sym (plain_up s.peripheral.knows_version ctrl version) ∙ request) version
+            ∙ is.central.awaits awaits
+        awaits_here true version request not_crossed awaits = by ctrl version (not_sent s.central.knows_version version request not_crossed refl)
+          where
+            by : (c : Ctrl) → is_version_ctrl c ≡ true → (is_version_sent (own_exchange s.central.control.table.progress) ≡ true → ⊥)
+                → is_awaiting (outcome_of s.central.control.table true (Known c)).progress ≡ true
+            by (VersionInd version company sub) v none =
+                version_awaits s.central.control.table s.central.control.table.progress version company sub is.central.role (is.central.awaits awaits) none
+            by c v none = absurd (cc)
 
-      awaits_next : awaits_after crossed class m.central.awaits ≡ true → is_awaiting (outcome_of s.central.control.table true (Known ctrl)).progress ≡ true
-      awaits_next h =
-          let t = awaits_then crossed class m.central.awaits h in
-          awaits_here (is_version_ctrl ctrl) refl t.0 t.1 t.2
+        awaits_next : awaits_after crossed class m.central.awaits ≡ true → is_awaiting (outcome_of s.central.control.table true (Known ctrl)).progress ≡ true
+        awaits_next h =
+            let t = awaits_then crossed class m.central.awaits h in
+            awaits_here (is_version_ctrl ctrl) refl t.0 t.1 t.2
 
-      abbrev Both : Phased → Type 0
-      Both c =
-          IsCentral c m.central → (awaits_after crossed class m.central.awaits ≡ true → is_awaiting (outcome_of c.control.table true (Known ctrl)).progress ≡ true)
-          → (phased_after (Takes (Known ctrl) slot (TerminateInd 0)) c).control.ends ≡ None
-          → IsCentral (phased_after (Takes (Known ctrl) slot (TerminateInd 0)) c) (record m.central { awaits = awaits_after crossed class m.central.awaits })
-          × ((phased_after (Takes (Known ctrl) slot (TerminateInd 0)) c).knows_version ≡ c.knows_version || is_version_read (Known ctrl))
+        abbrev Both : Phased → Type 0
+        Both c =
+            IsCentral c m.central → (awaits_after crossed class m.central.awaits ≡ true → is_awaiting (outcome_of c.control.table true (Known ctrl)).progress ≡ true)
+            → (phased_after (Takes (Known ctrl) slot (TerminateInd 0)) c).control.ends ≡ None
+            → IsCentral (phased_after (Takes (Known ctrl) slot (TerminateInd 0)) c) (record m.central { awaits = awaits_after crossed class m.central.awaits })
+            × ((phased_after (Takes (Known ctrl) slot (TerminateInd 0)) c).knows_version ≡ c.knows_version || is_version_read (Known ctrl))
 
-      both : IsCentral after_it (record m.central { awaits = awaits_after crossed class m.central.awaits })
-          × (after_it.knows_version ≡ s.central.knows_version || is_version_read (Known ctrl))
-      both =
-          at_open Both s.central runs_on.central
-          (λ part. λ a. λ l. (
-            takes_plain s.central m.central ctrl (TerminateInd 0) slot (awaits_after crossed class m.central.awaits) part quiet apart plain_ctrl a l,
-            plain_knows s.central m.central ctrl (TerminateInd 0) slot (awaits_after crossed class m.central.awaits) part quiet apart plain_ctrl a l,
-          )) is.central awaits_next lasts
+        both : IsCentral after_it (record m.central { awaits = awaits_after crossed class m.central.awaits })
+            × (after_it.knows_version ≡ s.central.knows_version || is_version_read (Known ctrl))
+        both =
+            at_open Both s.central runs_on.central
+            (λ part. λ a. λ l. (
+              takes_plain s.central m.central ctrl (TerminateInd 0) slot (awaits_after crossed class m.central.awaits) part quiet apart plain_ctrl a l,
+              plain_knows s.central m.central ctrl (TerminateInd 0) slot (awaits_after crossed class m.central.awaits) part quiet apart plain_ctrl a l,
+            )) is.central awaits_next lasts
 
-      quiet_part : IsCentral after_it (central_taken crossed class m.central)
-      quiet_part =
-          subst (λ (c : PhaseCentral). IsCentral after_it c)
-          (sym (others_taken crossed class m.central (others_up s.peripheral.knows_version ctrl apart plain) quiet)) both.0
+        quiet_part : IsCentral after_it (central_taken crossed class m.central)
+        quiet_part =
+            subst (λ (c : PhaseCentral). IsCentral after_it c)
+            (sym (others_taken crossed class m.central (others_up s.peripheral.knows_version ctrl apart plain) quiet)) both.0
 
-      same_now : (knows : Bool) → after_it.knows_version ≡ s.central.knows_version || is_version_read (Known ctrl) → is_version_ctrl ctrl ≡ false
-          → m.down ≡ way_down after_it.knows_version s.down
-      same_now knows now plain_one =
-          is.down ∙ ap (λ b. way_down b s.down) (sym (now ∙ or_not s.central.knows_version (is_version_read (Known ctrl)) (version_read ctrl ∙ plain_one)))
+        same_now : (knows : Bool) → after_it.knows_version ≡ s.central.knows_version || is_version_read (Known ctrl) → is_version_ctrl ctrl ≡ false
+            → m.down ≡ way_down after_it.knows_version s.down
+        same_now knows now plain_one =
+            is.down ∙ ap (λ b. way_down b s.down) (sym (now ∙ or_not s.central.knows_version (is_version_read (Known ctrl)) (version_read ctrl ∙ plain_one)))
 
-      not_crossed_down : (air known peer : Bool) → is_item is_version (item_on_air s.down) ≡ air → s.central.knows_version ≡ known → s.peripheral.knows_version ≡ peer
-          → is_version_ctrl ctrl ≡ true → crossed ≡ false → m.down ≡ way_down after_it.knows_version s.down
-      not_crossed_down false known peer at_air at_known at_peer version not_crossed =
-          is.down ∙ sym (unversioned_down s.central.knows_version after_it.knows_version s.down never_fixed at_air)
-      not_crossed_down true true peer at_air at_known at_peer version not_crossed =
-          is.down ∙ ap (λ b. way_down b s.down) (at_known ∙ sym (both.1 ∙ ap (λ b. b || is_version_read (Known ctrl)) at_known))
-      not_crossed_down true false true at_air at_known at_peer version not_crossed = none_of_two _ _ (facts.known_down at_peer) at_air
-      not_crossed_down true false false at_air at_known at_peer version not_crossed =
-          none_of_two _ _ not_crossed (and_from _ _ version (and_from _ _ (and_from _ _ (ap not at_known) (ap not at_peer)) at_air))
+        not_crossed_down : (air known peer : Bool) → is_item is_version (item_on_air s.down) ≡ air → s.central.knows_version ≡ known → s.peripheral.knows_version ≡ peer
+            → is_version_ctrl ctrl ≡ true → crossed ≡ false → m.down ≡ way_down after_it.knows_version s.down
+        not_crossed_down false known peer at_air at_known at_peer version not_crossed =
+            is.down ∙ sym (unversioned_down s.central.knows_version after_it.knows_version s.down never_fixed at_air)
+        not_crossed_down true true peer at_air at_known at_peer version not_crossed =
+            is.down ∙ ap (λ b. way_down b s.down) (at_known ∙ sym (both.1 ∙ ap (λ b. b || is_version_read (Known ctrl)) at_known))
+        not_crossed_down true false true at_air at_known at_peer version not_crossed = none_of_two _ _ (facts.known_down at_peer) at_air
+        not_crossed_down true false false at_air at_known at_peer version not_crossed =
+            none_of_two _ _ not_crossed (and_from _ _ version (and_from _ _ (and_from _ _ (ap not at_known) (ap not at_peer)) at_air))
 
-      down_by : (b v : Bool) → crossed ≡ b → is_version_ctrl ctrl ≡ v → (if b then way_kept Other m.down else m.down) ≡ way_down after_it.knows_version s.down
-      down_by true v at at_version =
-          let c = crossing at in
-          ap (way_kept Other) is.down ∙ ap (λ b. way_kept Other (way_down b s.down)) c.central ∙ kept_down s.down c.on_air
-          ∙ ap (λ b. way_down b s.down) (sym (both.1 ∙ (λ i. c.central i || (version_read ctrl ∙ c.version) i)))
-      down_by false false at at_version = same_now false both.1 at_version
-      down_by false true at at_version =
-          not_crossed_down (is_item is_version (item_on_air s.down)) s.central.knows_version s.peripheral.knows_version refl refl refl at_version at
+        down_by : (b v : Bool) → crossed ≡ b → is_version_ctrl ctrl ≡ v → (if b then way_kept Other m.down else m.down) ≡ way_down after_it.knows_version s.down
+        down_by true v at at_version =
+            let c = crossing at in
+            ap (way_kept Other) is.down ∙ ap (λ b. way_kept Other (way_down b s.down)) c.central ∙ kept_down s.down c.on_air
+            ∙ ap (λ b. way_down b s.down) (sym (both.1 ∙ (λ i. c.central i || (version_read ctrl ∙ c.version) i)))
+        down_by false false at at_version = same_now false both.1 at_version
+        down_by false true at at_version =
+            not_crossed_down (is_item is_version (item_on_air s.down)) s.central.knows_version s.peripheral.knows_version refl refl refl at_version at
 
-      in_quiet : IsShown (record here { central = after_it; up = Taken item; stopped = is_terminate ctrl }) (phases_act (central_takes_event crossed) there)
-      in_quiet = shown_then quiet_part (down_by crossed (is_version_ctrl ctrl) refl refl)
+        in_quiet : IsShown (record here { central = after_it; up = Taken item; stopped = is_terminate ctrl }) (phases_act (central_takes_event crossed) there)
+        in_quiet = shown_then quiet_part (down_by crossed (is_version_ctrl ctrl) refl refl)
 
-    -- ---- in another phase
+      -- ---- in another phase
 
-    module _ (unquiet : is_quiet m.central.phase ≡ false) where
-      unawaited : m.central.awaits ≡ false
-      unawaited = false_from_ne_true m.central.awaits (λ a. none_of_two _ _ unquiet (settled.awaits_in_quiet a))
+      module _ (unquiet : is_quiet m.central.phase ≡ false) where
+        unawaited : m.central.awaits ≡ false
+        unawaited = false_from_ne_true m.central.awaits (λ a. none_of_two _ _ unquiet (settled.awaits_in_quiet a))
 
-      not_crossed : crossed ≡ false
-      not_crossed = false_from_ne_true crossed (λ h. none_of_two _ _ unawaited (settled.request_awaited (crossing_air (crossing h))))
+        not_crossed : crossed ≡ false
+        not_crossed = false_from_ne_true crossed (λ h. none_of_two _ _ unawaited (settled.request_awaited (crossing_air (crossing h))))
 
-      none_on_air : s.central.knows_version ≡ false → is_item is_version (item_on_air s.down) ≡ false
-      none_on_air unknown =
-          false_from_ne_true _ (λ air. none_of_two _ _ unawaited
-          (settled.request_awaited (ap (is_on_air is_request) is.down ∙ ap (λ b. is_on_air is_request (way_down b s.down)) unknown ∙ request_down s.down air)))
+        none_on_air : s.central.knows_version ≡ false → is_item is_version (item_on_air s.down) ≡ false
+        none_on_air unknown =
+            false_from_ne_true _ (λ air. none_of_two _ _ unawaited
+            (settled.request_awaited (ap (is_on_air is_request) is.down ∙ ap (λ b. is_on_air is_request (way_down b s.down)) unknown ∙ request_down s.down air)))
 
-      same_class : class ≡ ctrl_class ctrl
-      same_class = class_unquiet s.peripheral.knows_version ctrl m.central.phase unquiet right_here.0
+        same_class : class ≡ ctrl_class ctrl
+        same_class = class_unquiet s.peripheral.knows_version ctrl m.central.phase unquiet right_here.0
 
-      none_queued : is_encryption (ctrl_class ctrl) ≡ true → m.central.queued ≡ None
-      none_queued enc = none_of _ (settled.up_queued (encryption_up s.peripheral.knows_version ctrl ∙ enc))
+        none_queued : is_encryption (ctrl_class ctrl) ≡ true → m.central.queued ≡ None
+        none_queued enc = none_of _ (settled.up_queued (encryption_up s.peripheral.knows_version ctrl ∙ enc))
 
-      abbrev Part : Phased → Type 0
-      Part c =
-          IsCentral c m.central → (phased_after (Takes (Known ctrl) slot (TerminateInd 0)) c).control.ends ≡ None
-          → IsCentral (phased_after (Takes (Known ctrl) slot (TerminateInd 0)) c) (central_taken crossed (ctrl_class ctrl) m.central)
+        abbrev Part : Phased → Type 0
+        Part c =
+            IsCentral c m.central → (phased_after (Takes (Known ctrl) slot (TerminateInd 0)) c).control.ends ≡ None
+            → IsCentral (phased_after (Takes (Known ctrl) slot (TerminateInd 0)) c) (central_taken crossed (ctrl_class ctrl) m.central)
 
-      unquiet_part : IsCentral after_it (central_taken crossed class m.central)
-      unquiet_part =
-          let allowed : allows m.central.phase central_role (ctrl_class ctrl) ≡ true = ap (λ k. allows m.central.phase central_role k) (sym same_class) ∙ right_here.0 in
-          let part : IsCentral after_it (central_taken crossed (ctrl_class ctrl) m.central) =
-              at_open Part s.central runs_on.central
-              (λ p. λ l. takes_unquiet s.central m.central (TerminateInd 0) slot p unquiet unawaited crossed ctrl apart none_queued allowed l) is.central lasts in
-          subst (λ (k : PduClass). IsCentral after_it (central_taken crossed k m.central)) (sym same_class) part
+        unquiet_part : IsCentral after_it (central_taken crossed class m.central)
+        unquiet_part =
+            let allowed : allows m.central.phase central_role (ctrl_class ctrl) ≡ true = ap (λ k. allows m.central.phase central_role k) (sym same_class) ∙ right_here.0 in
+            let part : IsCentral after_it (central_taken crossed (ctrl_class ctrl) m.central) =
+                at_open Part s.central runs_on.central
+                (λ p. λ l. takes_unquiet s.central m.central (TerminateInd 0) slot p unquiet unawaited crossed ctrl apart none_queued allowed l) is.central lasts in
+            subst (λ (k : PduClass). IsCentral after_it (central_taken crossed k m.central)) (sym same_class) part
 
-      known_by : (known : Bool) → s.central.knows_version ≡ known → m.down ≡ way_down after_it.knows_version s.down
-      known_by true at = is.down ∙ ap (λ b. way_down b s.down) (at ∙ sym (knows_grows s.central ctrl (TerminateInd 0) slot at))
-      known_by false at = is.down ∙ sym (unversioned_down s.central.knows_version after_it.knows_version s.down never_fixed (none_on_air at))
+        known_by : (known : Bool) → s.central.knows_version ≡ known → m.down ≡ way_down after_it.knows_version s.down
+        known_by true at = is.down ∙ ap (λ b. way_down b s.down) (at ∙ sym (knows_grows s.central ctrl (TerminateInd 0) slot at))
+        known_by false at = is.down ∙ sym (unversioned_down s.central.knows_version after_it.knows_version s.down never_fixed (none_on_air at))
 
-      unquiet_down : (b : Bool) → crossed ≡ b → (if b then way_kept Other m.down else m.down) ≡ way_down after_it.knows_version s.down
-      unquiet_down true at = none_of_two _ _ not_crossed at
-      unquiet_down false at = known_by s.central.knows_version refl
+        unquiet_down : (b : Bool) → crossed ≡ b → (if b then way_kept Other m.down else m.down) ≡ way_down after_it.knows_version s.down
+        unquiet_down true at = none_of_two _ _ not_crossed at
+        unquiet_down false at = known_by s.central.knows_version refl
 
-      in_unquiet : IsShown (record here { central = after_it; up = Taken item; stopped = is_terminate ctrl }) (phases_act (central_takes_event crossed) there)
-      in_unquiet = shown_then unquiet_part (unquiet_down crossed refl)
+        in_unquiet : IsShown (record here { central = after_it; up = Taken item; stopped = is_terminate ctrl }) (phases_act (central_takes_event crossed) there)
+        in_unquiet = shown_then unquiet_part (unquiet_down crossed refl)
 
-    by_phase : (quiet : Bool) → is_quiet m.central.phase ≡ quiet
-        → IsShown (record here { central = after_it; up = Taken item; stopped = is_terminate ctrl }) (phases_act (central_takes_event crossed) there)
-    by_phase true at = in_quiet at
-    by_phase false at = in_unquiet at
+      by_phase : (quiet : Bool) → is_quiet m.central.phase ≡ quiet
+          → IsShown (record here { central = after_it; up = Taken item; stopped = is_terminate ctrl }) (phases_act (central_takes_event crossed) there)
+      by_phase true at = in_quiet at
+      by_phase false at = in_unquiet at
 
-    takes_control : Goes (Some (central_takes_event crossed)) (act (CentralTakes slot) here) there
-    takes_control = (comes, by_phase (is_quiet m.central.phase) refl)
+      takes_control : Goes (Some (central_takes_event crossed)) (act (CentralTakes slot) here) there
+      takes_control = (comes, by_phase (is_quiet m.central.phase) refl)
 
-    pub goes_control : Goes (event_of_step (CentralTakes slot) here) (act (CentralTakes slot) here) there
-    goes_control =
-        subst (λ (b : Bool). Goes (event_if b (central_takes_event crossed)) (act (CentralTakes slot) here) there) (sym (ap not apart)) takes_control
+      pub goes_control : Goes (event_of_step (CentralTakes slot) here) (act (CentralTakes slot) here) there
+      goes_control =
+          subst (λ (b : Bool). Goes (event_if b (central_takes_event crossed)) (act (CentralTakes slot) here) there) (sym (ap not apart)) takes_control
 
 -- ---- data
 
