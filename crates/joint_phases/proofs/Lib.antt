@@ -28,3 +28,4 @@ pub mod Ways
 pub mod JointCentralTakes
 pub mod JointPeripheralTakes
 pub mod Steps
+pub mod Agreeing
