@@ -29,3 +29,5 @@ pub mod JointCentralTakes
 pub mod JointPeripheralTakes
 pub mod Steps
 pub mod Agreeing
+pub mod Pairing
+pub mod Waiting

@@ -3,4 +3,5 @@ pub mod Agreement
 pub mod Classes
 pub mod Events
 pub mod Facts
+pub mod Pairs
 pub mod Parts
