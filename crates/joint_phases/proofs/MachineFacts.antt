@@ -1,16 +1,14 @@
 -- What holds in each state of the machine of phases, in the form in which a joint run uses it: more than its laws say,
 -- and computed over the same list of states.
-use Rattle.std.proofs.Common.{◌≡◌, ℕ, Bool, true, false, not, ◌&&◌, ◌||◌, List, Option, Some, None, is_none, is_some, refl, subst, if◌then◌else◌}
+use Rattle.std.proofs.Common.{◌≡◌, ℕ, Bool, true, false, not, ◌&&◌, ◌||◌, List, is_none, refl}
 use Rattle.std.proofs.lemmas.Bool.{and_parts}
-use Rattle.enc_phase.specs.declared.classes.PduClass.{PduClass}
-use Rattle.enc_phase.specs.declared.classes.PduClass.TheVariants.{EncReq, Terminate}
+use Rattle.enc_phase.specs.declared.classes.PduClass.TheVariants.{Terminate}
 use Rattle.enc_phase.specs.declared.facts.PhaseFacts.{PhaseFacts}
 use Rattle.enc_phase.specs.declared.facts.PhaseFacts.TheVariants.{HalfClear}
 use Rattle.enc_phase.specs.Phases.{is_quiet}
 use Rattle.phase_pairs.specs.declared.joint.PhaseEvent.{PhaseEvent}
 use Rattle.phase_pairs.specs.declared.joint.PhaseLink.{PhaseLink}
 use Rattle.phase_pairs.specs.declared.joint.PhaseWay.{PhaseWay}
-use Rattle.phase_pairs.specs.declared.joint.PhaseWay.TheVariants.{Fixed, OnAir, Taken}
 use Rattle.phase_pairs.specs.declared.peripheral.PhaseClosing.{PhaseClosing}
 use Rattle.phase_pairs.specs.declared.peripheral.PhaseClosing.TheVariants.{HasNoKey}
 use Rattle.phase_pairs.specs.declared.peripheral.UnsentRequest.{UnsentRequest}
@@ -18,7 +16,7 @@ use Rattle.phase_pairs.specs.declared.peripheral.UnsentRequest.TheVariants.{Last
 use Rattle.phase_pairs.specs.Agreement.{is_encryption}
 use Rattle.phase_pairs.specs.Central.{is_queued}
 use Rattle.phase_pairs.specs.JointRun.{encryption, is_coming, is_on_air, is_pause_rsp, is_pause_rsp_taken, is_request, is_way_fixed, phases_start}
-use Rattle.phase_pairs.specs.Peripheral.{has_unsent, is_waiting}
+use Rattle.phase_pairs.specs.Peripheral.{has_unsent}
 use Rattle.phase_pairs.proofs.Closed.{all_closed, start_known}
 use Rattle.phase_pairs.proofs.Events.{coded, is_coded}
 use Rattle.phase_pairs.proofs.StateCodes.{back, bool_num, bool_of, class_num, class_of, closing_num, closing_of, code, decode, fields_of, link_of, phase_num, phase_of, queued_num, queued_of, request_num, request_of, stage_num, way_mark, way_of, way_pdu}

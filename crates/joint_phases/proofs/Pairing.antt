@@ -1,6 +1,6 @@
 -- The pairs of phases of the machine are those of a joint run.
-use Rattle.std.proofs.Common.{◌≡◌, ℕ, Bool, true, false, not, ◌&&◌, ◌||◌, List, [], ◌∷◌, ◌++◌, Option, Some, None, is_none, is_some, refl, ap, ap₂, sym, subst, ◌∙◌, if◌then◌else◌}
-use Rattle.std.proofs.lemmas.Bool.{and_from, and_parts}
+use Rattle.std.proofs.Common.{◌≡◌, Bool, true, false, not, ◌&&◌, ◌||◌, List, [], ◌∷◌, ◌++◌, Option, Some, None, is_none, is_some, refl, ap, sym, subst, ◌∙◌}
+use Rattle.std.proofs.lemmas.Bool.{and_parts}
 use Rattle.enc_phase.specs.declared.classes.PduClass.{PduClass}
 use Rattle.enc_phase.specs.declared.classes.PduClass.TheVariants.{Data, Empty, EncReq, EncRsp, Other, PauseEncReq, PauseEncRsp, Refusal, Request, StartEncReq, StartEncRsp, Terminate}
 use Rattle.enc_phase.specs.declared.facts.PhaseFacts.{PhaseFacts}
@@ -8,11 +8,10 @@ use Rattle.enc_phase.specs.declared.facts.PhaseFacts.TheVariants.{Asked, Clear, 
 use Rattle.procedure_values.specs.declared.drafts.Draft.{Draft}
 use Rattle.procedure_stages.specs.Closing.{is_open}
 use Rattle.phase_pairs.specs.declared.joint.PhaseLink.{PhaseLink}
-use Rattle.phase_pairs.specs.declared.joint.PhaseWay.{PhaseWay}
 use Rattle.phase_pairs.specs.declared.peripheral.PhaseClosing.{PhaseClosing}
 use Rattle.phase_pairs.specs.declared.peripheral.PhaseClosing.TheVariants.{Disconnects, HasNoKey, Open}
 use Rattle.phase_pairs.specs.declared.peripheral.PhasePeripheral.{PhasePeripheral}
-use Rattle.phase_pairs.specs.Agreement.{are_those, are_to_come, encryption_pdu, from_central, from_peripheral, is_encryption, is_equal, is_pair, is_paired, response_then, untaken_pdu, waiting_pdu}
+use Rattle.phase_pairs.specs.Agreement.{are_those, are_to_come, encryption_pdu, from_central, from_peripheral, is_equal, is_pair, is_paired, response_then, untaken_pdu, waiting_pdu}
 use Rattle.phase_pairs.specs.Central.{is_class, is_queued}
 use Rattle.phase_pairs.specs.JointRun.{is_pause_rsp_taken}
 use Rattle.phase_pairs.specs.Peripheral.{is_closing_open, is_open as is_peripheral_open, is_waiting}
@@ -22,7 +21,6 @@ use Rattle.joint_phases.specs.Classes.{draft_down, draft_up}
 use Rattle.joint_phases.specs.Facts.{drafts_of}
 use Rattle.joint_phases.specs.Pairs.{are_phases_paired, closing_of, encryption_waiting, first_of, pair_of, second_of}
 use Rattle.joint_phases.specs.Parts.{IsShown, closing_down, closing_up, goes_down, goes_up, queued_then, wait_down, wait_up, without_up}
-use Rattle.enc_phase.specs.Phases.{is_quiet}
 use Rattle.joint_phases.proofs.Steps.{Shows}
 
 -- ---- links that the table reads alike

@@ -1,28 +1,26 @@
 -- A peripheral takes a PDU of the encryption: the machine's step.
-use Rattle.std.proofs.Common.{◌≡◌, ℕ, Bool, true, false, not, ◌&&◌, ◌||◌, List, [], ◌∷◌, ◌++◌, Option, Some, None, is_none, is_some, refl, ap, ap₂, sym, subst, ◌∙◌, if◌then◌else◌}
-use Rattle.std.proofs.lemmas.Bool.{and_parts, false_from_ne_true}
+use Rattle.std.proofs.Common.{◌≡◌, ℕ, Bool, true, false, ◌||◌, Some, None, refl, ap, sym, subst, ◌∙◌, if◌then◌else◌}
 use Rattle.ble_base.specs.declared.roles.Role.TheVariants.{Peripheral as peripheral_role}
 use Rattle.data_pdu.specs.declared.ctrl.Ctrl.{Ctrl}
-use Rattle.data_pdu.specs.declared.ctrl.Ctrl.TheVariants.{EncReq as enc_req, EncRsp as enc_rsp, PauseEncReq as pause_enc_req, PauseEncRsp as pause_enc_rsp, RejectExtInd, RejectInd, StartEncReq as start_enc_req, StartEncRsp as start_enc_rsp, TerminateInd}
+use Rattle.data_pdu.specs.declared.ctrl.Ctrl.TheVariants.{EncReq as enc_req, EncRsp as enc_rsp, PauseEncReq as pause_enc_req, PauseEncRsp as pause_enc_rsp, RejectExtInd, RejectInd, StartEncReq as start_enc_req, StartEncRsp as start_enc_rsp}
 use Rattle.data_pdu.specs.declared.ctrl.CtrlRead.TheVariants.{Known}
 use Rattle.enc_phase.specs.declared.classes.PduClass.{PduClass}
-use Rattle.enc_phase.specs.declared.classes.PduClass.TheVariants.{EncReq, EncRsp, Other, PauseEncReq, PauseEncRsp, Refusal, Request, StartEncReq, StartEncRsp}
+use Rattle.enc_phase.specs.declared.classes.PduClass.TheVariants.{EncReq, EncRsp, Other, PauseEncReq, PauseEncRsp, Refusal, StartEncReq, StartEncRsp}
 use Rattle.enc_phase.specs.declared.facts.PhaseFacts.{PhaseFacts}
-use Rattle.enc_phase.specs.declared.facts.PhaseFacts.TheVariants.{Asked, Clear, HalfClear, HalfKeyed, Pausing, Secure}
+use Rattle.enc_phase.specs.declared.facts.PhaseFacts.TheVariants.{Clear, HalfClear, Pausing, Secure}
 use Rattle.enc_phase.specs.declared.facts.Transition.{Transition}
 use Rattle.enc_phase.specs.declared.facts.Transition.TheVariants.{Ask, Confirm, Pause, Unlock}
 use Rattle.enc_phase.specs.Phases.{is_quiet, may_follow, phase_after}
 use Rattle.enc_phase.specs.Taking.{allows, ctrl_class, is_unknown, phase_taking}
 use Rattle.procedure_values.specs.declared.drafts.Draft.TheVariants.{Cipher}
 use Rattle.procedure_stages.specs.declared.reply.Reply.{Reply}
-use Rattle.procedure_stages.specs.declared.reply.Reply.TheVariants.{Nothing as no_reply}
 use Rattle.procedure_stages.specs.Closing.{is_open}
 use Rattle.procedure_stages.specs.Queue.{with_reply}
 use Rattle.procedures.specs.Going.{closing_given}
 use Rattle.procedures.specs.Taking.{outcome_of}
 use Rattle.phase_pairs.specs.declared.peripheral.PhasePeripheral.{PhasePeripheral}
 use Rattle.phase_pairs.specs.Agreement.{has_meaning}
-use Rattle.phase_pairs.specs.Peripheral.{is_open as is_peripheral_open, peripheral_asked, peripheral_confirming, peripheral_pausing, peripheral_queuing, peripheral_taken}
+use Rattle.phase_pairs.specs.Peripheral.{is_open as is_peripheral_open, peripheral_asked, peripheral_queuing, peripheral_taken}
 use Rattle.phased_control.specs.Phased.{Phased}
 use Rattle.phased_control.specs.Taken.{Takes, asked, ciphered_at_peripheral, is_version, moved_if, moved_to, phased_after}
 use Rattle.joint_controls.specs.Joint.{is_terminate}
@@ -30,7 +28,7 @@ use Rattle.phase_pairs.specs.Agreement.{is_encryption}
 use Rattle.joint_phases.specs.Classes.{draft_up}
 use Rattle.joint_phases.specs.Facts.{is_enc_rsp}
 use Rattle.joint_phases.specs.Parts.{IsPeripheral, wait_up}
-use Rattle.joint_phases.proofs.CentralEnters.{at_open, none_of_two, opened}
+use Rattle.joint_phases.proofs.CentralEnters.{at_open, opened}
 use Rattle.joint_phases.proofs.PeripheralEnters.{open_up}
 use Rattle.joint_phases.proofs.PeripheralGoes.{HasRoom, owes_up, state_peripheral}
 use Rattle.joint_phases.proofs.PeripheralPlain.{TakesAs, or_not}
@@ -138,11 +136,11 @@ module _ (s : Phased) (p : PhasePeripheral) (response : Ctrl) (slot : ℕ) (cros
         let silent = cipher_silent s.control.table s.control.table.progress (is_quiet s.phase) ctrl is.role cipher in
         let knows : (s.knows_version || is_version (Known ctrl)) ≡ s.knows_version = or_not s.knows_version (is_version (Known ctrl)) version in
         let waits : Waits s p ctrl response slot is allowed known p.request p.owes (with_reply s.control.table.closing (outcome_of s.control.table (is_quiet s.phase) (Known ctrl)).reply s.control.table.queue) =
-            record {
-              rejects = ap (λ (r : Reply). (with_reply s.control.table.closing r s.control.table.queue).rejections) silent ∙ is.rejects;
-              waits =
-                  (λ i. wait_up (draft_up (knows i)) (with_reply s.control.table.closing (silent i) s.control.table.queue).drafts p) ∙ is.waits;
-            } in
+        record {
+          rejects = ap (λ (r : Reply). (with_reply s.control.table.closing r s.control.table.queue).rejections) silent ∙ is.rejects;
+          waits =
+              (λ i. wait_up (draft_up (knows i)) (with_reply s.control.table.closing (silent i) s.control.table.queue).drafts p) ∙ is.waits;
+        } in
         let here : IsPeripheral t p = taken_part s p ctrl response slot is allowed known p.request p.owes apart (phase ∙ is.phase) (λ o. waits) g.lasts in
         let after_it = at_open (λ x. IsPeripheral x p → IsPeripheral (ciphered_at_peripheral response ctrl x) (peripheral_taken crossed (ctrl_class ctrl) p)) t g.lasts (then_is t) here in
         record {

@@ -1,6 +1,6 @@
 -- Other procedures of a joint run wait for Clear and Secure.
-use Rattle.std.proofs.Common.{◌≡◌, ℕ, Bool, true, false, not, ◌&&◌, ◌||◌, List, [], ◌∷◌, Option, Some, None, is_none, is_some, refl, ap, sym, subst, ◌∙◌, if◌then◌else◌}
-use Rattle.std.proofs.lemmas.Bool.{and_from, and_parts, or_from, or_left, or_parts, or_right}
+use Rattle.std.proofs.Common.{◌≡◌, Bool, true, false, not, ◌&&◌, ◌||◌, List, [], ◌∷◌, Option, is_some, refl, ap, sym, subst, ◌∙◌, if◌then◌else◌}
+use Rattle.std.proofs.lemmas.Bool.{and_parts, or_from, or_parts}
 use Rattle.enc_phase.specs.declared.classes.PduClass.{PduClass}
 use Rattle.enc_phase.specs.declared.classes.PduClass.TheVariants.{Data as data_class, Other, Request}
 use Rattle.enc_phase.specs.Phases.{is_quiet}
@@ -14,10 +14,10 @@ use Rattle.phase_pairs.specs.Agreement.{is_other}
 use Rattle.phase_pairs.specs.JointRun.{is_coming, is_crossing_up, is_request, keeps_request}
 use Rattle.phase_pairs.specs.Peripheral.{has_unsent, is_next, is_unsent}
 use Rattle.phase_pairs.proofs.Proved.{answered, one_kept}
-use Rattle.joint_controls.specs.Joint.{Item, Joint, Way, Clear, Fixed, OnAir, Taken, is_item}
+use Rattle.joint_controls.specs.Joint.{Joint, Way, Clear, Fixed, OnAir, Taken, is_item}
 use Rattle.joint_phases.specs.Classes.{class_up, draft_up, has_request, item_class}
-use Rattle.joint_phases.specs.Facts.{drafts_of, is_first_up, item_untaken}
-use Rattle.joint_phases.specs.Pairs.{has_answer, is_answer_up, is_answered_in_quiet, keeps_one}
+use Rattle.joint_phases.specs.Facts.{drafts_of, item_untaken}
+use Rattle.joint_phases.specs.Pairs.{has_answer, is_answered_in_quiet, keeps_one}
 use Rattle.joint_phases.specs.Parts.{goes_up, wait_up, way_up, without_up}
 use Rattle.joint_phases.proofs.Steps.{Shows}
 
@@ -96,9 +96,9 @@ answered_right s m shows =
     let right : machine.is_answered_in_quiet m ≡ true = subst (λ (x : PhaseLink). machine.is_answered_in_quiet x ≡ true) (sym shows.reached.is) (answered shows.reached.events) in
     from_false (is_quiet s.central.phase) _
     (λ unquiet.
-      let none = answered_by m.central.awaits m.peripheral.owes (is_coming is_other m.up) (not_or (is_quiet m.central.phase) _ right (ap is_quiet (sym is.central.phase) ∙ unquiet)) in
-      or_from _ _ (no_answer (draft_up s.peripheral.knows_version) (drafts_of s.peripheral) m.peripheral is.peripheral.waits none.0)
-      (sym (coming_is is_other s.peripheral.knows_version s.up) ∙ ap (is_coming is_other) (sym is.up) ∙ none.1))
+    let none = answered_by m.central.awaits m.peripheral.owes (is_coming is_other m.up) (not_or (is_quiet m.central.phase) _ right (ap is_quiet (sym is.central.phase) ∙ unquiet)) in
+    or_from _ _ (no_answer (draft_up s.peripheral.knows_version) (drafts_of s.peripheral) m.peripheral is.peripheral.waits none.0)
+    (sym (coming_is is_other s.peripheral.knows_version s.up) ∙ ap (is_coming is_other) (sym is.up) ∙ none.1))
 
 pub kept_right : (s : Joint) (m : PhaseLink) → Shows s m → keeps_one s ≡ true
 kept_right s m shows =
@@ -106,6 +106,6 @@ kept_right s m shows =
     let right : machine.keeps_one m ≡ true = subst (λ (x : PhaseLink). machine.keeps_one x ≡ true) (sym shows.reached.is) (one_kept shows.reached.events) in
     from_false (not (keeps_request s.central.phase)) _
     (λ keeps.
-      let none = or_parts (has_unsent m.peripheral) (is_coming is_request m.up) (unkept (keeps_request m.central.phase) (is_crossing_up m) right (ap (λ q. not (keeps_request q)) (sym is.central.phase) ∙ keeps)) in
-      or_from _ _ (no_first (draft_up s.peripheral.knows_version) (drafts_of s.peripheral) m.peripheral is.peripheral.waits none.0)
-      (sym (coming_is is_request s.peripheral.knows_version s.up) ∙ ap (is_coming is_request) (sym is.up) ∙ none.1))
+    let none = or_parts (has_unsent m.peripheral) (is_coming is_request m.up) (unkept (keeps_request m.central.phase) (is_crossing_up m) right (ap (λ q. not (keeps_request q)) (sym is.central.phase) ∙ keeps)) in
+    or_from _ _ (no_first (draft_up s.peripheral.knows_version) (drafts_of s.peripheral) m.peripheral is.peripheral.waits none.0)
+    (sym (coming_is is_request s.peripheral.knows_version s.up) ∙ ap (is_coming is_request) (sym is.up) ∙ none.1))

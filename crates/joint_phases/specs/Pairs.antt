@@ -1,6 +1,6 @@
 -- The phases of the two ends of a joint run, with the PDUs of the encryption that are still to come (Core 5.2, volume 6
 -- part B, section 5.1.3).
-use Rattle.std.specs.Prelude.{Bool, true, false, not, ◌||◌, List, [], ◌∷◌, ◌++◌, Option, Some, None}
+use Rattle.std.specs.Prelude.{Bool, false, not, ◌||◌, List, [], ◌∷◌, ◌++◌, Option, Some, None}
 use Rattle.enc_phase.specs.declared.classes.PduClass.{PduClass}
 use Rattle.procedure_values.specs.declared.drafts.Draft.{Draft}
 use Rattle.procedure_stages.specs.declared.closing.Closing.{Closing}
@@ -80,11 +80,11 @@ abbrev pub is_answered_in_quiet : Joint → Bool
 is_answered_in_quiet s =
     is_quiet_now s.central
     || not (has_answer (draft_up s.peripheral.knows_version) (drafts_of s.peripheral)
-      || is_item (is_answer_up s.peripheral.knows_version) (item_untaken s.up))
+    || is_item (is_answer_up s.peripheral.knows_version) (item_untaken s.up))
 
 -- while it keeps a first PDU of the peripheral, no other waits or is untaken
 abbrev pub keeps_one : Joint → Bool
 keeps_one s =
     not (keeps_request s.central.phase)
     || not (has_request (draft_up s.peripheral.knows_version) (drafts_of s.peripheral)
-      || is_item (is_first_up s.peripheral.knows_version) (item_untaken s.up))
+    || is_item (is_first_up s.peripheral.knows_version) (item_untaken s.up))
