@@ -327,10 +327,10 @@ never_other k phase seldom not_quiet may = absurd (cc)
 
 module _ (s : Phased) (c : PhaseCentral) (response : Ctrl) (slot : ℕ) (is : IsCentral (opened s) c) (unquiet : is_quiet c.phase ≡ false)
     (unawaited : c.awaits ≡ false) (crossed : Bool) where
-  abbrev Takes_it : Ctrl → Type 0
-  Takes_it ctrl = (is_encryption (ctrl_class ctrl) ≡ true → c.queued ≡ None) → Taken s c response slot is unquiet crossed ctrl
+  abbrev MayTake : Ctrl → Type 0
+  MayTake ctrl = (is_encryption (ctrl_class ctrl) ≡ true → c.queued ≡ None) → Taken s c response slot is unquiet crossed ctrl
 
-  rejects_by : (b : Bool) (ctrl : Ctrl) → ctrl_class ctrl ≡ (if b then Refusal else Other) → is_terminate ctrl ≡ false → is_request (ctrl_class ctrl) ≡ false → Takes_it ctrl
+  rejects_by : (b : Bool) (ctrl : Ctrl) → ctrl_class ctrl ≡ (if b then Refusal else Other) → is_terminate ctrl ≡ false → is_request (ctrl_class ctrl) ≡ false → MayTake ctrl
   rejects_by true ctrl class apart no_request none = takes_refusal s c response slot is unquiet (none (ap is_encryption class)) unawaited crossed ctrl class apart no_request
   rejects_by false ctrl class apart no_request none =
       λ may. λ lasts. absurd (never_other Other c.phase refl unquiet (ap (λ k. allows c.phase central_role k) (sym class) ∙ may))
@@ -339,7 +339,7 @@ module _ (s : Phased) (c : PhaseCentral) (response : Ctrl) (slot : ℕ) (is : Is
   no_request_by true = refl
   no_request_by false = refl
 
-  pub takes_unquiet : (ctrl : Ctrl) → is_terminate ctrl ≡ false → Takes_it ctrl
+  pub takes_unquiet : (ctrl : Ctrl) → is_terminate ctrl ≡ false → MayTake ctrl
   takes_unquiet (enc_rsp skd_s iv_s) apart none = takes_rsp s c response slot is unquiet (none refl) unawaited crossed skd_s iv_s
   takes_unquiet start_enc_req apart none = takes_start s c response slot is unquiet (none refl) unawaited crossed
   takes_unquiet start_enc_rsp apart none = takes_confirm s c response slot is unquiet (none refl) unawaited crossed

@@ -141,10 +141,6 @@ secured_over : (f : TableFacts) (p : Progress) (b : Bool) → b ≡ true
 secured_over f p true is = (refl, refl)
 secured_over f p false is = absurd (cc)
 
--- the PDUs that end it
-abbrev pub is_ending : Ctrl → Type 0
-is_ending ctrl = ctrl_class ctrl ≡ Refusal
-
 over_refused : (p : Progress) (f : TableFacts) (ctrl : Ctrl) → role_of p ≡ central_role → role_of f.progress ≡ central_role → has_encryption f.progress ≡ true
     → is_encryption_unsent f.progress ≡ false → ctrl_class ctrl ≡ Refusal
     → (has_encryption (taken_by p f false ctrl).progress ≡ false) × ((taken_by p f false ctrl).reply ≡ no_reply)

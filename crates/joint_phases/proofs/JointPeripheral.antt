@@ -14,8 +14,6 @@ use Rattle.phase_pairs.specs.declared.joint.PhaseLink.{PhaseLink}
 use Rattle.phase_pairs.specs.declared.joint.PhaseWay.{PhaseWay}
 use Rattle.phase_pairs.specs.declared.joint.PhaseWay.TheVariants.{Fixed as way_fixed, OnAir as way_on_air}
 use Rattle.phase_pairs.specs.declared.peripheral.PhasePeripheral.{PhasePeripheral}
-use Rattle.phase_pairs.specs.declared.peripheral.UnsentRequest.{UnsentRequest}
-use Rattle.phase_pairs.specs.declared.peripheral.UnsentRequest.TheVariants.{Absent}
 use Rattle.phase_pairs.specs.JointRun.{is_coming, is_control_coming, is_data, is_request, is_way_clear, is_way_fixed, is_way_taken, keeps_request, peripheral_sends}
 use Rattle.phase_pairs.specs.Peripheral.{has_unsent, is_unsent, may_fix, peripheral_begins, peripheral_closes, peripheral_fixed, peripheral_with_key, peripheral_without_key}
 use Rattle.phased_control.specs.Phased.{Phased}
@@ -63,9 +61,6 @@ module _ (s : Joint) (m : PhaseLink) (is : IsShown s m) (runs_on : Runs s) where
   same_part step none part = shown_peripheral s m (phased_after step s.peripheral) m.peripheral is part (knows_stays step s.peripheral none)
 
   -- ---- an event is entered
-
-  absent_request : (request : UnsentRequest) → request ≡ Absent → is_unsent request ≡ false
-  absent_request request h = ap is_unsent h
 
   no_first_up : (knows : Bool) (w : Way) → is_item (is_first_up knows) (item_untaken w) ≡ false → is_coming is_request (way_up knows w) ≡ false
   no_first_up knows Clear h = refl

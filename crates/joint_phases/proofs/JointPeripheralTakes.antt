@@ -146,9 +146,6 @@ module _ (s : Joint) (m : PhaseLink) (outgoing : Outgoing) (ctrl response : Ctrl
       abbrev knows_now : Bool
       knows_now = s.peripheral.knows_version || is_version_read (Known ctrl)
 
-      up_same : TakesAs after_it m.peripheral knows_now → is_version_ctrl ctrl ≡ false → m.up ≡ way_up after_it.knows_version s.up
-      up_same h plain = is.up ∙ ap (λ b. way_up b s.up) (sym (h.knows_it ∙ or_not s.peripheral.knows_version (is_version_read (Known ctrl)) (version_read ctrl ∙ plain)))
-
       plain_knows : is_version_ctrl ctrl ≡ false → knows_now ≡ s.peripheral.knows_version
       plain_knows plain = or_not s.peripheral.knows_version (is_version_read (Known ctrl)) (version_read ctrl ∙ plain)
 

@@ -11,7 +11,6 @@ use Rattle.procedure_stages.specs.Exclusive.{central_stage, peripheral_stage}
 use Rattle.procedure_stages.specs.Kinds.{kind_at_central, kind_at_peripheral, own_exchange}
 use Rattle.procedure_stages.specs.Opcodes.{connection_param_req_opcode, first_opcode, is_opcode, later_opcode, phy_req_opcode}
 use Rattle.procedure_values.specs.Values.{are_valid}
-use Rattle.procedures.specs.Outcomes.{empty_step}
 use Rattle.procedures.specs.Refusals.{refused_if}
 use Rattle.procedures.specs.Request.{after_grant, collided, outlived, request_judged}
 use Rattle.procedures.specs.Taking.{taken_by}
@@ -82,9 +81,6 @@ module _ (f : TableFacts) (read : CtrlRead) (slot : ℕ) (quiet : Bool) where
 
 abbrev IsOpen : Outcome → Type 0
 IsOpen o = (closing : Closing) → closing_after o.step.effect closing ≡ closing
-
-still : (o : Outcome) → o.step ≡ empty_step → IsOpen o
-still o is closing = rw is refl
 
 open_if : (b : Bool) (x y : Outcome) → IsOpen x → IsOpen y → IsOpen (if b then x else y)
 open_if true x y hx hy = hx

@@ -163,9 +163,6 @@ closing_is HasNoKey = refl
 -- ---- the law
 
 module _ (s : Joint) (m : PhaseLink) (is : IsShown s m) where
-  down_list : List PduClass
-  down_list = encryption_waiting (draft_down s.central.knows_version) (drafts_of s.central)
-
   up_list : encryption_waiting (draft_up s.peripheral.knows_version) (drafts_of s.peripheral) ≡ waiting_pdu m.peripheral.first ++ waiting_pdu m.peripheral.second
   up_list = peripheral_waiting (draft_up s.peripheral.knows_version) (drafts_of s.peripheral) m.peripheral is.peripheral.waits
 

@@ -120,8 +120,8 @@ module _ (s : Phased) (p : PhasePeripheral) (response : Ctrl) (slot : ℕ) (cros
   abbrev result : Ctrl → Phased
   result ctrl = phased_after (Takes (Known ctrl) slot response) (opened s)
 
-  abbrev Takes_it : Ctrl → Type 0
-  Takes_it ctrl =
+  abbrev MayTake : Ctrl → Type 0
+  MayTake ctrl =
       allows s.phase peripheral_role (ctrl_class ctrl) ≡ true → is_unknown s.phase peripheral_role (ctrl_class ctrl) ≡ false
       → (result ctrl).control.ends ≡ None → TakesAs (result ctrl) (peripheral_taken crossed (ctrl_class ctrl) p) (s.knows_version || is_version (Known ctrl))
 
@@ -129,7 +129,7 @@ module _ (s : Phased) (p : PhasePeripheral) (response : Ctrl) (slot : ℕ) (cros
       (phase : phase_taking (ctrl_class ctrl) s.phase ≡ s.phase)
       (then_is : (t : Phased) → IsPeripheral (opened t) p → IsPeripheral (ciphered_at_peripheral response ctrl (opened t)) (peripheral_taken crossed (ctrl_class ctrl) p))
       (then_knows : (t : Phased) → (ciphered_at_peripheral response ctrl t).knows_version ≡ t.knows_version) where
-    cipher_takes : Takes_it ctrl
+    cipher_takes : MayTake ctrl
     cipher_takes allowed known lasts =
         let g = goes s p ctrl response slot is allowed known lasts in
         let t : Phased = seen s p ctrl response slot is allowed known false in
@@ -152,27 +152,22 @@ module _ (s : Phased) (p : PhasePeripheral) (response : Ctrl) (slot : ℕ) (cros
   if_knows true t u h = h
   if_knows false t u h = refl
 
-  abbrev is_other_session : Ctrl → Bool
-  is_other_session (enc_rsp skd_s iv_s) = true
-  is_other_session start_enc_req = true
-  is_other_session ctrl = false
-
-  takes_enc_req : (rand ediv skd_m iv_m : ℕ) → Takes_it (enc_req rand ediv skd_m iv_m)
+  takes_enc_req : (rand ediv skd_m iv_m : ℕ) → MayTake (enc_req rand ediv skd_m iv_m)
   takes_enc_req rand ediv skd_m iv_m =
       cipher_takes (enc_req rand ediv skd_m iv_m) refl refl refl refl (λ t here. asked_then t p here room response answers)
       (λ t. if_knows (may_follow Ask t.phase) _ _ refl)
 
-  takes_pause_req : Takes_it pause_enc_req
+  takes_pause_req : MayTake pause_enc_req
   takes_pause_req =
       cipher_takes pause_enc_req refl refl refl refl (λ t here. moved_then t p here room Pause pause_enc_rsp PauseEncRsp refl refl refl)
       (λ t. if_knows (may_follow Pause t.phase) _ _ refl)
 
-  takes_start_rsp : Takes_it start_enc_rsp
+  takes_start_rsp : MayTake start_enc_rsp
   takes_start_rsp =
       cipher_takes start_enc_rsp refl refl refl refl (λ t here. moved_then t p here room Confirm start_enc_rsp StartEncRsp refl refl refl)
       (λ t. if_knows (may_follow Confirm t.phase) _ _ refl)
 
-  takes_pause_rsp : Takes_it pause_enc_rsp
+  takes_pause_rsp : MayTake pause_enc_rsp
   takes_pause_rsp =
       cipher_takes pause_enc_rsp refl refl refl refl (λ t here. unlocked_then t p here room)
       (λ t. if_knows (may_follow Unlock t.phase) _ _ refl)

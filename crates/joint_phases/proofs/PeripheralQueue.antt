@@ -10,7 +10,6 @@ use Rattle.procedure_values.specs.Drafts.{ctrl_of_draft}
 use Rattle.phase_pairs.specs.declared.peripheral.PhasePeripheral.{PhasePeripheral}
 use Rattle.phase_pairs.specs.declared.peripheral.UnsentRequest.{UnsentRequest}
 use Rattle.phase_pairs.specs.declared.peripheral.UnsentRequest.TheVariants.{Absent, First, Last}
-use Rattle.phase_pairs.specs.Central.{is_queued}
 use Rattle.phase_pairs.specs.JointRun.{is_request}
 use Rattle.phase_pairs.specs.Peripheral.{has_unsent, is_next, is_unsent, is_waiting}
 use Rattle.enc_phase.specs.declared.facts.PhaseFacts.{PhaseFacts}
@@ -30,14 +29,6 @@ is_queued_class Other = false
 is_queued_class Data = false
 is_queued_class Empty = false
 is_queued_class k = true
-
-no_one : (k : PduClass) → is_queued k None ≡ true → ⊥
-no_one Request h = absurd (cc)
-no_one k h = absurd (cc)
-
-queued_itself : (k : PduClass) → is_queued k (Some k) ≡ true
-queued_itself Request = refl
-queued_itself k = refl
 
 module _ (class_of : Draft → PduClass) (p : PhasePeripheral) where
   abbrev pub here : List Draft → Option PduClass → Option PduClass → UnsentRequest → Bool → Type 0

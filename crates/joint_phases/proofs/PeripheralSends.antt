@@ -66,9 +66,6 @@ record FixesAs (k : PduClass) (p : PhasePeripheral) : Type 0 where
   control : is_data k ≡ false
   fixed : peripheral_fixed k p ≡ without_up k p
 
-not_disconnecting : (p : PhasePeripheral) (k : PduClass) → is_terminate k ≡ false → (is_disconnecting_up p.closing && is_terminate k) ≡ false
-not_disconnecting p k apart = and_right (is_disconnecting_up p.closing) (is_terminate k) apart
-
 fixes_by : (b : Bool) (x y : PhasePeripheral) → b ≡ false → (if b then x else y) ≡ y
 fixes_by true x y h = absurd (cc)
 fixes_by false x y h = refl

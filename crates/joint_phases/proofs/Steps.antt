@@ -85,10 +85,6 @@ stays_stopped : (steps : List JointStep) (s : Joint) → is_running s ≡ false 
 stays_stopped [] s stopped = stopped
 stays_stopped (step ∷ steps) s stopped = stays_stopped steps (after step s) (ap is_running (may_not s step stopped) ∙ stopped)
 
-false_not : (b : Bool) (E : Type 0) → b ≡ false → b ≡ true → E
-false_not true E a b = absurd (cc)
-false_not false E a b = absurd (cc)
-
 module _ (s : Joint) (m : PhaseLink) (step : JointStep) where
   -- the state of the machine after one step
   abbrev next_link : Bool → PhaseLink

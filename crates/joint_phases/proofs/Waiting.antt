@@ -78,10 +78,6 @@ from_false : (a b : Bool) → (a ≡ false → b ≡ false) → (a || not b) ≡
 from_false true b h = refl
 from_false false b h = ap not (h refl)
 
-not_back : (b : Bool) → not b ≡ false → not (not b) ≡ true
-not_back true h = refl
-not_back false h = absurd (cc)
-
 unkept : (a b : Bool) → not (a && b) ≡ true → not a ≡ false → b ≡ false
 unkept true true h none = absurd (cc)
 unkept true false h none = refl

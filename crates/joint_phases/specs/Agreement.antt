@@ -1,5 +1,5 @@
--- What holds of the phases of the two ends of a joint run, in each state and at each PDU that is taken (Core 5.2, volume 6
--- part B, section 5.1.3).
+-- What holds of the phases of the two ends of a joint run, in each state and at each PDU that is taken (Core 5.2,
+-- volume 6 part B, section 5.1.3).
 use Rattle.std.specs.Prelude.{Bool, true, ◌&&◌, Option, Some, None}
 use Rattle.ble_base.specs.declared.roles.Role.{Role}
 use Rattle.ble_base.specs.declared.roles.Role.TheVariants.{Central as central_role, Peripheral as peripheral_role}

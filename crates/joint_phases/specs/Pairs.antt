@@ -36,8 +36,8 @@ closing_of open_link = Open
 closing_of Disconnecting = Disconnects
 closing_of Closed = HasNoKey
 
--- the phases of both ends, what is untaken and waits of the encryption, and which ends end the link, as the table of pairs
--- reads them
+-- the phases of both ends, what is untaken and waits of the encryption, and which ends end the link, as the table of
+-- pairs reads them
 abbrev pub pair_of : Joint → PhaseLink
 pair_of s =
     let from_central = encryption_waiting (draft_down s.central.knows_version) (drafts_of s.central) in

@@ -53,8 +53,8 @@ way_up knows (Taken item) = way_taken false
 
 -- ---- what waits at a central, where one PDU of the encryption may be queued
 
--- rejections and answers go in Clear and Secure, or ahead of the first PDU of an encryption; the first PDU of a procedure
--- goes in Clear and Secure alone
+-- rejections and answers go in Clear and Secure, or ahead of the first PDU of an encryption; the first PDU of a
+-- procedure goes in Clear and Secure alone
 abbrev pub goes_down : PduClass → PhaseFacts → Option PduClass → Bool
 goes_down Other phase queued = is_quiet phase || is_ahead phase queued
 goes_down Request phase queued = is_quiet phase
@@ -65,7 +65,7 @@ queued_then Other queued = queued
 queued_then Request queued = queued
 queued_then pdu queued = None
 
--- these may go in this order, and no PDU of the encryption is queued besides them
+-- these may go in this order, and no other PDU of the encryption is queued
 abbrev pub wait_down : (Draft → PduClass) → PhaseFacts → List Draft → Option PduClass → Bool
 wait_down class_of phase [] queued = is_none queued
 wait_down class_of phase (draft ∷ drafts) queued =
@@ -91,7 +91,7 @@ without_up pdu p = peripheral_popping p
 abbrev pub is_emptied : PhasePeripheral → Bool
 is_emptied p = not (is_waiting p) && (is_none p.second && (not (is_unsent p.request) && not p.owes))
 
--- these may be fixed in this order, and nothing waits besides them
+-- these may be fixed in this order, and nothing else waits
 abbrev pub wait_up : (Draft → PduClass) → List Draft → PhasePeripheral → Bool
 wait_up class_of [] p = is_emptied p
 wait_up class_of (draft ∷ drafts) p =
