@@ -31,3 +31,6 @@ pub mod Steps
 pub mod Agreeing
 pub mod Pairing
 pub mod Waiting
+pub mod Codes
+pub mod Forged
+pub mod Unforged
