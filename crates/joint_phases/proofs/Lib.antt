@@ -34,3 +34,4 @@ pub mod Waiting
 pub mod Codes
 pub mod Forged
 pub mod Unforged
+pub mod Testing
