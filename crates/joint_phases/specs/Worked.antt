@@ -18,8 +18,8 @@ comes_up = PeripheralFixes 0 ∷ PeripheralSends ∷ CentralTakes 0 ∷ Peripher
 abbrev pub goes_down : List JointStep
 goes_down = CentralSends 0 ∷ PeripheralTakes 0 (EncRsp 0 0) ∷ []
 
--- the peripheral's LL_VERSION_IND is fixed as it takes LL_ENC_REQ: the central keeps it until the link is encrypted, and
--- answers it then
+-- the peripheral's LL_VERSION_IND is fixed as it takes LL_ENC_REQ: the central keeps it until the link is encrypted,
+-- and answers it then
 abbrev pub kept_version : List JointStep
 kept_version =
     CentralHost (AsksFor (Encrypt 0 0 (replicate 16 0) 0 0)) ∷ PeripheralHost (AsksFor Version) ∷ enter
