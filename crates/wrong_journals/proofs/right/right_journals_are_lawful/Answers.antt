@@ -4,7 +4,7 @@ use Rattle.controller_model.specs.Rows.{advertising_octets, scanning_octets}
 use Rattle.journal_pdus.specs.Lawful.{IsLawful}
 use Rattle.radio_replay.specs.declared.fates.Fate.TheVariants.{Lost}
 use Rattle.run_model.specs.Rows.{connecting_octets, enabling_octets, reset}
-use Rattle.wrong_journals.specs.Right.{script_with, turn_with}
+use Rattle.wrong_journals.specs.Right.{data_script, script_with, sending_octets, turn_with}
 use Rattle.wrong_journals.proofs.right.right_journals_are_lawful.Goals as goal
 
 pub returns : goal.returns
@@ -24,4 +24,5 @@ returns c =
       lost = subst (IsLawful advertising_octets scanning_octets loses) runs.lost (lawful advertising_octets scanning_octets loses refl refl);
       opens = subst (IsLawful enabling_octets connecting_octets connects) links.opens (lawful enabling_octets connecting_octets connects refl refl);
       event = subst (IsLawful enabling_octets connecting_octets enters) links.event (lawful enabling_octets connecting_octets enters refl refl);
+      sends = subst (IsLawful enabling_octets sending_octets data_script) c.worked_data_run.ensures (lawful enabling_octets sending_octets data_script refl refl);
     }
