@@ -23,9 +23,17 @@ data_pdu = record { llid = 2; body = 0xAA ∷ [] }
 abbrev pub more_packet : List ℕ
 more_packet = 0x29 ∷ 0x41 ∷ 0x76 ∷ 0x71 ∷ 0x40 ∷ 0xFA ∷ 0x92 ∷ 0xFE ∷ 0x50 ∷ []
 
--- its PDU of data, after the first exchange of the link
+-- the reply of the peripheral to a first packet, with MD 1
+abbrev pub more_reply : List ℕ
+more_reply = 0x29 ∷ 0x41 ∷ 0x76 ∷ 0x71 ∷ 0x44 ∷ 0xFA ∷ 0x41 ∷ 0xF8 ∷ 0x50 ∷ []
+
+-- the PDU of data of the central, after the first exchange of the link
 abbrev pub data_packet : List ℕ
 data_packet = 0x29 ∷ 0x41 ∷ 0x76 ∷ 0x71 ∷ 0x5F ∷ 0xFB ∷ 0x80 ∷ 0xE8 ∷ 0x52 ∷ 0xFC ∷ []
+
+-- the reply of the peripheral to that, once it took the PDU: an empty PDU with SN 1, NESN 0 and MD 0
+abbrev pub reply_packet : List ℕ
+reply_packet = 0x29 ∷ 0x41 ∷ 0x76 ∷ 0x71 ∷ 0x58 ∷ 0xFA ∷ 0x78 ∷ 0xE8 ∷ 0x50 ∷ []
 
 -- ---- the journal
 
@@ -55,3 +63,7 @@ data_heard = data_sent ++ Air B 25 data_packet Passed Good ∷ []
 -- which takes it
 abbrev pub data_taken : List Entry
 data_taken = data_heard ++ Took A 1 1 data_pdu.llid data_pdu.body ∷ []
+
+-- and acknowledges it
+abbrev pub data_acknowledged : List Entry
+data_acknowledged = data_taken ++ Air A 25 reply_packet Passed Good ∷ []

@@ -6,21 +6,11 @@ use Rattle.journal.specs.declared.entries.Entry.{Entry}
 use Rattle.journal.specs.declared.entries.Entry.TheVariants.{Air}
 use Rattle.journal.specs.declared.entries.Mark.TheVariants.{Lost, Pass}
 use Rattle.run_model.specs.Rows.{first_packet, first_reply, one_event_journal, turn_entry}
-use Rattle.journal_acks.specs.Rows.{given_to, more_packet}
+use Rattle.journal_acks.specs.Rows.{given_to, more_packet, more_reply}
 
--- ---- the packets, on data channel 25
-
--- the reply of the peripheral to the first packet of the central, with MD 1
-abbrev pub more_reply : List ℕ
-more_reply = 0x29 ∷ 0x41 ∷ 0x76 ∷ 0x71 ∷ 0x44 ∷ 0xFA ∷ 0x41 ∷ 0xF8 ∷ 0x50 ∷ []
-
--- the next packet of the central: an empty PDU with SN 1, NESN 1 and MD 0
+-- the next packet of the central, on data channel 25: an empty PDU with SN 1, NESN 1 and MD 0
 abbrev pub next_packet : List ℕ
 next_packet = 0x29 ∷ 0x41 ∷ 0x76 ∷ 0x71 ∷ 0x5C ∷ 0xFA ∷ 0xAB ∷ 0xEE ∷ 0x50 ∷ []
-
--- the reply of the peripheral to a PDU of data: an empty PDU with SN 1, NESN 0 and MD 0
-abbrev pub reply_packet : List ℕ
-reply_packet = 0x29 ∷ 0x41 ∷ 0x76 ∷ 0x71 ∷ 0x58 ∷ 0xFA ∷ 0x78 ∷ 0xE8 ∷ 0x50 ∷ []
 
 -- ---- the turn after that of the anchor
 

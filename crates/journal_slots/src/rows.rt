@@ -2,10 +2,10 @@
 ghost use Rattle.std.specs.Prelude.{◌≡◌, false, true};
 ghost use Rattle.ble_base.specs.declared.roles.Side.TheVariants.{A, B};
 ghost use Rattle.journal_acks.specs.Rows.{data_heard, data_packet, data_sent, given_to};
-ghost use Rattle.journal_acks.specs.Rows.{more_packet};
+ghost use Rattle.journal_acks.specs.Rows.{more_packet, more_reply, reply_packet};
 ghost use Rattle.journal_slots.specs.SecondSlot.{AllAreContinued, IsContinued, has_more};
-ghost use Rattle.journal_slots.specs.Rows.{continued_by_none, continued_unheard, more_reply};
-ghost use Rattle.journal_slots.specs.Rows.{next_packet, peripheral_says_more, reply_packet};
+ghost use Rattle.journal_slots.specs.Rows.{continued_by_none, continued_unheard, next_packet};
+ghost use Rattle.journal_slots.specs.Rows.{peripheral_says_more};
 ghost use Rattle.run_model.specs.Rows.{first_packet, first_reply};
 
 /// MD is bit 4 of the first octet of a PDU.

@@ -16,8 +16,8 @@ use Rattle.journal_links.specs.Rows.{one_link}
 use Rattle.journal_packets.specs.Belonging.{is_answer, link_of_packet}
 use Rattle.journal_acks.specs.EventOrder.{entered_on}
 use Rattle.run_model.specs.Rows.{first_packet, first_reply, turn_entry}
-use Rattle.journal_acks.specs.Rows.{data_heard, data_packet, data_sent, given_to, more_packet}
-use Rattle.journal_slots.specs.Rows.{more_reply, next_packet, peripheral_says_more, reply_packet}
+use Rattle.journal_acks.specs.Rows.{data_heard, data_packet, data_sent, given_to, more_packet, more_reply, reply_packet}
+use Rattle.journal_slots.specs.Rows.{next_packet, peripheral_says_more}
 use Rattle.journal_slots.proofs.Refusals.{continued_as}
 use Rattle.journal_slots.proofs.rows.worked_second_slots.Goals as goal
 

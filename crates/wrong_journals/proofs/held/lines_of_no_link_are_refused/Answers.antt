@@ -6,7 +6,7 @@ use Rattle.journal.specs.declared.entries.Entry.TheVariants.{Opened}
 use Rattle.journal_data.specs.Lines.{lines_of}
 use Rattle.run_model.specs.Rows.{one_connection_journal}
 use Rattle.wrong_journals.specs.Hearings.{passed_connect}
-use Rattle.wrong_journals.specs.Held.{anchor_of_other, opened_at_other}
+use Rattle.wrong_journals.specs.Held.{anchor_of_other, opened_at_other, two_connected}
 use Rattle.wrong_journals.specs.Resetting.{shut_by_reset}
 use Rattle.wrong_journals.proofs.Differing.{truths_differ}
 use Rattle.wrong_journals.proofs.held.lines_of_no_link_are_refused.Goals as goal
@@ -36,7 +36,7 @@ returns-clause-opened c lawful = truths_differ (lawful.opened one_connection_jou
 
 pub returns-clause-in_use : goal.returns-clause-in_use
 unfolding lines_of
-returns-clause-in_use c lawful = truths_differ (ap is_some (lawful.opened one_connection_journal [] B 2 0 Central refl).free)
+returns-clause-in_use c lawful = truths_differ (ap is_some (lawful.opened two_connected [] B 2 0 Central refl).free)
 
 pub returns-clause-skipped : goal.returns-clause-skipped
 unfolding lines_of

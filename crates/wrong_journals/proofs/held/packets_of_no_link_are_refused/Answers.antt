@@ -4,7 +4,7 @@ use Rattle.ble_base.specs.declared.roles.Side.TheVariants.{A, B}
 use Rattle.journal_data.specs.Lines.{lines_of}
 use Rattle.run_model.specs.Rows.{one_connection_journal}
 use Rattle.wrong_journals.specs.Held.{before_credits}
-use Rattle.wrong_journals.specs.Hosts.{acknowledged}
+use Rattle.journal_acks.specs.Rows.{data_acknowledged}
 use Rattle.wrong_journals.proofs.Differing.{numbers_differ, truths_differ}
 use Rattle.wrong_journals.proofs.held.packets_of_no_link_are_refused.Goals as goal
 
@@ -16,7 +16,7 @@ returns-clause-data c lawful =
 pub returns-clause-length : goal.returns-clause-length
 unfolding lines_of
 returns-clause-length c lawful =
-    numbers_differ 6 7 refl (lawful.received acknowledged [] A (0x02 ∷ 0x00 ∷ 0x20 ∷ 0x02 ∷ 0x00 ∷ 0xAA ∷ []) refl refl).whole
+    numbers_differ 6 7 refl (lawful.received data_acknowledged [] A (0x02 ∷ 0x00 ∷ 0x20 ∷ 0x02 ∷ 0x00 ∷ 0xAA ∷ []) refl refl).whole
 
 pub returns-clause-credit : goal.returns-clause-credit
 unfolding lines_of
