@@ -187,7 +187,7 @@ before_says : (facts : Facts) (command : Command) → answers_among (notes_befor
 before_says facts Reset = shut_say (handles_from 0 facts.links)
 before_says facts other = refl
 
-failed_is : (enhanced : Bool) (status : ℕ) → IsOfTurn (connection_failed enhanced status)
+pub failed_is : (enhanced : Bool) (status : ℕ) → IsOfTurn (connection_failed enhanced status)
 failed_is true status = tt
 failed_is false status = tt
 

@@ -30,6 +30,8 @@ pub mod Lengths
 pub mod Requests
 pub mod OpenPlaces
 pub mod Room
+pub mod AdvertisersKnown
+pub mod ViewRoom
 pub mod FreeHandles
 pub mod AccessAddresses
 pub mod Answering

@@ -23,6 +23,7 @@ use Rattle.controller_model.specs.Data.{notes_offered}
 use Rattle.controller_model.specs.Events.{notes_of_events, passes}
 use Rattle.controller_model.specs.Links.{connection_failed, note_shut, wants_enhanced}
 use Rattle.controller_model.specs.Side.{notes_after}
+use Rattle.controller_model.proofs.InOrder.{failed_is}
 use Rattle.controller_model.proofs.Always.{IsInTurn}
 use Rattle.controller_model.proofs.Handles.{HaveOwnHandles}
 use Rattle.controller_model.proofs.TurnNotes.{EachNote, IsOfTurn, turn_noted}
@@ -118,10 +119,6 @@ masked_statuses false event none = refl
 
 pub event_statuses : (view : View) (event : Event) → statuses_noted (Up (record { items = written event })) ≡ [] → statuses_of (notes_of_events view (event ∷ [])) ≡ []
 event_statuses view event none = masked_statuses (passes view (mask_bit_of event)) event none
-
-failed_is : (enhanced : Bool) (status : ℕ) → IsOfTurn (connection_failed enhanced status)
-failed_is true status = tt
-failed_is false status = tt
 
 pub caused_statuses : (facts : Facts) (command : Command) → statuses_of (notes_of_events facts.view (events_caused facts command)) ≡ []
 caused_statuses facts LeCreateCancel =

@@ -20,7 +20,7 @@ use Rattle.hci_cmd.specs.declared.command.CmdRead.{CmdRead}
 use Rattle.hci_cmd.specs.declared.command.CmdRead.TheVariants.{Known, UnknownOpcode, BadLength}
 use Rattle.hci_cmd.specs.Command.{command_of}
 use Rattle.host_view.specs.View.{View}
-use Rattle.host_view.specs.Changes.{after_counts, view_after}
+use Rattle.host_view.specs.Changes.{view_after}
 use Rattle.host_view.specs.Unbuilt.{status_of}
 use Rattle.open_links.specs.declared.offers.Offer.{Offer}
 use Rattle.open_links.specs.declared.offers.Offer.TheVariants.{NoLink, Empty, Overflow, Kept}
@@ -32,6 +32,7 @@ use Rattle.controller_model.specs.Data.{facts_offered, offer_of}
 use Rattle.controller_model.specs.Events.{notes_of_events}
 use Rattle.controller_model.specs.Heard.{link_taken}
 use Rattle.controller_model.specs.Side.{facts_after, facts_fed, facts_of, notes_after, notes_fed, notes_from, notes_of, result_of}
+use Rattle.controller_model.proofs.Accepted.{same_after_counts}
 use Rattle.controller_model.proofs.Always.{IsInTurn, IsKeptInTurns, opening_passes, holds_step, turn_keeps}
 use Rattle.controller_model.proofs.Feds.{frames_more, more_octets, no_frames, turn_octets}
 use Rattle.controller_model.proofs.Handles.{HaveOwnHandles, handles_kept, own_handles}
@@ -46,17 +47,13 @@ Holds policy list facts = (facts.view.accepted ≡ list) × (facts.advertising.p
 
 -- ---- an accepted command
 
-same_accepted : (on : Bool) (one other : View) → other.accepted ≡ one.accepted → (cond on other one).accepted ≡ one.accepted
-same_accepted true one other same = same
-same_accepted false one other same = refl
-
 list_held : (view : View) (command : Command) → (view_after view command).accepted ≡ list_after view.accepted command
 unfolding view_after
 list_held view Reset = refl
 list_held view LeClearList = refl
 list_held view (LeAddToList kind address) = refl
 list_held view (LeRemoveFromList kind address) = refl
-list_held view (HostCompleted counts) = same_accepted view.flow.on view (record view { links = after_counts view.links counts.items }) refl
+list_held view (HostCompleted counts) = same_after_counts (λ (of : View). of.accepted) view counts refl
 list_held view other = refl
 
 policy_held : (setup : Setup) (view : View) (slot policy : ℕ) (command : Command) (advertising : Advertising) → advertising.params.policy ≡ policy
