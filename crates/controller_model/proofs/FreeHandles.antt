@@ -29,7 +29,7 @@ room_left : (setup : Setup) → IsRoomLeft setup HasRoom (λ initiates. IsOfCent
 room_left setup = record {
   accepted = room_after setup;
   fewer = λ initiates opened less advertising limit is room so. let enough = room so in omega (arith, enough, is);
-  made = λ link central. central;
+  connects = λ link central. central;
   sent = λ link initiator opened more advertising limit central is room. no_initiator link.role initiator more advertising limit central;
   taken = λ initiates opened more advertising limit connectable is room so.
       let enough = room so in

@@ -12,6 +12,7 @@ pub mod NotedLinks
 pub mod NoProcedures
 pub mod AnsweredOnce
 pub mod Feds
+pub mod NoAnswers
 pub mod InOrder
 pub mod Opcodes
 pub mod Rands

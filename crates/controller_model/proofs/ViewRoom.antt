@@ -203,7 +203,7 @@ pub record IsRoomLeft (setup : Setup) (Room : Bool → ℕ → ViewAdvertising �
       (view_after view command).advertising (view_after view command).limit
   pub fewer : (initiates : Bool) (opened less : ℕ) (advertising : ViewAdvertising) (limit : ℕ) → less ≤ opened
       → Room initiates opened advertising limit → Room initiates less advertising limit
-  pub made : (link : LinkSetup) → link.role ≡ Central → P true link
+  pub connects : (link : LinkSetup) → link.role ≡ Central → P true link
   pub sent : (link : LinkSetup) (initiator : Option InitiatorFacts) (opened more : ℕ) (advertising : ViewAdvertising) (limit : ℕ)
       → P (is_some initiator) link → more ≤ opened + 1 → Room (is_some initiator) opened advertising limit
       → Room (is_some (initiator_stopped link.role initiator)) more (advertising_noted link.role advertising) limit
@@ -306,7 +306,7 @@ module _ (setup : Setup) (few : setup.links ≤ 6) (Room : Bool → ℕ → View
         connects = λ channel octets pdu on access handle doing is_on hears answers next free in_range.
             let link = link_made on.params.own pdu (fields_sent setup on access facts) handle in (
               doing_known (Connects channel link) (facts_connecting setup facts) known,
-              subst (λ (initiates : Bool). P initiates link) (sym (ap is_some is_on)) (left.made link refl),
+              subst (λ (initiates : Bool). P initiates link) (sym (ap is_some is_on)) (left.connects link refl),
             );
         received = λ handle octets.
             let replies = replies_in (link_at handle facts.links) octets in

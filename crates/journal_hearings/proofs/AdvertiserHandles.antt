@@ -45,7 +45,7 @@ room_left : (setup : Setup) → IsRoomLeft setup LeavesRoom IsOfInitiator
 room_left setup = record {
   accepted = leaves_after setup;
   fewer = λ initiates opened less advertising limit is room so. let enough = room so in omega (arith, enough, is);
-  made = λ link central. (central, refl);
+  connects = λ link central. (central, refl);
   sent = λ link initiator opened more advertising limit of_initiator is room.
       central_room link.role initiator opened more advertising limit of_initiator.0 of_initiator.1 is room;
   taken = λ initiates opened more advertising limit connectable is room so. absurd (let h : false ≡ true = so in absurd cc);
