@@ -1,3 +1,4 @@
 -- The definitions of this crate.
+pub mod Ends
 pub mod Joint
 pub mod Worked

@@ -1,0 +1,85 @@
+-- What the laws of joint runs of exclusive procedures need to know of one end, and of the PDUs of the encryption and of those
+-- that are not supported (Core 5.2, volume 6 part B, sections 5.1.3 and 5.3; our choice of words).
+use Rattle.std.specs.Prelude.{◌≡◌, ◌==◌, Bool, true, false, [], Option, Some, None, is_some}
+use Rattle.ble_base.specs.declared.roles.Role.TheVariants.{Central}
+use Rattle.data_pdu.specs.declared.ctrl.Ctrl.{Ctrl}
+use Rattle.data_pdu.specs.declared.ctrl.Ctrl.TheVariants.{EncReq, EncRsp, PauseEncReq, PauseEncRsp, RejectExtInd, StartEncReq, StartEncRsp, TerminateInd}
+use Rattle.enc_phase.specs.declared.classes.PduClass.TheVariants.{Request}
+use Rattle.enc_phase.specs.Taking.{allows, ctrl_class}
+use Rattle.exclusive_stages.specs.declared.stages.CentralStage.TheVariants.{Idle}
+use Rattle.procedure_values.specs.declared.drafts.Outgoing.{Outgoing}
+use Rattle.procedure_values.specs.declared.drafts.Outgoing.TheVariants.{Other, Rejection}
+use Rattle.procedure_values.specs.declared.drafts.Draft.TheVariants.{Cipher, UnknownRsp}
+use Rattle.procedure_stages.specs.Closing.{is_disconnecting}
+use Rattle.procedure_stages.specs.Opcodes.{enc_req_opcode}
+use Rattle.collision_steps.specs.CentralPart.{central_of}
+use Rattle.collision_steps.specs.Parts.{drafts_part, rejection_part}
+use Rattle.phased_control.specs.Phased.{Phased, is_open_now, is_quiet_now}
+use Rattle.joint_controls.specs.Joint.{Control, Data, Item, Joint, item_on_air}
+
+-- ---- one end
+
+-- a central outside the phases Clear and Secure runs an encryption and nothing else
+pub record CentralFacts (s : Phased) : Type 0 where
+  -- it keeps one first PDU, and allows no other until that is answered
+  pub kept : (ctrl : Ctrl) → s.kept ≡ Some ctrl → allows s.phase Central Request ≡ false
+  pub first : (ctrl : Ctrl) → s.kept ≡ Some ctrl → ctrl_class ctrl ≡ Request
+  pub own : is_quiet_now s ≡ false → (central_of s.control.table).own ≡ Idle
+  pub drafts : is_quiet_now s ≡ false → drafts_part s.control.table.queue.drafts ≡ []
+  -- until it takes LL_TERMINATE_IND it is to end only by the Disconnect of its host
+  pub closing : is_open_now s ≡ false → is_disconnecting s.control.table.closing ≡ true
+
+-- a peripheral keeps nothing
+pub record PeripheralFacts (s : Phased) : Type 0 where
+  pub kept : s.kept ≡ None
+
+-- ---- what is on its way
+
+-- the PDUs of the encryption that a peripheral sends
+abbrev pub is_cipher_up : Ctrl → Bool
+is_cipher_up (EncRsp skd_s iv_s) = true
+is_cipher_up StartEncReq = true
+is_cipher_up StartEncRsp = true
+is_cipher_up PauseEncRsp = true
+is_cipher_up (TerminateInd code) = true
+is_cipher_up (RejectExtInd opcode code) = enc_req_opcode == opcode
+is_cipher_up ctrl = false
+
+-- and those that a central sends
+abbrev pub is_cipher_down : Ctrl → Bool
+is_cipher_down (EncReq rand ediv skd_m iv_m) = true
+is_cipher_down StartEncRsp = true
+is_cipher_down PauseEncReq = true
+is_cipher_down PauseEncRsp = true
+is_cipher_down (TerminateInd code) = true
+is_cipher_down ctrl = false
+
+-- a peripheral rejects nothing but the start of an encryption, and each PDU of the other end is known
+abbrev pub fits_up : Outgoing → Bool
+fits_up (Rejection rejection) = false
+fits_up (Other (UnknownRsp opcode)) = false
+fits_up (Other (Cipher ctrl)) = is_cipher_up ctrl
+fits_up outgoing = true
+
+-- a central rejects the procedures of the peripheral that exclude others, and nothing else
+abbrev pub fits_down : Outgoing → Bool
+fits_down (Rejection rejection) = is_some (rejection_part rejection)
+fits_down (Other (UnknownRsp opcode)) = false
+fits_down (Other (Cipher ctrl)) = is_cipher_down ctrl
+fits_down outgoing = true
+
+abbrev pub item_fits : (Outgoing → Bool) → Item → Bool
+item_fits fits Data = true
+item_fits fits (Control outgoing ctrl) = fits outgoing
+
+abbrev pub fits_if : (Outgoing → Bool) → Option Item → Bool
+fits_if fits None = true
+fits_if fits (Some item) = item_fits fits item
+
+-- ---- both ends, in one state of a joint run
+
+pub record Facts (s : Joint) : Type 0 where
+  pub central : CentralFacts s.central
+  pub peripheral : PeripheralFacts s.peripheral
+  pub down : fits_if fits_down (item_on_air s.down) ≡ true
+  pub up : fits_if fits_up (item_on_air s.up) ≡ true
