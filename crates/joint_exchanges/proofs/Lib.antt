@@ -1,0 +1,24 @@
+-- The lemmas of this crate.
+pub mod CentralKeeps
+pub mod Ciphered
+pub mod Counting
+pub mod EndRoles
+pub mod EndSteps
+pub mod EndTakes
+pub mod Features
+pub mod Few
+pub mod JointRoles
+pub mod JointRuns
+pub mod JointSteps
+pub mod JointTakes
+pub mod Known
+pub mod LengthMoves
+pub mod MachineRuns
+pub mod MayDo
+pub mod PartMoves
+pub mod Reading
+pub mod Runs
+pub mod States
+pub mod TableRoles
+pub mod Took
+pub mod VersionMoves

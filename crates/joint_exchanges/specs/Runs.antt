@@ -1,0 +1,26 @@
+-- The moves of the exchanges in a joint run up to a state in which it goes on, and what is asked of its steps.
+use Rattle.std.specs.Prelude.{◌≡◌, ⊤, true, List, [], ◌∷◌, ◌++◌, if◌then◌else◌}
+use Rattle.joint_controls.specs.Joint.{Joint, JointStep, after, after_all, is_running, may}
+use Rattle.joint_exchanges.specs.JointMoves.{moves_of}
+use Rattle.joint_exchanges.specs.Moves.{Move}
+use Rattle.joint_exchanges.specs.SentByRole.{Responds}
+
+-- a step that may not come is none
+abbrev pub moves_in : List JointStep → Joint → List Move
+moves_in [] s = []
+moves_in (step ∷ steps) s = (if may step s then moves_of step s else []) ++ moves_in steps (after step s)
+
+-- in each state of the run that a step follows; of a run that has stopped nothing is asked
+abbrev pub AllBefore : (Joint → Type 0) → List JointStep → Joint → Type 0
+AllBefore P [] s = ⊤
+AllBefore P (step ∷ steps) s = (is_running s ≡ true → P s) × AllBefore P steps (after step s)
+
+-- a peripheral would answer LL_ENC_REQ with LL_ENC_RSP
+abbrev pub AllRespond : List JointStep → Type 0
+AllRespond [] = ⊤
+AllRespond (step ∷ steps) = Responds step × AllRespond steps
+
+-- a run from a state up to one in which it goes on: what it may rely on
+pub record GoesOn (steps : List JointStep) (s : Joint) : Type 0 where
+  pub responds : AllRespond steps
+  pub goes : is_running (after_all steps s) ≡ true
