@@ -1,0 +1,5 @@
+-- The definitions of this crate.
+pub mod Classes
+pub mod Events
+pub mod Facts
+pub mod Parts
