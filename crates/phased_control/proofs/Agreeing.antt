@@ -212,7 +212,7 @@ leaves_taking read slot quiet c lasts same = by (after (control_takes read slot 
     by None is = ap (λ (f : TableFacts). has_encryption f.progress) ((takes_as read slot quiet c lasts).goes is) ∙ same
     by (Some code) is = ap (λ (f : TableFacts). has_encryption f.progress) ((takes_as read slot quiet c lasts).ends code is)
 
-agrees_taking : (slot : ℕ) (response : Ctrl) (read : CtrlRead) (role : Role) (s : Phased) → Tied role s → (role ≡ Peripheral → IsResponse response) → s.control.ends ≡ None
+pub agrees_taking : (slot : ℕ) (response : Ctrl) (read : CtrlRead) (role : Role) (s : Phased) → Tied role s → (role ≡ Peripheral → IsResponse response) → s.control.ends ≡ None
     → is_allowed read s ≡ true → Agrees s → (seen read slot s).control.ends ≡ None → Agrees (ciphered response read (seen read slot s))
 agrees_taking slot response read role s tied may lasts allowed agrees goes =
     let t = seen read slot s in
@@ -237,7 +237,7 @@ agrees_kept slot (Some ctrl) s first lasts agrees =
     agrees ∙ ap not (sym (leaves_taking (Known ctrl) slot true s.control lasts (first_leaves s.control.table ctrl slot first)))
 
 -- a PDU that is owed ends no link
-lasts_owed : (owed : Option Ctrl) (c : Control) → c.ends ≡ None → (after_all (owed_steps owed) c).ends ≡ None
+pub lasts_owed : (owed : Option Ctrl) (c : Control) → c.ends ≡ None → (after_all (owed_steps owed) c).ends ≡ None
 lasts_owed None c lasts = lasts
 lasts_owed (Some ctrl) c lasts = any_step (λ (d : Control). d.ends ≡ None) (Owes ctrl) c lasts lasts
 

@@ -81,7 +81,7 @@ loud_refused Request p true loud may ends = quiet_taking Request p ∙ loud
 loud_refused pdu p true loud may ends = loud
 loud_refused pdu p false loud may ends = absurd (let is = ends refl in cc)
 
-class_of_end : (ctrl : Ctrl) (p : PhaseFacts) → is_quiet p ≡ false → allows p Central (ctrl_class ctrl) ≡ true → (b : Bool) → EndsAtCentral ctrl b → (ctrl_class ctrl ≡ Refusal) ⊎ (ctrl ≡ StartEncRsp)
+pub class_of_end : (ctrl : Ctrl) (p : PhaseFacts) → is_quiet p ≡ false → allows p Central (ctrl_class ctrl) ≡ true → (b : Bool) → EndsAtCentral ctrl b → (ctrl_class ctrl ≡ Refusal) ⊎ (ctrl ≡ StartEncRsp)
 class_of_end StartEncRsp p loud may b ends = inr refl
 class_of_end (RejectInd code) p loud may b ends = inl refl
 class_of_end (RejectExtInd opcode code) p loud may b ends = inl (rw ends refl)
@@ -200,14 +200,14 @@ peripheral_took ctrl p a b agree may took = quiet_taking (ctrl_class ctrl) p ∙
 
 -- ---- what a table makes of it
 
-abbrev has : TableFacts → Bool
+abbrev pub has : TableFacts → Bool
 has f = has_encryption f.progress
 
 begins_at_central : (p : Progress) (read : CtrlRead) (slot : ℕ) (quiet : Bool) → role_of p ≡ Central → MayBeginBy p (takes read slot quiet) → ⊥
 begins_at_central (central c) read slot quiet is h = h
 begins_at_central (peripheral p) read slot quiet is h = absurd (cc)
 
-ends_at_central : (p : Progress) (ctrl : Ctrl) (slot : ℕ) (quiet : Bool) → role_of p ≡ Central → MayEndBy p (takes (Known ctrl) slot quiet) → EndsAtCentral ctrl quiet
+pub ends_at_central : (p : Progress) (ctrl : Ctrl) (slot : ℕ) (quiet : Bool) → role_of p ≡ Central → MayEndBy p (takes (Known ctrl) slot quiet) → EndsAtCentral ctrl quiet
 ends_at_central (central c) ctrl slot quiet is h = h
 ends_at_central (peripheral p) ctrl slot quiet is h = absurd (cc)
 
@@ -220,7 +220,7 @@ ends_at_peripheral (central c) ctrl slot quiet is h = absurd (cc)
 ends_at_peripheral (peripheral p) ctrl slot quiet is h = h
 
 -- what is not known to an end, or has no octet, leaves it
-abbrev is_known : CtrlRead → Bool
+abbrev pub is_known : CtrlRead → Bool
 is_known (Known ctrl) = true
 is_known read = false
 
@@ -281,7 +281,7 @@ confirmed_as StartEncRsp f slot quiet loud = rw loud (ended f slot)
 confirmed_as ctrl f slot quiet loud = tt
 
 -- outside Clear and Secure each PDU has its meaning at a central
-known_loudly : (p : PhaseFacts) (pdu : PduClass) → is_quiet p ≡ false → is_unknown p Central pdu ≡ false
+pub known_loudly : (p : PhaseFacts) (pdu : PduClass) → is_quiet p ≡ false → is_unknown p Central pdu ≡ false
 known_loudly Clear pdu is = absurd (cc)
 known_loudly Secure pdu is = absurd (cc)
 known_loudly p pdu is = refl

@@ -260,7 +260,7 @@ module _ (role : Role) where
         asked_at = tied.asked_at;
       }
 
-  role_owed : (owed : Option Ctrl) (c : Control) → role_of c.table.progress ≡ role → role_of (after_all (owed_steps owed) c).table.progress ≡ role
+  pub role_owed : (owed : Option Ctrl) (c : Control) → role_of c.table.progress ≡ role → role_of (after_all (owed_steps owed) c).table.progress ≡ role
   role_owed None c is = is
   role_owed (Some ctrl) c is = same_role role (Owes ctrl) c is
 

@@ -1,12 +1,18 @@
 -- The lemmas of this crate.
 pub mod Agreeing
+pub mod AllLawful
 pub mod Answering
+pub mod Calling
 pub mod Ciphers
 pub mod Encrypted
+pub mod Extending
 pub mod Kept
+pub mod Lawful
+pub mod LawfulTaking
 pub mod Moving
 pub mod PhaseFacts
 pub mod Requests
+pub mod Rooms
 pub mod Tables
 pub mod Taking
 pub mod Unpaused

@@ -126,7 +126,7 @@ data_moves s = by (allows s.phase (role_now s) Data)
 
 -- ---- every step
 
-open_moves : (step : PhasedStep) (s : Phased)
+pub open_moves : (step : PhasedStep) (s : Phased)
     → (phased_moved step s).control ≡ ended_if (end_by_phase step s) (after_all (control_steps step s) s.control)
 open_moves (Enters slot) s =
     enters_with (is_encrypt (begin_step (table_entered s) slot (is_quiet_now s)).1) (request_of (ask_begun (table_entered s) (is_quiet_now s)))

@@ -216,7 +216,7 @@ leaves_if : (b : Bool) (g : TableFacts) (c : Control) → has_encryption g.progr
 leaves_if true g c is = is
 leaves_if false g c is = refl
 
-following_table : (role : Role) (indication : Option Indication) (c : Control) → (following role indication c).table ≡ c.table
+pub following_table : (role : Role) (indication : Option Indication) (c : Control) → (following role indication c).table ≡ c.table
 following_table central_role None c = refl
 following_table central_role (Some indication) c = refl
 following_table peripheral_role indication c = refl

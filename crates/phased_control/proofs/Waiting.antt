@@ -280,7 +280,7 @@ order_entered role slot s is order = by (is_encrypt (begin_step (table_entered s
 
 -- ---- LL_ENC_REQ follows a pause
 
-lasts_acked : (c : Control) → c.ends ≡ None → (after control_sees_acknowledged c).ends ≡ None
+pub lasts_acked : (c : Control) → c.ends ≡ None → (after control_sees_acknowledged c).ends ≡ None
 lasts_acked c lasts = any_step (λ (d : Control). d.ends ≡ None) control_sees_acknowledged c (by (is_out c.table.out)) lasts
   where
     by : (b : Bool) → (table_if b (acked_step c.table).0 c).ends ≡ None

@@ -1,4 +1,5 @@
 -- The definitions of this crate.
+pub mod Calls
 pub mod Changes
 pub mod Ciphers
 pub mod Ends

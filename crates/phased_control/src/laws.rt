@@ -1,19 +1,31 @@
 //! The laws of one end with its phase of encryption, over all lists of steps from the beginning of
 //! its link. The bodies do nothing: the contracts are the laws.
 ghost use Rattle.std.specs.Prelude.{◌≡◌, ◌≢◌, ◌≤◌, ◌∷◌, ℕ, true, false, not, List, [], None, is_some};
-ghost use Rattle.std.specs.Prelude.{length, map};
+ghost use Rattle.std.specs.Prelude.{Bool, Some, length, map};
+ghost use Rattle.ble_base.specs.declared.procedure_kinds.Kind.{Kind};
 ghost use Rattle.ble_base.specs.declared.roles.Role.{Role};
 ghost use Rattle.enc_phase.specs.Phases.{is_asked};
 ghost use Rattle.data_pdu.specs.declared.ctrl.Ctrl.{Ctrl};
 ghost use Rattle.enc_phase.specs.Taking.{ctrl_class};
 ghost use Rattle.instants.specs.declared.indications.Params.{Params};
+ghost use Rattle.procedure_stages.specs.InProgress.{has_peer};
+ghost use Rattle.procedure_stages.specs.Kinds.{own_kind};
+ghost use Rattle.procedure_stages.specs.Queue.{waiting_in};
+ghost use Rattle.procedures.specs.Beginning.{begin_step};
+ghost use Rattle.procedures.specs.Calls.{after_calls};
+ghost use Rattle.procedures.specs.Table.{first_facts};
 ghost use Rattle.table_laws.specs.Encrypting.{has_encryption};
+ghost use Rattle.table_laws.specs.Exclusive.{AllKeepRules};
+ghost use Rattle.table_laws.specs.Pasts.{MayAll, is_key_asked};
+ghost use Rattle.table_laws.specs.Quiet.{first_pdus_waiting};
 ghost use Rattle.control_model.specs.Control.{after_all, first_control};
 ghost use Rattle.control_model.specs.Waits.{kind_awaited, kind_waiting};
+ghost use Rattle.phased_control.specs.Calls.{AllPassPhase, all_phased_calls};
 ghost use Rattle.phased_control.specs.Ciphers.{AreInTurn, AreLastOf, ciphers_waiting, owed_in};
 ghost use Rattle.phased_control.specs.Ends.{AllMayRespond, IsFirst, IsRequest, is_half_keyed};
 ghost use Rattle.phased_control.specs.Ends.{says_kept};
-ghost use Rattle.phased_control.specs.Phased.{Phased, first_phased, is_quiet_now};
+ghost use Rattle.phased_control.specs.Phased.{Phased, first_phased, is_open_now};
+ghost use Rattle.phased_control.specs.Phased.{is_quiet_now};
 ghost use Rattle.phased_control.specs.Taken.{PhasedStep, phased_after, phased_after_all, role_now};
 ghost use Rattle.phased_control.specs.Steps.{all_control_steps, control_steps, end_by_phase};
 ghost use Rattle.phased_control.specs.Steps.{ended_if};
@@ -107,4 +119,64 @@ pub fn few_pdus_of_the_encryption_wait()
         (phased_after_all steps (first_phased role max_rx first slot)).control.table
         ≡ one ∷ other ∷ []
         → ctrl_class one ≢ ctrl_class other }
+{}
+
+/// The table of an end is a new table after the calls that its steps make. Where its peer sends in
+/// turn these may come, and each passes the phase as the table has it. A key is asked for as the
+/// table has it, while the link is not to end. So at most twenty control PDUs wait.
+pub fn calls_of_an_end_may_come()
+    ensures table { (role : Role) (max_rx : ℕ) (first : Params) (slot : ℕ)
+        (steps : List PhasedStep)
+        → (phased_after_all steps (first_phased role max_rx first slot)).control.table
+        ≡ after_calls (first_facts role max_rx)
+        (all_phased_calls steps (first_phased role max_rx first slot)) }
+    ensures may { (role : Role) (max_rx : ℕ) (first : Params) (slot : ℕ) (steps : List PhasedStep)
+        → AllMayRespond role steps → AreInTurn steps (first_phased role max_rx first slot)
+        → MayAll (first_facts role max_rx) false
+        (all_phased_calls steps (first_phased role max_rx first slot)) }
+    ensures phase { (role : Role) (max_rx : ℕ) (first : Params) (slot : ℕ)
+        (steps : List PhasedStep)
+        → AllMayRespond role steps → AreInTurn steps (first_phased role max_rx first slot)
+        → AllPassPhase (first_facts role max_rx)
+        (all_phased_calls steps (first_phased role max_rx first slot)) }
+    ensures key { (role : Role) (max_rx : ℕ) (first : Params) (slot : ℕ) (steps : List PhasedStep)
+        → AllMayRespond role steps → AreInTurn steps (first_phased role max_rx first slot)
+        → let s = phased_after_all steps (first_phased role max_rx first slot) in
+        is_open_now s ≡ true
+        → is_key_asked (all_phased_calls steps (first_phased role max_rx first slot))
+        ≡ s.asks_key }
+    ensures few { (role : Role) (max_rx : ℕ) (first : Params) (slot : ℕ) (steps : List PhasedStep)
+        → AllMayRespond role steps → AreInTurn steps (first_phased role max_rx first slot)
+        → waiting_in
+        (phased_after_all steps (first_phased role max_rx first slot)).control.table.queue ≤ 20 }
+{}
+
+/// Outside Clear and Secure a central runs an encryption, no first PDU of another own procedure
+/// waits, and nothing begins. Where the peripheral keeps the rules, no procedure of it that excludes
+/// others is in progress there.
+pub fn a_central_only_encrypts_outside_clear_and_secure()
+    ensures own { (max_rx : ℕ) (first : Params) (slot : ℕ) (steps : List PhasedStep)
+        → AllMayRespond Role.Central steps
+        → AreInTurn steps (first_phased Role.Central max_rx first slot)
+        → let s = phased_after_all steps (first_phased Role.Central max_rx first slot) in
+        is_quiet_now s ≡ false → own_kind s.control.table.progress ≡ Some Kind.Encrypt }
+    ensures first { (max_rx : ℕ) (first : Params) (slot : ℕ) (steps : List PhasedStep)
+        → AllMayRespond Role.Central steps
+        → AreInTurn steps (first_phased Role.Central max_rx first slot)
+        → let s = phased_after_all steps (first_phased Role.Central max_rx first slot) in
+        is_quiet_now s ≡ false → first_pdus_waiting s.control.table ≡ 0 }
+    ensures begins { (max_rx : ℕ) (first : Params) (slot : ℕ) (steps : List PhasedStep)
+        → AllMayRespond Role.Central steps
+        → AreInTurn steps (first_phased Role.Central max_rx first slot)
+        → (now : ℕ) (quiet : Bool)
+        → let s = phased_after_all steps (first_phased Role.Central max_rx first slot) in
+        is_quiet_now s ≡ false
+        → begin_step s.control.table now quiet ≡ (s.control.table, None) }
+    ensures peer { (max_rx : ℕ) (first : Params) (slot : ℕ) (steps : List PhasedStep)
+        → AllMayRespond Role.Central steps
+        → AreInTurn steps (first_phased Role.Central max_rx first slot)
+        → AllKeepRules (first_facts Role.Central max_rx)
+        (all_phased_calls steps (first_phased Role.Central max_rx first slot))
+        → let s = phased_after_all steps (first_phased Role.Central max_rx first slot) in
+        is_quiet_now s ≡ false → has_peer s.control.table.progress ≡ false }
 {}
