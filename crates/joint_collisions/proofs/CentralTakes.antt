@@ -114,16 +114,16 @@ module _ (p : Control) (down up : Way) where
   ended_room : (s : Phased) → GoesAs p down up (ended_with memory_capacity_exceeded s)
   ended_room s = record { goes = λ h. absurd (cc); never = not_room }
 
-  ended_forged : (s : Phased) → GoesAs p down up (ended_with mic_failure s)
+  pub ended_forged : (s : Phased) → GoesAs p down up (ended_with mic_failure s)
   ended_forged s = record { goes = λ h. absurd (cc); never = not_forged }
 
   -- what the central knows, and keeps, while PDUs of the encryption are queued
-  record Stays (kept : Option Ctrl) (s : Phased) : Type 0 where
-    lasts : s.control.ends ≡ None
-    same : s.kept ≡ kept
-    seen : SeenAt p down up (kept_part kept) s.control
+  pub record Stays (kept : Option Ctrl) (s : Phased) : Type 0 where
+    pub lasts : s.control.ends ≡ None
+    pub same : s.kept ≡ kept
+    pub seen : SeenAt p down up (kept_part kept) s.control
 
-  owes_stays : (kept : Option Ctrl) (ctrl : Ctrl) (s : Phased) → Stays kept s → Stays kept (with_owed ctrl s)
+  pub owes_stays : (kept : Option Ctrl) (ctrl : Ctrl) (s : Phased) → Stays kept s → Stays kept (with_owed ctrl s)
   owes_stays kept ctrl s h =
       record {
         lasts = open_step (λ (c : Control). c.ends ≡ None) (Owes ctrl) s.control h.lasts h.lasts;

@@ -1,11 +1,15 @@
 -- The lemmas of this crate.
 pub mod Answers
+pub mod CentralEnd
+pub mod CentralJoint
 pub mod CentralSteps
 pub mod CentralTakes
 pub mod DownMeanings
+pub mod EachStep
 pub mod Fixing
 pub mod Instants
 pub mod Meanings
+pub mod PeripheralEnd
 pub mod PeripheralPhase
 pub mod PeripheralSteps
 pub mod PeripheralTakes
@@ -13,3 +17,4 @@ pub mod Reaching
 pub mod Readings
 pub mod Resting
 pub mod Sending
+pub mod Terminated

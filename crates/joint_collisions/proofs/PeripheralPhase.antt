@@ -58,19 +58,19 @@ keeps_none pdu role quiet is = refl
 
 -- ---- while PDUs of the encryption are queued
 
-record Stays (c : Control) (down up : Way) (kept : Option Pdu) (s : Phased) : Type 0 where
-  lasts : s.control.ends ≡ None
-  none : s.kept ≡ None
-  seen : SeenAt c down up kept s.control
+pub record Stays (c : Control) (down up : Way) (kept : Option Pdu) (s : Phased) : Type 0 where
+  pub lasts : s.control.ends ≡ None
+  pub none : s.kept ≡ None
+  pub seen : SeenAt c down up kept s.control
 
 module _ (c : Control) (down up : Way) (kept : Option Pdu) where
   ended_room : (s : Phased) → GoesAs c down up kept (ended_with memory_capacity_exceeded s)
   ended_room s = record { goes = λ h. absurd (cc); never = not_room }
 
-  ended_forged : (s : Phased) → GoesAs c down up kept (ended_with mic_failure s)
+  pub ended_forged : (s : Phased) → GoesAs c down up kept (ended_with mic_failure s)
   ended_forged s = record { goes = λ h. absurd (cc); never = not_forged }
 
-  owes_stays : (ctrl : Ctrl) (s : Phased) → Stays c down up kept s → Stays c down up kept (with_owed ctrl s)
+  pub owes_stays : (ctrl : Ctrl) (s : Phased) → Stays c down up kept s → Stays c down up kept (with_owed ctrl s)
   owes_stays ctrl s h =
       record {
         lasts = open_step (λ (d : Control). d.ends ≡ None) (Owes ctrl) s.control h.lasts h.lasts;
@@ -92,7 +92,7 @@ module _ (c : Control) (down up : Way) (kept : Option Pdu) where
   if_quiet_stays slot s h =
       choice (Stays c down up kept) (is_quiet_now s) (answered_kept slot s.kept s) s (answered_stays s.kept slot s h.none h) h
 
-  goes_as : (s : Phased) → Stays c down up kept s → GoesAs c down up kept s
+  pub goes_as : (s : Phased) → Stays c down up kept s → GoesAs c down up kept s
   goes_as s h = record { goes = λ lasts. h.seen; never = λ met. subst EndsByCollision h.lasts met }
 
 -- ---- the whole of a PDU

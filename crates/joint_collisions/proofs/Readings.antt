@@ -78,7 +78,7 @@ map_hears f p indication =
     hears_if indication (central_answered (peripheral_stage p.own)) (outlived f (collision (kind_at_peripheral p.own) map_kind) o) o
     (outlived_hears f (collision (kind_at_peripheral p.own) map_kind) indication o h) h
 
-same_indication : (a b : Indication) → ◌≡◌ {A = Option Indication} (Some a) (Some b) → a ≡ b
+pub same_indication : (a b : Indication) → ◌≡◌ {A = Option Indication} (Some a) (Some b) → a ≡ b
 same_indication a b is = cc
 
 module _ (f : TableFacts) (x : Peripheral) (is : f.progress ≡ peripheral x) (quiet : Bool) where
