@@ -6,6 +6,7 @@ use Rattle.ble_base.specs.declared.roles.Role.TheVariants.{Central, Peripheral}
 use Rattle.instants.specs.declared.indications.Params.{Params}
 use Rattle.procedure_values.specs.declared.drafts.Draft.{Draft}
 use Rattle.procedure_values.specs.declared.drafts.Draft.TheVariants.{Cipher, FeatureReq, FeatureRsp, Grant, LengthReq, LengthRsp, Map, PeripheralFeatureReq, PhyInd, PhyReq, PhyRsp, Request, UnknownRsp, Update, VersionInd}
+use Rattle.procedure_values.specs.declared.drafts.Rejection.{Rejection as TheRejection}
 use Rattle.procedure_stages.specs.Queue.{count_of_disconnect, waiting_in}
 use Rattle.table_laws.specs.Waiting.{number_of}
 use Rattle.table_laws.specs.Waiting
@@ -17,7 +18,7 @@ use Rattle.joint_exchanges.specs.Runs.{AllBefore, GoesOn}
 use Rattle.joint_exchanges.specs.SentByRole.{AreOfRoles, HaveMeaning, is_draft_of}
 use Rattle.joint_exchanges.specs.Waiting.{disconnects_waiting, exchange_waiting, is_cipher, is_exclusive, is_unknown_rsp, kinds_waiting, rejections_waiting}
 use Rattle.joint_exchanges.proofs.JointRuns.{first_roles, run_roles}
-use Rattle.joint_exchanges.proofs.TableRoles.{AreDrafts}
+use Rattle.joint_exchanges.proofs.TableRoles.{AreDrafts, AreRejections}
 use Rattle.joint_exchanges.proofs.States.{asked_idle, asked_sent, asked_unsent, one_place, version_once}
 
 -- ---- the sum
@@ -63,6 +64,11 @@ none_unknown role [] all = refl
 none_unknown role (draft ∷ rest) all =
     let h = none_unknown role rest all.1 in
     let none : Waiting.count_if (is_unknown_rsp draft) ≡ 0 = ap (λ b. Waiting.count_if b) (unknown_by role draft all.0) in omega (arith, h, none)
+
+-- a peripheral rejects nothing
+none_rejected : (rejections : List TheRejection) → AreRejections Peripheral rejections → length rejections ≡ 0
+none_rejected [] all = refl
+none_rejected (rejection ∷ rest) all = absurd (let h = all.0 in cc)
 
 -- ---- few wait
 
@@ -139,3 +145,6 @@ module _ (central_rx peripheral_rx : ℕ) (first : Params) (slot : ℕ) (steps :
       let d = disconnect_few (end_at role s) in
       let u = unknown_none means role in
       omega (arith, rejections, exclusive, u, cipher, h, f, l, v, d)
+
+  pub none_rejects : rejections_waiting s.peripheral ≡ 0
+  none_rejects = none_rejected s.peripheral.control.table.queue.rejections all_roles.peripheral.table.rejections

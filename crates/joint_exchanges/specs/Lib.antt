@@ -7,3 +7,4 @@ pub mod Parts
 pub mod Runs
 pub mod SentByRole
 pub mod Waiting
+pub mod Worked

@@ -1,4 +1,5 @@
--- The exchanges of both ends as the three machines of exchanges have them, and the events that each move is there.
+-- The exchanges of both ends as the three machines of exchanges have them, and the events that each move is there (Core
+-- 5.2, volume 6 part B, sections 5.1.4, 5.1.5 and 5.1.9).
 use Rattle.std.specs.Prelude.{ℕ, List, [], ◌∷◌, ◌++◌, Option, Some, None, is_some, option_map}
 use Rattle.ble_base.specs.declared.roles.Role.TheVariants.{Central, Peripheral}
 use Rattle.exchange_pairs.specs.Exchange.{ExchangePdu}

@@ -1,4 +1,5 @@
--- The moves of the exchanges in a joint run up to a state in which it goes on, and what is asked of its steps.
+-- The moves of the exchanges in a joint run up to a state in which it goes on, and what is asked of its steps (our
+-- choice).
 use Rattle.std.specs.Prelude.{◌≡◌, ⊤, true, List, [], ◌∷◌, ◌++◌, if◌then◌else◌}
 use Rattle.joint_controls.specs.Joint.{Joint, JointStep, after, after_all, is_running, may}
 use Rattle.joint_exchanges.specs.JointMoves.{moves_of}

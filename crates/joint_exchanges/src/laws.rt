@@ -208,7 +208,8 @@ pub fn few_pdus_of_exchanges_wait()
 
 /// An end of a joint run queues and sends PDUs of its role alone, so the other end knows each of
 /// them; and what is read is what was sent. LL_UNKNOWN_RSP waits only for a PDU of the encryption
-/// without a meaning in the phase of its receiver; where no such PDU comes, none waits anywhere.
+/// without a meaning in the phase of its receiver; where no such PDU comes, none waits anywhere. A
+/// peripheral rejects no procedure that excludes others.
 pub fn ends_send_pdus_of_their_role()
     ensures known { (central_rx peripheral_rx : ℕ) (first : Params) (slot : ℕ)
         (steps : List JointStep) → let start = beginning central_rx peripheral_rx first slot in
@@ -217,6 +218,9 @@ pub fn ends_send_pdus_of_their_role()
         (steps : List JointStep) → let start = beginning central_rx peripheral_rx first slot in
         GoesOn steps start → AllBefore HaveMeaning steps start
         → AreOfRoles false (after_all steps start) }
+    ensures rejections { (central_rx peripheral_rx : ℕ) (first : Params) (slot : ℕ)
+        (steps : List JointStep) → let start = beginning central_rx peripheral_rx first slot in
+        GoesOn steps start → rejections_waiting (after_all steps start).peripheral ≡ 0 }
 {}
 
 /// The control PDUs that wait at an end are those of the kinds of procedures, each of one kind. So

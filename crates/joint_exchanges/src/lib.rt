@@ -4,9 +4,11 @@
 #![tactic(auto)]
 
 mod laws;
+mod rows;
 
 pub use crate::laws::{
     a_version_goes_once, answers_meet_their_questions, ends_send_pdus_of_their_role,
     exchanges_are_in_one_place, few_control_pdus_wait_by_kind, few_pdus_of_exchanges_wait,
     joint_runs_are_runs_of_exchanges, lengths_fit_their_receiver,
 };
+pub use crate::rows::{a_question_is_kept, features_are_five_moves};
