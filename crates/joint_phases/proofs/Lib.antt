@@ -18,3 +18,4 @@ pub mod PeripheralGoes
 pub mod PeripheralSends
 pub mod PeripheralTable
 pub mod PeripheralTakes
+pub mod PeripheralPlain

@@ -135,36 +135,45 @@ module _ (s : Phased) (p : PhasePeripheral) (ctrl response : Ctrl) (slot : ℕ) 
       → Goes (phased_after (Takes (Known ctrl) slot response) (opened s))
   goes lasts = subst Goes (sym taken_is) (by_full full (ap (λ (t : Phased). t.control.ends) (sym taken_is) ∙ lasts))
 
-  -- ---- what its table has then
+  -- ---- the part then, with these waiting
 
-  pub record QueueAfter (reply : Reply) (g : TableFacts) : Type 0 where
-    pub role : role_of g.progress ≡ peripheral_role
-    pub closing : g.closing ≡ closing_up p.closing
-    pub queue : g.queue ≡ with_reply s.control.table.closing reply s.control.table.queue
+  abbrev pub knows_after : Bool
+  knows_after = s.knows_version || is_version (Known ctrl)
 
-  pub queue_after : (reply : Reply) → is_terminate ctrl ≡ false → (outcome_of s.control.table (is_quiet s.phase) (Known ctrl)).reply ≡ reply → control_after.ends ≡ None
-      → QueueAfter reply control_after.table
-  queue_after reply apart replies =
-      took_table_if s.control ctrl slot (is_quiet s.phase) (QueueAfter reply)
-      (λ goes. record {
-        role = (table_took s.control.table (is_quiet s.phase) (Known ctrl)).role ∙ is.role;
-        closing = keeps_open s.control.table (is_quiet s.phase) ctrl apart s.control.table.closing ∙ is.closing;
-        queue = ap (λ (r : Reply). with_reply s.control.table.closing r s.control.table.queue) replies;
-      })
+  abbrev pub queue_with : Reply → QueueFacts
+  queue_with reply = with_reply s.control.table.closing reply s.control.table.queue
 
-  -- the part then, with these waiting
-  pub taken_part : (request : UnsentRequest) (owes : Bool) (reply : Reply) → QueueAfter reply control_after.table → phase_taking (ctrl_class ctrl) s.phase ≡ p.phase
-      → (with_reply s.control.table.closing reply s.control.table.queue).rejections ≡ []
-      → wait_up (draft_up (s.knows_version || is_version (Known ctrl))) (with_reply s.control.table.closing reply s.control.table.queue).drafts (record p { request = request; owes = owes }) ≡ true
-      → IsPeripheral (seen false) (record p { request = request; owes = owes })
-  taken_part request owes reply h phase rejects waits =
+  abbrev pub reply_here : Reply
+  reply_here = (outcome_of s.control.table (is_quiet s.phase) (Known ctrl)).reply
+
+  -- what waits after the reply
+  pub record Waits (request : UnsentRequest) (owes : Bool) (queue : QueueFacts) : Type 0 where
+    pub rejects : queue.rejections ≡ []
+    pub waits : wait_up (draft_up knows_after) queue.drafts (record p { request = request; owes = owes }) ≡ true
+
+  record HasPart (request : UnsentRequest) (owes : Bool) (g : TableFacts) : Type 0 where
+    role : role_of g.progress ≡ peripheral_role
+    closing : g.closing ≡ closing_up p.closing
+    queue : Waits request owes g.queue
+
+  pub taken_part : (request : UnsentRequest) (owes : Bool) → is_terminate ctrl ≡ false → phase_taking (ctrl_class ctrl) s.phase ≡ p.phase
+      → ((outcome_of s.control.table (is_quiet s.phase) (Known ctrl)).step.ends ≡ None → Waits request owes (queue_with reply_here))
+      → control_after.ends ≡ None → IsPeripheral (seen false) (record p { request = request; owes = owes })
+  taken_part request owes apart phase waits lasts =
+      let h : HasPart request owes control_after.table =
+          took_table_if s.control ctrl slot (is_quiet s.phase) (HasPart request owes)
+          (λ goes. record {
+            role = (table_took s.control.table (is_quiet s.phase) (Known ctrl)).role ∙ is.role;
+            closing = keeps_open s.control.table (is_quiet s.phase) ctrl apart s.control.table.closing ∙ is.closing;
+            queue = waits goes;
+          }) lasts in
       record {
         role = h.role;
         phase = phase;
         asks_key = is.asks_key;
         closing = h.closing;
-        rejects = ap (λ (q : QueueFacts). q.rejections) h.queue ∙ rejects;
-        waits = ap (λ (q : QueueFacts). wait_up (draft_up (s.knows_version || is_version (Known ctrl))) q.drafts (record p { request = request; owes = owes })) h.queue ∙ waits;
+        rejects = h.queue.rejects;
+        waits = h.queue.waits;
         kept = is.kept;
         request = is.request;
       }
