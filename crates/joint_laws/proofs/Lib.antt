@@ -2,3 +2,7 @@
 pub mod VersionsUsed
 pub mod VersionPdus
 pub mod VersionFacts
+pub mod FirstPlaces
+pub mod ExclusiveFirsts
+pub mod CentralFirsts
+pub mod PeripheralFirsts

@@ -9,7 +9,7 @@ use Rattle.procedure_stages.specs.declared.stages.Exchange.{Exchange}
 use Rattle.procedure_stages.specs.declared.stages.Exchange.TheVariants.{VersionSent}
 use Rattle.procedure_stages.specs.Kinds.{own_exchange}
 use Rattle.table_laws.specs.Waiting.{count_if}
-use Rattle.exchange_pairs.specs.Exchange.{Sent, is_idle}
+use Rattle.exchange_pairs.specs.Exchange.{Sent, count_if as exchange_count, is_idle}
 use Rattle.exchange_pairs.specs.VersionRun
 use Rattle.exchange_pairs.specs.VersionRun.{versions}
 use Rattle.exchange_steps.specs.Ends.{version_stage}
@@ -20,6 +20,9 @@ use Rattle.joint_controls.proofs.LastPdus.{first_tied, tied}
 use Rattle.joint_exchanges.specs.Agreement.{coming_to, end_at, is_version_ind, kept_of, passes, sent_from, untaken, version_stage_at, waiting}
 use Rattle.joint_exchanges.specs.Agreement
 use Rattle.joint_exchanges.specs.Machines.{events_of, versions_event}
+use Rattle.joint_exchanges.specs.Moves.{is_some_version}
+use Rattle.joint_exchanges.specs.Parts.{pdu_kept}
+use Rattle.joint_exchanges.proofs.Counting.{version_kept}
 use Rattle.joint_exchanges.specs.Runs.{GoesOn, moves_in}
 use Rattle.joint_exchanges.specs.SentByRole.{AreOfRoles}
 use Rattle.joint_exchanges.proofs.Few.{all_roles}
@@ -29,7 +32,7 @@ use Rattle.joint_phases.specs.Classes.{has_version, is_version}
 use Rattle.joint_phases.specs.Facts.{drafts_of, is_version_coming, is_version_kept, is_version_sent}
 use Rattle.phased_control.specs.Phased.{is_open_now}
 use Rattle.joint_laws.proofs.VersionPdus.{count_none, count_some, kept_same, queue_none, queue_some, way_same}
-use Rattle.joint_laws.proofs.VersionsUsed.{used_while_unknown}
+use Rattle.joint_laws.proofs.VersionsUsed.{kept_then_idle, used_while_unknown}
 
 -- what was sent and not taken is fixed or on the air
 air_none : (way : Way) → is_version_coming way ≡ false → is_item is_version (item_on_air way) ≡ false
@@ -59,6 +62,11 @@ count_at b c is = ap count_if is
 most_one : (b : Bool) → count_if b ≤ 1
 most_one true = omega arith
 most_one false = omega arith
+
+count_pair_some : (a b : Bool) → exchange_count a ≡ count_if b → b ≡ true → a ≡ true
+count_pair_some true b is some = refl
+count_pair_some false true is some = absurd (cc)
+count_pair_some false false is some = absurd (cc)
 
 or_first : (a b c : Bool) → a ≡ true → (a || (b || c)) ≡ true
 or_first a b c is = rw is refl
@@ -190,3 +198,53 @@ module _ (central_rx peripheral_rx : ℕ) (first : Params) (slot : ℕ) (steps :
             subst (λ l. VersionRun.knows Peripheral l ≡ true → (l.peripheral.used || l.peripheral.closed) ≡ true)
             (sym (versions_now central_rx peripheral_rx first slot steps run_on.responds run_on.goes))
             (known_or_closed (run versions (events_of versions_event (moves_in steps (beginning central_rx peripheral_rx first slot)))) (version_parts (events_of versions_event (moves_in steps (beginning central_rx peripheral_rx first slot))) Peripheral).used)
+
+    -- a peripheral that runs no exchange of versions has its LL_VERSION_IND nowhere on the way to its first meaning
+    pub record NoVersion : Type 0 where
+      pub waits : s.peripheral.knows_version ≡ false → waiting is_version_ind s.peripheral ≡ 0
+      pub way : s.peripheral.knows_version ≡ false → untaken is_version_ind s.up ≡ 0
+      pub kept : passes Agreement.is_version_ctrl s.central.kept ≡ false
+
+    unused_none : s.peripheral.control.table.version_used ≡ false → NoVersion
+    unused_none unused =
+        let all = up_places in
+        let none : count_if s.peripheral.control.table.version_used ≡ 0 = ap count_if unused in
+        record {
+          waits = λ unknown. omega (arith, all, none);
+          way = λ unknown. omega (arith, all, none);
+          kept = count_none (passes Agreement.is_version_ctrl s.central.kept) (omega (arith, all, none));
+        }
+
+    idle_central : passes Agreement.is_version_ctrl s.central.kept ≡ true → is_idle (version_stage_at s.central) ≡ true
+    idle_central kept =
+        subst (λ (l : VersionRun.VersionLink). l.kept ≡ true → is_idle l.central.own ≡ true)
+        (sym (versions_now central_rx peripheral_rx first slot steps run_on.responds run_on.goes))
+        (kept_then_idle (events_of versions_event (moves_in steps (beginning central_rx peripheral_rx first slot))))
+        (count_pair_some (is_some_version (pdu_kept s.central.kept)) (passes Agreement.is_version_ctrl s.central.kept) (version_kept s.central.kept) kept)
+
+    -- while it is kept neither end knows the version of the other
+    kept_unknown : passes Agreement.is_version_ctrl s.central.kept ≡ true → s.peripheral.knows_version ≡ false
+    kept_unknown kept =
+        let all = up_places in
+        let most = most_one s.peripheral.control.table.version_used in
+        let one : count_if (passes Agreement.is_version_ctrl s.central.kept) ≡ 1 = ap count_if kept in
+        let unknown = count_none s.central.knows_version (omega (arith, all, most, one)) in
+        let unused : count_if s.central.control.table.version_used ≡ 0 = ap count_if (used_if_running Central unknown ∙ ap not (idle_central kept)) in
+        let there = down_places in
+        count_none s.peripheral.knows_version (omega (arith, there, unused))
+
+    pub idle_no_version : is_idle (version_stage_at s.peripheral) ≡ true → NoVersion
+    idle_no_version idle = by s.peripheral.knows_version refl
+      where
+        none_kept : s.peripheral.knows_version ≡ true → (b : Bool) → passes Agreement.is_version_ctrl s.central.kept ≡ b → b ≡ false
+        none_kept knows true is = let unknown = kept_unknown is in absurd (cc)
+        none_kept knows false is = refl
+
+        by : (knows : Bool) → s.peripheral.knows_version ≡ knows → NoVersion
+        by false unknown = unused_none (used_if_running Peripheral unknown ∙ ap not idle)
+        by true knows =
+            record {
+              waits = λ unknown. absurd (cc);
+              way = λ unknown. absurd (cc);
+              kept = none_kept knows (passes Agreement.is_version_ctrl s.central.kept) refl;
+            }

@@ -7,6 +7,8 @@ use Rattle.machines.specs.Machine.{run}
 use Rattle.machines.proofs.Invariants.{IsLawful, Lawful, is_kept, run_holds}
 use Rattle.exchange_pairs.specs.Exchange.{ExchangeStage, Idle, Sent, Unsent, is_idle}
 use Rattle.exchange_pairs.specs.Version.{VersionEnd, asked, begun, may_begin, sent}
+use Rattle.exchange_pairs.specs.VersionLaws.{implies, is_version_right}
+use Rattle.exchange_pairs.proofs.VersionsTried.{are_lawful as versions_lawful, laws as version_laws}
 use Rattle.exchange_pairs.specs.VersionRun.{VersionEvent, VersionLink, Begins, Closes, Keeps, Sends, Takes, TakesKept, Wants, end_of, knows, may, act, versions}
 
 abbrev same : Bool → Bool → Bool
@@ -99,3 +101,17 @@ pub used_while_unknown : (events : List VersionEvent) (role : Role) → let s = 
     knows role s ≡ false → (end_of role s).used ≡ not (is_idle (end_of role s).own)
 used_while_unknown events Central unknown = right_by _ _ _ (c (run versions events) (run_holds laws are_lawful events)) unknown
 used_while_unknown events Peripheral unknown = right_by _ _ _ (p (run versions events) (run_holds laws are_lawful events)) unknown
+
+-- a central keeps the peripheral's only where it runs no exchange of its own
+pub kept_then_idle : (events : List VersionEvent) → (run versions events).kept ≡ true → is_idle (run versions events).central.own ≡ true
+kept_then_idle events kept = by (run versions events).kept kept (and_parts (is_version_right Peripheral r) (implies r.kept (is_idle r.central.own)) one.1).1
+  where
+    r : VersionLink
+    r = run versions events
+
+    one : (is_version_right Central r ≡ true) × ((is_version_right Peripheral r && implies r.kept (is_idle r.central.own)) ≡ true)
+    one = and_parts (is_version_right Central r) _ (run_holds version_laws versions_lawful events)
+
+    by : (b : Bool) → b ≡ true → implies b (is_idle r.central.own) ≡ true → is_idle r.central.own ≡ true
+    by true h is = is
+    by false h is = absurd (cc)
