@@ -6,3 +6,5 @@ pub mod FirstPlaces
 pub mod ExclusiveFirsts
 pub mod CentralFirsts
 pub mod PeripheralFirsts
+pub mod CentralFacts
+pub mod PeripheralFacts
