@@ -1,7 +1,6 @@
 -- What waits at a central, and what it sent last, in each state of a joint run in which that goes on.
-use Rattle.std.proofs.Common.{◌≡◌, ◌≤◌, ℕ, ◌+◌, Bool, true, false, not, List, Option, Some, None, refl, ap, sym, subst, ◌∙◌, arith}
-use Rattle.ble_base.specs.declared.roles.Role.{Role}
-use Rattle.ble_base.specs.declared.roles.Role.TheVariants.{Central, Peripheral}
+use Rattle.std.proofs.Common.{◌≡◌, ◌≤◌, ℕ, Bool, true, false, not, List, Option, Some, None, refl, ap, sym, ◌∙◌, arith}
+use Rattle.ble_base.specs.declared.roles.Role.TheVariants.{Central}
 use Rattle.data_pdu.specs.declared.ctrl.Ctrl.{Ctrl}
 use Rattle.data_pdu.specs.declared.ctrl.Ctrl.TheVariants.{PauseEncRsp, RejectExtInd, VersionInd as version_pdu}
 use Rattle.exclusive_stages.specs.declared.stages.CentralStage.TheVariants.{PhyUnsent}
@@ -9,7 +8,7 @@ use Rattle.exclusive_stages.specs.declared.stages.PeerAtCentral.{PeerAtCentral}
 use Rattle.ble_base.specs.declared.counters.EventNo.{EventNo}
 use Rattle.instants.specs.declared.indications.Params.{Params}
 use Rattle.procedure_values.specs.declared.drafts.Draft.{Draft}
-use Rattle.procedure_values.specs.declared.drafts.Draft.TheVariants.{Cipher, FeatureReq, LengthReq, PhyReq, Update, VersionInd}
+use Rattle.procedure_values.specs.declared.drafts.Draft.TheVariants.{Cipher, FeatureReq, LengthReq, PhyReq, VersionInd}
 use Rattle.procedure_values.specs.declared.drafts.Rejection.{Rejection as TheRejection}
 use Rattle.procedure_values.specs.declared.drafts.Outgoing.{Outgoing}
 use Rattle.procedure_values.specs.declared.drafts.Outgoing.TheVariants.{Disconnect, Nothing, Other, Rejection}
@@ -21,7 +20,6 @@ use Rattle.procedure_stages.specs.declared.stages.Progress.{Progress}
 use Rattle.procedure_stages.specs.declared.stages.Progress.TheVariants.{Central as central, Peripheral as peripheral}
 use Rattle.procedure_stages.specs.Exclusive.{central_stage}
 use Rattle.procedure_stages.specs.Kinds.{own_exchange, role_of}
-use Rattle.table_laws.specs.Waiting.{count_if}
 use Rattle.collisions.specs.Agreement.{is_phy_request}
 use Rattle.collision_steps.specs.CentralPart.{view}
 use Rattle.collision_steps.specs.Parts.{drafts_part}
@@ -29,8 +27,8 @@ use Rattle.exchange_pairs.specs.Exchange.{ExchangeStage, Idle, Sent, Unsent, is_
 use Rattle.exchange_steps.specs.Ends.{features_stage, lengths_stage, version_stage}
 use Rattle.phase_pairs.specs.JointRun.{is_pause_rsp as is_pause_class, is_pause_rsp_taken}
 use Rattle.phased_control.specs.Phased.{is_pause_rsp}
-use Rattle.joint_controls.specs.Ends.{IsSentAs, IsSentOn, outgoing_on}
-use Rattle.joint_controls.specs.Joint.{Joint, JointStep, Way, Clear, Control, Data, Fixed, OnAir, Taken, after_all, beginning, is_taken}
+use Rattle.joint_controls.specs.Ends.{IsSentOn, outgoing_on}
+use Rattle.joint_controls.specs.Joint.{Joint, JointStep, Way, Control, Data, Taken, after_all, beginning, is_taken}
 use Rattle.joint_controls.proofs.LastPdus.{first_tied, tied}
 use Rattle.joint_collisions.specs.Views.{IsReached, view_of}
 use Rattle.joint_exchanges.specs.Agreement.{Asked, Features, Lengths, is_version_ind, questions_waiting, stage_at, version_stage_at, waiting}
@@ -42,7 +40,7 @@ use Rattle.joint_phases.specs.Classes.{class_down, draft_down}
 use Rattle.joint_phases.specs.Facts.{are_of_own, drafts_of, is_first_of, is_unsent_first}
 use Rattle.joint_phases.specs.Parts.{way_down}
 use Rattle.joint_laws.specs.Firsts.{has, is_phy_unsent}
-use Rattle.joint_laws.proofs.CentralFirsts.{AreFirsts, all_of_own}
+use Rattle.joint_laws.proofs.CentralFirsts.{all_of_own}
 use Rattle.joint_laws.proofs.ExclusiveFirsts.{phy_unsent}
 use Rattle.joint_laws.proofs.VersionFacts.{used_if_running}
 use Rattle.joint_laws.proofs.VersionPdus.{count_some}

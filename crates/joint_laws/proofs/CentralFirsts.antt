@@ -1,9 +1,8 @@
 -- Of the PDUs that wait at a central the peripheral answers only the first one of the procedure in progress.
-use Rattle.std.proofs.Common.{◌≡◌, ◌≤◌, ℕ, ◌+◌, Bool, true, false, not, ◌&&◌, ◌||◌, List, [], ◌∷◌, Option, Some, None, refl, arith}
+use Rattle.std.proofs.Common.{◌≡◌, ◌≤◌, ℕ, Bool, true, false, not, ◌||◌, List, [], ◌∷◌, Option, Some, None, refl, arith}
 use Rattle.std.specs.List.{AllByRecursion}
 use Rattle.std.proofs.lemmas.Bool.{and_from}
-use Rattle.ble_base.specs.declared.roles.Role.{Role}
-use Rattle.ble_base.specs.declared.roles.Role.TheVariants.{Central, Peripheral}
+use Rattle.ble_base.specs.declared.roles.Role.TheVariants.{Central}
 use Rattle.data_pdu.specs.declared.ctrl.Ctrl.{Ctrl}
 use Rattle.data_pdu.specs.declared.ctrl.Ctrl.TheVariants.{EncReq, PauseEncReq, PauseEncRsp, StartEncRsp}
 use Rattle.exclusive_stages.specs.declared.pdus.Pdu.{Pdu}
@@ -11,7 +10,7 @@ use Rattle.procedure_values.specs.declared.drafts.Draft.{Draft}
 use Rattle.procedure_values.specs.declared.drafts.Draft.TheVariants.{Cipher, FeatureReq, LengthReq, PeripheralFeatureReq, PhyReq, PhyRsp, Request, VersionInd}
 use Rattle.procedure_stages.specs.declared.stages.Progress.{Progress}
 use Rattle.procedure_stages.specs.Exclusive.{pdu_of_draft}
-use Rattle.table_laws.specs.Waiting.{count_if, number_of}
+use Rattle.table_laws.specs.Waiting.{number_of}
 use Rattle.collisions.specs.Agreement.{is_phy_request}
 use Rattle.collision_steps.specs.Parts.{drafts_part, with_part}
 use Rattle.phase_pairs.specs.JointRun.{is_request}

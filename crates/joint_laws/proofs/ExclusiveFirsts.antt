@@ -1,5 +1,5 @@
 -- Where the first PDUs of the procedures that exclude each other are in a joint run of both ends.
-use Rattle.std.proofs.Common.{◌≡◌, Bool, true, false, not, ◌&&◌, ◌||◌, List, is_none, refl, sym, subst, ◌∙◌}
+use Rattle.std.proofs.Common.{◌≡◌, Bool, true, false, not, ◌&&◌, ◌||◌, is_none, refl, sym, subst, ◌∙◌}
 use Rattle.std.proofs.lemmas.Bool.{and_parts}
 use Rattle.machines.specs.Machine.{run}
 use Rattle.collisions.specs.declared.joint.Link.{Link}

@@ -10,7 +10,7 @@ use Rattle.collisions.specs.declared.joint.Link.{Link}
 use Rattle.collisions.specs.Agreement.{is_few}
 use Rattle.collisions.specs.JointRun.{collisions}
 use Rattle.collisions.proofs.CollisionCodes.{back}
-use Rattle.collisions.proofs.Collisions.{few, known}
+use Rattle.collisions.proofs.Collisions.{known}
 use Rattle.joint_laws.specs.Firsts.{are_firsts_right}
 
 abbrev right : ℕ → Bool

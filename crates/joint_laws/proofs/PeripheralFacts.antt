@@ -1,19 +1,15 @@
 -- A procedure of a peripheral begins only where no first PDU of one is on its way.
-use Rattle.std.proofs.Common.{◌≡◌, ℕ, ◌+◌, Bool, true, false, not, ◌&&◌, List, Option, Some, None, is_none, is_some, if◌then◌else◌, refl, ap, sym, subst, ◌∙◌, arith}
-use Rattle.std.proofs.lemmas.Bool.{and_from}
-use Rattle.ble_base.specs.declared.roles.Role.{Role}
+use Rattle.std.proofs.Common.{◌≡◌, ℕ, Bool, true, false, not, ◌&&◌, List, Option, Some, None, is_some, refl, ap, sym, subst, ◌∙◌, arith}
 use Rattle.ble_base.specs.declared.roles.Role.TheVariants.{Central, Peripheral}
 use Rattle.data_pdu.specs.declared.ctrl.Ctrl.{Ctrl}
 use Rattle.enc_phase.specs.declared.facts.PhaseFacts.{PhaseFacts}
 use Rattle.enc_phase.specs.declared.facts.PhaseFacts.TheVariants.{HalfKeyed}
-use Rattle.exclusive_stages.specs.declared.stages.PeripheralStage.{PeripheralStage}
 use Rattle.exclusive_stages.specs.declared.stages.PeripheralStage.TheVariants.{Idle as idle, RequestGranted}
 use Rattle.exclusive_stages.specs.Held.{own_held_at_peripheral}
 use Rattle.instants.specs.declared.indications.Params.{Params}
 use Rattle.instants.specs.Track.{next_number}
 use Rattle.procedure_values.specs.declared.asks.Ask.{Ask}
 use Rattle.procedure_values.specs.declared.drafts.Draft.{Draft}
-use Rattle.procedure_stages.specs.declared.stages.Exchange.{Exchange}
 use Rattle.procedure_stages.specs.declared.stages.OwnPeripheral.{OwnPeripheral}
 use Rattle.procedure_stages.specs.declared.stages.OwnPeripheral.TheVariants.{Exclusive as exclusive_p, Exchange as exchange_p}
 use Rattle.procedure_stages.specs.declared.stages.Progress.{Progress}
@@ -24,7 +20,6 @@ use Rattle.procedure_stages.specs.Kinds.{exchange_at_peripheral, kind_at_periphe
 use Rattle.procedures.specs.Beginning.{ask_at, place_to_begin}
 use Rattle.procedures.specs.Going.{entered_step}
 use Rattle.procedures.specs.Table.{TableFacts}
-use Rattle.table_laws.specs.Waiting.{count_if}
 use Rattle.table_laws.proofs.Begun.{begins_of}
 use Rattle.collision_steps.specs.PeripheralPart.{view}
 use Rattle.collision_steps.specs.Parts.{drafts_part}
@@ -38,7 +33,7 @@ use Rattle.joint_controls.specs.Joint.{Joint, JointStep, after_all, beginning, i
 use Rattle.joint_controls.specs.Ends.{steps_of_central}
 use Rattle.joint_controls.proofs.EndSteps.{central_runs}
 use Rattle.joint_collisions.specs.Views.{IsReached, view_of}
-use Rattle.joint_exchanges.specs.Agreement.{Asked, Features, Lengths, is_first_of, is_question_of, is_version_ctrl, is_version_ind, passes, places_of, questions_waiting, stage_at, untaken, version_stage_at}
+use Rattle.joint_exchanges.specs.Agreement.{Asked, Features, Lengths, is_first_of, is_question_of, passes, places_of, questions_waiting, stage_at, untaken}
 use Rattle.joint_exchanges.specs.Runs.{GoesOn}
 use Rattle.joint_exchanges.specs.SentByRole.{AreOfRoles}
 use Rattle.joint_exchanges.proofs.Few.{all_roles}
@@ -48,7 +43,7 @@ use Rattle.joint_phases.specs.Classes.{draft_up, has_request}
 use Rattle.joint_phases.specs.Facts.{drafts_of, has_no_first, is_first_up, item_untaken}
 use Rattle.joint_laws.specs.Firsts.{has, is_first, is_over}
 use Rattle.joint_laws.proofs.ExclusiveFirsts.{HasNoFirst, over_none}
-use Rattle.joint_laws.proofs.PeripheralFirsts.{AreNoFirsts, IsNoFirstOn, IsNoneKept, kept_none, queue_none, way_none}
+use Rattle.joint_laws.proofs.PeripheralFirsts.{kept_none, queue_none, way_none}
 use Rattle.joint_laws.proofs.VersionFacts.{NoVersion, idle_no_version}
 use Rattle.joint_laws.proofs.VersionPdus.{count_none}
 
