@@ -31,9 +31,9 @@ use Rattle.control_model.specs.Control.{Enters as control_enters, Owes, SeesAckn
 use Rattle.control_model.proofs.Calls.{any_step, open_step}
 use Rattle.phased_control.specs.Phased.{Phased, acknowledged, ask_begun, asking_if, asks_again, encrypting, encrypting_if, entered, first_phased, is_encrypt, is_open_now, is_pause_rsp, is_quiet_now, key_given, key_lacking, refused_if, request_of, table_entered, with_owed_if, with_step}
 use Rattle.phased_control.specs.Taken.{PhasedStep, Answers, Asks, Disconnects, Enters, GivesKey, LacksKey, SeesAcknowledged, Sends, Takes, TakesData, answered_kept, ciphered, class_of_read, ended_with, is_allowed, phased_after, phased_after_all, phased_moved, role_now, seen_as, took}
-use Rattle.phased_control.specs.Steps.{ctrl_if, owed_for, owed_steps, seen}
-use Rattle.phased_control.specs.Changes.{phase_answering}
-use Rattle.phased_control.specs.Ends.{AllMayRespond, IsFirst, IsResponse, MayRespond, follows_no_pause}
+use Rattle.phased_control.specs.Steps.{ctrl_if, read_answer, owed_steps, seen_by_procedures}
+use Rattle.phased_control.proofs.AnswerParts.{phase_answering}
+use Rattle.phased_control.specs.Ends.{AllMayRespond, IsFirst, IsResponse, MayRespond}
 use Rattle.phased_control.proofs.Answering.{answers}
 use Rattle.phased_control.proofs.Encrypted.{agrees_taken, quiet_taking}
 use Rattle.phased_control.proofs.Kept.{Tied, apart, tied_after, tied_first}
@@ -42,6 +42,8 @@ use Rattle.phased_control.proofs.Requests.{Requests, encrypts, requests_after, r
 use Rattle.phased_control.proofs.Tables.{begins_encryption, is_step_apart, leaves_at_central, leaves_encryption, leaves_entering, same_in, same_role, takes_as}
 use Rattle.phased_control.proofs.Taking.{handed_ways, took_ways}
 use Rattle.phased_control.proofs.Unpaused.{Unpaused, asks_in_half_clear, unpaused_after, unpaused_first}
+use Rattle.phased_control.proofs.PhaseFacts.{follows_no_pause}
+use Rattle.phased_control.proofs.PhaseFacts.{phase_owed}
 
 abbrev pub Agrees : Phased → Type 0
 Agrees s = is_quiet s.phase ≡ not (encrypts s)
@@ -65,10 +67,6 @@ apart_step step s is agrees = agrees_step step s (with_step step s) (leaves_encr
 encrypts_owed : (request : Option Ctrl) (s : Phased) → role_now s ≡ Central → encrypts (with_owed_if request s) ≡ encrypts s
 encrypts_owed None s role = refl
 encrypts_owed (Some ctrl) s role = leaves_at_central ctrl s.control role
-
-phase_owed : (request : Option Ctrl) (s : Phased) → (with_owed_if request s).phase ≡ s.phase
-phase_owed None s = refl
-phase_owed (Some ctrl) s = refl
 
 agrees_encrypting : (p : PhaseFacts) (s : Phased) → s.phase ≡ p → is_quiet p ≡ true → role_now s ≡ Central → encrypts s ≡ true → Agrees (encrypting p s)
 agrees_encrypting Clear s is quiet role has =
@@ -163,7 +161,7 @@ response_stays : (response : Ctrl) → IsResponse response → is_rejection resp
 response_stays (EncRsp skd_s iv_s) is = refl
 response_stays ctrl is = absurd is
 
-no_rejection : (role : Role) (response : Ctrl) (read : CtrlRead) (p : PhaseFacts) → (role ≡ Peripheral → IsResponse response) → IsNoRejection (owed_for role response read p)
+no_rejection : (role : Role) (response : Ctrl) (read : CtrlRead) (p : PhaseFacts) → (role ≡ Peripheral → IsResponse response) → IsNoRejection (read_answer role response read p)
 no_rejection Central response (Known StartEncReq) p may = no_rejection_if _ StartEncRsp refl
 no_rejection Central response (Known PauseEncRsp) p may = no_rejection_if _ PauseEncRsp refl
 no_rejection Central response (Known ctrl) p may = tt
@@ -213,9 +211,9 @@ leaves_taking read slot quiet c lasts same = by (after (control_takes read slot 
     by (Some code) is = ap (λ (f : TableFacts). has_encryption f.progress) ((takes_as read slot quiet c lasts).ends code is)
 
 pub agrees_taking : (slot : ℕ) (response : Ctrl) (read : CtrlRead) (role : Role) (s : Phased) → Tied role s → (role ≡ Peripheral → IsResponse response) → s.control.ends ≡ None
-    → is_allowed read s ≡ true → Agrees s → (seen read slot s).control.ends ≡ None → Agrees (ciphered response read (seen read slot s))
+    → is_allowed read s ≡ true → Agrees s → (seen_by_procedures read slot s).control.ends ≡ None → Agrees (ciphered response read (seen_by_procedures read slot s))
 agrees_taking slot response read role s tied may lasts allowed agrees goes =
-    let t = seen read slot s in
+    let t = seen_by_procedures read slot s in
     let f = s.control.table in
     let g = (took_step f (seen_as read s) slot (is_quiet_now s)).0 in
     let there : allows s.phase role (class_of_read read) ≡ true = subst (λ (r : Role). allows s.phase r (class_of_read read) ≡ true) tied.is_role allowed in
@@ -226,7 +224,7 @@ agrees_taking slot response read role s tied may lasts allowed agrees goes =
     let now : is_quiet (phase_answering (role_now t) read (encrypts t) t.phase) ≡ not (encrypts t) =
     subst (λ (h : TableFacts). is_quiet (phase_answering (role_now t) read (has_encryption h.progress) t.phase) ≡ not (has_encryption h.progress)) (sym table)
     (subst (λ (r : Role). is_quiet (phase_answering r read (has_encryption g.progress) t.phase) ≡ not (has_encryption g.progress)) (sym role_t) here) in
-    let owed = owed_for (role_now t) response read t.phase in
+    let owed = read_answer (role_now t) response read t.phase in
     let same : has_encryption (after_all (owed_steps owed) t.control).table.progress ≡ encrypts t =
     leaves_owed owed t.control (no_rejection (role_now t) response read t.phase (λ at. may (sym tied.is_role ∙ sym role_t ∙ at))) in
     subst Agrees (sym (answers t response read)) (now ∙ sym (ap not same))
@@ -243,7 +241,7 @@ lasts_owed (Some ctrl) c lasts = any_step (λ (d : Control). d.ends ≡ None) (O
 
 pub lasts_answered : (response : Ctrl) (read : CtrlRead) (s : Phased) → s.control.ends ≡ None → (ciphered response read s).control.ends ≡ None
 lasts_answered response read s lasts =
-    subst (λ (t : Phased). t.control.ends ≡ None) (sym (answers s response read)) (lasts_owed (owed_for (role_now s) response read s.phase) s.control lasts)
+    subst (λ (t : Phased). t.control.ends ≡ None) (sym (answers s response read)) (lasts_owed (read_answer (role_now s) response read s.phase) s.control lasts)
 
 agrees_took : (slot : ℕ) (response : Ctrl) (read : CtrlRead) (role : Role) (s : Phased) → Tied role s → (role ≡ Peripheral → IsResponse response) → s.control.ends ≡ None → Agrees s
     → Agrees (took slot response read s)
@@ -260,7 +258,7 @@ agrees_took slot response read role s tied may lasts agrees =
     (agrees_taking slot response read role s tied may lasts allowed agrees goes)))
   where
     t : Phased
-    t = seen read slot s
+    t = seen_by_procedures read slot s
 
 -- ---- every step
 

@@ -38,14 +38,14 @@ record Here (role : Role) (max_rx : ℕ) (past : List Call) (s : Phased) : Type 
   at : At role max_rx past s.control.table (is_key_asked past)
   sound : Sound role s
   agrees : Agrees s
-  order : InOrder role s
+  order : role ≡ Central → InOrder role s
   asked : KeyFits s (is_key_asked past)
 
 module _ (role : Role) (max_rx : ℕ) (past : List Call) (s : Phased) (here : Here role max_rx past s) where
   abbrev key : Bool
   key = is_key_asked past
 
-  fits : (step : PhasedStep) → MayRespond role step → IsInTurn step s → s.control.ends ≡ None → Fits step s key
+  fits : (step : PhasedStep) → MayRespond role step → (role ≡ Central → IsInTurn step s) → s.control.ends ≡ None → Fits step s key
   fits (Enters slot) may turn lasts = fits_enters role max_rx past slot s key here.at lasts here.agrees here.asked
   fits (Asks ask) may turn lasts = fits_asks s key lasts here.agrees here.asked ask
   fits (Answers answer) may turn lasts = fits_answers s key lasts here.agrees here.asked answer
@@ -58,7 +58,7 @@ module _ (role : Role) (max_rx : ℕ) (past : List Call) (s : Phased) (here : He
       fits_takes role max_rx past slot response read s key here.at lasts here.sound.tied here.agrees (responds role read slot response may) turn here.asked
   fits TakesData may turn lasts = fits_data s key lasts here.agrees here.asked
 
-  module _ (step : PhasedStep) (may : MayRespond role step) (turn : IsInTurn step s) where
+  module _ (step : PhasedStep) (may : MayRespond role step) (turn : role ≡ Central → IsInTurn step s) where
     abbrev now : List Call
     now = all_calls (steps_now step s) s.control
 
@@ -97,17 +97,17 @@ module _ (role : Role) (max_rx : ℕ) (past : List Call) (s : Phased) (here : He
           at = subst (λ (f : TableFacts). At role max_rx (past ++ now) f (is_key_asked (past ++ now))) (sym (makes_phased step s)) (subst (λ (k : Bool). At role max_rx (past ++ now) (after_calls s.control.table now) k) keys there);
           sound = sound_after role step s here.sound;
           agrees = agrees_after role step s here.sound may here.agrees;
-          order = order_after role step s here.sound here.agrees may turn here.order;
+          order = λ is. order_after role step s here.sound here.agrees may (turn is) (here.order is);
           asked = subst (λ (k : Bool). KeyFits (phased_after step s) k) keys h.asked;
         }
 
-here_all : (role : Role) (max_rx : ℕ) (past : List Call) (steps : List PhasedStep) (s : Phased) → Here role max_rx past s → AllMayRespond role steps → AreInTurn steps s
+here_all : (role : Role) (max_rx : ℕ) (past : List Call) (steps : List PhasedStep) (s : Phased) → Here role max_rx past s → AllMayRespond role steps → (role ≡ Central → AreInTurn steps s)
     → Here role max_rx (past ++ all_phased_calls steps s) (phased_after_all steps s)
 here_all role max_rx past [] s here may turns = subst (λ (calls : List Call). Here role max_rx calls s) (sym (append-nil past)) here
 here_all role max_rx past (step ∷ steps) s here may turns =
     let now = all_calls (steps_now step s) s.control in
     subst (λ (calls : List Call). Here role max_rx calls (phased_after_all steps (phased_after step s))) (append_assoc past now (all_phased_calls steps (phased_after step s)))
-    (here_all role max_rx (past ++ now) steps (phased_after step s) (here_after role max_rx past s here step may.0 turns.0) may.1 turns.1)
+    (here_all role max_rx (past ++ now) steps (phased_after step s) (here_after role max_rx past s here step may.0 (λ is. (turns is).0)) may.1 (λ is. (turns is).1))
 
 here_first : (role : Role) (max_rx : ℕ) (first : Params) (slot : ℕ) → Here role max_rx [] (first_phased role max_rx first slot)
 here_first role max_rx first slot =
@@ -115,11 +115,11 @@ here_first role max_rx first slot =
       at = record { may = tt; passes = tt; is = refl; asked = refl };
       sound = sound_first role max_rx first slot;
       agrees = agrees_first role max_rx first slot;
-      order = order_first role max_rx first slot;
+      order = λ is. order_first role max_rx first slot;
       asked = λ opens. refl;
     }
 
-module _ (role : Role) (max_rx : ℕ) (first : Params) (slot : ℕ) (steps : List PhasedStep) (may : AllMayRespond role steps) (turns : AreInTurn steps (first_phased role max_rx first slot)) where
+module _ (role : Role) (max_rx : ℕ) (first : Params) (slot : ℕ) (steps : List PhasedStep) (may : AllMayRespond role steps) (turns : role ≡ Central → AreInTurn steps (first_phased role max_rx first slot)) where
   here_now : Here role max_rx (all_phased_calls steps (first_phased role max_rx first slot)) (phased_after_all steps (first_phased role max_rx first slot))
   here_now = here_all role max_rx [] steps (first_phased role max_rx first slot) (here_first role max_rx first slot) may turns
 
@@ -150,7 +150,7 @@ module _ (max_rx : ℕ) (first : Params) (slot : ℕ) (steps : List PhasedStep) 
   calls = all_phased_calls steps (first_phased Central max_rx first slot)
 
   here_c : Here Central max_rx calls s
-  here_c = here_now Central max_rx first slot steps may turns
+  here_c = here_now Central max_rx first slot steps may (λ is. turns)
 
   -- a call of now passes the phase of now
   passing : is_quiet_now s ≡ false → PassesPhase (after_calls (first_facts Central max_rx) calls) (takes Bare 0 false)

@@ -18,8 +18,8 @@ use Rattle.table_laws.specs.Encrypting.{has_encryption}
 use Rattle.control_model.specs.Control.{after_all}
 use Rattle.phased_control.specs.Phased.{Phased, is_open_now}
 use Rattle.phased_control.specs.Taken.{asked, ciphered, ciphered_at, ciphered_at_central, ciphered_at_peripheral, moved_if, refused_by, role_now, started}
-use Rattle.phased_control.specs.Steps.{ctrl_if, owed_by, owed_by_central, owed_by_peripheral, owed_for, owed_steps}
-use Rattle.phased_control.specs.Changes.{key_answering, key_at, phase_answering, phase_at, phase_at_central, phase_at_peripheral, phase_refused_by}
+use Rattle.phased_control.specs.Steps.{ctrl_if, ctrl_answer, central_answer, peripheral_answer, read_answer, owed_steps}
+use Rattle.phased_control.proofs.AnswerParts.{key_answering, ctrl_key, phase_answering, ctrl_phase, central_phase, peripheral_phase, refused_phase}
 
 -- an end with this PDU owed, this phase and this key asked for
 abbrev pub with_answer : Option Ctrl → PhaseFacts → Bool → Phased → Phased
@@ -91,7 +91,7 @@ module _ (s : Phased) where
       by true is = refl
       by false is = same_phase _ (phase_stays AskTransition s.phase plain_ask is)
 
-  refuses : (pdu : PduClass) → refused_by pdu s ≡ with_answer None (phase_refused_by pdu (has_encryption s.control.table.progress) s.phase) s.asks_key s
+  refuses : (pdu : PduClass) → refused_by pdu s ≡ with_answer None (refused_phase pdu (has_encryption s.control.table.progress) s.phase) s.asks_key s
   refuses Refusal = by (has_encryption s.control.table.progress)
     where
       by : (b : Bool) → (if b then s else record s { phase = phase_after Refuse s.phase }) ≡ with_answer None (if b then s.phase else phase_after Refuse s.phase) s.asks_key s
@@ -101,7 +101,7 @@ module _ (s : Phased) where
 
   central_answers : (ctrl : Ctrl)
       → ciphered_at_central ctrl s
-      ≡ with_answer (owed_by_central ctrl s.phase) (phase_at_central ctrl (has_encryption s.control.table.progress) s.phase) s.asks_key s
+      ≡ with_answer (central_answer ctrl s.phase) (central_phase ctrl (has_encryption s.control.table.progress) s.phase) s.asks_key s
   central_answers StartEncReq = starts
   central_answers StartEncRsp = moves_alone Confirm plain_confirm
   central_answers PauseEncRsp = moves_with Unlock PauseEncRsp plain_unlock
@@ -109,7 +109,7 @@ module _ (s : Phased) where
 
   peripheral_answers : (response ctrl : Ctrl)
       → ciphered_at_peripheral response ctrl s
-      ≡ with_answer (owed_by_peripheral response ctrl s.phase) (phase_at_peripheral ctrl s.phase) (key_at Peripheral ctrl s.phase (is_open_now s) s.asks_key) s
+      ≡ with_answer (peripheral_answer response ctrl s.phase) (peripheral_phase ctrl s.phase) (ctrl_key Peripheral ctrl s.phase (is_open_now s) s.asks_key) s
   peripheral_answers response (EncReq rand ediv skd_m iv_m) = asks response
   peripheral_answers response PauseEncReq = moves_with Pause PauseEncRsp plain_pause
   peripheral_answers response StartEncRsp = moves_with Confirm StartEncRsp plain_confirm
@@ -118,14 +118,14 @@ module _ (s : Phased) where
 
   role_answers : (role : Role) (response ctrl : Ctrl)
       → ciphered_at role response ctrl s
-      ≡ with_answer (owed_by role response ctrl s.phase) (phase_at role ctrl (has_encryption s.control.table.progress) s.phase) (key_at role ctrl s.phase (is_open_now s) s.asks_key) s
+      ≡ with_answer (ctrl_answer role response ctrl s.phase) (ctrl_phase role ctrl (has_encryption s.control.table.progress) s.phase) (ctrl_key role ctrl s.phase (is_open_now s) s.asks_key) s
   role_answers Central response ctrl = central_answers ctrl
   role_answers Peripheral response ctrl = peripheral_answers response ctrl
 
   -- the answer to what was read
   pub answers : (response : Ctrl) (read : CtrlRead)
       → ciphered response read s
-      ≡ with_answer (owed_for (role_now s) response read s.phase) (phase_answering (role_now s) read (has_encryption s.control.table.progress) s.phase)
+      ≡ with_answer (read_answer (role_now s) response read s.phase) (phase_answering (role_now s) read (has_encryption s.control.table.progress) s.phase)
       (key_answering (role_now s) read s.phase (is_open_now s) s.asks_key) s
   answers response (Known ctrl) = role_answers (role_now s) response ctrl
   answers response (Unknown opcode) = refl

@@ -25,7 +25,7 @@ use Rattle.procedures.specs.Taking.{facts_with, lacks_room, no_room, outcome_of,
 use Rattle.table_laws.specs.Encrypting.{BeginsAtPeripheral, EndsAtCentral, EndsAtPeripheral, MayBeginBy, MayEndBy, has_encryption}
 use Rattle.table_laws.proofs.Encrypting.{begins_by, ended, ends_by}
 use Rattle.phased_control.specs.Taken.{class_of_read, seen_if}
-use Rattle.phased_control.specs.Changes.{phase_answering, phase_at_central, phase_at_peripheral, phase_refused_by}
+use Rattle.phased_control.proofs.AnswerParts.{phase_answering, central_phase, peripheral_phase, refused_phase}
 use Rattle.phased_control.proofs.Tables.{same_in}
 
 pub quiet_taking : (pdu : PduClass) (p : PhaseFacts) → is_quiet (phase_taking pdu p) ≡ is_quiet p
@@ -48,7 +48,7 @@ record TookAtCentral (ctrl : Ctrl) (p : PhaseFacts) (a b : Bool) : Type 0 where
   ends : is_quiet p ≡ false → a ≡ true → b ≡ false → EndsAtCentral ctrl false
   confirmed : is_quiet p ≡ false → Confirms ctrl b
 
-quiet_refused : (pdu : PduClass) (p : PhaseFacts) → is_quiet p ≡ true → is_quiet (phase_refused_by pdu false (phase_taking pdu p)) ≡ true
+quiet_refused : (pdu : PduClass) (p : PhaseFacts) → is_quiet p ≡ true → is_quiet (refused_phase pdu false (phase_taking pdu p)) ≡ true
 quiet_refused Refusal Clear is = refl
 quiet_refused Refusal Secure is = refl
 quiet_refused Refusal p is = absurd (cc)
@@ -56,7 +56,7 @@ quiet_refused enc_rsp_class p is = quiet_taking enc_rsp_class p ∙ is
 quiet_refused Request p is = quiet_taking Request p ∙ is
 quiet_refused pdu p is = is
 
-quietly_central : (ctrl : Ctrl) (p : PhaseFacts) → is_quiet p ≡ true → is_quiet (phase_at_central ctrl false (phase_taking (ctrl_class ctrl) p)) ≡ true
+quietly_central : (ctrl : Ctrl) (p : PhaseFacts) → is_quiet p ≡ true → is_quiet (central_phase ctrl false (phase_taking (ctrl_class ctrl) p)) ≡ true
 quietly_central StartEncReq Clear is = refl
 quietly_central StartEncReq Secure is = refl
 quietly_central StartEncReq p is = absurd (cc)
@@ -70,7 +70,7 @@ quietly_central ctrl p is = quiet_refused (ctrl_class ctrl) p is
 
 -- outside Clear and Secure a refusal alone ends it
 loud_refused : (pdu : PduClass) (p : PhaseFacts) (b : Bool) → is_quiet p ≡ false → allows p Central pdu ≡ true → (b ≡ false → pdu ≡ Refusal)
-    → is_quiet (phase_refused_by pdu b (phase_taking pdu p)) ≡ not b
+    → is_quiet (refused_phase pdu b (phase_taking pdu p)) ≡ not b
 loud_refused Refusal (Asked after_pause enc_rsp kept) true loud may ends = refl
 loud_refused Refusal (Asked after_pause enc_rsp kept) false loud may ends = refl
 loud_refused Refusal Clear b loud may ends = absurd (cc)
@@ -124,7 +124,7 @@ lasts_still true h = refl
 lasts_still false h = absurd (h refl)
 
 loudly_central : (ctrl : Ctrl) (p : PhaseFacts) (a b : Bool) → is_quiet p ≡ false → allows p Central (ctrl_class ctrl) ≡ true → a ≡ true → TookAtCentral ctrl p a b
-    → is_quiet (phase_at_central ctrl b (phase_taking (ctrl_class ctrl) p)) ≡ not b
+    → is_quiet (central_phase ctrl b (phase_taking (ctrl_class ctrl) p)) ≡ not b
 loudly_central StartEncReq (Asked after_pause enc_rsp kept) a b loud may was took =
     rw (lasts_still b (λ over. took.ends loud was over)) refl
 loudly_central StartEncReq Clear a b loud may was took = absurd (cc)
@@ -143,10 +143,10 @@ loudly_central ctrl p a b loud may was took =
     loud_refused (ctrl_class ctrl) p b loud may (λ over. other_class ctrl refl (class_of_end ctrl p loud may false (took.ends loud was over)))
 
 central_took : (ctrl : Ctrl) (p : PhaseFacts) (a b : Bool) → is_quiet p ≡ not a → allows p Central (ctrl_class ctrl) ≡ true → TookAtCentral ctrl p a b
-    → is_quiet (phase_at_central ctrl b (phase_taking (ctrl_class ctrl) p)) ≡ not b
+    → is_quiet (central_phase ctrl b (phase_taking (ctrl_class ctrl) p)) ≡ not b
 central_took ctrl p a b agree may took = by (is_quiet p) refl
   where
-    by : (quiet : Bool) → is_quiet p ≡ quiet → is_quiet (phase_at_central ctrl b (phase_taking (ctrl_class ctrl) p)) ≡ not b
+    by : (quiet : Bool) → is_quiet p ≡ quiet → is_quiet (central_phase ctrl b (phase_taking (ctrl_class ctrl) p)) ≡ not b
     by true quiet = rw (took.begins (was_false p a quiet agree)) (quietly_central ctrl p quiet)
     by false loud = loudly_central ctrl p a b loud may (was_true p a loud agree) took
 
@@ -180,7 +180,7 @@ left ctrl p a b took begin end = by (is_unknown p Peripheral (ctrl_class ctrl)) 
     by false is = same_bool a b (λ h1. λ h2. begin (took.begins is h1 h2)) (λ h1. λ h2. end (took.ends is h1 h2))
 
 peripheral_took : (ctrl : Ctrl) (p : PhaseFacts) (a b : Bool) → is_quiet p ≡ not a → allows p Peripheral (ctrl_class ctrl) ≡ true → TookAtPeripheral ctrl p a b
-    → is_quiet (phase_at_peripheral ctrl (phase_taking (ctrl_class ctrl) p)) ≡ not b
+    → is_quiet (peripheral_phase ctrl (phase_taking (ctrl_class ctrl) p)) ≡ not b
 peripheral_took (EncReq rand ediv skd_m iv_m) Clear a b agree may took = rw (took.begun refl) refl
 peripheral_took (EncReq rand ediv skd_m iv_m) Secure a b agree may took = agree ∙ sym (ap not (took.unknown refl))
 peripheral_took (EncReq rand ediv skd_m iv_m) (HalfClear kept) a b agree may took = rw (took.begun refl) refl

@@ -24,8 +24,8 @@ use Rattle.control_model.specs.Control.{Control, after, after_all, ended}
 use Rattle.control_model.specs.Control.{Enters as control_enters, Owes, SeesAcknowledged as control_sees_acknowledged, Sends as control_sends, Takes as control_takes, Asks as control_asks, Answers as control_answers, Disconnects as control_disconnects, Step}
 use Rattle.phased_control.specs.Phased.{Phased, ask_begun, asking_if, asks_again, encrypting, encrypting_if, entered, first_phased, is_encrypt, is_open_now, is_pause_rsp, is_quiet_now, key_given, key_lacking, refused_if, request_of, table_entered, with_owed_if, with_step}
 use Rattle.phased_control.specs.Taken.{PhasedStep, Answers, Asks, Disconnects, Enters, GivesKey, LacksKey, SeesAcknowledged, Sends, Takes, TakesData, answered_kept, ciphered, class_of_read, ctrl_in, does_keep, ended_with, is_allowed, keeping, keeps_class, phased_after, phased_after_all, phased_moved, role_now, seen_as, took}
-use Rattle.phased_control.specs.Steps.{owed_for, owed_steps, seen}
-use Rattle.phased_control.specs.Changes.{key_answering, phase_answering, phase_refused_by}
+use Rattle.phased_control.specs.Steps.{read_answer, owed_steps, seen_by_procedures}
+use Rattle.phased_control.proofs.AnswerParts.{key_answering, phase_answering, refused_phase}
 use Rattle.phased_control.specs.Ends.{IsFirst, is_half_keyed, says_kept}
 use Rattle.phased_control.proofs.Answering.{answers, plain_ask, plain_confirm, plain_pause, plain_unlock}
 use Rattle.phased_control.proofs.Moving.{same_kept}
@@ -196,7 +196,7 @@ apart is = absurd (cc)
 
 -- ---- a PDU is answered
 
-goes_refused : (pdu : PduClass) (b : Bool) (p : PhaseFacts) → Goes p (phase_refused_by pdu b p)
+goes_refused : (pdu : PduClass) (b : Bool) (p : PhaseFacts) → Goes p (refused_phase pdu b p)
 goes_refused Refusal true p = goes_none p
 goes_refused Refusal false p = goes_after Refuse p
 goes_refused pdu b p = goes_none p
@@ -248,7 +248,7 @@ module _ (role : Role) where
         asked_at = tied.asked_at;
       }
 
-  tied_seen : (read : CtrlRead) (slot : ℕ) (s : Phased) → is_allowed read s ≡ true → does_keep read s ≡ false → Tied role s → Tied role (seen read slot s)
+  tied_seen : (read : CtrlRead) (slot : ℕ) (s : Phased) → is_allowed read s ≡ true → does_keep read s ≡ false → Tied role s → Tied role (seen_by_procedures read slot s)
   tied_seen read slot s may not_kept tied =
       let m = minds (class_of_read read) s.phase (role_now s) may not_kept in
       record {
@@ -276,7 +276,7 @@ module _ (role : Role) where
   half_answered response read s tied =
       subst Half (sym (answers s response read))
       (record {
-        is_role = role_owed (owed_for (role_now s) response read s.phase) s.control tied.is_role;
+        is_role = role_owed (read_answer (role_now s) response read s.phase) s.control tied.is_role;
         none = tied.none;
         first = tied.first;
         asked = asked_answering (role_now s) read (has_encryption s.control.table.progress) s.phase (is_open_now s) s.asks_key tied.asked (λ key. tied.is_role ∙ tied.asked_at key);
@@ -330,8 +330,8 @@ module _ (role : Role) where
       (λ may. λ keeps. λ full.
       let now = tied_seen read slot s may keeps tied in
       handed_ways (Tied role) slot response read s (λ code. λ over. now)
-      (λ lasts. λ loud. tied_loudly response read (seen read slot s) loud now)
-      (λ lasts. λ quiet. tied_quietly slot (ciphered response read (seen read slot s)) quiet (half_answered response read (seen read slot s) now)))
+      (λ lasts. λ loud. tied_loudly response read (seen_by_procedures read slot s) loud now)
+      (λ lasts. λ quiet. tied_quietly slot (ciphered response read (seen_by_procedures read slot s)) quiet (half_answered response read (seen_by_procedures read slot s) now)))
 
   tied_moved : (step : PhasedStep) (s : Phased) → Tied role s → Tied role (phased_moved step s)
   tied_moved (Enters slot) s tied = tied_entered role slot s tied

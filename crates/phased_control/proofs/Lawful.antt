@@ -51,12 +51,12 @@ use Rattle.control_model.specs.Control.{Control, Step, after, after_all, goes_ou
 use Rattle.control_model.specs.Control.{Enters as control_enters, SeesAcknowledged as control_sees_acknowledged, Sends as control_sends, Asks as control_asks, Answers as control_answers, Disconnects as control_disconnects}
 use Rattle.control_model.proofs.Calls.{any_step, open_step}
 use Rattle.phased_control.specs.Calls.{AllPassPhase, all_calls, calls_now, calls_of}
-use Rattle.phased_control.specs.Ciphers.{ciphers_waiting, is_of_encryption, owed_in}
+use Rattle.phased_control.specs.Ciphers.{ciphers_waiting, is_of_encryption, phase_ciphers}
 use Rattle.phased_control.specs.Phased.{Phased, ask_begun, asking_if, asks_again, encrypting, encrypting_if, is_encrypt, is_open_now, is_pause_rsp, is_quiet_now, request_of, table_entered, with_owed_if, with_step}
 use Rattle.phased_control.specs.Taken.{PhasedStep, Answers, Asks, Disconnects, Enters, GivesKey, LacksKey, SeesAcknowledged, Sends, TakesData, class_of_read, ended_with, is_answered, phased_moved, role_now, seen_if}
-use Rattle.phased_control.specs.Steps.{control_steps, ctrl_if, end_by_phase, ended_if, first_owed, first_owed_if, owed_for, owed_steps}
-use Rattle.phased_control.specs.Changes.{key_answering}
-use Rattle.phased_control.specs.Ends.{IsRequest, IsResponse, follows_no_pause}
+use Rattle.phased_control.specs.Steps.{control_steps, ctrl_if, end_by_phase, ended_if, first_owed, first_owed_if, read_answer, owed_steps}
+use Rattle.phased_control.proofs.AnswerParts.{key_answering}
+use Rattle.phased_control.specs.Ends.{IsRequest, IsResponse}
 use Rattle.phased_control.proofs.Agreeing.{Agrees, Sound, asks_at_central}
 use Rattle.phased_control.proofs.Calling.{keys_joined}
 use Rattle.phased_control.proofs.Encrypted.{class_of_end, ends_at_central, known_loudly, same_unknown}
@@ -67,6 +67,8 @@ use Rattle.phased_control.proofs.Rooms.{is_answered_in}
 use Rattle.phased_control.proofs.Tables.{begins_encryption, leaves_encryption, same_apart, same_role}
 use Rattle.phased_control.proofs.Unpaused.{asks_in_half_clear}
 use Rattle.phased_control.proofs.Waiting.{InOrder, Last, lasts_acked}
+use Rattle.phased_control.proofs.PhaseFacts.{follows_no_pause}
+use Rattle.phased_control.proofs.PhaseFacts.{loud_in_half_clear, runs}
 
 abbrev pub KeyFits : Phased → Bool → Type 0
 KeyFits s key = is_open_now s ≡ true → key ≡ s.asks_key
@@ -311,19 +313,10 @@ no_request_in (x ∷ []) (inl h) = (not_request x (ap (first_of pause_enc_rsp) h
 no_request_in (x ∷ y ∷ ctrls) (inl h) = absurd (cc)
 no_request_in (x ∷ ctrls) (inr h) = absurd (cc)
 
-in_half_clear : (p : PhaseFacts) (ctrls : List Ctrl) → may_follow AskTransition p ≡ true → follows_no_pause p ≡ false → Last (owed_in Central p) ctrls → AllByRecursion IsNoRequest ctrls
+in_half_clear : (p : PhaseFacts) (ctrls : List Ctrl) → may_follow AskTransition p ≡ true → follows_no_pause p ≡ false → Last (phase_ciphers Central p) ctrls → AllByRecursion IsNoRequest ctrls
 in_half_clear (HalfClear kept) ctrls may paused last = no_request_in ctrls last
 in_half_clear Clear ctrls may paused last = absurd (cc)
 in_half_clear p ctrls may paused last = absurd (cc)
-
-loud_in_half_clear : (p : PhaseFacts) → may_follow AskTransition p ≡ true → follows_no_pause p ≡ false → is_quiet p ≡ false
-loud_in_half_clear (HalfClear kept) may paused = refl
-loud_in_half_clear Clear may paused = absurd (cc)
-loud_in_half_clear p may paused = absurd (cc)
-
-pub runs : (b : Bool) → false ≡ not b → b ≡ true
-runs true h = refl
-runs false h = absurd (cc)
 
 queue_acked : (c : Control) → (after control_sees_acknowledged c).table.queue ≡ c.table.queue
 queue_acked c = any_step (λ (d : Control). d.table.queue ≡ c.table.queue) control_sees_acknowledged c (by (is_out c.table.out)) refl
@@ -337,7 +330,7 @@ asks_key_asking true s = asks_key_owed s.request (record s { phase = phase_after
 asks_key_asking false s = refl
 
 module _ (role : Role) (max_rx : ℕ) (past : List Call) (s : Phased) (key : Bool) (at : At role max_rx past s.control.table key) (lasts : s.control.ends ≡ None) (sound : Sound role s) (agrees : Agrees s)
-    (order : InOrder role s) (asked : KeyFits s key) where
+    (order : role ≡ Central → InOrder role s) (asked : KeyFits s key) where
   passes_acked : AllPassPhase s.control.table (calls_of control_sees_acknowledged s.control)
   passes_acked = passes_if (is_out s.control.table.out) is_acked s.control.table (λ is. tt)
 
@@ -367,7 +360,7 @@ module _ (role : Role) (max_rx : ℕ) (past : List Call) (s : Phased) (key : Boo
           let has : encrypts s ≡ true = runs (encrypts s) (sym (loud_in_half_clear s.phase may paused) ∙ agrees) in
           let role_c : role_of c.table.progress ≡ Central = same_role Central control_sees_acknowledged s.control (sound.tied.is_role ∙ here) in
           let none : own_waiting s.control.table ≡ 0 =
-          no_own s.control.table (in_half_clear s.phase (ciphers_waiting s.control.table) may paused (subst (λ (r : Role). InOrder r s) here order).waits)
+          no_own s.control.table (in_half_clear s.phase (ciphers_waiting s.control.table) may paused (subst (λ (r : Role). InOrder r s) here (order here)).waits)
           (none_first max_rx past s.control.table key (subst (λ (r : Role). At r max_rx past s.control.table key) here at) has) in
           let request : MayRequest c.table =
           record {
@@ -471,7 +464,7 @@ key_response true ctrl key is = absurd is
 key_response false response key is = refl
 
 pub key_answered : (role : Role) (response : Ctrl) (read : CtrlRead) (p : PhaseFacts) (key : Bool) → (role ≡ Peripheral → IsResponse response)
-    → key_given_by (owed_for role response read p) key ≡ key_answering role read p true key
+    → key_given_by (read_answer role response read p) key ≡ key_answering role read p true key
 key_answered Central response (Known StartEncReq) p key may = key_if_owed _ StartEncRsp key refl
 key_answered Central response (Known PauseEncRsp) p key may = key_if_owed _ PauseEncRsp key refl
 key_answered Central response (Known ctrl) p key may = refl

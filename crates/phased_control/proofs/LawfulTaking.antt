@@ -26,8 +26,8 @@ use Rattle.phased_control.specs.Calls.{all_calls, calls_now}
 use Rattle.phased_control.specs.Ciphers.{IsInTurn, ciphers_waiting, is_of_encryption}
 use Rattle.phased_control.specs.Phased.{Phased, is_open_now, is_quiet_now}
 use Rattle.phased_control.specs.Taken.{Takes, answered_if_quiet, answered_kept, ciphered, class_of_read, does_keep, ended_with, is_allowed, is_answered, handed_on, keeping, lacks_room_now, role_now, seen_as, seen_if}
-use Rattle.phased_control.specs.Steps.{handed_steps, kept_steps, later_steps, owed_for, owed_steps, seen}
-use Rattle.phased_control.specs.Changes.{key_answering}
+use Rattle.phased_control.specs.Steps.{handed_steps, kept_steps, later_steps, read_answer, owed_steps, seen_by_procedures}
+use Rattle.phased_control.proofs.AnswerParts.{key_answering}
 use Rattle.phased_control.specs.Ends.{IsResponse}
 use Rattle.phased_control.proofs.Agreeing.{Agrees, agrees_taking, lasts_answered}
 use Rattle.phased_control.proofs.Answering.{answers}
@@ -74,7 +74,7 @@ opens_kept slot None s opens = opens
 opens_kept slot (Some ctrl) s opens = opens_before (control_takes (Known ctrl) slot true) s.control opens
 
 module _ (role : Role) (max_rx : ℕ) (past : List Call) (slot : ℕ) (response : Ctrl) (read : CtrlRead) (s : Phased) (key : Bool) (at : At role max_rx past s.control.table key)
-    (lasts : s.control.ends ≡ None) (tied : Tied role s) (agrees : Agrees s) (may : role ≡ Peripheral → IsResponse response) (turn : IsInTurn (Takes read slot response) s) (asked : KeyFits s key) where
+    (lasts : s.control.ends ≡ None) (tied : Tied role s) (agrees : Agrees s) (may : role ≡ Peripheral → IsResponse response) (turn : role ≡ Central → IsInTurn (Takes read slot response) s) (asked : KeyFits s key) where
   abbrev f : TableFacts
   f = s.control.table
 
@@ -82,7 +82,7 @@ module _ (role : Role) (max_rx : ℕ) (past : List Call) (slot : ℕ) (response 
   x = control_takes (seen_as read s) slot (is_quiet_now s)
 
   abbrev t : Phased
-  t = seen read slot s
+  t = seen_by_procedures read slot s
 
   abbrev g : TableFacts
   g = (took_step f (seen_as read s) slot (is_quiet_now s)).0
@@ -100,15 +100,15 @@ module _ (role : Role) (max_rx : ℕ) (past : List Call) (slot : ℕ) (response 
           let there : allows s.phase Central (class_of_read read) ≡ true = subst (λ (r : Role). allows s.phase r (class_of_read read) ≡ true) role_s allowed in
           let first = none_first max_rx past f key (subst (λ (r : Role). At r max_rx past f key) is at) has in
           let role_g : role_of g.progress ≡ Central = role_took f (seen_as read s) slot (is_quiet_now s) ∙ role_s in
-          encrypts_kind g.progress role_g (still role_s has loud there first (is_of_encryption (class_of_read read)) refl)
+          encrypts_kind g.progress role_g (still is role_s has loud there first (is_of_encryption (class_of_read read)) refl)
         where
-          still : role_now s ≡ Central → has_encryption f.progress ≡ true → is_quiet_now s ≡ false → allows s.phase Central (class_of_read read) ≡ true → first_pdus_waiting f ≡ 0
+          still : role ≡ Central → role_now s ≡ Central → has_encryption f.progress ≡ true → is_quiet_now s ≡ false → allows s.phase Central (class_of_read read) ≡ true → first_pdus_waiting f ≡ 0
               → (b : Bool) → is_of_encryption (class_of_read read) ≡ b → has_encryption g.progress ≡ true
-          still role_s has loud there first true of = let none = none_waits f (turn of) first in absurd (too_few (own_waiting f) waits none)
+          still is role_s has loud there first true of = let none = none_waits f (turn is of) first in absurd (too_few (own_waiting f) waits none)
             where
               too_few : (n : ℕ) → 1 ≤ n → n ≡ 0 → ⊥
               too_few n one none = omega (arith, one, none)
-          still role_s has loud there first false of =
+          still is role_s has loud there first false of =
               subst (λ (r : Role). has_encryption (took_step f (seen_if (is_unknown s.phase r (class_of_read read)) read) slot (is_quiet_now s)).0.progress ≡ true) (sym role_s)
               (runs_on read s.phase f slot role_s loud there of has)
 
@@ -122,13 +122,13 @@ module _ (role : Role) (max_rx : ℕ) (past : List Call) (slot : ℕ) (response 
   role_t = same_role (role_now s) x s.control refl
 
   abbrev owed : Option Ctrl
-  owed = owed_for (role_now t) response read t.phase
+  owed = read_answer (role_now t) response read t.phase
 
   owed_may : does_keep read s ≡ false → lacks_room_now read s ≡ false → t.control.ends ≡ None → OwedMay t.control key owed
   owed_may keeps full goes = by owed here
     where
       here : AreAnswers (role_now s) read s.phase owed
-      here = subst (λ (r : Role). AreAnswers (role_now s) read s.phase (owed_for r response read t.phase)) (sym role_t) (answers_of (role_now s) response read s.phase (λ is. may (sym tied.is_role ∙ is)))
+      here = subst (λ (r : Role). AreAnswers (role_now s) read s.phase (read_answer r response read t.phase)) (sym role_t) (answers_of (role_now s) response read s.phase (λ is. may (sym tied.is_role ∙ is)))
 
       table : t.control.table ≡ g
       table = (takes_as (seen_as read s) slot (is_quiet_now s) s.control lasts).goes goes

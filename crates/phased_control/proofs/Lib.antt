@@ -1,11 +1,14 @@
 -- The lemmas of this crate.
 pub mod Agreeing
 pub mod AllLawful
+pub mod AnswerParts
 pub mod Answering
 pub mod Calling
+pub mod Changing
 pub mod Ciphers
 pub mod Encrypted
 pub mod Extending
+pub mod Indicating
 pub mod Kept
 pub mod Lawful
 pub mod LawfulTaking

@@ -4,6 +4,7 @@ use Rattle.ble_base.specs.ErrorCodes.{memory_capacity_exceeded, mic_failure, pin
 use Rattle.ble_base.specs.declared.error_codes.ErrCode.{ErrCode}
 use Rattle.ble_base.specs.declared.roles.Role.{Role}
 use Rattle.ble_base.specs.declared.roles.Role.TheVariants.{Peripheral}
+use Rattle.instants.specs.declared.indications.Indication.{Indication}
 use Rattle.instants.specs.declared.indications.Params.{Params}
 use Rattle.procedure_stages.specs.Kinds.{role_of}
 use Rattle.data_pdu.specs.declared.ctrl.Ctrl.{Ctrl}
@@ -17,14 +18,15 @@ use Rattle.enc_phase.specs.Phases.{may_follow}
 use Rattle.enc_phase.specs.Taking.{allows}
 use Rattle.procedure_stages.specs.Opcodes.{enc_req_opcode}
 use Rattle.procedures.specs.Beginning.{begin_step}
-use Rattle.control_model.specs.Control.{Control, Step, after, after_all, ended, first_control}
+use Rattle.procedures.specs.Taking.{took_step}
+use Rattle.control_model.specs.Control.{Control, Step, after, after_all, ended, first_control, indicated_by}
 use Rattle.control_model.specs.Control.{Enters as control_enters, SeesAcknowledged as control_sees_acknowledged}
 use Rattle.control_model.specs.Waits.{kind_awaited, kind_waiting}
 use Rattle.control_model.proofs.Moving.{role_after}
-use Rattle.control_model.proofs.Waiting.{same_kind}
+use Rattle.control_model.proofs.Waiting.{free, same_kind}
 use Rattle.phased_control.specs.Phased.{Phased, first_phased, ask_begun, asking_if, asks_again, encrypting, encrypting_if, is_encrypt, is_open_now, is_quiet_now, key_given, key_lacking, refused_if, request_of, table_entered, with_step}
 use Rattle.phased_control.specs.Taken.{PhasedStep, Answers, Asks, Disconnects, Enters, GivesKey, LacksKey, SeesAcknowledged, Sends, Takes, TakesData, answered_if_quiet, answered_kept, ciphered, does_keep, ended_with, goes_on, handed_on, is_allowed, keeping, lacks_room_now, phased_after, phased_after_all, phased_moved, role_now, took, took_data}
-use Rattle.phased_control.specs.Steps.{all_control_steps, code_if, control_steps, ctrl_if, end_by_phase, ended_if, first_owed, first_owed_if, handed_steps, kept_steps, later_steps, owed_for, owed_steps, owed_without_key, seen, steps_now}
+use Rattle.phased_control.specs.Steps.{all_control_steps, code_if, control_steps, ctrl_if, end_by_phase, ended_if, first_owed, first_owed_if, handed_steps, kept_steps, later_steps, read_answer, owed_steps, owed_without_key, seen_by_procedures, steps_now}
 use Rattle.phased_control.proofs.Answering.{answers}
 
 pub steps_joined : (xs ys : List Step) (c : Control) → after_all (xs ++ ys) c ≡ after_all ys (after_all xs c)
@@ -84,7 +86,7 @@ later_moves : (slot : ℕ) (response : Ctrl) (read : CtrlRead) (s : Phased)
     → (answered_if_quiet slot (ciphered response read s)).control ≡ after_all (later_steps slot response read s) s.control
 later_moves slot response read s =
     let t = ciphered response read s in
-    let owed = owed_steps (owed_for (role_now s) response read s.phase) in
+    let owed = owed_steps (read_answer (role_now s) response read s.phase) in
     let one : (answered_if_quiet slot t).control ≡ after_all (if is_quiet_now t then kept_steps slot s.kept else []) t.control =
     subst (λ (k : Option Ctrl). (if is_quiet_now t then answered_kept slot t.kept t else t).control ≡ after_all (if is_quiet_now t then kept_steps slot k else []) t.control)
     (same_kept response read s) (kept_moves slot (is_quiet_now t) t.kept t) in
@@ -101,7 +103,7 @@ goes_moves slot response read s = by (is_none s.control.ends)
 
 handed_moves : (slot : ℕ) (response : Ctrl) (read : CtrlRead) (s : Phased)
     → (handed_on slot response read s).control ≡ after_all (handed_steps slot response read s) s.control
-handed_moves slot response read s = goes_moves slot response read (seen read slot s)
+handed_moves slot response read s = goes_moves slot response read (seen_by_procedures read slot s)
 
 took_moves : (slot : ℕ) (response : Ctrl) (read : CtrlRead) (s : Phased)
     → (took slot response read s).control
@@ -251,3 +253,10 @@ waits_in_both max_rx first slot steps =
     let cs = all_control_steps steps (first_phased Peripheral max_rx first slot) in
     subst (λ (c : Control). kind_awaited c.table.progress ≡ kind_waiting c.track.waits) (sym (but_end Peripheral max_rx first slot steps))
     (same_kind max_rx first slot cs)
+
+pub free_where_handed : (max_rx : ℕ) (first : Params) (slot : ℕ) (steps : List PhasedStep) (read : CtrlRead) (now : ℕ) (quiet : Bool) (indication : Indication)
+    → let s = phased_after_all steps (first_phased Peripheral max_rx first slot) in
+    indicated_by (took_step s.control.table read now quiet).1.effect ≡ Some indication → is_none s.control.track.waits ≡ true
+free_where_handed max_rx first slot steps read now quiet indication =
+    subst (λ (c : Control). indicated_by (took_step c.table read now quiet).1.effect ≡ Some indication → is_none c.track.waits ≡ true) (sym (but_end Peripheral max_rx first slot steps))
+    (free max_rx first slot (all_control_steps steps (first_phased Peripheral max_rx first slot)) read now quiet indication)

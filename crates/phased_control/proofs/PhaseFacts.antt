@@ -1,5 +1,5 @@
 -- What a change of the phase leaves of what it says of a kept PDU, and of a key that is asked for.
-use Rattle.std.proofs.Common.{◌≡◌, true, false, refl}
+use Rattle.std.proofs.Common.{◌≡◌, Bool, true, false, not, Option, Some, None, refl}
 use Rattle.ble_base.specs.declared.roles.Role.{Role}
 use Rattle.ble_base.specs.declared.roles.Role.TheVariants.{Central, Peripheral}
 use Rattle.enc_phase.specs.declared.classes.PduClass.{PduClass}
@@ -13,6 +13,8 @@ use Rattle.enc_phase.specs.Taking.{allows, phase_taking}
 use Rattle.phased_control.specs.Taken.{keeps_class}
 use Rattle.phased_control.specs.Ends.{is_half_keyed, says_kept}
 use Rattle.phased_control.proofs.Answering.{IsPlain}
+use Rattle.data_pdu.specs.declared.ctrl.Ctrl.{Ctrl}
+use Rattle.phased_control.specs.Phased.{Phased, with_owed_if}
 
 -- a change that forgets no kept PDU, but as the phase is Clear, Secure or HalfKeyed
 pub record Goes (p q : PhaseFacts) : Type 0 where
@@ -98,3 +100,26 @@ pub says_none : (p : PhaseFacts) → is_quiet p ≡ true → says_kept p ≡ fal
 says_none Clear h = refl
 says_none Secure h = refl
 says_none p h = absurd (cc)
+
+-- ---- a phase that follows no pause of an encryption, at a central
+
+abbrev pub follows_no_pause : PhaseFacts → Bool
+follows_no_pause Clear = true
+follows_no_pause (Asked after_pause enc_rsp kept) = not after_pause
+follows_no_pause phase = false
+
+-- in phase HalfClear LL_ENC_REQ may follow a pause
+pub loud_in_half_clear : (p : PhaseFacts) → may_follow AskTransition p ≡ true → follows_no_pause p ≡ false → is_quiet p ≡ false
+loud_in_half_clear (HalfClear kept) may paused = refl
+loud_in_half_clear Clear may paused = absurd (cc)
+loud_in_half_clear p may paused = absurd (cc)
+
+-- an encryption runs where the phase says so
+pub runs : (b : Bool) → false ≡ not b → b ≡ true
+runs true h = refl
+runs false h = absurd (cc)
+
+-- what is owed leaves the phase
+pub phase_owed : (request : Option Ctrl) (s : Phased) → (with_owed_if request s).phase ≡ s.phase
+phase_owed None s = refl
+phase_owed (Some ctrl) s = refl

@@ -33,7 +33,7 @@ use Rattle.control_model.specs.Control.{Enters as control_enters, Owes, SeesAckn
 use Rattle.control_model.proofs.Calls.{held_over}
 use Rattle.phased_control.specs.Phased.{Phased, ask_begun, asking_if, asks_again, encrypting, encrypting_if, entered, first_phased, is_encrypt, is_open_now, is_quiet_now, key_given, key_lacking, refused_if, request_of, table_entered, with_owed_if, with_step}
 use Rattle.phased_control.specs.Taken.{PhasedStep, Answers, Asks, Disconnects, Enters, GivesKey, LacksKey, SeesAcknowledged, Sends, Takes, TakesData, answered_kept, ciphered, ended_with, phased_after, phased_after_all, phased_moved, role_now, seen_as, took}
-use Rattle.phased_control.specs.Steps.{owed_for, owed_steps, seen}
+use Rattle.phased_control.specs.Steps.{read_answer, owed_steps, seen_by_procedures}
 use Rattle.phased_control.specs.Ends.{IsRequest}
 use Rattle.phased_control.proofs.Answering.{answers}
 use Rattle.phased_control.proofs.Kept.{Tied, tied_after, tied_first}
@@ -147,7 +147,7 @@ module _ (role : Role) (s : Phased) where
 
   on_answers : (response : Ctrl) (read : CtrlRead) (t : Phased) → GoesOn role s t → GoesOn role s (ciphered response read t)
   on_answers response read t on =
-      on_owed (owed_for (role_now t) response read t.phase) t (ciphered response read t)
+      on_owed (read_answer (role_now t) response read t.phase) t (ciphered response read t)
       (ap (λ (u : Phased). u.control) (answers t response read)) (ap (λ (u : Phased). u.request) (answers t response read)) on
 
   on_kept : (slot : ℕ) (kept : Option Ctrl) (t : Phased) → GoesOn role s t → GoesOn role s (answered_kept slot kept t)
@@ -157,13 +157,13 @@ module _ (role : Role) (s : Phased) where
   on_took : (slot : ℕ) (response : Ctrl) (read : CtrlRead) → role_now s ≡ role → GoesOn role s (took slot response read s)
   on_took slot response read is =
       let here = on_same s refl refl is in
-      let now = on_control (control_takes (seen_as read s) slot (is_quiet_now s)) s (seen read slot s) refl refl refl here in
-      let answer = on_answers response read (seen read slot s) now in
+      let now = on_control (control_takes (seen_as read s) slot (is_quiet_now s)) s (seen_by_procedures read slot s) refl refl refl here in
+      let answer = on_answers response read (seen_by_procedures read slot s) now in
       took_ways (GoesOn role s) slot response read s (λ may. record { is_role = is; request = refl; fewer_than = λ at. λ has. has })
       (λ may. λ keeps. record { is_role = is; request = refl; fewer_than = λ at. λ has. has })
       (λ may. λ keeps. λ full. record { is_role = is; request = refl; fewer_than = λ at. λ has. has })
       (λ may. λ keeps. λ full. handed_ways (GoesOn role s) slot response read s (λ code. λ over. now) (λ lasts. λ loud. answer)
-      (λ lasts. λ quiet. on_kept slot (ciphered response read (seen read slot s)).kept (ciphered response read (seen read slot s)) answer))
+      (λ lasts. λ quiet. on_kept slot (ciphered response read (seen_by_procedures read slot s)).kept (ciphered response read (seen_by_procedures read slot s)) answer))
 
   on_asking : (b : Bool) (t : Phased) → GoesOn role s t → GoesOn role s (asking_if b t)
   on_asking false t on = on

@@ -25,7 +25,7 @@ use Rattle.procedures.specs.Taking.{facts_with, lacks_room, no_room, outcome_of,
 use Rattle.table_laws.specs.Pasts.{HasRoomToAnswer, MayGive, MayGiveAtCentral, MayGiveAtPeripheral}
 use Rattle.table_laws.proofs.Taken.{few}
 use Rattle.phased_control.specs.Ends.{IsResponse}
-use Rattle.phased_control.specs.Steps.{ctrl_if, owed_for}
+use Rattle.phased_control.specs.Steps.{ctrl_if, read_answer}
 use Rattle.phased_control.specs.Taken.{class_of_read, is_answered_at, seen_if}
 
 -- ---- what is answered so has no other answer
@@ -133,7 +133,7 @@ answer_if role read p true ctrl is gives = record { answered = is; gives = gives
 answer_if role read p false ctrl is gives = tt
 
 pub answers_of : (role : Role) (response : Ctrl) (read : CtrlRead) (p : PhaseFacts) → (role ≡ Peripheral → IsResponse response)
-    → AreAnswers role read p (owed_for role response read (phase_taking (class_of_read read) p))
+    → AreAnswers role read p (read_answer role response read (phase_taking (class_of_read read) p))
 answers_of Central response (Known StartEncReq) p may = answer_if Central (Known StartEncReq) p _ StartEncRsp refl (at_central StartEncRsp (λ f. λ room. room))
 answers_of Central response (Known PauseEncRsp) p may = answer_if Central (Known PauseEncRsp) p _ PauseEncRsp refl (at_central PauseEncRsp (λ f. λ room. room))
 answers_of Central response (Known ctrl) p may = tt

@@ -6,7 +6,7 @@ use Rattle.data_pdu.specs.declared.ctrl.Ctrl.{Ctrl}
 use Rattle.data_pdu.specs.declared.ctrl.CtrlRead.{CtrlRead}
 use Rattle.phased_control.specs.Phased.{Phased, is_quiet_now}
 use Rattle.phased_control.specs.Taken.{answered_kept, ciphered, does_keep, ended_with, handed_on, is_allowed, keeping, lacks_room_now, took}
-use Rattle.phased_control.specs.Steps.{seen}
+use Rattle.phased_control.specs.Steps.{seen_by_procedures}
 
 module _ (P : Phased → Type 0) (slot : ℕ) (response : Ctrl) (read : CtrlRead) where
   -- the phase forbids it, or keeps it, or there is no room for its answer, or the procedures see it
@@ -25,16 +25,16 @@ module _ (P : Phased → Type 0) (slot : ℕ) (response : Ctrl) (read : CtrlRead
       by true false false is1 is2 is3 = goes is1 is2 is3
 
   -- the link ended as the procedures saw it, or the PDU is answered, in a phase that is Clear or Secure then, or not
-  pub handed_ways : (s : Phased) → ((code : ErrCode) → (seen read slot s).control.ends ≡ Some code → P (seen read slot s))
-      → ((seen read slot s).control.ends ≡ None → is_quiet_now (ciphered response read (seen read slot s)) ≡ false → P (ciphered response read (seen read slot s)))
-      → ((seen read slot s).control.ends ≡ None → is_quiet_now (ciphered response read (seen read slot s)) ≡ true
-      → P (answered_kept slot (ciphered response read (seen read slot s)).kept (ciphered response read (seen read slot s))))
+  pub handed_ways : (s : Phased) → ((code : ErrCode) → (seen_by_procedures read slot s).control.ends ≡ Some code → P (seen_by_procedures read slot s))
+      → ((seen_by_procedures read slot s).control.ends ≡ None → is_quiet_now (ciphered response read (seen_by_procedures read slot s)) ≡ false → P (ciphered response read (seen_by_procedures read slot s)))
+      → ((seen_by_procedures read slot s).control.ends ≡ None → is_quiet_now (ciphered response read (seen_by_procedures read slot s)) ≡ true
+      → P (answered_kept slot (ciphered response read (seen_by_procedures read slot s)).kept (ciphered response read (seen_by_procedures read slot s))))
       → P (handed_on slot response read s)
-  handed_ways s over loud quiet = by (seen read slot s).control.ends (is_quiet_now (ciphered response read (seen read slot s))) refl refl
+  handed_ways s over loud quiet = by (seen_by_procedures read slot s).control.ends (is_quiet_now (ciphered response read (seen_by_procedures read slot s))) refl refl
     where
-      by : (ends : Option ErrCode) (b : Bool) → (seen read slot s).control.ends ≡ ends → is_quiet_now (ciphered response read (seen read slot s)) ≡ b
-          → P (if is_none ends then (if b then answered_kept slot (ciphered response read (seen read slot s)).kept (ciphered response read (seen read slot s))
-          else ciphered response read (seen read slot s)) else seen read slot s)
+      by : (ends : Option ErrCode) (b : Bool) → (seen_by_procedures read slot s).control.ends ≡ ends → is_quiet_now (ciphered response read (seen_by_procedures read slot s)) ≡ b
+          → P (if is_none ends then (if b then answered_kept slot (ciphered response read (seen_by_procedures read slot s)).kept (ciphered response read (seen_by_procedures read slot s))
+          else ciphered response read (seen_by_procedures read slot s)) else seen_by_procedures read slot s)
       by (Some code) b is1 is2 = over code is1
       by None false is1 is2 = loud is1 is2
       by None true is1 is2 = quiet is1 is2

@@ -26,14 +26,16 @@ use Rattle.control_model.specs.Control.{Control, Step, after_all}
 use Rattle.control_model.specs.Control.{Enters as control_enters, SeesAcknowledged as control_sees_acknowledged, Sends as control_sends, Takes as control_takes, Asks as control_asks, Answers as control_answers, Disconnects as control_disconnects}
 use Rattle.phased_control.specs.Phased.{Phased, ask_begun, asking_if, asks_again, encrypting, encrypting_if, entered, acknowledged, first_phased, is_encrypt, is_open_now, is_pause_rsp, is_quiet_now, key_given, key_lacking, request_of, table_entered, with_owed_if, with_step}
 use Rattle.phased_control.specs.Taken.{PhasedStep, Answers, Asks, Disconnects, Enters, GivesKey, LacksKey, SeesAcknowledged, Sends, Takes, TakesData, answered_kept, ciphered, class_of_read, ended_with, is_allowed, phased_after, phased_moved, role_now, seen_as, took}
-use Rattle.phased_control.specs.Steps.{owed_for, owed_steps, seen}
-use Rattle.phased_control.specs.Changes.{phase_answering, phase_refused_by}
-use Rattle.phased_control.specs.Ends.{IsRequest, follows_no_pause}
+use Rattle.phased_control.specs.Steps.{read_answer, owed_steps, seen_by_procedures}
+use Rattle.phased_control.proofs.AnswerParts.{phase_answering, refused_phase}
+use Rattle.phased_control.specs.Ends.{IsRequest}
 use Rattle.phased_control.proofs.Answering.{answers}
 use Rattle.phased_control.proofs.Ciphers.{Holds, IsOut, Sort, held_after, held_owing, is_owing}
 use Rattle.phased_control.proofs.Kept.{Tied, apart}
 use Rattle.phased_control.proofs.Tables.{begins_encryption, same_role}
 use Rattle.phased_control.proofs.Taking.{handed_ways, took_ways}
+use Rattle.phased_control.proofs.PhaseFacts.{follows_no_pause}
+use Rattle.phased_control.proofs.PhaseFacts.{phase_owed}
 
 abbrev pub IsOther : Ctrl → Type 0
 IsOther ctrl = is_pause_rsp (Other (Cipher ctrl)) ≡ false
@@ -64,7 +66,7 @@ Unpaused s = follows_no_pause s.phase ≡ true → HasNone s
 
 -- ---- a phase that follows no pause comes from one, and then nothing is owed
 
-refused_back : (pdu : PduClass) (b : Bool) (p : PhaseFacts) → allows p Central pdu ≡ true → follows_no_pause (phase_refused_by pdu b (phase_taking pdu p)) ≡ true
+refused_back : (pdu : PduClass) (b : Bool) (p : PhaseFacts) → allows p Central pdu ≡ true → follows_no_pause (refused_phase pdu b (phase_taking pdu p)) ≡ true
     → follows_no_pause p ≡ true
 refused_back Refusal true p may h = h
 refused_back Refusal false (Asked after_pause enc_rsp kept) may h = may
@@ -81,7 +83,7 @@ record Back (p q : PhaseFacts) (owed : Option Ctrl) : Type 0 where
   none : follows_no_pause q ≡ true → owed ≡ None
 
 back : (response : Ctrl) (read : CtrlRead) (b : Bool) (p : PhaseFacts) → allows p Central (class_of_read read) ≡ true
-    → Back p (phase_answering Central read b (phase_taking (class_of_read read) p)) (owed_for Central response read (phase_taking (class_of_read read) p))
+    → Back p (phase_answering Central read b (phase_taking (class_of_read read) p)) (read_answer Central response read (phase_taking (class_of_read read) p))
 back response (Known StartEncReq) b (Asked after_pause enc_rsp kept) may = record { phase = λ h. absurd (cc); none = λ h. absurd (cc) }
 back response (Known StartEncReq) b p may = record { phase = λ h. h; none = λ h. refl }
 back response (Known StartEncRsp) b HalfKeyed may = record { phase = λ h. absurd (cc); none = λ h. refl }
@@ -158,10 +160,6 @@ asked_after_pause (HalfClear kept) may h = refl
 asked_after_pause Clear may h = absurd (cc)
 asked_after_pause p may h = absurd (cc)
 
-phase_owed_if : (request : Option Ctrl) (s : Phased) → (with_owed_if request s).phase ≡ s.phase
-phase_owed_if None s = refl
-phase_owed_if (Some ctrl) s = refl
-
 none_acknowledged : (s : Phased) → Unpaused s → Unpaused (acknowledged s)
 none_acknowledged s unpaused = by (asks_again s) refl
   where
@@ -175,7 +173,7 @@ none_acknowledged s unpaused = by (asks_again s) refl
     by false is = λ h. none_step control_sees_acknowledged s refl (unpaused h)
     by true is =
         let may = (and_parts (may_follow AskTransition s.phase) _ (and_parts (is_pause_rsp s.control.table.out) _ is).1).0 in
-        λ h. absurd (two (sym (asked_after_pause s.phase may (asks_in_half_clear s is unpaused)) ∙ sym (ap (λ (p : PhaseFacts). follows_no_pause p) (phase_owed_if t.request (record t { phase = phase_after AskTransition t.phase }))) ∙ h))
+        λ h. absurd (two (sym (asked_after_pause s.phase may (asks_in_half_clear s is unpaused)) ∙ sym (ap (λ (p : PhaseFacts). follows_no_pause p) (phase_owed t.request (record t { phase = phase_after AskTransition t.phase }))) ∙ h))
 
 none_kept : (slot : ℕ) (kept : Option Ctrl) (s : Phased) → Unpaused s → Unpaused (answered_kept slot kept s)
 none_kept slot None s unpaused = unpaused
@@ -194,7 +192,7 @@ none_took slot response read s tied unpaused =
     (λ lasts. λ quiet. none_kept slot (ciphered response read t).kept (ciphered response read t) (answer may)))
   where
     t : Phased
-    t = seen read slot s
+    t = seen_by_procedures read slot s
 
     now : Unpaused t
     now h = none_step (control_takes (seen_as read s) slot (is_quiet_now s)) s refl (unpaused (sym (back_taking (class_of_read read) s.phase) ∙ h))
@@ -206,10 +204,10 @@ none_took slot response read s tied unpaused =
     answer may =
         let there : allows s.phase Central (class_of_read read) ≡ true = subst (λ (r : Role). allows s.phase r (class_of_read read) ≡ true) tied.is_role may in
         let b = has_encryption t.control.table.progress in
-        let came : Back s.phase (phase_answering (role_now t) read b t.phase) (owed_for (role_now t) response read t.phase) =
-        subst (λ (r : Role). Back s.phase (phase_answering r read b t.phase) (owed_for r response read t.phase)) (sym role) (back response read b s.phase there) in
+        let came : Back s.phase (phase_answering (role_now t) read b t.phase) (read_answer (role_now t) response read t.phase) =
+        subst (λ (r : Role). Back s.phase (phase_answering r read b t.phase) (read_answer r response read t.phase)) (sym role) (back response read b s.phase there) in
         subst Unpaused (sym (answers t response read))
-        (λ h. none_owed (owed_for (role_now t) response read t.phase) t.control (came.none h) (now (back_taking (class_of_read read) s.phase ∙ came.phase h)))
+        (λ h. none_owed (read_answer (role_now t) response read t.phase) t.control (came.none h) (now (back_taking (class_of_read read) s.phase ∙ came.phase h)))
 
 none_if : (b : Bool) (s t : Phased) → (b ≡ true → Unpaused t) → Unpaused s → Unpaused (if b then t else s)
 none_if true s t next unpaused = next refl

@@ -1,5 +1,5 @@
 -- Which PDUs of the encryption wait at an end, by its phase, where the peer sends in turn.
-use Rattle.std.proofs.Common.{◌≡◌, ◌≢◌, inl, inr, ℕ, Bool, true, false, not, ◌&&◌, if◌then◌else◌, List, [], ◌∷◌, ◌++◌, map, length, ◌≤◌, arith, Option, Some, None, refl, sym, ap, subst, ◌∙◌, append-nil}
+use Rattle.std.proofs.Common.{◌≡◌, ◌≢◌, inl, inr, ℕ, Bool, true, false, ◌&&◌, if◌then◌else◌, List, [], ◌∷◌, ◌++◌, map, length, ◌≤◌, arith, Option, Some, None, refl, sym, ap, subst, ◌∙◌, append-nil}
 use Rattle.std.specs.List.{AllByRecursion}
 use Rattle.std.proofs.lemmas.Bool.{and_parts}
 use Rattle.std.proofs.lemmas.List.{length-map}
@@ -30,12 +30,12 @@ use Rattle.procedures.specs.Sending.{acked_step}
 use Rattle.control_model.specs.Control.{Control, Step, after, after_all, table_if}
 use Rattle.control_model.specs.Control.{Enters as control_enters, Owes, SeesAcknowledged as control_sees_acknowledged, Sends as control_sends, Takes as control_takes, Asks as control_asks, Answers as control_answers, Disconnects as control_disconnects}
 use Rattle.control_model.proofs.Calls.{any_step, open_step}
-use Rattle.phased_control.specs.Ciphers.{AreInTurn, AreLastOf, IsInTurn, cipher_in, cipher_of, ciphers_in, ciphers_waiting, is_of_encryption, owed_in}
+use Rattle.phased_control.specs.Ciphers.{AreInTurn, AreLastOf, IsInTurn, cipher_in, cipher_of, ciphers_in, ciphers_waiting, is_of_encryption, phase_ciphers}
 use Rattle.phased_control.specs.Phased.{Phased, acknowledged, ask_begun, asking_if, asks_again, encrypting, encrypting_if, entered, first_phased, is_encrypt, is_open_now, is_pause_rsp, is_quiet_now, key_given, key_lacking, refused_if, request_of, table_entered, with_owed_if, with_step}
 use Rattle.phased_control.specs.Taken.{PhasedStep, Answers, Asks, Disconnects, Enters, GivesKey, LacksKey, SeesAcknowledged, Sends, Takes, TakesData, answered_kept, ciphered, class_of_read, ended_with, phased_after, phased_after_all, phased_moved, role_now, seen_as, took}
-use Rattle.phased_control.specs.Steps.{owed_for, owed_steps, seen}
-use Rattle.phased_control.specs.Changes.{phase_answering, phase_refused_by}
-use Rattle.phased_control.specs.Ends.{AllMayRespond, IsRequest, IsResponse, MayRespond, follows_no_pause}
+use Rattle.phased_control.specs.Steps.{read_answer, owed_steps, seen_by_procedures}
+use Rattle.phased_control.proofs.AnswerParts.{phase_answering, refused_phase}
+use Rattle.phased_control.specs.Ends.{AllMayRespond, IsRequest, IsResponse, MayRespond}
 use Rattle.phased_control.proofs.Agreeing.{Agrees, Sound, agrees_after, agrees_first, asks_at_central, responds, sound_after, sound_first}
 use Rattle.phased_control.proofs.Answering.{answers}
 use Rattle.phased_control.proofs.Ciphers.{Holds, IsOut, Sort, ciphers_joined, held_after, held_owing, is_owing}
@@ -45,6 +45,8 @@ use Rattle.phased_control.proofs.Requests.{encrypts, role_entered}
 use Rattle.phased_control.proofs.Tables.{begins_encryption, same_role}
 use Rattle.phased_control.proofs.Taking.{handed_ways, took_ways}
 use Rattle.phased_control.proofs.Unpaused.{asks_in_half_clear}
+use Rattle.phased_control.proofs.PhaseFacts.{follows_no_pause}
+use Rattle.phased_control.proofs.PhaseFacts.{phase_owed, loud_in_half_clear, runs}
 
 -- ---- the last of some PDUs
 
@@ -156,11 +158,11 @@ other_owed ctrl pdus c is order =
     (λ lasts. subst (Last pdus) (sym (ap (λ (ctrls : List Ctrl). ciphers_waiting c.table ++ ctrls) is ∙ append-nil (ciphers_waiting c.table))) order.waits)
 
 abbrev pub InOrder : Role → Phased → Type 0
-InOrder role s = Ordered (owed_in role s.phase) s.control
+InOrder role s = Ordered (phase_ciphers role s.phase) s.control
 
 -- ---- a PDU that is none of the encryption changes nothing of it
 
-owed_taking : (role : Role) (pdu : PduClass) (p : PhaseFacts) → owed_in role (phase_taking pdu p) ≡ owed_in role p
+owed_taking : (role : Role) (pdu : PduClass) (p : PhaseFacts) → phase_ciphers role (phase_taking pdu p) ≡ phase_ciphers role p
 owed_taking Central enc_rsp (Asked after_pause enc_rsp_taken kept) = refl
 owed_taking Peripheral enc_rsp (Asked after_pause enc_rsp_taken kept) = refl
 owed_taking role enc_rsp p = refl
@@ -171,7 +173,7 @@ owed_taking Peripheral Request (Pausing kept) = refl
 owed_taking role Request p = refl
 owed_taking role pdu p = refl
 
-refused_none : (pdu : PduClass) (b : Bool) (p : PhaseFacts) → is_of_encryption pdu ≡ false → phase_refused_by pdu b p ≡ p
+refused_none : (pdu : PduClass) (b : Bool) (p : PhaseFacts) → is_of_encryption pdu ≡ false → refused_phase pdu b p ≡ p
 refused_none Refusal b p is = absurd (cc)
 refused_none pdu b p is = refl
 
@@ -180,7 +182,7 @@ record Apart (p q : PhaseFacts) (owed : Option Ctrl) : Type 0 where
   none : owed ≡ None
 
 apart_from : (role : Role) (response : Ctrl) (read : CtrlRead) (b : Bool) (p : PhaseFacts) → is_of_encryption (class_of_read read) ≡ false
-    → Apart p (phase_answering role read b p) (owed_for role response read p)
+    → Apart p (phase_answering role read b p) (read_answer role response read p)
 apart_from Central response (Known StartEncReq) b p is = absurd (cc)
 apart_from Central response (Known StartEncRsp) b p is = absurd (cc)
 apart_from Central response (Known PauseEncRsp) b p is = absurd (cc)
@@ -204,7 +206,7 @@ response_fits (EncRsp skd_s iv_s) is = inl refl
 response_fits ctrl is = absurd is
 
 owed_fits : (role : Role) (response : Ctrl) (read : CtrlRead) (b : Bool) (p : PhaseFacts) → (role ≡ Peripheral → IsResponse response)
-    → OwedFits (owed_in role (phase_answering role read b p)) (owed_for role response read p)
+    → OwedFits (phase_ciphers role (phase_answering role read b p)) (read_answer role response read p)
 owed_fits Central response (Known StartEncReq) b (Asked after_pause enc_rsp_taken kept) may = inl refl
 owed_fits Central response (Known StartEncReq) b p may = tt
 owed_fits Central response (Known PauseEncRsp) b (Pausing kept) may = inl refl
@@ -231,11 +233,7 @@ request_in (Some (EncReq rand ediv skd_m iv_m)) pdus s is none holds last = firs
 request_in (Some other) pdus s is none holds last = absurd is
 request_in None pdus s is none holds last = absurd is
 
-phase_owed : (request : Option Ctrl) (s : Phased) → (with_owed_if request s).phase ≡ s.phase
-phase_owed None s = refl
-phase_owed (Some ctrl) s = refl
-
-none_in : (p : PhaseFacts) (c : Control) → is_quiet p ≡ true → Ordered (owed_in Central p) c → Empty c
+none_in : (p : PhaseFacts) (c : Control) → is_quiet p ≡ true → Ordered (phase_ciphers Central p) c → Empty c
 none_in Clear c quiet order = empty c (no_map (ciphers_waiting c.table) order.waits)
   where
     no_map : (ctrls : List Ctrl) → map ctrl_class ctrls ≡ [] → ctrls ≡ []
@@ -248,13 +246,13 @@ none_in Secure c quiet order = empty c (no_map (ciphers_waiting c.table) order.w
     no_map (x ∷ xs) h = absurd (cc)
 none_in p c quiet order = absurd (cc)
 
-order_encrypting : (p : PhaseFacts) (s : Phased) → s.phase ≡ p → is_quiet p ≡ true → IsRequest s.request → Ordered (owed_in Central p) s.control → InOrder Central (encrypting p s)
+order_encrypting : (p : PhaseFacts) (s : Phased) → s.phase ≡ p → is_quiet p ≡ true → IsRequest s.request → Ordered (phase_ciphers Central p) s.control → InOrder Central (encrypting p s)
 order_encrypting Clear s is quiet request order =
     let t : Phased = record s { phase = phase_after AskTransition s.phase } in
-    subst (λ (p : PhaseFacts). Ordered (owed_in Central p) (with_owed_if s.request t).control) (sym (phase_owed s.request t ∙ ap (phase_after AskTransition) is))
+    subst (λ (p : PhaseFacts). Ordered (phase_ciphers Central p) (with_owed_if s.request t).control) (sym (phase_owed s.request t ∙ ap (phase_after AskTransition) is))
     (request_in s.request (enc_req ∷ []) t request (none_last (enc_req ∷ [])) (none_in Clear s.control refl order) (inl refl))
 order_encrypting Secure s is quiet request order =
-    subst (λ (p : PhaseFacts). Ordered (owed_in Central p) (after (Owes PauseEncReq) s.control)) (sym (ap (phase_after Pause) is))
+    subst (λ (p : PhaseFacts). Ordered (phase_ciphers Central p) (after (Owes PauseEncReq) s.control)) (sym (ap (phase_after Pause) is))
     (first_owed_there PauseEncReq (pause_enc_req ∷ []) s.control (inl refl) (none_in Secure s.control refl order))
 order_encrypting p s is quiet request order = absurd (cc)
 
@@ -268,7 +266,7 @@ order_entered role slot s is order = by (is_encrypt (begin_step (table_entered s
     t = with_step (control_enters slot (is_quiet_now s)) s
 
     now : InOrder role t
-    now = ordered_step (control_enters slot (is_quiet_now s)) (owed_in role s.phase) s.control refl order
+    now = ordered_step (control_enters slot (is_quiet_now s)) (phase_ciphers role s.phase) s.control refl order
 
     by : (b : Bool) → is_encrypt (begin_step (table_entered s) slot (is_quiet_now s)).1 ≡ b → InOrder role (encrypting_if b request t)
     by false h = now
@@ -301,10 +299,10 @@ request_after_pause (Some other) s is lasts opens order = absurd is
 request_after_pause None s is lasts opens order = absurd is
 
 order_asking : (p : PhaseFacts) (s : Phased) → s.phase ≡ p → may_follow AskTransition p ≡ true → follows_no_pause p ≡ false → IsRequest s.request → s.control.ends ≡ None
-    → is_open s.control.table.closing ≡ true → Ordered (owed_in Central p) s.control → InOrder Central (asking_if true s)
+    → is_open s.control.table.closing ≡ true → Ordered (phase_ciphers Central p) s.control → InOrder Central (asking_if true s)
 order_asking (HalfClear kept) s is may paused request lasts opens order =
     let t : Phased = record s { phase = phase_after AskTransition s.phase } in
-    subst (λ (p : PhaseFacts). Ordered (owed_in Central p) (with_owed_if s.request t).control) (sym (phase_owed s.request t ∙ ap (phase_after AskTransition) is))
+    subst (λ (p : PhaseFacts). Ordered (phase_ciphers Central p) (with_owed_if s.request t).control) (sym (phase_owed s.request t ∙ ap (phase_after AskTransition) is))
     (request_after_pause s.request t request lasts opens order)
 order_asking Clear s is may paused request lasts opens order = absurd (cc)
 order_asking p s is may paused request lasts opens order = absurd (cc)
@@ -316,16 +314,7 @@ order_acknowledged role s sound agrees lasts order = by (asks_again s) refl
     t = with_step control_sees_acknowledged s
 
     now : InOrder role t
-    now = ordered_step control_sees_acknowledged (owed_in role s.phase) s.control refl order
-
-    asked_loudly : (p : PhaseFacts) → may_follow AskTransition p ≡ true → follows_no_pause p ≡ false → is_quiet p ≡ false
-    asked_loudly (HalfClear kept) may paused = refl
-    asked_loudly Clear may paused = absurd (cc)
-    asked_loudly p may paused = absurd (cc)
-
-    runs : (b : Bool) → false ≡ not b → b ≡ true
-    runs true h = refl
-    runs false h = absurd (cc)
+    now = ordered_step control_sees_acknowledged (phase_ciphers role s.phase) s.control refl order
 
     by : (b : Bool) → asks_again s ≡ b → InOrder role (asking_if b t)
     by false is = now
@@ -333,25 +322,25 @@ order_acknowledged role s sound agrees lasts order = by (asks_again s) refl
         let at = asks_at_central role s is sound.requests in
         let parts = and_parts (may_follow AskTransition s.phase) _ (and_parts (is_pause_rsp s.control.table.out) _ is).1 in
         let paused = asks_in_half_clear s is (sound.unpaused at) in
-        let has = runs (encrypts s) (sym (asked_loudly s.phase parts.0 paused) ∙ agrees) in
+        let has = runs (encrypts s) (sym (loud_in_half_clear s.phase parts.0 paused) ∙ agrees) in
         subst (λ (r : Role). InOrder r (asking_if true t)) (sym at)
         (order_asking s.phase t refl parts.0 paused (sound.requests.central at has) (lasts_acked s.control lasts)
         (opens_acked s.control (and_parts (is_open_now s) _ parts.1).0) (subst (λ (r : Role). InOrder r t) at now))
 
 -- ---- the host of a peripheral has a key, or none
 
-order_given : (p : PhaseFacts) (s : Phased) → s.phase ≡ p → is_asked p ≡ true → s.control.ends ≡ None → is_open_now s ≡ true → Ordered (owed_in Peripheral p) s.control
+order_given : (p : PhaseFacts) (s : Phased) → s.phase ≡ p → is_asked p ≡ true → s.control.ends ≡ None → is_open_now s ≡ true → Ordered (phase_ciphers Peripheral p) s.control
     → InOrder Peripheral (key_given s)
 order_given (Asked after_pause enc_rsp_taken kept) s is asked lasts opens order =
-    subst (λ (p : PhaseFacts). Ordered (owed_in Peripheral (phase_starting p)) (key_given s).control) (sym is)
+    subst (λ (p : PhaseFacts). Ordered (phase_ciphers Peripheral (phase_starting p)) (key_given s).control) (sym is)
     (next_owed StartEncReq (enc_rsp ∷ []) s.control lasts opens refl order)
 order_given p s is asked lasts opens order = absurd (cc)
 
-order_refused : (b : Bool) (p : PhaseFacts) (s : Phased) → s.phase ≡ p → may_follow Refuse p ≡ b → Ordered (owed_in Peripheral p) s.control → InOrder Peripheral (refused_if b s)
+order_refused : (b : Bool) (p : PhaseFacts) (s : Phased) → s.phase ≡ p → may_follow Refuse p ≡ b → Ordered (phase_ciphers Peripheral p) s.control → InOrder Peripheral (refused_if b s)
 order_refused false p s is may order =
-    other_owed (TerminateInd pin_or_key_missing) (owed_in Peripheral s.phase) s.control refl (subst (λ (q : PhaseFacts). Ordered (owed_in Peripheral q) s.control) (sym is) order)
+    other_owed (TerminateInd pin_or_key_missing) (phase_ciphers Peripheral s.phase) s.control refl (subst (λ (q : PhaseFacts). Ordered (phase_ciphers Peripheral q) s.control) (sym is) order)
 order_refused true (Asked after_pause enc_rsp_taken kept) s is may order =
-    subst (λ (p : PhaseFacts). Ordered (owed_in Peripheral (phase_after Refuse p)) (refused_if true s).control) (sym is)
+    subst (λ (p : PhaseFacts). Ordered (phase_ciphers Peripheral (phase_after Refuse p)) (refused_if true s).control) (sym is)
     (other_owed (RejectExtInd enc_req_opcode pin_or_key_missing) (enc_rsp ∷ []) s.control refl order)
 order_refused true p s is may order = absurd (cc)
 
@@ -367,11 +356,11 @@ order_none (Some ctrl) pdus c is order = absurd (cc)
 
 order_kept : (role : Role) (slot : ℕ) (kept : Option Ctrl) (s : Phased) → InOrder role s → InOrder role (answered_kept slot kept s)
 order_kept role slot None s order = order
-order_kept role slot (Some ctrl) s order = ordered_step (control_takes (Known ctrl) slot true) (owed_in role s.phase) s.control refl order
+order_kept role slot (Some ctrl) s order = ordered_step (control_takes (Known ctrl) slot true) (phase_ciphers role s.phase) s.control refl order
 
 module _ (role : Role) (slot : ℕ) (response : Ctrl) (read : CtrlRead) (s : Phased) (tied : Tied role s) (may : role ≡ Peripheral → IsResponse response) where
   abbrev t : Phased
-  t = seen read slot s
+  t = seen_by_procedures read slot s
 
   role_t : role_now t ≡ role
   role_t = same_role role (control_takes (seen_as read s) slot (is_quiet_now s)) s.control tied.is_role
@@ -379,15 +368,15 @@ module _ (role : Role) (slot : ℕ) (response : Ctrl) (read : CtrlRead) (s : Pha
   order_seen : InOrder role s → InOrder role t
   order_seen order =
       subst (λ (pdus : List PduClass). Ordered pdus t.control) (sym (owed_taking role (class_of_read read) s.phase))
-      (ordered_step (control_takes (seen_as read s) slot (is_quiet_now s)) (owed_in role s.phase) s.control refl order)
+      (ordered_step (control_takes (seen_as read s) slot (is_quiet_now s)) (phase_ciphers role s.phase) s.control refl order)
 
   order_apart : is_of_encryption (class_of_read read) ≡ false → InOrder role s → InOrder role (ciphered response read t)
   order_apart is order =
       let b = encrypts t in
       let from = apart_from (role_now t) response read b t.phase is in
       subst (InOrder role) (sym (answers t response read))
-      (order_none (owed_for (role_now t) response read t.phase) (owed_in role (phase_answering (role_now t) read b t.phase)) t.control from.none
-      (subst (λ (p : PhaseFacts). Ordered (owed_in role p) t.control) (sym from.phase) (order_seen order)))
+      (order_none (read_answer (role_now t) response read t.phase) (phase_ciphers role (phase_answering (role_now t) read b t.phase)) t.control from.none
+      (subst (λ (p : PhaseFacts). Ordered (phase_ciphers role p) t.control) (sym from.phase) (order_seen order)))
 
   empty_seen : ciphers_waiting s.control.table ≡ [] → Empty t.control
   empty_seen none = empty_step (control_takes (seen_as read s) slot (is_quiet_now s)) s.control refl (empty s.control none)
@@ -395,11 +384,11 @@ module _ (role : Role) (slot : ℕ) (response : Ctrl) (read : CtrlRead) (s : Pha
   order_turned : ciphers_waiting s.control.table ≡ [] → InOrder role (ciphered response read t)
   order_turned none =
       let b = encrypts t in
-      let fits : OwedFits (owed_in role (phase_answering (role_now t) read b t.phase)) (owed_for (role_now t) response read t.phase) =
-      subst (λ (r : Role). OwedFits (owed_in r (phase_answering (role_now t) read b t.phase)) (owed_for (role_now t) response read t.phase)) role_t
+      let fits : OwedFits (phase_ciphers role (phase_answering (role_now t) read b t.phase)) (read_answer (role_now t) response read t.phase) =
+      subst (λ (r : Role). OwedFits (phase_ciphers r (phase_answering (role_now t) read b t.phase)) (read_answer (role_now t) response read t.phase)) role_t
       (owed_fits (role_now t) response read b t.phase (λ at. may (sym role_t ∙ at))) in
       subst (InOrder role) (sym (answers t response read))
-      (order_owed (owed_for (role_now t) response read t.phase) (owed_in role (phase_answering (role_now t) read b t.phase)) t.control fits (empty_seen none))
+      (order_owed (read_answer (role_now t) response read t.phase) (phase_ciphers role (phase_answering (role_now t) read b t.phase)) t.control fits (empty_seen none))
 
   order_answered : IsInTurn (Takes read slot response) s → InOrder role s → InOrder role (ciphered response read t)
   order_answered turn order = by (is_of_encryption (class_of_read read)) refl
@@ -426,8 +415,8 @@ order_if role false s t next order = order
 order_moved : (role : Role) (step : PhasedStep) (s : Phased) → Sound role s → Agrees s → MayRespond role step → IsInTurn step s → s.control.ends ≡ None → InOrder role s
     → InOrder role (phased_moved step s)
 order_moved role (Enters slot) s sound agrees may turn lasts order = order_entered role slot s sound.tied.is_role order
-order_moved role (Asks ask) s sound agrees may turn lasts order = ordered_step (control_asks ask) (owed_in role s.phase) s.control refl order
-order_moved role (Answers answer) s sound agrees may turn lasts order = ordered_step (control_answers answer) (owed_in role s.phase) s.control refl order
+order_moved role (Asks ask) s sound agrees may turn lasts order = ordered_step (control_asks ask) (phase_ciphers role s.phase) s.control refl order
+order_moved role (Answers answer) s sound agrees may turn lasts order = ordered_step (control_answers answer) (phase_ciphers role s.phase) s.control refl order
 order_moved role GivesKey s sound agrees may turn lasts order =
     order_if role (s.asks_key && is_open_now s) s (key_given s)
     (λ is. let parts = and_parts s.asks_key (is_open_now s) is in
@@ -439,8 +428,8 @@ order_moved role LacksKey s sound agrees may turn lasts order =
     (λ is. let at = sound.tied.asked_at (and_parts s.asks_key (is_open_now s) is).0 in
     subst (λ (r : Role). InOrder r (key_lacking s)) (sym at)
     (order_refused (may_follow Refuse s.phase) s.phase s refl refl (subst (λ (r : Role). InOrder r s) at order))) order
-order_moved role (Disconnects reason) s sound agrees may turn lasts order = ordered_step (control_disconnects reason) (owed_in role s.phase) s.control refl order
-order_moved role (Sends slot) s sound agrees may turn lasts order = ordered_step (control_sends slot (is_quiet_now s)) (owed_in role s.phase) s.control refl order
+order_moved role (Disconnects reason) s sound agrees may turn lasts order = ordered_step (control_disconnects reason) (phase_ciphers role s.phase) s.control refl order
+order_moved role (Sends slot) s sound agrees may turn lasts order = ordered_step (control_sends slot (is_quiet_now s)) (phase_ciphers role s.phase) s.control refl order
 order_moved role SeesAcknowledged s sound agrees may turn lasts order = order_acknowledged role s sound agrees lasts order
 order_moved role (Takes read slot response) s sound agrees may turn lasts order =
     order_took role slot response read s sound.tied (responds role read slot response may) turn order
@@ -471,7 +460,7 @@ order_first Peripheral max_rx first slot = record { waits = inr refl; out = tt }
 
 pub order_now : (role : Role) (max_rx : ℕ) (first : Params) (slot : ℕ) (steps : List PhasedStep) → AllMayRespond role steps → AreInTurn steps (first_phased role max_rx first slot)
     → let s = phased_after_all steps (first_phased role max_rx first slot) in
-    AreLastOf (owed_in role s.phase) (map (λ ctrl. ctrl_class ctrl) (ciphers_waiting s.control.table))
+    AreLastOf (phase_ciphers role s.phase) (map (λ ctrl. ctrl_class ctrl) (ciphers_waiting s.control.table))
 order_now role max_rx first slot steps may turns =
     (order_all role steps (first_phased role max_rx first slot) (sound_first role max_rx first slot) (agrees_first role max_rx first slot) may turns (order_first role max_rx first slot)).waits
 
@@ -480,7 +469,7 @@ few_last [] xs h = rw h (omega arith)
 few_last (y ∷ ys) xs (inl h) = rw h (omega arith)
 few_last (y ∷ ys) xs (inr h) = let k = few_last ys xs h in omega (arith, k)
 
-two_at_most : (role : Role) (p : PhaseFacts) → length (owed_in role p) ≤ 2
+two_at_most : (role : Role) (p : PhaseFacts) → length (phase_ciphers role p) ≤ 2
 two_at_most Central (Asked true enc_rsp_taken kept) = omega arith
 two_at_most Central (Asked false enc_rsp_taken kept) = omega arith
 two_at_most Central Clear = omega arith
@@ -492,7 +481,7 @@ pub few_now : (role : Role) (max_rx : ℕ) (first : Params) (slot : ℕ) (steps 
     → length (ciphers_waiting (phased_after_all steps (first_phased role max_rx first slot)).control.table) ≤ 2
 few_now role max_rx first slot steps may turns =
     let s = phased_after_all steps (first_phased role max_rx first slot) in
-    let few = few_last (owed_in role s.phase) (map ctrl_class (ciphers_waiting s.control.table)) (order_now role max_rx first slot steps may turns) in
+    let few = few_last (phase_ciphers role s.phase) (map ctrl_class (ciphers_waiting s.control.table)) (order_now role max_rx first slot steps may turns) in
     let two = two_at_most role s.phase in
     let same = length-map (ciphers_waiting s.control.table) ctrl_class in
     omega (arith, few, two, same)
@@ -512,7 +501,7 @@ pair_apart a b c d two (inl h) same = two (sym (ap (head_of_two c) h) ∙ same �
 pair_apart a b c d two (inr (inl h)) same = absurd (cc)
 pair_apart a b c d two (inr (inr h)) same = absurd (cc)
 
-apart_in : (role : Role) (p : PhaseFacts) (c d : PduClass) → AreLastOf (owed_in role p) (c ∷ d ∷ []) → c ≡ d → ⊥
+apart_in : (role : Role) (p : PhaseFacts) (c d : PduClass) → AreLastOf (phase_ciphers role p) (c ∷ d ∷ []) → c ≡ d → ⊥
 apart_in Central (Asked true enc_rsp_taken kept) c d last same = pair_apart pause_enc_rsp enc_req c d (λ h. absurd (cc)) last same
 apart_in Central (Asked false enc_rsp_taken kept) c d last same = no_pair enc_req c d last
 apart_in Central Clear c d last same = absurd (cc)
@@ -533,4 +522,4 @@ pub apart_now : (role : Role) (max_rx : ℕ) (first : Params) (slot : ℕ) (step
 apart_now role max_rx first slot steps one other may turns is =
     let s = phased_after_all steps (first_phased role max_rx first slot) in
     apart_in role s.phase (ctrl_class one) (ctrl_class other)
-    (subst (λ (ctrls : List Ctrl). Last (owed_in role s.phase) ctrls) is (order_now role max_rx first slot steps may turns))
+    (subst (λ (ctrls : List Ctrl). Last (phase_ciphers role s.phase) ctrls) is (order_now role max_rx first slot steps may turns))

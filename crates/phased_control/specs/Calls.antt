@@ -39,7 +39,8 @@ all_calls (step ∷ steps) c = calls_now step c ++ all_calls steps (after step c
 -- those of all steps of an end with its phase
 abbrev pub all_phased_calls : List PhasedStep → Phased → List Call
 all_phased_calls [] s = []
-all_phased_calls (step ∷ steps) s = all_calls (steps_now step s) s.control ++ all_phased_calls steps (phased_after step s)
+all_phased_calls (step ∷ steps) s =
+    all_calls (steps_now step s) s.control ++ all_phased_calls steps (phased_after step s)
 
 -- each passes the phase as the table has it
 abbrev pub AllPassPhase : TableFacts → List Call → Type 0

@@ -1,5 +1,5 @@
--- The PDUs of the encryption that wait at an end, and those of the peer that come in turn (Core 5.2, volume 6 part B, section
--- 5.1.3).
+-- The PDUs of the encryption that wait at an end, and those of the peer that come in turn (Core 5.2, volume 6 part B,
+-- section 5.1.3).
 use Rattle.std.specs.Prelude.{◌≡◌, ◌⊎◌, Bool, true, false, List, [], ◌∷◌, ◌++◌, ⊤}
 use Rattle.ble_base.specs.declared.roles.Role.{Role}
 use Rattle.ble_base.specs.declared.roles.Role.TheVariants.{Central, Peripheral}
@@ -40,29 +40,29 @@ ciphers_waiting f = ciphers_in f.queue.drafts
 
 -- ---- those that may wait in a phase, in this order
 
-abbrev pub owed_asking : Bool → List PduClass
-owed_asking false = enc_req ∷ []
-owed_asking true = pause_enc_rsp ∷ enc_req ∷ []
+abbrev pub asked_ciphers : Bool → List PduClass
+asked_ciphers false = enc_req ∷ []
+asked_ciphers true = pause_enc_rsp ∷ enc_req ∷ []
 
-abbrev pub owed_at_central : PhaseFacts → List PduClass
-owed_at_central (Asked after_pause enc_rsp_taken kept) = owed_asking after_pause
-owed_at_central HalfKeyed = start_enc_rsp ∷ []
-owed_at_central (Pausing kept) = pause_enc_req ∷ []
-owed_at_central (HalfClear kept) = pause_enc_rsp ∷ []
-owed_at_central phase = []
+abbrev pub central_ciphers : PhaseFacts → List PduClass
+central_ciphers (Asked after_pause enc_rsp_taken kept) = asked_ciphers after_pause
+central_ciphers HalfKeyed = start_enc_rsp ∷ []
+central_ciphers (Pausing kept) = pause_enc_req ∷ []
+central_ciphers (HalfClear kept) = pause_enc_rsp ∷ []
+central_ciphers phase = []
 
 -- LL_ENC_RSP may wait in Clear too: as a start is refused
-abbrev pub owed_at_peripheral : PhaseFacts → List PduClass
-owed_at_peripheral Clear = enc_rsp ∷ []
-owed_at_peripheral (Asked after_pause enc_rsp_taken kept) = enc_rsp ∷ []
-owed_at_peripheral HalfKeyed = enc_rsp ∷ start_enc_req ∷ []
-owed_at_peripheral Secure = start_enc_rsp ∷ []
-owed_at_peripheral (Pausing kept) = pause_enc_rsp ∷ []
-owed_at_peripheral (HalfClear kept) = []
+abbrev pub peripheral_ciphers : PhaseFacts → List PduClass
+peripheral_ciphers Clear = enc_rsp ∷ []
+peripheral_ciphers (Asked after_pause enc_rsp_taken kept) = enc_rsp ∷ []
+peripheral_ciphers HalfKeyed = enc_rsp ∷ start_enc_req ∷ []
+peripheral_ciphers Secure = start_enc_rsp ∷ []
+peripheral_ciphers (Pausing kept) = pause_enc_rsp ∷ []
+peripheral_ciphers (HalfClear kept) = []
 
-abbrev pub owed_in : Role → PhaseFacts → List PduClass
-owed_in Central phase = owed_at_central phase
-owed_in Peripheral phase = owed_at_peripheral phase
+abbrev pub phase_ciphers : Role → PhaseFacts → List PduClass
+phase_ciphers Central phase = central_ciphers phase
+phase_ciphers Peripheral phase = peripheral_ciphers phase
 
 -- the last of these, or all, or none
 abbrev pub AreLastOf : List PduClass → List PduClass → Type 0
@@ -83,7 +83,8 @@ is_of_encryption pdu = false
 
 -- it sends a PDU of the encryption once it has all that this end had to send
 abbrev pub IsInTurn : PhasedStep → Phased → Type 0
-IsInTurn (Takes read slot response) s = is_of_encryption (class_of_read read) ≡ true → ciphers_waiting s.control.table ≡ []
+IsInTurn (Takes read slot response) s =
+    is_of_encryption (class_of_read read) ≡ true → ciphers_waiting s.control.table ≡ []
 IsInTurn step s = ⊤
 
 abbrev pub AreInTurn : List PhasedStep → Phased → Type 0

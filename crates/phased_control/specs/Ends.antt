@@ -1,15 +1,16 @@
--- What the laws of one end with its phase speak of (Core 5.2, volume 6 part B, section 5.1.3; that a central keeps a PDU is
--- our choice).
-use Rattle.std.specs.Prelude.{◌≡◌, Bool, true, false, not, List, [], ◌∷◌, Option, Some, None, ⊤}
+-- What the laws of one end with its phase speak of (Core 5.2, volume 6 part B, section 5.1.3; that a central keeps a
+-- PDU is our choice).
+use Rattle.std.specs.Prelude.{◌≡◌, Bool, true, false, List, [], ◌∷◌, Option, Some, None, Ok, ⊤}
 use Rattle.ble_base.specs.declared.roles.Role.{Role}
 use Rattle.ble_base.specs.declared.roles.Role.TheVariants.{Peripheral}
 use Rattle.data_pdu.specs.declared.ctrl.Ctrl.{Ctrl}
 use Rattle.data_pdu.specs.declared.ctrl.Ctrl.TheVariants.{EncReq, EncRsp}
 use Rattle.enc_phase.specs.declared.classes.PduClass.TheVariants.{Request}
 use Rattle.enc_phase.specs.declared.facts.PhaseFacts.{PhaseFacts}
-use Rattle.enc_phase.specs.declared.facts.PhaseFacts.TheVariants.{Asked, Clear, HalfClear, HalfKeyed, Pausing}
+use Rattle.enc_phase.specs.declared.facts.PhaseFacts.TheVariants.{Asked, HalfClear, HalfKeyed, Pausing}
 use Rattle.enc_phase.specs.Taking.{ctrl_class}
-use Rattle.phased_control.specs.Taken.{PhasedStep, Takes}
+use Rattle.procedure_values.specs.Wants.{IsAsk}
+use Rattle.phased_control.specs.Taken.{PhasedStep, Answers, Asks, Takes}
 
 -- ---- the PDU that a central keeps
 
@@ -49,9 +50,13 @@ abbrev pub AllMayRespond : Role → List PhasedStep → Type 0
 AllMayRespond role [] = ⊤
 AllMayRespond role (step ∷ steps) = MayRespond role step × AllMayRespond role steps
 
--- ---- a phase that follows no pause of an encryption, at a central
+-- ---- what a host asks is in its range
 
-abbrev pub follows_no_pause : PhaseFacts → Bool
-follows_no_pause Clear = true
-follows_no_pause (Asked after_pause enc_rsp kept) = not after_pause
-follows_no_pause phase = false
+abbrev pub AsksInRange : PhasedStep → Type 0
+AsksInRange (Asks ask) = IsAsk ask
+AsksInRange (Answers (Ok ask)) = IsAsk ask
+AsksInRange step = ⊤
+
+abbrev pub AllAskInRange : List PhasedStep → Type 0
+AllAskInRange [] = ⊤
+AllAskInRange (step ∷ steps) = AsksInRange step × AllAskInRange steps

@@ -53,27 +53,28 @@ owed_acknowledged s = (if asks_again s then s.request else None)
 -- as the host of a peripheral lacks a key
 abbrev pub owed_without_key : PhaseFacts → Ctrl
 owed_without_key phase =
-    (if may_follow Refuse phase then RejectExtInd enc_req_opcode pin_or_key_missing else TerminateInd pin_or_key_missing)
+    (if may_follow Refuse phase then RejectExtInd enc_req_opcode pin_or_key_missing
+    else TerminateInd pin_or_key_missing)
 
 -- as a PDU of the peer is answered in a phase
-abbrev pub owed_by_central : Ctrl → PhaseFacts → Option Ctrl
-owed_by_central StartEncReq phase = ctrl_if (is_asked phase) StartEncRsp
-owed_by_central PauseEncRsp phase = ctrl_if (may_follow Unlock phase) PauseEncRsp
-owed_by_central ctrl phase = None
+abbrev pub central_answer : Ctrl → PhaseFacts → Option Ctrl
+central_answer StartEncReq phase = ctrl_if (is_asked phase) StartEncRsp
+central_answer PauseEncRsp phase = ctrl_if (may_follow Unlock phase) PauseEncRsp
+central_answer ctrl phase = None
 
-abbrev pub owed_by_peripheral : Ctrl → Ctrl → PhaseFacts → Option Ctrl
-owed_by_peripheral response (EncReq rand ediv skd_m iv_m) phase = ctrl_if (may_follow AskTransition phase) response
-owed_by_peripheral response PauseEncReq phase = ctrl_if (may_follow Pause phase) PauseEncRsp
-owed_by_peripheral response StartEncRsp phase = ctrl_if (may_follow Confirm phase) StartEncRsp
-owed_by_peripheral response ctrl phase = None
+abbrev pub peripheral_answer : Ctrl → Ctrl → PhaseFacts → Option Ctrl
+peripheral_answer response (EncReq rand ediv skd_m iv_m) phase = ctrl_if (may_follow AskTransition phase) response
+peripheral_answer response PauseEncReq phase = ctrl_if (may_follow Pause phase) PauseEncRsp
+peripheral_answer response StartEncRsp phase = ctrl_if (may_follow Confirm phase) StartEncRsp
+peripheral_answer response ctrl phase = None
 
-abbrev pub owed_by : Role → Ctrl → Ctrl → PhaseFacts → Option Ctrl
-owed_by Central response ctrl phase = owed_by_central ctrl phase
-owed_by Peripheral response ctrl phase = owed_by_peripheral response ctrl phase
+abbrev pub ctrl_answer : Role → Ctrl → Ctrl → PhaseFacts → Option Ctrl
+ctrl_answer Central response ctrl phase = central_answer ctrl phase
+ctrl_answer Peripheral response ctrl phase = peripheral_answer response ctrl phase
 
-abbrev pub owed_for : Role → Ctrl → CtrlRead → PhaseFacts → Option Ctrl
-owed_for role response (Known ctrl) phase = owed_by role response ctrl phase
-owed_for role response read phase = None
+abbrev pub read_answer : Role → Ctrl → CtrlRead → PhaseFacts → Option Ctrl
+read_answer role response (Known ctrl) phase = ctrl_answer role response ctrl phase
+read_answer role response read phase = None
 
 -- ---- the steps
 
@@ -83,19 +84,22 @@ kept_steps slot None = []
 kept_steps slot (Some ctrl) = control_takes (Known ctrl) slot true ∷ []
 
 -- as the procedures and the phase have seen a PDU, before it is answered
-abbrev pub seen : CtrlRead → ℕ → Phased → Phased
-seen read slot s = with_phase_taking read (with_step (control_takes (seen_as read s) slot (is_quiet_now s)) (knowing read s))
+abbrev pub seen_by_procedures : CtrlRead → ℕ → Phased → Phased
+seen_by_procedures read slot s =
+    with_phase_taking read (with_step (control_takes (seen_as read s) slot (is_quiet_now s)) (knowing read s))
 
 -- the answer to a PDU, and the PDU that was kept until then
 abbrev pub later_steps : ℕ → Ctrl → CtrlRead → Phased → List Step
 later_steps slot response read s =
-    owed_steps (owed_for (role_now s) response read s.phase)
+    owed_steps (read_answer (role_now s) response read s.phase)
     ++ (if is_quiet_now (ciphered response read s) then kept_steps slot s.kept else [])
 
 abbrev pub handed_steps : ℕ → Ctrl → CtrlRead → Phased → List Step
 handed_steps slot response read s =
     control_takes (seen_as read s) slot (is_quiet_now s)
-    ∷ (if is_none (seen read slot s).control.ends then later_steps slot response read (seen read slot s) else [])
+    ∷ (if is_none (seen_by_procedures read slot s).control.ends
+    then later_steps slot response read (seen_by_procedures read slot s)
+    else [])
 
 -- nothing where the phase forbids or keeps the PDU, or there is no room for the answer
 abbrev pub taken_steps : ℕ → Ctrl → CtrlRead → Phased → List Step

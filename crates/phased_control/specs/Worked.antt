@@ -3,12 +3,12 @@ use Rattle.std.specs.Prelude.{List, [], ◌∷◌, replicate}
 use Rattle.ble_base.specs.declared.channel_map.ChannelMap.{ChannelMap}
 use Rattle.ble_base.specs.declared.roles.Role.TheVariants.{Central, Peripheral}
 use Rattle.control_model.specs.Worked.{six_slots}
-use Rattle.data_pdu.specs.declared.ctrl.Ctrl.TheVariants.{EncRsp, RejectExtInd, StartEncReq, StartEncRsp}
+use Rattle.data_pdu.specs.declared.ctrl.Ctrl.TheVariants.{EncReq, EncRsp, RejectExtInd, StartEncReq, StartEncRsp}
 use Rattle.data_pdu.specs.declared.ctrl.CtrlRead.{CtrlRead}
 use Rattle.data_pdu.specs.declared.ctrl.CtrlRead.TheVariants.{Known}
 use Rattle.procedure_values.specs.declared.asks.Ask.TheVariants.{Encrypt}
 use Rattle.phased_control.specs.Phased.{Phased, first_phased}
-use Rattle.phased_control.specs.Taken.{PhasedStep, Asks, Enters, SeesAcknowledged, Sends, Takes, phased_after_all}
+use Rattle.phased_control.specs.Taken.{PhasedStep, Asks, Enters, GivesKey, SeesAcknowledged, Sends, Takes, phased_after_all}
 
 abbrev pub central_after : ChannelMap → List PhasedStep → Phased
 central_after map steps = phased_after_all steps (first_phased Central 27 (six_slots map) 3)
@@ -30,3 +30,17 @@ abbrev pub refusal_at_central : List PhasedStep
 refusal_at_central =
     Asks (Encrypt 0 0 (replicate 16 0) 0 0) ∷ Enters 0 ∷ Sends 0 ∷ SeesAcknowledged ∷ takes (Known (EncRsp 0 0))
     ∷ takes (Known (RejectExtInd 0x03 0x06)) ∷ []
+
+-- a peer that answers LL_ENC_REQ before it is sent
+abbrev pub answers_too_early : List PhasedStep
+answers_too_early =
+    Asks (Encrypt 0 0 (replicate 16 0) 0 0) ∷ Enters 0 ∷ takes (Known (EncRsp 0 0)) ∷ takes (Known StartEncReq)
+    ∷ takes (Known StartEncRsp) ∷ []
+
+-- a peer that goes on before it has LL_ENC_RSP and LL_START_ENC_REQ
+abbrev pub goes_on_too_early : List PhasedStep
+goes_on_too_early = takes (Known (EncReq 0 0 0 0)) ∷ GivesKey ∷ takes (Known StartEncRsp) ∷ []
+
+-- LL_ENC_REQ answered by another PDU than LL_ENC_RSP
+abbrev pub answered_wrongly : List PhasedStep
+answered_wrongly = Takes (Known (EncReq 0 0 0 0)) 0 (RejectExtInd 0x03 0x06) ∷ []
