@@ -181,7 +181,7 @@ module _ (s : Joint) (b : Before s) where
 
   -- ---- its PDU is acknowledged
 
-  same_event : is_same_event s ≡ true → event_of s.central.control.track ≡ event_of s.peripheral.control.track
+  pub same_event : is_same_event s ≡ true → event_of s.central.control.track ≡ event_of s.peripheral.control.track
   same_event is = eqb-true (event_of s.central.control.track) (event_of s.peripheral.control.track) is
 
   taken_seen : (item : Item) → s.down ≡ Taken item

@@ -43,7 +43,7 @@ ahead_some nothing_ahead = refl
 ahead_some update_ahead = refl
 ahead_some map_ahead = refl
 
-ahead_is : (f : TableFacts) → role_of f.progress ≡ peripheral_role → is_some (peripheral_of f).ahead ≡ is_some (kind_awaited f.progress)
+pub ahead_is : (f : TableFacts) → role_of f.progress ≡ peripheral_role → is_some (peripheral_of f).ahead ≡ is_some (kind_awaited f.progress)
 ahead_is f role =
     let x = is_peripheral f.progress role in
     over (λ (g : TableFacts). is_some (peripheral_of g).ahead ≡ is_some (kind_awaited g.progress)) f x.0 x.1 (ahead_some x.0.ahead)

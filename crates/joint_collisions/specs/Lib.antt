@@ -1,3 +1,4 @@
 -- The definitions of this crate.
 pub mod Facts
+pub mod Arrivals
 pub mod Views
