@@ -21,4 +21,5 @@ pub mod Runs
 pub mod States
 pub mod TableRoles
 pub mod Took
+pub mod UsedVersions
 pub mod VersionMoves

@@ -1,9 +1,11 @@
 -- The laws of exchanges, of each state of a joint run in which that goes on.
-use Rattle.std.proofs.Common.{◌≡◌, ◌≤◌, ◌⊎◌, inl, inr, ℕ, zero, suc, ◌+◌, ◌==◌, Bool, true, false, not, ◌||◌, List, refl, ap, sym, ◌∙◌, subst, arith, eqb-true}
+use Rattle.std.proofs.Common.{◌≡◌, ◌≤◌, ◌⊎◌, inl, inr, ℕ, zero, suc, ◌+◌, ◌==◌, Bool, true, false, not, ◌&&◌, ◌||◌, List, Option, Some, None, refl, ap, sym, ◌∙◌, subst, arith, eqb-true}
+use Rattle.std.proofs.lemmas.Bool.{and_parts}
 use Rattle.ble_base.specs.Limits.{first_payload_octets}
 use Rattle.ble_base.specs.declared.procedure_kinds.Kind.TheVariants.{Version}
 use Rattle.ble_base.specs.declared.roles.Role.{Role}
 use Rattle.ble_base.specs.declared.roles.Role.TheVariants.{Central, Peripheral}
+use Rattle.data_pdu.specs.declared.ctrl.Ctrl.{Ctrl}
 use Rattle.instants.specs.declared.indications.Params.{Params}
 use Rattle.procedure_values.specs.Limits.{tx_of}
 use Rattle.procedure_values.specs.Wants.{count_of}
@@ -22,16 +24,20 @@ use Rattle.exchange_pairs.proofs.Exchanges.{idle, sent, unsent}
 use Rattle.exchange_pairs.proofs.LengthParts.{parts}
 use Rattle.exchange_pairs.proofs.LengthsFixed.{known_fixed, stays}
 use Rattle.exchange_pairs.proofs.LengthsKept.{transmits_within}
+use Rattle.exchange_pairs.proofs.Versions
 use Rattle.exchange_pairs.proofs.Versions.{known_then_idle, once, sent_is_coming, still_answering, unsent_waits, used_unknown}
-use Rattle.phased_control.specs.Phased.{is_open_now}
+use Rattle.phased_control.specs.Phased.{is_open_now, is_quiet_now}
 use Rattle.joint_controls.specs.Joint.{Joint, JointStep, after_all, beginning}
-use Rattle.joint_exchanges.specs.Agreement.{Asked, Features, Lengths, coming_to, end_at, first_rx_at, is_answer_of, is_first_of, is_question_of, is_version_ctrl, is_version_ind, kept_of, places_of, questions_waiting, sent_from, stage_at, untaken, version_coming, version_places, version_stage_at, waiting}
+use Rattle.joint_exchanges.specs.Agreement.{Asked, Features, Lengths, coming_to, end_at, first_rx_at, is_answer_of, is_first_of, is_question_of, is_version_ctrl, is_version_ind, kept_of, passes, places_of, questions_waiting, sent_from, stage_at, untaken, version_coming, version_places, version_stage_at, waiting}
 use Rattle.joint_exchanges.specs.Machines.{events_of, features_event, lengths_event, lengths_link, maxima_after_all, none_sent, versions_event, versions_link}
 use Rattle.joint_exchanges.specs.Moves.{Move}
-use Rattle.joint_exchanges.specs.Parts.{parts_of}
+use Rattle.joint_exchanges.specs.Parts.{ExchangeParts, parts_of}
 use Rattle.joint_exchanges.specs.Runs.{GoesOn, moves_in}
+use Rattle.joint_exchanges.proofs.CentralKeeps.{central_keeps}
 use Rattle.joint_exchanges.proofs.Counting.{asked_link, asked_places, asked_waiting, version_drafts, version_kept, version_way}
-use Rattle.joint_exchanges.proofs.MachineRuns.{features_now, lengths_now, none_ever, versions_now}
+use Rattle.joint_exchanges.proofs.MayDo.{idle_encrypting}
+use Rattle.joint_exchanges.proofs.MachineRuns.{features_now, lengths_now, moved, none_ever, versions_now}
+use Rattle.joint_exchanges.proofs.UsedVersions.{AreUsed, Await, moves_await, moves_used}
 
 module _ (central_rx peripheral_rx : ℕ) (first : Params) (slot : ℕ) (steps : List JointStep) where
   abbrev s : Joint
@@ -242,26 +248,43 @@ module _ (central_rx peripheral_rx : ℕ) (first : Params) (slot : ℕ) (steps :
         by (inl is) = inl is
         by (inr is) = inr (not_true _ is)
 
-    used_by : (role : Role) → (VersionRun.end_of role (versions_link (parts_of s))).used ≡ true → VersionRun.knows role (versions_link (parts_of s)) ≡ false
-        → (not (is_idle (VersionRun.end_of role (versions_link (parts_of s))).own) ≡ true) ⊎ (VersionRun.keeps role (versions_link (parts_of s)) ≡ true)
-    used_by role =
-        subst (λ l. (VersionRun.end_of role l).used ≡ true → VersionRun.knows role l ≡ false
-        → (not (is_idle (VersionRun.end_of role l).own) ≡ true) ⊎ (VersionRun.keeps role l ≡ true))
-        (sym version_path) (used_unknown (events_of versions_event moves) role)
+    await_now : Await (parts_of s)
+    await_now =
+        let m = moved central_rx peripheral_rx first slot steps run_on.responds run_on.goes in
+        subst (λ (p : ExchangeParts). Await p) (sym m.goes)
+        (moves_await moves (parts_of (beginning central_rx peripheral_rx first slot)) m.may
+        (record { central = λ is unknown. absurd (cc); peripheral = λ is unknown. absurd (cc) }))
 
     pub version_used_for : (role : Role) → (end_at role s).control.table.version_used ≡ true → (end_at role s).knows_version ≡ false
-        → (is_idle (version_stage_at (end_at role s)) ≡ false) ⊎ (kept_of is_version_ctrl (other_role role) s ≡ 1)
-    version_used_for Central used unknown = by (used_by Central used unknown)
-      where
-        by : (not (is_idle (version_stage_at s.central)) ≡ true) ⊎ ((versions_link (parts_of s)).kept ≡ true)
-            → (is_idle (version_stage_at s.central) ≡ false) ⊎ (kept_of is_version_ctrl Peripheral s ≡ 1)
-        by (inl is) = inl (not_true _ is)
-        by (inr is) = inr (sym (version_kept s.central.kept) ∙ ap count_if is)
-    version_used_for Peripheral used unknown = by (used_by Peripheral used unknown)
-      where
-        by : (not (is_idle (version_stage_at s.peripheral)) ≡ true) ⊎ (false ≡ true) → (is_idle (version_stage_at s.peripheral) ≡ false) ⊎ (kept_of is_version_ctrl Central s ≡ 1)
-        by (inl is) = inl (not_true _ is)
-        by (inr is) = absurd (cc)
+        → is_idle (version_stage_at (end_at role s)) ≡ false
+    version_used_for Central used unknown = await_now.central used unknown
+    version_used_for Peripheral used unknown = await_now.peripheral used unknown
+
+    -- while an own exchange runs, and once the other's version is known, the own PDU was queued
+    used_now : AreUsed (parts_of s)
+    used_now =
+        let m = moved central_rx peripheral_rx first slot steps run_on.responds run_on.goes in
+        subst (λ (p : ExchangeParts). AreUsed p) (sym m.goes)
+        (moves_used moves (parts_of (beginning central_rx peripheral_rx first slot)) m.may (record { central = λ is. absurd (cc); peripheral = λ is. absurd (cc) }))
+
+    pub version_running : (role : Role) → is_idle (version_stage_at (end_at role s)) ≡ false → (end_at role s).control.table.version_used ≡ true
+    version_running Central is = used_now.central is
+    version_running Peripheral is = used_now.peripheral is
+
+    known_by : (role : Role) → VersionLaws.is_used_right role (versions_link (parts_of s)) ≡ true
+    known_by role = subst (λ l. VersionLaws.is_used_right role l ≡ true) (sym version_path) (Versions.parts (events_of versions_event moves) role).used
+
+    used_if : (knows used opens : Bool) → VersionLaws.implies knows (used || not opens) ≡ true → knows ≡ true → opens ≡ true → used ≡ true
+    used_if true true opens is k o = refl
+    used_if true false true is k o = absurd (cc)
+    used_if true false false is k o = absurd (cc)
+    used_if false used opens is k o = absurd (cc)
+
+    pub version_known_used : (role : Role) → (end_at role s).knows_version ≡ true → is_open_now (end_at role s) ≡ true → (end_at role s).control.table.version_used ≡ true
+    version_known_used Central knows opens =
+        used_if _ _ (is_open_now s.central) (and_parts (VersionLaws.implies (s.central.control.table.version_used && not s.central.knows_version) _) _ (known_by Central)).1 knows opens
+    version_known_used Peripheral knows opens =
+        used_if _ _ (is_open_now s.peripheral) (and_parts (VersionLaws.implies (s.peripheral.control.table.version_used && not s.peripheral.knows_version) _) _ (known_by Peripheral)).1 knows opens
 
     one_count : (b : Bool) → Waiting.count_if b ≤ 1
     one_count true = omega arith
@@ -277,6 +300,39 @@ module _ (central_rx peripheral_rx : ℕ) (first : Params) (slot : ℕ) (steps :
         let sum = version_once Peripheral in let most = one_count s.peripheral.control.table.version_used in zero_count s.central.knows_version (omega (arith, is, sum, most))
     version_taken Peripheral is =
         let sum = version_once Central in let most = one_count s.central.control.table.version_used in zero_count s.peripheral.knows_version (omega (arith, is, sum, most))
+
+    -- a central that keeps LL_VERSION_IND has not queued its own
+    some_kept : (kept : Option Ctrl) → Waiting.count_if (passes is_version_ctrl kept) ≡ 1 → kept ≡ None → ⊥
+    some_kept None is none = absurd (cc)
+    some_kept (Some ctrl) is none = cc
+
+    not_quiet : (b : Bool) → (b ≡ true → ⊥) → b ≡ false
+    not_quiet true is = absurd (is refl)
+    not_quiet false is = refl
+
+    pub version_kept_unused : kept_of is_version_ctrl Peripheral s ≡ 1 → s.central.control.table.version_used ≡ false
+    version_kept_unused kept =
+        let keeps = central_keeps central_rx peripheral_rx first slot steps in
+        let idle : is_idle (version_stage_at s.central) ≡ true =
+        idle_encrypting s.central (keeps.encrypts (not_quiet (is_quiet_now s.central) (λ quiet. some_kept s.central.kept kept (keeps.quiet quiet)))) in
+        let sum = version_once Peripheral in
+        let most = one_count s.peripheral.control.table.version_used in
+        let unknown : s.central.knows_version ≡ false = zero_count s.central.knows_version (omega (arith, kept, sum, most)) in
+        by s.central.control.table.version_used (λ used. version_used_for Central used unknown) idle
+      where
+        by : (used : Bool) → (used ≡ true → is_idle (version_stage_at s.central) ≡ false) → is_idle (version_stage_at s.central) ≡ true → used ≡ false
+        by true is idle = absurd (let h = is refl in cc)
+        by false is idle = refl
+
+    -- and the peripheral runs an exchange of versions
+    pub version_kept_runs : kept_of is_version_ctrl Peripheral s ≡ 1 → is_idle (version_stage_at s.peripheral) ≡ false
+    version_kept_runs kept =
+        version_used_for Peripheral (one_used s.peripheral.control.table.version_used (let sum = version_once Peripheral in omega (arith, sum, kept)))
+        (zero_count s.peripheral.knows_version (let sum = version_once Central in let none = ap (λ b. Waiting.count_if b) (version_kept_unused kept) in omega (arith, sum, none)))
+      where
+        one_used : (b : Bool) → 1 ≤ Waiting.count_if b → b ≡ true
+        one_used true is = refl
+        one_used false is = absurd (omega (arith, is))
 
     -- ---- the exchange of lengths
 

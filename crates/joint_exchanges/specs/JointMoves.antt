@@ -1,4 +1,5 @@
--- Which moves of the exchanges each step of a joint run is (Core 5.2, volume 6 part B, sections 5.1.4, 5.1.5 and 5.1.9).
+-- Which moves of the exchanges each step of a joint run is (Core 5.2, volume 6 part B, sections 5.1.4, 5.1.5 and
+-- 5.1.9).
 use Rattle.std.specs.Prelude.{ℕ, Bool, not, ◌&&◌, List, [], ◌∷◌, ◌++◌, Option, Some, None, if◌then◌else◌}
 use Rattle.ble_base.specs.declared.roles.Role.{Role}
 use Rattle.ble_base.specs.declared.roles.Role.TheVariants.{Central, Peripheral}

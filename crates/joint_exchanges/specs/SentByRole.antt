@@ -1,7 +1,7 @@
 -- Which control PDUs an end of a joint run queues and sends, by its role (Core 5.2, volume 6 part B, section 2.4.2;
 -- what this product never sends is our choice). The other end knows each of them, but for PDUs of the encryption in a
--- phase in which they have no meaning. Those it answers with LL_UNKNOWN_RSP; `unknowns` is whether such an answer may be
--- among what waits.
+-- phase in which they have no meaning. Those it answers with LL_UNKNOWN_RSP; `unknowns` is whether such an answer may
+-- be among what waits.
 use Rattle.std.specs.Prelude.{◌≡◌, ⊤, ℕ, ◌==◌, Bool, true, false, ◌&&◌, ◌||◌, Option, Some, None}
 use Rattle.std.specs.List.{AllByRecursion}
 use Rattle.ble_base.specs.declared.roles.Role.{Role}

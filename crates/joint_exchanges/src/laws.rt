@@ -112,8 +112,9 @@ pub fn answers_meet_their_questions()
 /// version is known; while it is unsent the PDU waits, and afterwards that or the other's is to
 /// come, or the other end is to end the link. An end that knows the other's version and whose own
 /// PDU is still to come answers an exchange of the other, or that is to end the link. One whose PDU
-/// was queued and that does not know the other's version runs an exchange, or keeps the other's PDU:
-/// so none begins without a PDU.
+/// was queued and that does not know the other's version runs an exchange. The PDU was queued at
+/// each end that runs an exchange, and at each that knows the other's version and is not to end the
+/// link. What the central keeps began an exchange of the peripheral.
 pub fn a_version_goes_once()
     ensures once { (central_rx peripheral_rx : ℕ) (first : Params) (slot : ℕ)
         (steps : List JointStep) (role : Role)
@@ -160,8 +161,31 @@ pub fn a_version_goes_once()
         GoesOn steps (beginning central_rx peripheral_rx first slot)
         → (end_at role s).control.table.version_used ≡ true
         → (end_at role s).knows_version ≡ false
-        → (is_idle (version_stage_at (end_at role s)) ≡ false)
-        ⊎ (kept_of is_version_ctrl (other_role role) s ≡ 1) }
+        → is_idle (version_stage_at (end_at role s)) ≡ false }
+    ensures running { (central_rx peripheral_rx : ℕ) (first : Params) (slot : ℕ)
+        (steps : List JointStep) (role : Role)
+        → let s = after_all steps (beginning central_rx peripheral_rx first slot) in
+        GoesOn steps (beginning central_rx peripheral_rx first slot)
+        → is_idle (version_stage_at (end_at role s)) ≡ false
+        → (end_at role s).control.table.version_used ≡ true }
+    ensures known_used { (central_rx peripheral_rx : ℕ) (first : Params) (slot : ℕ)
+        (steps : List JointStep) (role : Role)
+        → let s = after_all steps (beginning central_rx peripheral_rx first slot) in
+        GoesOn steps (beginning central_rx peripheral_rx first slot)
+        → (end_at role s).knows_version ≡ true → is_open_now (end_at role s) ≡ true
+        → (end_at role s).control.table.version_used ≡ true }
+    ensures kept { (central_rx peripheral_rx : ℕ) (first : Params) (slot : ℕ)
+        (steps : List JointStep)
+        → let s = after_all steps (beginning central_rx peripheral_rx first slot) in
+        GoesOn steps (beginning central_rx peripheral_rx first slot)
+        → kept_of is_version_ctrl Role.Peripheral s ≡ 1
+        → s.central.control.table.version_used ≡ false }
+    ensures kept_runs { (central_rx peripheral_rx : ℕ) (first : Params) (slot : ℕ)
+        (steps : List JointStep)
+        → let s = after_all steps (beginning central_rx peripheral_rx first slot) in
+        GoesOn steps (beginning central_rx peripheral_rx first slot)
+        → kept_of is_version_ctrl Role.Peripheral s ≡ 1
+        → is_idle (version_stage_at s.peripheral) ≡ false }
 {}
 
 /// What an end receives at most is what it received as the link began. The other end knows 27
@@ -226,7 +250,7 @@ pub fn ends_send_pdus_of_their_role()
 /// The control PDUs that wait at an end are those of the kinds of procedures, each of one kind. So
 /// fewer than sixteen wait in a joint run where all that comes has a meaning, and where of the
 /// procedures that exclude each other at most one rejection and two PDUs wait, and of the
-/// encryption at most three, with LL_TERMINATE_IND for lack of a key.
+/// encryption at most three, with LL_TERMINATE_IND for want of a key.
 pub fn few_control_pdus_wait_by_kind()
     ensures sum { (s : Phased) → waiting_in s.control.table.queue ≡ kinds_waiting s }
     ensures few { (central_rx peripheral_rx : ℕ) (first : Params) (slot : ℕ)
