@@ -65,6 +65,12 @@ central_asks s c ask is =
       begins = is.begins;
     }
 
+-- ---- it ends the link, or did before
+
+abbrev pub ClosesAs : PhaseCentral → Bool → Phased → Type 0
+ClosesAs c true t = (not c.closed ≡ true) × IsCentral t (record c { closed = true })
+ClosesAs c false t = IsCentral t c
+
 -- ---- it answers a request of the peripheral
 
 peer_same : (peer : PeerAtCentral) (p : Progress) → SameStage p (peer_becomes peer p)
@@ -114,12 +120,8 @@ module _ (s : Phased) (c : PhaseCentral) (is : IsCentral (opened s) c) where
 
   -- ---- it ends the link
 
-  abbrev pub ClosesAs : Bool → Phased → Type 0
-  ClosesAs true t = (not c.closed ≡ true) × IsCentral t (record c { closed = true })
-  ClosesAs false t = IsCentral t c
-
   closes_if : (b : Bool) (reason : ErrCode) → is_open s.control.table.closing ≡ b
-      → ClosesAs b (record s { control = table_if b (terminate_step s.control.table reason) (record s.control { ends = None }) })
+      → ClosesAs c b (record s { control = table_if b (terminate_step s.control.table reason) (record s.control { ends = None }) })
   closes_if false reason opens = is
   closes_if true reason opens =
       let lasts : c.closed ≡ false = open_down c.closed (ap is_open (sym is.closing) ∙ opens) in
@@ -145,7 +147,7 @@ module _ (s : Phased) (c : PhaseCentral) (is : IsCentral (opened s) c) where
         },
       )
 
-  pub central_disconnects : (reason : ErrCode) → ClosesAs (is_open s.control.table.closing) (phased_after (Disconnects reason) (opened s))
+  pub central_disconnects : (reason : ErrCode) → ClosesAs c (is_open s.control.table.closing) (phased_after (Disconnects reason) (opened s))
   central_disconnects reason = closes_if (is_open s.control.table.closing) reason refl
 
   -- ---- it is asked for no key

@@ -184,16 +184,27 @@ module _ (s : Phased) (c : PhaseCentral) (ctrl response : Ctrl) (slot : ℕ) (aw
   goes_then t role none =
       ap (λ r. answered_if_quiet slot (ciphered_at r response ctrl t)) role ∙ ap (answered_if_quiet slot) (plain_at_central ctrl t plain) ∙ none_kept t none
 
+  -- the part after it, and whether the version of the peripheral is known
+  record TakenAs (t : Phased) : Type 0 where
+    part : IsCentral t (record c { awaits = awaited })
+    knows_it : t.knows_version ≡ s.knows_version || is_version (Known ctrl)
+
   by_ends : (e : Option ErrCode) → (control_after true).ends ≡ e
       → (if is_none e then answered_if_quiet slot (ciphered response (Known ctrl) (seen false true)) else seen false true).control.ends ≡ None
-      → IsCentral (if is_none e then answered_if_quiet slot (ciphered response (Known ctrl) (seen false true)) else seen false true) (record c { awaits = awaited })
+      → TakenAs (if is_none e then answered_if_quiet slot (ciphered response (Known ctrl) (seen false true)) else seen false true)
   by_ends (Some e) ends lasts = some_none e _ (sym ends ∙ lasts)
   by_ends None ends lasts =
       let h = after_is ends in
-      subst (λ (t : Phased). IsCentral t (record c { awaits = awaited })) (sym (goes_then (seen false true) h.role (h.kept quiet))) h
+      subst TakenAs (sym (goes_then (seen false true) h.role (h.kept quiet))) (record { part = h; knows_it = refl })
+
+  takes_it : (phased_after (Takes (Known ctrl) slot response) (opened s)).control.ends ≡ None → TakenAs (phased_after (Takes (Known ctrl) slot response) (opened s))
+  takes_it lasts =
+      subst TakenAs (sym taken_is) (by_ends (control_after true).ends refl (ap (λ (t : Phased). t.control.ends) (sym taken_is) ∙ lasts))
 
   pub takes_plain : (phased_after (Takes (Known ctrl) slot response) (opened s)).control.ends ≡ None
       → IsCentral (phased_after (Takes (Known ctrl) slot response) (opened s)) (record c { awaits = awaited })
-  takes_plain lasts =
-      subst (λ (t : Phased). IsCentral t (record c { awaits = awaited })) (sym taken_is)
-      (by_ends (control_after true).ends refl (ap (λ (t : Phased). t.control.ends) (sym taken_is) ∙ lasts))
+  takes_plain lasts = (takes_it lasts).part
+
+  pub plain_knows : (phased_after (Takes (Known ctrl) slot response) (opened s)).control.ends ≡ None
+      → (phased_after (Takes (Known ctrl) slot response) (opened s)).knows_version ≡ s.knows_version || is_version (Known ctrl)
+  plain_knows lasts = (takes_it lasts).knows_it

@@ -19,3 +19,13 @@ pub mod PeripheralSends
 pub mod PeripheralTable
 pub mod PeripheralTakes
 pub mod PeripheralPlain
+pub mod PeripheralCipher
+pub mod Knowing
+pub mod JointCentral
+pub mod JointPeripheral
+pub mod CentralAwaits
+pub mod Ways
+pub mod JointCentralTakes
+pub mod JointPeripheralTakes
+pub mod Steps
+pub mod Agreeing

@@ -204,7 +204,31 @@ module _ (s : Phased) (p : PhasePeripheral) (slot : ℕ) (is : IsPeripheral (ope
       enters_by (place_to_begin table (is_quiet s.phase)) (ask_at (place_to_begin table (is_quiet s.phase)) table.wanted) refl refl
       (absent_where (ask_at (place_to_begin table (is_quiet s.phase)) table.wanted) refl)
 
+-- what begins does so in Clear or Secure, while the link is not to end
+pub begins_quiet : (s : Phased) → does_begin (opened s) ≡ true → (is_quiet s.phase ≡ true) × (is_open s.control.table.closing ≡ true)
+begins_quiet s begins_it =
+    by (place_to_begin f (is_quiet s.phase)) (ask_at (place_to_begin f (is_quiet s.phase)) f.wanted) refl refl begins_it
+  where
+    f : TableFacts
+    f = (entered_step s.control.table (is_some (next_number s.control.track))).0
+
+    by : (place : Option ℕ) (ask : Option Ask) → place_to_begin (entered_step s.control.table (is_some (next_number s.control.track))).0 (is_quiet s.phase) ≡ place
+        → ask_at place (entered_step s.control.table (is_some (next_number s.control.track))).0.wanted ≡ ask
+        → has_first_draft (entered_step s.control.table (is_some (next_number s.control.track))).0 ask ≡ true
+        → (is_quiet s.phase ≡ true) × (is_open s.control.table.closing ≡ true)
+    by None None at a h = absurd (cc)
+    by None (Some ask) at a h = absurd (cc)
+    by (Some place) None at a h = absurd (cc)
+    by (Some place) (Some ask) at a h =
+        let may = begins_of (entered_step s.control.table (is_some (next_number s.control.track))).0 (is_quiet s.phase) place ask at a in
+        (may.is_quiet, ap is_open (sym (entered_same s.control.table (is_some (next_number s.control.track))).closing) ∙ may.lasts)
+
 -- ---- its host
+
+-- it ends the link, or did before
+abbrev pub ClosesAs : PhasePeripheral → Bool → Phased → Type 0
+ClosesAs p true t = (is_peripheral_open p ≡ true) × IsPeripheral t (peripheral_closes p)
+ClosesAs p false t = IsPeripheral t p
 
 module _ (s : Phased) (p : PhasePeripheral) (is : IsPeripheral (opened s) p) where
   pub peripheral_asks : (ask : Ask) → IsPeripheral (phased_after (Asks ask) (opened s)) p
@@ -223,10 +247,6 @@ module _ (s : Phased) (p : PhasePeripheral) (is : IsPeripheral (opened s) p) whe
   peripheral_answers answer = answers_if (is_host_asked s.control.table.progress) (is_answer answer) answer (unasked s.control.table.progress is.role)
 
   -- it ends the link
-  abbrev pub ClosesAs : Bool → Phased → Type 0
-  ClosesAs true t = (is_peripheral_open p ≡ true) × IsPeripheral t (peripheral_closes p)
-  ClosesAs false t = IsPeripheral t p
-
   same_queue : (b : Bool) (reason : ErrCode)
       → ((if b then record s.control.table.queue { disconnect = Some reason } else s.control.table.queue).rejections ≡ s.control.table.queue.rejections)
       × ((if b then record s.control.table.queue { disconnect = Some reason } else s.control.table.queue).drafts ≡ s.control.table.queue.drafts)
@@ -234,7 +254,7 @@ module _ (s : Phased) (p : PhasePeripheral) (is : IsPeripheral (opened s) p) whe
   same_queue false reason = (refl, refl)
 
   closes_if : (b : Bool) (reason : ErrCode) → is_open s.control.table.closing ≡ b
-      → ClosesAs b (record s { control = table_if b (terminate_step s.control.table reason) (record s.control { ends = None }) })
+      → ClosesAs p b (record s { control = table_if b (terminate_step s.control.table reason) (record s.control { ends = None }) })
   closes_if false reason opens = is
   closes_if true reason opens =
       let same = same_queue (is_open s.control.table.closing) reason in
@@ -254,5 +274,5 @@ module _ (s : Phased) (p : PhasePeripheral) (is : IsPeripheral (opened s) p) whe
         },
       )
 
-  pub peripheral_disconnects : (reason : ErrCode) → ClosesAs (is_open s.control.table.closing) (phased_after (disconnects_step reason) (opened s))
+  pub peripheral_disconnects : (reason : ErrCode) → ClosesAs p (is_open s.control.table.closing) (phased_after (disconnects_step reason) (opened s))
   peripheral_disconnects reason = closes_if (is_open s.control.table.closing) reason refl

@@ -114,15 +114,15 @@ module _ (t : Phased) (p : PhasePeripheral) (ctrl : Ctrl) (k : PduClass) (is : I
 
 -- ---- the host has a key, or none
 
+abbrev pub KeyAs : PhasePeripheral → Bool → Phased → Type 0
+KeyAs p true t = (may_get_key p ≡ true) × IsPeripheral t (peripheral_with_key p)
+KeyAs p false t = IsPeripheral t p
+
+abbrev pub NoKeyAs : PhasePeripheral → Bool → Phased → Type 0
+NoKeyAs p true t = (may_get_key p ≡ true) × IsPeripheral t (peripheral_without_key p)
+NoKeyAs p false t = IsPeripheral t p
+
 module _ (s : Phased) (p : PhasePeripheral) (is : IsPeripheral (opened s) p) (room : p.asks_key ≡ true → HasRoom p) where
-  abbrev pub KeyAs : Bool → Phased → Type 0
-  KeyAs true t = (may_get_key p ≡ true) × IsPeripheral t (peripheral_with_key p)
-  KeyAs false t = IsPeripheral t p
-
-  abbrev pub NoKeyAs : Bool → Phased → Type 0
-  NoKeyAs true t = (may_get_key p ≡ true) × IsPeripheral t (peripheral_without_key p)
-  NoKeyAs false t = IsPeripheral t p
-
   may_get : (s.asks_key && is_open s.control.table.closing) ≡ true → may_get_key p ≡ true
   may_get asked = (λ i. sym is.asks_key i && (sym (open_up p.closing) ∙ ap is_open (sym is.closing)) i) ∙ asked
 
@@ -133,7 +133,7 @@ module _ (s : Phased) (p : PhasePeripheral) (is : IsPeripheral (opened s) p) (ro
   without_state phase r = record { after = r.after; room = r.room; request = r.request }
 
   key_by : (b : Bool) → (s.asks_key && is_open s.control.table.closing) ≡ b
-      → KeyAs b (if b then with_owed start_enc_req (record (opened s) { asks_key = false; phase = phase_starting s.phase }) else opened s)
+      → KeyAs p b (if b then with_owed start_enc_req (record (opened s) { asks_key = false; phase = phase_starting s.phase }) else opened s)
   key_by false asked = is
   key_by true asked =
       (
@@ -144,7 +144,7 @@ module _ (s : Phased) (p : PhasePeripheral) (is : IsPeripheral (opened s) p) (ro
         (state_peripheral (opened s) p (phase_starting s.phase) false is) refl refl (without_state (phase_starting s.phase) (asked_room asked)) refl),
       )
 
-  pub peripheral_key : KeyAs (s.asks_key && is_open s.control.table.closing) (phased_after GivesKey (opened s))
+  pub peripheral_key : KeyAs p (s.asks_key && is_open s.control.table.closing) (phased_after GivesKey (opened s))
   peripheral_key = key_by (s.asks_key && is_open s.control.table.closing) refl
 
   abbrev refused_to : PhaseFacts → PhasePeripheral
@@ -194,7 +194,7 @@ module _ (s : Phased) (p : PhasePeripheral) (is : IsPeripheral (opened s) p) (ro
   lacks_if true r lasts = refuses r
   lacks_if false r lasts = ends_it r lasts
 
-  lacks_by : (b : Bool) → (s.asks_key && is_open s.control.table.closing) ≡ b → NoKeyAs b (if b then key_lacking (opened s) else opened s)
+  lacks_by : (b : Bool) → (s.asks_key && is_open s.control.table.closing) ≡ b → NoKeyAs p b (if b then key_lacking (opened s) else opened s)
   lacks_by false asked = is
   lacks_by true asked =
       (
@@ -203,5 +203,5 @@ module _ (s : Phased) (p : PhasePeripheral) (is : IsPeripheral (opened s) p) (ro
         (lacks_if (may_follow RefuseTransition s.phase) (asked_room asked) (and_parts s.asks_key (is_open s.control.table.closing) asked).1),
       )
 
-  pub peripheral_lacks : NoKeyAs (s.asks_key && is_open s.control.table.closing) (phased_after LacksKey (opened s))
+  pub peripheral_lacks : NoKeyAs p (s.asks_key && is_open s.control.table.closing) (phased_after LacksKey (opened s))
   peripheral_lacks = lacks_by (s.asks_key && is_open s.control.table.closing) refl

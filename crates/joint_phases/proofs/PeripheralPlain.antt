@@ -35,7 +35,7 @@ use Rattle.joint_phases.proofs.PeripheralEnters.{open_up}
 use Rattle.joint_phases.proofs.PeripheralQueue.{crosses, owes_more, unversioned, with_waits}
 use Rattle.joint_phases.proofs.PeripheralTable.{IsAnswered, is_answered, is_silent, version_sent}
 use Rattle.joint_phases.proofs.PeripheralTakes.{Waits, goes, seen, taken_part}
-use Rattle.joint_phases.proofs.Plain.{allows_quiet, never_unknown, plain_at_peripheral, taking_quiet}
+use Rattle.joint_phases.proofs.Plain.{allows_quiet, is_session, known_at_peripheral, plain_at_peripheral, taking_quiet}
 
 -- the part after it, and whether the version of the central is known
 pub record TakesAs (t : Phased) (p : PhasePeripheral) (knows : Bool) : Type 0 where
@@ -73,7 +73,7 @@ rejections_same true queue draft = refl
 rejections_same false queue draft = refl
 
 module _ (s : Phased) (p : PhasePeripheral) (ctrl response : Ctrl) (slot : ℕ) (is : IsPeripheral (opened s) p) (quiet : is_quiet p.phase ≡ true)
-    (plain : is_encryption (ctrl_class ctrl) ≡ false) (apart : is_terminate ctrl ≡ false)
+    (plain : is_session (ctrl_class ctrl) ≡ false) (apart : is_terminate ctrl ≡ false)
     (lasts : (phased_after (Takes (Known ctrl) slot response) (opened s)).control.ends ≡ None) where
   abbrev result : Phased
   result = phased_after (Takes (Known ctrl) slot response) (opened s)
@@ -85,7 +85,7 @@ module _ (s : Phased) (p : PhasePeripheral) (ctrl response : Ctrl) (slot : ℕ) 
   allowed = allows_quiet s.phase peripheral_role (ctrl_class ctrl) quiet_here
 
   abbrev known : is_unknown s.phase peripheral_role (ctrl_class ctrl) ≡ false
-  known = never_unknown s.phase peripheral_role (ctrl_class ctrl) plain
+  known = known_at_peripheral s.phase (ctrl_class ctrl) plain
 
   abbrev knows_now : Bool
   knows_now = s.knows_version || is_version (Known ctrl)

@@ -317,3 +317,35 @@ crosses [] p request has waits = absurd (cc)
 crosses (draft ∷ drafts) p request has waits =
     let h = and_parts (goes_up (draft_up false draft) (with_waits p None None request false)) _ waits in
     crosses_by (ctrl_of_draft draft 0 0) p request drafts h.0 h.1 has
+
+-- an own LL_VERSION_IND that waits, while that of the central is not known, is an unsent first PDU
+unsent_popped : (second : Option PduClass) (request : UnsentRequest) → is_unsent (if is_unsent request && not (is_some second) then First else request) ≡ true → is_unsent request ≡ true
+unsent_popped second First h = refl
+unsent_popped second Last h = refl
+unsent_popped second Absent h = absurd (cc)
+
+unsent_before : (k : PduClass) (p : PhasePeripheral) → goes_up k p ≡ true → is_unsent (without_up k p).request ≡ true → is_unsent p.request ≡ true
+unsent_before Request p goes h = absurd (cc)
+unsent_before Other p goes h = h
+unsent_before k p goes h = unsent_popped p.second p.request h
+
+next_unsent : (request : UnsentRequest) → is_next request ≡ true → is_unsent request ≡ true
+next_unsent First h = refl
+next_unsent request h = absurd (cc)
+
+first_unsent : (ctrl : Ctrl) (p : PhasePeripheral) → is_version_ctrl ctrl ≡ true → goes_up (class_up false ctrl) p ≡ true → is_unsent p.request ≡ true
+first_unsent (VersionInd version company sub) p is goes = next_unsent p.request goes
+first_unsent ctrl p is goes = absurd (cc)
+
+pub version_unsent : (drafts : List Draft) (p : PhasePeripheral) → has_version drafts ≡ true → wait_up (draft_up false) drafts p ≡ true → has_unsent p ≡ true
+version_unsent [] p has waits = absurd (cc)
+version_unsent (draft ∷ drafts) p has waits = by (is_version_ctrl (ctrl_of_draft draft 0 0)) refl has (version_unsent drafts (without_up (draft_up false draft) p))
+  where
+    h : (goes_up (draft_up false draft) p ≡ true) × (wait_up (draft_up false) drafts (without_up (draft_up false draft) p) ≡ true)
+    h = and_parts (goes_up (draft_up false draft) p) _ waits
+
+    by : (b : Bool) → is_version_ctrl (ctrl_of_draft draft 0 0) ≡ b → (is_version_ctrl (ctrl_of_draft draft 0 0) || has_version drafts) ≡ true
+        → (has_version drafts ≡ true → wait_up (draft_up false) drafts (without_up (draft_up false draft) p) ≡ true → has_unsent (without_up (draft_up false draft) p) ≡ true)
+        → has_unsent p ≡ true
+    by true at one rest = first_unsent (ctrl_of_draft draft 0 0) p at h.0
+    by false at one rest = unsent_before (draft_up false draft) p h.0 (rest (ap (λ b. b || has_version drafts) (sym at) ∙ one) h.1)

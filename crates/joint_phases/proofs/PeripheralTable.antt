@@ -54,6 +54,14 @@ Answers o = o.step.ends ≡ None → IsAnswered o
 ends_not : (code : ErrCode) (E : Type 0) → ◌≡◌ {A = Option ErrCode} (Some code) None → E
 ends_not code E h = absurd (cc)
 
+-- the PDUs of the encryption that the central sends, in the phases in which they mean something
+abbrev pub is_cipher : Ctrl → Bool
+is_cipher (enc_req rand ediv skd_m iv_m) = true
+is_cipher pause_enc_req = true
+is_cipher start_enc_rsp = true
+is_cipher pause_enc_rsp = true
+is_cipher ctrl = false
+
 module _ (f : TableFacts) where
   refused_silent : (is_one : Bool) (code : ErrCode) → IsSilent (refused_if is_one f code)
   refused_silent true code = refl
@@ -127,14 +135,6 @@ module _ (f : TableFacts) where
       → (taken_by q f quiet (VersionInd version company sub)).reply ≡ version_reply f.version_used
   version_sent (peripheral x) quiet version company sub role = refl
   version_sent (central x) quiet version company sub role = absurd (cc)
-
-  -- the PDUs of the encryption that the central sends, in the phases in which they mean something
-  abbrev pub is_cipher : Ctrl → Bool
-  is_cipher (enc_req rand ediv skd_m iv_m) = true
-  is_cipher pause_enc_req = true
-  is_cipher start_enc_rsp = true
-  is_cipher pause_enc_rsp = true
-  is_cipher ctrl = false
 
   cipher_here : (x : Peripheral) (quiet : Bool) (ctrl : Ctrl) → is_cipher ctrl ≡ true → IsSilent (taken_by_peripheral f x quiet ctrl)
   cipher_here x quiet (enc_req rand ediv skd_m iv_m) is = refl

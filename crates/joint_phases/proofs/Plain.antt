@@ -82,7 +82,28 @@ plain_at_central (RejectInd code) t plain = absurd (cc)
 plain_at_central (RejectExtInd opcode code) t plain = refuses_not (opcode == 3) t plain
 plain_at_central ctrl t plain = refl
 
-pub plain_at_peripheral : (response ctrl : Ctrl) (t : Phased) → is_encryption (ctrl_class ctrl) ≡ false → ciphered_at_peripheral response ctrl t ≡ t
+-- a PDU of a session, from its start to its pause
+abbrev pub is_session : PduClass → Bool
+is_session EncReq = true
+is_session EncRsp = true
+is_session StartEncReq = true
+is_session StartEncRsp = true
+is_session PauseEncReq = true
+is_session PauseEncRsp = true
+is_session k = false
+
+pub known_at_peripheral : (phase : PhaseFacts) (k : PduClass) → is_session k ≡ false → is_unknown phase Peripheral k ≡ false
+known_at_peripheral Clear PauseEncReq plain = absurd (cc)
+known_at_peripheral Clear EncRsp plain = absurd (cc)
+known_at_peripheral Clear StartEncReq plain = absurd (cc)
+known_at_peripheral Clear k plain = refl
+known_at_peripheral Secure EncReq plain = absurd (cc)
+known_at_peripheral Secure EncRsp plain = absurd (cc)
+known_at_peripheral Secure StartEncReq plain = absurd (cc)
+known_at_peripheral Secure k plain = refl
+known_at_peripheral phase k plain = refl
+
+pub plain_at_peripheral : (response ctrl : Ctrl) (t : Phased) → is_session (ctrl_class ctrl) ≡ false → ciphered_at_peripheral response ctrl t ≡ t
 plain_at_peripheral response (enc_req rand ediv skd_m iv_m) t plain = absurd (cc)
 plain_at_peripheral response pause_enc_req t plain = absurd (cc)
 plain_at_peripheral response start_enc_rsp t plain = absurd (cc)

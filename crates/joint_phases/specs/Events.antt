@@ -10,7 +10,7 @@ use Rattle.procedure_values.specs.declared.drafts.Draft.{Draft}
 use Rattle.phased_control.specs.Phased.{Phased, ask_begun, is_encrypt, is_open_now, is_quiet_now, table_entered}
 use Rattle.phase_pairs.specs.declared.joint.PhaseEvent.{PhaseEvent}
 use Rattle.phase_pairs.specs.declared.joint.PhaseEvent.TheVariants.{CentralAcked as central_acked, CentralCloses, CentralEncrypts, CentralSends as central_sends, CentralTakes as central_takes, KeyGiven, KeyRefused, PeripheralAcked as peripheral_acked, PeripheralBegins, PeripheralCloses, PeripheralFixes as peripheral_fixes, PeripheralSends as peripheral_sends, PeripheralTakes as peripheral_takes}
-use Rattle.joint_controls.specs.Joint.{HostStep, Item, Joint, JointStep, Way, AsksFor, AnswersRequest, CentralAcked, CentralEnters, CentralHost, CentralSends, CentralSendsData, CentralTakes, Control, Data, Ends, HasKey, HasNoKey, PeripheralAcked, PeripheralEnters, PeripheralFixes, PeripheralFixesData, PeripheralHost, PeripheralSends, PeripheralTakes, Shuts, OnAir, is_item, is_last, item_on_air, may, next_item}
+use Rattle.joint_controls.specs.Joint.{HostStep, Item, Joint, JointStep, Way, AsksFor, AnswersRequest, CentralAcked, CentralEnters, CentralHost, CentralSends, CentralSendsData, CentralTakes, Control, Data, Ends, HasKey, HasNoKey, PeripheralAcked, PeripheralEnters, PeripheralFixes, PeripheralFixesData, PeripheralHost, PeripheralSends, PeripheralTakes, Shuts, after, is_item, is_last, item_on_air, may, next_item}
 use Rattle.joint_phases.specs.Classes.{class_down, class_up, is_version, item_class}
 
 abbrev pub event_if : Bool → PhaseEvent → Option PhaseEvent
@@ -94,3 +94,8 @@ event_of_step Shuts s = None
 abbrev pub with_event : Option PhaseEvent → List PhaseEvent → List PhaseEvent
 with_event None events = events
 with_event (Some event) events = event ∷ events
+
+abbrev pub events_of : List JointStep → Joint → List PhaseEvent
+events_of [] s = []
+events_of (step ∷ steps) s =
+    with_event (if may step s then event_of_step step s else None) (events_of steps (after step s))

@@ -1,4 +1,5 @@
 -- The definitions of this crate.
+pub mod Agreement
 pub mod Classes
 pub mod Events
 pub mod Facts
