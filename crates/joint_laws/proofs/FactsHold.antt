@@ -9,7 +9,7 @@ use Rattle.joint_controls.proofs.EndSteps.{central_runs}
 use Rattle.joint_collisions.specs.Views.{IsReached, view_of}
 use Rattle.joint_exchanges.specs.Runs.{GoesOn}
 use Rattle.joint_phases.specs.Facts.{Facts}
-use Rattle.joint_laws.proofs.AskedInQuiet.{asked_quietly}
+use Rattle.joint_laws.proofs.PeerInQuiet.{asked_quietly}
 use Rattle.joint_laws.proofs.CentralFacts.{own_first, taken_is_out}
 use Rattle.joint_laws.proofs.PeripheralFacts.{begins_alone}
 use Rattle.joint_laws.proofs.VersionFacts.{known_down, known_queue, known_up, known_used, known_way, sent_comes, unused_queue, unused_way, used_comes}

@@ -8,6 +8,6 @@ pub mod CentralFirsts
 pub mod PeripheralFirsts
 pub mod CentralFacts
 pub mod PeripheralFacts
-pub mod HostAsked
-pub mod AskedInQuiet
+pub mod PeerOrEncryption
+pub mod PeerInQuiet
 pub mod FactsHold

@@ -1,11 +1,12 @@
 -- The host of a central is asked about a request only in Clear and Secure.
 use Rattle.std.proofs.Common.{◌≡◌, ℕ, Bool, true, false, not, ◌&&◌, List, [], ◌∷◌, Option, Some, None, is_some, refl, ap, sym, subst, ◌∙◌}
 use Rattle.std.specs.Prelude.{⊤}
+use Rattle.std.proofs.lemmas.Bool.{and_parts}
 use Rattle.ble_base.specs.declared.error_codes.ErrCode.{ErrCode}
 use Rattle.ble_base.specs.declared.roles.Role.{Role}
 use Rattle.ble_base.specs.declared.roles.Role.TheVariants.{Central}
 use Rattle.data_pdu.specs.declared.ctrl.Ctrl.{Ctrl}
-use Rattle.data_pdu.specs.declared.ctrl.Ctrl.TheVariants.{ConnectionParamReq}
+use Rattle.data_pdu.specs.declared.ctrl.Ctrl.TheVariants.{ConnectionParamReq, PhyReq as phy_pdu}
 use Rattle.data_pdu.specs.declared.ctrl.CtrlRead.{CtrlRead}
 use Rattle.enc_phase.specs.declared.classes.PduClass.TheVariants.{Request}
 use Rattle.data_pdu.specs.declared.ctrl.CtrlRead.TheVariants.{Bare, Known, Unknown}
@@ -13,7 +14,12 @@ use Rattle.instants.specs.declared.indications.Params.{Params}
 use Rattle.instants.specs.Track.{event_of, next_number}
 use Rattle.procedure_values.specs.Drafts.{is_out}
 use Rattle.procedure_stages.specs.Closing.{is_open}
-use Rattle.procedure_stages.specs.InProgress.{is_host_asked}
+use Rattle.exclusive_stages.specs.declared.stages.PeerAtCentral.{PeerAtCentral}
+use Rattle.exclusive_stages.specs.declared.stages.PeerAtCentral.TheVariants.{HostAsked}
+use Rattle.exclusive_stages.specs.Kinds.{has_peer_at_central, is_host_asked_at_central}
+use Rattle.procedure_stages.specs.declared.stages.Progress.{Progress}
+use Rattle.procedure_stages.specs.declared.stages.Progress.TheVariants.{Central as central, Peripheral as peripheral}
+use Rattle.procedure_stages.specs.InProgress.{has_peer, is_host_asked}
 use Rattle.procedure_stages.specs.Kinds.{role_of}
 use Rattle.procedures.specs.Going.{is_answer}
 use Rattle.procedures.specs.Queue.{next_of}
@@ -24,14 +30,14 @@ use Rattle.control_model.specs.Control.{Answers as control_answers, Asks as cont
 use Rattle.control_model.proofs.Calls.{any_step, either_way}
 use Rattle.phased_control.specs.Phased.{Phased, first_phased, is_quiet_now}
 use Rattle.phased_control.specs.Taken.{PhasedStep, Answers, Asks, Disconnects, Enters, GivesKey, LacksKey, SeesAcknowledged, Sends, Takes, TakesData, answered_kept, ciphered, does_keep, keeps_class, phased_after, phased_after_all, role_now, seen_as, seen_if, took}
-use Rattle.phased_control.specs.Steps.{control_steps, end_by_phase, ended_if, owed_for, owed_steps, seen}
+use Rattle.phased_control.specs.Steps.{control_steps, end_by_phase, ended_if, owed_steps, read_answer, seen_by_procedures}
 use Rattle.phased_control.specs.Ends.{MayRespond}
 use Rattle.phased_control.proofs.Agreeing.{Agrees, Sound, agrees_after, agrees_first, agrees_taking, lasts_answered, responds, sound_after, sound_first}
 use Rattle.phased_control.proofs.Answering.{answers}
 use Rattle.phased_control.proofs.Moving.{moves_by_steps, open_phased, same_after}
 use Rattle.phased_control.proofs.Tables.{following_table, same_role, takes_as}
 use Rattle.phased_control.proofs.Taking.{handed_ways, took_ways}
-use Rattle.joint_laws.proofs.HostAsked.{acked_none, answers_none, enters_none, given_none, is_both, is_param_req, parts_of_both, sends_none, takes_none}
+use Rattle.joint_laws.proofs.PeerOrEncryption.{acked_none, answers_none, enters_none, given_none, is_both, is_exclusive_first, parts_of_both, sends_none, takes_none}
 
 abbrev NoneOf : Control → Type 0
 NoneOf c = is_both c.table.progress ≡ false
@@ -45,21 +51,21 @@ abbrev IsPlain : Step → Type 0
 IsPlain (control_takes read slot quiet) = ⊥
 IsPlain step = ⊤
 
-none_if : (b : Bool) (g : TableFacts) (c : Control) → NoneOf c → is_both g.progress ≡ false → NoneOf (table_if b g c)
-none_if true g c none next = next
+none_if : (b : Bool) (g : TableFacts) (c : Control) → NoneOf c → (b ≡ true → is_both g.progress ≡ false) → NoneOf (table_if b g c)
+none_if true g c none next = next refl
 none_if false g c none next = none
 
 none_moved : (step : Step) (c : Control) → IsPlain step → NoneOf c → NoneOf (moved step c)
 none_moved (control_enters slot quiet) c plain none = enters_none c.table slot quiet (is_some (next_number c.track)) none
 none_moved (control_asks ask) c plain none = none
-none_moved (control_answers answer) c plain none = none_if (is_host_asked c.table.progress && is_answer answer) _ c none (answers_none c.table answer none)
-none_moved (control_disconnects reason) c plain none = none_if (is_open c.table.closing) _ c none none
+none_moved (control_answers answer) c plain none = none_if (is_host_asked c.table.progress && is_answer answer) _ c none (λ is. answers_none c.table answer none (and_parts (is_host_asked c.table.progress) (is_answer answer) is).0)
+none_moved (control_disconnects reason) c plain none = none_if (is_open c.table.closing) _ c none (λ is. none)
 none_moved (control_sends slot quiet) c plain none =
     either_way NoneOf (goes_out quiet c) _ c
     (ap (λ (f : TableFacts). is_both f.progress) (following_table (role_of c.table.progress) (went slot quiet c).1 (record c { table = (went slot quiet c).0 }))
     ∙ sends_none (next_of c.table (event_of c.track) quiet) (event_of c.track) c.track.params.latency c.table.progress none)
     none
-none_moved control_sees_acknowledged c plain none = none_if (is_out c.table.out) _ c none (acked_none c.table.out c.table.progress none)
+none_moved control_sees_acknowledged c plain none = none_if (is_out c.table.out) _ c none (λ is. acked_none c.table.out c.table.progress none)
 none_moved (Owes ctrl) c plain none = given_none c.table.progress ctrl none
 none_moved (control_takes read slot quiet) c plain none = absurd plain
 
@@ -77,11 +83,11 @@ owed_plain (Some ctrl) = (tt, tt)
 
 -- ---- a PDU is taken
 
-param_if : (unknown : Bool) (read : CtrlRead) → is_param_req (seen_if unknown read) ≡ true → is_param_req read ≡ true
-param_if true (Known ctrl) is = absurd (cc)
-param_if true (Unknown opcode) is = absurd (cc)
-param_if true Bare is = absurd (cc)
-param_if false read is = is
+first_if : (unknown : Bool) (read : CtrlRead) → is_exclusive_first (seen_if unknown read) ≡ true → is_exclusive_first read ≡ true
+first_if true (Known ctrl) is = absurd (cc)
+first_if true (Unknown opcode) is = absurd (cc)
+first_if true Bare is = absurd (cc)
+first_if false read is = is
 
 not_false : (b : Bool) → not b ≡ false → b ≡ true
 not_false true is = refl
@@ -92,13 +98,15 @@ not_true a true same is = absurd (cc)
 not_true a false same is = refl
 
 -- it is kept outside Clear and Secure
-quiet_param : (read : CtrlRead) (s : Phased) → role_now s ≡ Central → is_param_req read ≡ true → does_keep read s ≡ false → is_quiet_now s ≡ true
-quiet_param (Known (ConnectionParamReq min max latency timeout periodicity reference offsets)) s role is keeps =
+quiet_first : (read : CtrlRead) (s : Phased) → role_now s ≡ Central → is_exclusive_first read ≡ true → does_keep read s ≡ false → is_quiet_now s ≡ true
+quiet_first (Known (ConnectionParamReq min max latency timeout periodicity reference offsets)) s role is keeps =
     not_false (is_quiet_now s) (ap (λ (r : Role). keeps_class Request r (is_quiet_now s)) (sym role) ∙ keeps)
-quiet_param read s role is keeps = absurd (cc)
+quiet_first (Known (phy_pdu tx rx)) s role is keeps =
+    not_false (is_quiet_now s) (ap (λ (r : Role). keeps_class Request r (is_quiet_now s)) (sym role) ∙ keeps)
+quiet_first read s role is keeps = absurd (cc)
 
 takes_alone : (read : CtrlRead) (slot : ℕ) (quiet : Bool) (c : Control) → c.ends ≡ None → role_of c.table.progress ≡ Central
-    → (is_param_req read ≡ true → has_encryption c.table.progress ≡ false) → NoneOf c → NoneOf (after (control_takes read slot quiet) c)
+    → (is_exclusive_first read ≡ true → has_encryption c.table.progress ≡ false) → NoneOf c → NoneOf (after (control_takes read slot quiet) c)
 takes_alone read slot quiet c lasts role may none = by (after (control_takes read slot quiet) c).ends refl
   where
     by : (ends : Option ErrCode) → (after (control_takes read slot quiet) c).ends ≡ ends → NoneOf (after (control_takes read slot quiet) c)
@@ -110,17 +118,17 @@ module _ (slot : ℕ) (response : Ctrl) (read : CtrlRead) (s : Phased) (sound : 
   role = sound.tied.is_role
 
   t : Phased
-  t = seen read slot s
+  t = seen_by_procedures read slot s
 
-  seen_none : does_keep read s ≡ false → NoneOf (seen read slot s).control
+  seen_none : does_keep read s ≡ false → NoneOf (seen_by_procedures read slot s).control
   seen_none keeps =
       takes_alone (seen_as read s) slot (is_quiet_now s) s.control lasts role
-      (λ is. not_true (is_quiet_now s) (has_encryption s.control.table.progress) agrees (quiet_param read s role (param_if _ read is) keeps)) none
+      (λ is. not_true (is_quiet_now s) (has_encryption s.control.table.progress) agrees (quiet_first read s role (first_if _ read is) keeps)) none
 
-  answered_none : does_keep read s ≡ false → NoneOf (ciphered response read (seen read slot s)).control
+  answered_none : does_keep read s ≡ false → NoneOf (ciphered response read (seen_by_procedures read slot s)).control
   answered_none keeps =
-      subst (λ (u : Phased). NoneOf u.control) (sym (answers (seen read slot s) response read))
-      (none_after (owed_steps (owed_for (role_now (seen read slot s)) response read (seen read slot s).phase)) (seen read slot s).control (owed_plain _) (seen_none keeps))
+      subst (λ (u : Phased). NoneOf u.control) (sym (answers (seen_by_procedures read slot s) response read))
+      (none_after (owed_steps (read_answer (role_now (seen_by_procedures read slot s)) response read (seen_by_procedures read slot s).phase)) (seen_by_procedures read slot s).control (owed_plain _) (seen_none keeps))
 
   kept_none : (kept : Option Ctrl) (u : Phased) → u.control.ends ≡ None → role_now u ≡ Central → has_encryption u.control.table.progress ≡ false → NoneOf u.control
       → NoneOf (answered_kept slot kept u).control
@@ -131,16 +139,16 @@ module _ (slot : ℕ) (response : Ctrl) (read : CtrlRead) (s : Phased) (sound : 
   took_none =
       took_ways NoneNow slot response read s (λ no_way. none) (λ allowed. λ keeps. none) (λ allowed. λ keeps. λ full. none)
       (λ allowed. λ keeps. λ full. handed_ways NoneNow slot response read s (λ code. λ over. seen_none keeps) (λ goes. λ loud. answered_none keeps)
-      (λ goes. λ quiet. kept_none (ciphered response read (seen read slot s)).kept (ciphered response read (seen read slot s))
-      (lasts_answered response read (seen read slot s) goes)
+      (λ goes. λ quiet. kept_none (ciphered response read (seen_by_procedures read slot s)).kept (ciphered response read (seen_by_procedures read slot s))
+      (lasts_answered response read (seen_by_procedures read slot s) goes)
       (role_answered goes)
       (not_true _ _ (agrees_taking slot response read Central s sound.tied (responds Central read slot response tt) lasts allowed agrees goes) quiet)
       (answered_none keeps)))
     where
-      role_answered : (seen read slot s).control.ends ≡ None → role_now (ciphered response read (seen read slot s)) ≡ Central
+      role_answered : (seen_by_procedures read slot s).control.ends ≡ None → role_now (ciphered response read (seen_by_procedures read slot s)) ≡ Central
       role_answered goes =
-          subst (λ (u : Phased). role_now u ≡ Central) (sym (answers (seen read slot s) response read))
-          (role_all (owed_steps (owed_for (role_now (seen read slot s)) response read (seen read slot s).phase)) (seen read slot s).control
+          subst (λ (u : Phased). role_now u ≡ Central) (sym (answers (seen_by_procedures read slot s) response read))
+          (role_all (owed_steps (read_answer (role_now (seen_by_procedures read slot s)) response read (seen_by_procedures read slot s).phase)) (seen_by_procedures read slot s).control
           (same_role Central (control_takes (seen_as read s) slot (is_quiet_now s)) s.control role))
         where
           role_all : (steps : List Step) (c : Control) → role_of c.table.progress ≡ Central → role_of (after_all steps c).table.progress ≡ Central
@@ -197,9 +205,26 @@ all_known (step ∷ steps) s known =
     may : (step : PhasedStep) → MayRespond Central step
     may step = tt
 
-pub asked_quietly : (max_rx : ℕ) (first : Params) (slot : ℕ) (steps : List PhasedStep) → let s = phased_after_all steps (first_phased Central max_rx first slot) in
-    is_host_asked s.control.table.progress ≡ true → is_quiet_now s ≡ true
-asked_quietly max_rx first slot steps asked =
-    let s = phased_after_all steps (first_phased Central max_rx first slot) in
-    let known = all_known steps (first_phased Central max_rx first slot) (record { sound = sound_first Central max_rx first slot; agrees = agrees_first Central max_rx first slot; none = refl }) in
-    known.agrees ∙ ap not (parts_of_both s.control.table.progress known.none asked known.sound.tied.is_role)
+module _ (max_rx : ℕ) (first : Params) (slot : ℕ) (steps : List PhasedStep) where
+  abbrev s : Phased
+  s = phased_after_all steps (first_phased Central max_rx first slot)
+
+  known : IsKnown s
+  known =
+      all_known steps (first_phased Central max_rx first slot)
+      (record { sound = sound_first Central max_rx first slot; agrees = agrees_first Central max_rx first slot; none = refl })
+
+  -- outside Clear and Secure no procedure of the peripheral that excludes others is in progress
+  pub peer_quietly : has_peer s.control.table.progress ≡ true → is_quiet_now s ≡ true
+  peer_quietly has = known.agrees ∙ ap not (parts_of_both s.control.table.progress known.none has known.sound.tied.is_role)
+
+  pub asked_quietly : is_host_asked s.control.table.progress ≡ true → is_quiet_now s ≡ true
+  asked_quietly asked = peer_quietly (by s.control.table.progress asked)
+    where
+      stage : (peer : PeerAtCentral) → is_host_asked_at_central peer ≡ true → has_peer_at_central peer ≡ true
+      stage HostAsked is = refl
+      stage peer is = absurd (cc)
+
+      by : (p : Progress) → is_host_asked p ≡ true → has_peer p ≡ true
+      by (central c) is = stage c.peer is
+      by (peripheral p) is = absurd (cc)
