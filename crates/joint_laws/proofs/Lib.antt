@@ -11,3 +11,4 @@ pub mod PeripheralFacts
 pub mod PeerOrEncryption
 pub mod PeerInQuiet
 pub mod FactsHold
+pub mod Meanings
