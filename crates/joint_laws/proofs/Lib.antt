@@ -12,3 +12,4 @@ pub mod PeerOrEncryption
 pub mod PeerInQuiet
 pub mod FactsHold
 pub mod Meanings
+pub mod ExclusiveFactsHold
