@@ -13,3 +13,4 @@ pub mod PeerInQuiet
 pub mod FactsHold
 pub mod Meanings
 pub mod ExclusiveFactsHold
+pub mod EachState
