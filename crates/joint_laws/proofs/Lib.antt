@@ -14,3 +14,4 @@ pub mod FactsHold
 pub mod Meanings
 pub mod ExclusiveFactsHold
 pub mod EachState
+pub mod Pairs
