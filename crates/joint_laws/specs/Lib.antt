@@ -1,0 +1,4 @@
+-- The definitions of this crate.
+pub mod Firsts
+pub mod Runs
+pub mod Pairs

@@ -1,0 +1,3 @@
+//! The laws of joint runs of both ends of a link: procedures, parameters and phases of encryption
+//! together (Core 5.2, volume 6 part B, section 5). Definitions and laws; no code.
+#![tactic(auto)]
