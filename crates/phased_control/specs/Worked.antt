@@ -17,7 +17,7 @@ abbrev pub peripheral_after : ChannelMap → List PhasedStep → Phased
 peripheral_after map steps = phased_after_all steps (first_phased Peripheral 27 (six_slots map) 3)
 
 abbrev pub takes : CtrlRead → PhasedStep
-takes read = Takes read 0 (EncRsp 0 0)
+takes read = Takes read 0 (record { skd_s = 0; iv_s = 0 })
 
 -- the host asks for encryption, which begins with LL_ENC_REQ; the peripheral answers, and has a key
 abbrev pub start_at_central : List PhasedStep
@@ -40,7 +40,3 @@ answers_too_early =
 -- a peer that goes on before it has LL_ENC_RSP and LL_START_ENC_REQ
 abbrev pub goes_on_too_early : List PhasedStep
 goes_on_too_early = takes (Known (EncReq 0 0 0 0)) ∷ GivesKey ∷ takes (Known StartEncRsp) ∷ []
-
--- LL_ENC_REQ answered by another PDU than LL_ENC_RSP
-abbrev pub answered_wrongly : List PhasedStep
-answered_wrongly = Takes (Known (EncReq 0 0 0 0)) 0 (RejectExtInd 0x03 0x06) ∷ []
