@@ -8,7 +8,7 @@ use Rattle.data_pdu.specs.declared.ctrl.CtrlRead.{CtrlRead}
 use Rattle.data_pdu.specs.declared.ctrl.CtrlRead.TheVariants.{Known}
 use Rattle.procedure_values.specs.declared.asks.Ask.TheVariants.{Encrypt}
 use Rattle.phased_control.specs.Phased.{Phased, first_phased}
-use Rattle.phased_control.specs.Taken.{PhasedStep, Asks, Enters, GivesKey, SeesAcknowledged, Sends, Takes, phased_after_all}
+use Rattle.phased_control.specs.Taken.{PhasedStep, Response, Asks, Enters, GivesKey, SeesAcknowledged, Sends, Takes, phased_after_all}
 
 abbrev pub central_after : ChannelMap → List PhasedStep → Phased
 central_after map steps = phased_after_all steps (first_phased Central 27 (six_slots map) 3)
@@ -16,8 +16,11 @@ central_after map steps = phased_after_all steps (first_phased Central 27 (six_s
 abbrev pub peripheral_after : ChannelMap → List PhasedStep → Phased
 peripheral_after map steps = phased_after_all steps (first_phased Peripheral 27 (six_slots map) 3)
 
+abbrev pub zero_response : Response
+zero_response = record { skd_s = 0; iv_s = 0 }
+
 abbrev pub takes : CtrlRead → PhasedStep
-takes read = Takes read 0 (record { skd_s = 0; iv_s = 0 })
+takes read = Takes read 0 zero_response
 
 -- the host asks for encryption, which begins with LL_ENC_REQ; the peripheral answers, and has a key
 abbrev pub start_at_central : List PhasedStep
