@@ -25,6 +25,7 @@ pub mod Reaching
 pub mod Readings
 pub mod Findings
 pub mod RejectedNext
+pub mod Replies
 pub mod Resting
 pub mod Runs
 pub mod Sending

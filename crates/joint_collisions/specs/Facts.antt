@@ -1,4 +1,5 @@
--- What the laws of joint runs of exclusive procedures need to know of each end alone (Core 5.2, volume 6 part B, sections 5.1.3 and 5.3; our choice of words).
+-- What the laws of joint runs of exclusive procedures need to know of each end alone (Core 5.2, volume 6 part B, sections
+-- 5.1.3 and 5.3; our choice of words).
 use Rattle.std.specs.Prelude.{◌≡◌, ◌≤◌, ℕ, ◌==◌, ◌||◌, Bool, true, false, not, List, [], ◌∷◌, Option, Some, None, is_some, ⊤}
 use Rattle.std.specs.List.{All}
 use Rattle.ble_base.specs.declared.roles.Role.TheVariants.{Central}

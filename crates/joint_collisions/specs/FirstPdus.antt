@@ -1,5 +1,5 @@
--- The first PDUs of a peripheral that wait, are not taken or are kept belong to the procedure that it runs (our choice of words;
--- Core 5.2, volume 6 part B, section 5.3).
+-- The first PDUs of a peripheral that wait, are not taken or are kept belong to the procedure that it runs (our choice
+-- of words; Core 5.2, volume 6 part B, section 5.3).
 use Rattle.std.specs.Prelude.{Bool, true, ◌&&◌, List, [], ◌∷◌, Option, Some, None}
 use Rattle.exclusive_stages.specs.declared.pdus.Exclusive.TheVariants.{Phy, Request}
 use Rattle.exclusive_stages.specs.declared.pdus.Pdu.{Pdu}

@@ -1,6 +1,5 @@
 //! The laws of joint runs about the procedures that exclude each other. What they need to know of
-//! one end, of the PDUs of the encryption and of those that are not supported is a premise. The
-//! bodies do nothing: the contracts are the laws.
+//! each end alone is a premise. The bodies do nothing: the contracts are the laws.
 ghost use Rattle.std.specs.Prelude.{◌≡◌, ◌≤◌, ℕ, List, true, false, Some, None, is_none};
 ghost use Rattle.data_pdu.specs.declared.ctrl.Ctrl.{Ctrl};
 ghost use Rattle.exclusive_stages.specs.declared.pdus.Exclusive.{Exclusive};
@@ -36,10 +35,10 @@ ghost use Rattle.joint_collisions.specs.FirstPdus.{has_own_first};
 ghost use Rattle.joint_collisions.specs.Facts.{AllFacts, CentralFacts, IsState};
 ghost use Rattle.joint_collisions.specs.Views.{IsReached, TablesAgree, kept_part, link_of, view_of};
 
-/// As long as it goes on, a joint run of both ends is one of the procedures that exclude each other,
-/// with the numbers of events: the tables, the PDUs on their way, the PDU that the central keeps
-/// and the events are those of such a run (Core 5.2, volume 6 part B, section 5.3). So each law of
-/// these holds of it.
+/// As long as it goes on, a joint run of both ends is one of the procedures that exclude each
+/// other, with the numbers of events: the tables, the PDUs on their way, the PDU that the central
+/// keeps and the events are those of such a run (Core 5.2, volume 6 part B, section 5.3). So each
+/// law of these holds of it.
 pub fn joint_runs_are_runs_of_exclusive_procedures()
     ensures { (central_rx peripheral_rx : ℕ) (first : Params) (slot : ℕ) (steps : List JointStep)
         → let s = beginning central_rx peripheral_rx first slot in first.latency ≤ 499
