@@ -31,3 +31,7 @@ pub mod Steps
 pub mod Agreeing
 pub mod Pairing
 pub mod Waiting
+pub mod Codes
+pub mod Forged
+pub mod Unforged
+pub mod Testing

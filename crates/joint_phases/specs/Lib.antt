@@ -5,3 +5,4 @@ pub mod Events
 pub mod Facts
 pub mod Pairs
 pub mod Parts
+pub mod Worked
