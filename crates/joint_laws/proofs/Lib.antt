@@ -15,3 +15,4 @@ pub mod Meanings
 pub mod ExclusiveFactsHold
 pub mod EachState
 pub mod Pairs
+pub mod PhaseLaws
