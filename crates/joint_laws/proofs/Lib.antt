@@ -16,3 +16,5 @@ pub mod ExclusiveFactsHold
 pub mod EachState
 pub mod Pairs
 pub mod PhaseLaws
+pub mod CiphersWait
+pub mod FewWait
