@@ -18,3 +18,4 @@ pub mod Pairs
 pub mod PhaseLaws
 pub mod CiphersWait
 pub mod FewWait
+pub mod TakenEnds
