@@ -19,3 +19,4 @@ pub mod PhaseLaws
 pub mod CiphersWait
 pub mod FewWait
 pub mod TakenEnds
+pub mod StepEnds

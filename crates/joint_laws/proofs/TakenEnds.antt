@@ -162,9 +162,9 @@ pub record IsLate (read : CtrlRead) (quiet : Bool) (c : Control) : Type 0 where
   pub passed : is_to_come c.track indication ≡ false
 
 pub data TakenEnd (read : CtrlRead) (quiet : Bool) (c : Control) : Option ErrCode → Type 0 where
-  goes : TakenEnd read quiet c None
-  collides : (code : ErrCode) → EndsByCollision (Some code) → TakenEnd read quiet c (Some code)
-  late : IsLate read quiet c → TakenEnd read quiet c (Some (record { 0 = instant_passed }))
+  no_end : TakenEnd read quiet c None
+  by_collision : (code : ErrCode) → EndsByCollision (Some code) → TakenEnd read quiet c (Some code)
+  too_late : IsLate read quiet c → TakenEnd read quiet c (Some (record { 0 = instant_passed }))
 
 pub takes_end : (read : CtrlRead) (slot : ℕ) (quiet : Bool) (c : Control) → c.ends ≡ None → waiting_in c.table.queue ≤ 15
     → TakenEnd read quiet c (after (Takes read slot quiet) c).ends
@@ -181,15 +181,15 @@ takes_end read slot quiet c lasts room =
 
     by : (code : Option ErrCode) (indication : Option Indication) → (took_step c.table read slot quiet).1.ends ≡ code → indicated_by (took_step c.table read slot quiet).1.effect ≡ indication
         → TakenEnd read quiet c (taken (took_step c.table read slot quiet).0 code indication c).ends
-    by (Some code) indication ends effect = collides code (table_ends c.table slot quiet room read code ends)
-    by None None ends effect = subst (TakenEnd read quiet c) (sym lasts) goes
+    by (Some code) indication ends effect = by_collision code (table_ends c.table slot quiet room read code ends)
+    by None None ends effect = subst (TakenEnd read quiet c) (sym lasts) no_end
     by None (Some indication) ends effect = timed (is_to_come c.track indication) refl
       where
         timed : (b : Bool) → is_to_come c.track indication ≡ b
             → TakenEnd read quiet c (if b then record c { table = (took_step c.table read slot quiet).0; track = track_after_take c.track indication } else ended (record { 0 = instant_passed }) c).ends
-        timed true is = subst (TakenEnd read quiet c) (sym lasts) goes
+        timed true is = subst (TakenEnd read quiet c) (sym lasts) no_end
         timed false is =
-            late (record {
+            too_late (record {
               indication = indication;
               role = handed indication c.table.progress _ (indicated_by (outcome_of c.table quiet read).step.effect) (ap (λ (s : the_step). indicated_by s.effect) (sym same) ∙ effect)
                   (fits c.table quiet read).hands;
