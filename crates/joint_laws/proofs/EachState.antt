@@ -54,7 +54,7 @@ responds_with : (response : Ctrl) → IsResponse response → is_enc_rsp respons
 responds_with (EncRsp skd_s iv_s) is = refl
 responds_with ctrl is = absurd is
 
-response_is : (step : JointStep) → Responds step → has_response step ≡ true
+pub response_is : (step : JointStep) → Responds step → has_response step ≡ true
 response_is (PeripheralTakes slot response) is = responds_with response is
 response_is step is = refl
 

@@ -107,7 +107,7 @@ opcode_some true b x y is = refl
 opcode_some false true x y is = refl
 opcode_some false false x y is = absurd (cc)
 
-rejection_some : (rejection : TheRejection) → is_rejection_of Central rejection ≡ true → is_some (rejection_part rejection) ≡ true
+pub rejection_some : (rejection : TheRejection) → is_rejection_of Central rejection ≡ true → is_some (rejection_part rejection) ≡ true
 rejection_some rejection is =
     opcode_some (rejection.opcode == connection_param_req_opcode) (rejection.opcode == phy_req_opcode) (RejectParam (reason_part rejection.code)) (RejectPhy (reason_part rejection.code)) is
 

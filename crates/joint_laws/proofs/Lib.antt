@@ -15,3 +15,8 @@ pub mod Meanings
 pub mod ExclusiveFactsHold
 pub mod EachState
 pub mod Pairs
+pub mod PhaseLaws
+pub mod CiphersWait
+pub mod FewWait
+pub mod TakenEnds
+pub mod StepEnds

@@ -47,7 +47,7 @@ NoneNow s = NoneOf s.control
 
 -- ---- the steps of procedures but for a PDU that is taken
 
-abbrev IsPlain : Step → Type 0
+abbrev pub IsPlain : Step → Type 0
 IsPlain (control_takes read slot quiet) = ⊥
 IsPlain step = ⊤
 
@@ -69,7 +69,7 @@ none_moved control_sees_acknowledged c plain none = none_if (is_out c.table.out)
 none_moved (Owes ctrl) c plain none = given_none c.table.progress ctrl none
 none_moved (control_takes read slot quiet) c plain none = absurd plain
 
-abbrev ArePlain : List Step → Type 0
+abbrev pub ArePlain : List Step → Type 0
 ArePlain [] = ⊤
 ArePlain (step ∷ steps) = IsPlain step × ArePlain steps
 
@@ -77,7 +77,7 @@ none_after : (steps : List Step) (c : Control) → ArePlain steps → NoneOf c �
 none_after [] c plain none = none
 none_after (step ∷ steps) c plain none = none_after steps (after step c) plain.1 (any_step NoneOf step c (none_moved step c plain.0 none) none)
 
-owed_plain : (owed : Option Ctrl) → ArePlain (owed_steps owed)
+pub owed_plain : (owed : Option Ctrl) → ArePlain (owed_steps owed)
 owed_plain None = tt
 owed_plain (Some ctrl) = (tt, tt)
 
