@@ -21,3 +21,4 @@ pub mod FewWait
 pub mod TakenEnds
 pub mod StepEnds
 pub mod LinkEnds
+pub mod Lateness
