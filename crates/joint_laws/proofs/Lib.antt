@@ -20,3 +20,5 @@ pub mod CiphersWait
 pub mod FewWait
 pub mod TakenEnds
 pub mod StepEnds
+pub mod LinkEnds
+pub mod Lateness

@@ -116,7 +116,7 @@ not_full b c n less = by b (nat_le 16 n) refl
     by true true is = let more = leb-true 16 n is in absurd (omega (arith, more, less))
 
 module _ (f : TableFacts) (slot : ℕ) (quiet : Bool) (room : waiting_in f.queue ≤ 15) where
-  has_room : (read : CtrlRead) → lacks_room f (outcome_of f quiet read) ≡ false
+  pub has_room : (read : CtrlRead) → lacks_room f (outcome_of f quiet read) ≡ false
   has_room read =
       not_full (is_open f.closing) (has_reply (outcome_of f quiet read).reply || asks_host (outcome_of f quiet read).step.effect) (waiting_in f.queue) room
 

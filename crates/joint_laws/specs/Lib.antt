@@ -2,3 +2,4 @@
 pub mod Firsts
 pub mod Runs
 pub mod Pairs
+pub mod Ends
