@@ -31,7 +31,7 @@ use Rattle.phased_control.specs.Phased.{Phased, is_quiet_now, with_step}
 use Rattle.phased_control.specs.Taken.{Enters as enters_end, PhasedStep, SeesAcknowledged as acked_end, Sends as sends_end, phased_after, phased_moved}
 use Rattle.joint_controls.specs.Joint.{AnswersRequest, AsksFor, Ends, HasKey, HasNoKey, HostStep, host_step, item_by, next_item, next_out}
 use Rattle.joint_controls.proofs.Keeping.{asking_keeps_end, encrypting_if_keeps_end, given_keeps_end, lacking_keeps_end}
-use Rattle.joint_collisions.specs.Facts.{CentralFacts}
+use Rattle.joint_collisions.proofs.Alone.{CentralKnown}
 use Rattle.joint_collisions.specs.Views.{kept_part, way_if}
 use Rattle.joint_collisions.proofs.CentralTakes.{GoesAs, Stays, owes_stays}
 use Rattle.joint_collisions.proofs.CentralSteps.{SeenAt, answers, asks, disconnects, enters}
@@ -57,14 +57,14 @@ quiet_allows HalfKeyed quiet = absurd (cc)
 quiet_allows (Pausing kept) quiet = absurd (cc)
 quiet_allows (HalfClear kept) quiet = absurd (cc)
 
-pub quiet_keeps_none : (s : Phased) → CentralFacts s → is_quiet_now s ≡ true → s.kept ≡ None
+pub quiet_keeps_none : (s : Phased) → CentralKnown s → is_quiet_now s ≡ true → s.kept ≡ None
 quiet_keeps_none s facts quiet = by s.kept refl
   where
     by : (kept : Option Ctrl) → s.kept ≡ kept → s.kept ≡ None
     by None was = was
     by (Some ctrl) was = absurd (let no = facts.kept ctrl was in let yes = quiet_allows s.phase quiet in cc)
 
-quiet_free : (s : Phased) → CentralFacts s → is_quiet_now s ≡ true → kept_part s.kept ≡ None
+quiet_free : (s : Phased) → CentralKnown s → is_quiet_now s ≡ true → kept_part s.kept ≡ None
 quiet_free s facts quiet = ap kept_part (quiet_keeps_none s facts quiet)
 
 module _ (p : Control) (down up : Way) where
@@ -91,7 +91,7 @@ module _ (p : Control) (down up : Way) where
     stepped : (step : Step) → (after step s.control).ends ≡ None → SeenAt p down up (kept_part s.kept) (after step s.control) → Stays p down up s.kept (with_step step s)
     stepped step goes h = record { lasts = goes; same = refl; seen = h }
 
-    pub enters_goes : (slot : ℕ) → CentralFacts s → GoesAs p down up (phased_after (enters_end slot) s)
+    pub enters_goes : (slot : ℕ) → CentralKnown s → GoesAs p down up (phased_after (enters_end slot) s)
     enters_goes slot facts =
         going (GoesAs p down up) (enters_end slot) s lasts
         (stays_goes s.kept (phased_moved (enters_end slot) s)
@@ -121,11 +121,11 @@ module _ (p : Control) (down up : Way) where
 
 -- ---- it sends
 
-pub may_send_of : (s : Phased) → CentralFacts s → MaySend s.control (is_quiet_now s)
+pub may_send_of : (s : Phased) → CentralKnown s → MaySend s.control (is_quiet_now s)
 may_send_of s facts = record { drafts = facts.drafts; closing = facts.closing }
 
 module _ (p : Control) (up : Way) (s : Phased) (x : Central) (is : s.control.table.progress ≡ central x) (lasts : s.control.ends ≡ None) (slot : ℕ)
-    (few : s.control.track.params.latency ≤ 499) (facts : CentralFacts s) (free : is_none (pdu_on_air up) ≡ true) (some : is_some (next_item s) ≡ true) where
+    (few : s.control.track.params.latency ≤ 499) (facts : CentralKnown s) (free : is_none (pdu_on_air up) ≡ true) (some : is_some (next_item s) ≡ true) where
   abbrev on_air : Way
   on_air = way_if (λ q. OnAir q) (outgoing_part (next_out s))
 

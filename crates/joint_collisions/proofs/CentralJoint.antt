@@ -29,7 +29,7 @@ use Rattle.ble_base.specs.ErrorCodes.{mic_failure}
 use Rattle.collision_steps.specs.CentralPart.{passed_from, passed_from_after}
 use Rattle.collision_steps.specs.Parts.{outgoing_part, param_request_opcode, phy_request_opcode, reason_part}
 use Rattle.collision_steps.proofs.CentralGoing.{instant_one}
-use Rattle.control_model.specs.Control.{Control, Sends as control_sends, following, went}
+use Rattle.control_model.specs.Control.{Control, Enters as control_enters, Sends as control_sends, after, following, went}
 use Rattle.control_model.proofs.Calls.{open_step}
 use Rattle.control_model.specs.Waits.{EndsByCollision, last_instant_of}
 use Rattle.phased_control.specs.Phased.{Phased, is_quiet_now}
@@ -44,9 +44,12 @@ use Rattle.joint_collisions.specs.Views.{item_part, kept_part, view_by, way_if, 
 use Rattle.joint_collisions.proofs.Meanings.{same_ctrl}
 use Rattle.joint_collisions.proofs.Reaching.{Seen}
 use Rattle.joint_collisions.proofs.CentralEnd.{acks_goes, enters_goes, going, hosts_goes, quiet_keeps_none, sends_goes}
-use Rattle.joint_collisions.proofs.CentralSteps.{SeenAt, is_central, passed_kept}
+use Rattle.joint_collisions.proofs.Alone.{AloneIf}
+use Rattle.joint_collisions.proofs.AloneSteps.{acks_alone, enters_alone, hosts_alone, sends_alone}
+use Rattle.joint_collisions.proofs.AloneTaking.{data_alone, takes_alone}
+use Rattle.joint_collisions.proofs.CentralSteps.{enters, view_at, SeenAt, is_central, passed_kept}
 use Rattle.joint_collisions.proofs.CentralTakes.{GoesAs, central_took, ended_forged}
-use Rattle.joint_collisions.proofs.EachStep.{After, Before, InstantOn, after_central, after_none, central_seen, free_way, item_down, not_false, untaken_way}
+use Rattle.joint_collisions.proofs.EachStep.{After, Before, InstantOn, after_central, after_none, central_seen, known, free_way, item_down, not_false, untaken_way}
 use Rattle.joint_collisions.proofs.Readings.{indication_in, same_indication}
 use Rattle.joint_collisions.proofs.Terminated.{terminated_never}
 
@@ -62,14 +65,16 @@ module _ (s : Joint) (b : Before s) where
   pub central_enters : (slot : ℕ) → After (act (CentralEnters slot) s)
   central_enters slot =
       after_central s b (phased_after (Enters slot) s.central) s.down s.up s.stopped
-      (enters_goes s.peripheral.control (way_part outgoing_part s.down) (way_part pdu_of_outgoing s.up) s.central b.goes.central (central_seen s b) slot b.facts.central)
+      (enters_goes s.peripheral.control (way_part outgoing_part s.down) (way_part pdu_of_outgoing s.up) s.central b.goes.central (central_seen s b) slot (known s b))
       (instant_stays (phased_after (Enters slot) s.central) s.down (enters_kept (HasLast last) (last_kept last) slot s.central refl) b.holds.instant)
+      (λ goes. enters_alone s.central b.goes.central b.indicates.role b.holds.alone slot (view_at s.peripheral.control (way_part outgoing_part s.down) (way_part pdu_of_outgoing s.up) (kept_part s.central.kept) (after (control_enters slot (is_quiet_now s.central)) s.central.control)) (enters s.peripheral.control (way_part outgoing_part s.down) (way_part pdu_of_outgoing s.up) (kept_part s.central.kept) slot (is_quiet_now s.central) s.central.control (λ quiet. ap kept_part (quiet_keeps_none s.central (known s b) quiet)) (central_seen s b)).seen refl)
 
   pub central_hosts : (step : HostStep) → After (act (CentralHost step) s)
   central_hosts step =
       after_central s b (phased_after (host_step step) s.central) s.down s.up s.stopped
       (hosts_goes s.peripheral.control (way_part outgoing_part s.down) (way_part pdu_of_outgoing s.up) s.central b.goes.central (central_seen s b) step)
       (instant_stays (phased_after (host_step step) s.central) s.down (hosts_kept (HasLast last) (last_kept last) step s.central refl) b.holds.instant)
+      (λ goes. hosts_alone s.central b.goes.central b.indicates.role b.holds.alone step)
 
   -- ---- it sends
 
@@ -162,10 +167,11 @@ module _ (s : Joint) (b : Before s) where
       let sealed = seals central_role s.central.phase in
       let o = ctrl_of_outgoing next event latency in
       let seen = subst (λ (way : pdu_way). SeenAt s.peripheral.control way (way_part pdu_of_outgoing s.up) (kept_part s.central.kept) s.central.control) (clear_is s.down ways.0) (central_seen s b) in
-      let g = sends_goes s.peripheral.control (way_part pdu_of_outgoing s.up) s.central x.0 x.1 b.goes.central slot b.indicates.so_far.latency b.facts.central (free_way pdu_of_outgoing s.up ways.1) parts.1 seen in
+      let g = sends_goes s.peripheral.control (way_part pdu_of_outgoing s.up) s.central x.0 x.1 b.goes.central slot b.indicates.so_far.latency (known s b) (free_way pdu_of_outgoing s.up ways.1) parts.1 seen in
       after_central s b (phased_after (Sends slot) s.central) (on_air (next_item s.central) sealed) s.up s.stopped
       (subst (λ (way : pdu_way). GoesAs s.peripheral.control way (way_part pdu_of_outgoing s.up) (phased_after (Sends slot) s.central)) (air_part o sealed parts.1) g)
       (subst (InstantOn (on_air (next_item s.central) sealed)) (sym (passed_sent slot parts.1)) (instant_sent sealed o refl parts.1))
+      (λ goes. sends_alone s.central b.goes.central b.indicates.role b.holds.alone slot)
 
   pub central_sends_data : may_act CentralSendsData s ≡ true → After (act CentralSendsData s)
   central_sends_data may =
@@ -177,6 +183,7 @@ module _ (s : Joint) (b : Before s) where
             subst (λ (way : pdu_way). Seen (view_by s.central.control s.peripheral.control way (way_part pdu_of_outgoing s.up) (kept_part s.central.kept)))
             (clear_is s.down ways.0) b.holds.seen;
         instant = tt;
+        alone = b.holds.alone;
       })
 
   -- ---- its PDU is acknowledged
@@ -204,6 +211,7 @@ module _ (s : Joint) (b : Before s) where
   central_acked may =
       let parts = and_parts (is_taken s.down) (is_same_event s) may in
       after_central s b (phased_after SeesAcknowledged s.central) Clear s.up s.stopped (acks_by s.down refl parts.0 parts.1) tt
+      (λ goes. acks_alone s.central b.goes.central b.indicates.role b.holds.alone b.facts.central.pauses)
 
   -- ---- it takes a PDU
 
@@ -235,9 +243,16 @@ module _ (s : Joint) (b : Before s) where
   control_goes outgoing ctrl slot sealed is live free same =
       let x = is_central s.central.control.table.progress b.indicates.role in
       going (GoesAs s.peripheral.control (way_part outgoing_part s.down) (way_if (λ q. pdu_taken q) (pdu_of_outgoing outgoing))) (Takes (Known ctrl) slot (TerminateInd 0)) s.central b.goes.central
-      (central_took s.peripheral.control (way_part outgoing_part s.down) s.central outgoing ctrl slot (TerminateInd 0) x.0 x.1 b.goes.central b.facts.central
+      (central_took s.peripheral.control (way_part outgoing_part s.down) s.central outgoing ctrl slot (TerminateInd 0) x.0 x.1 b.goes.central (known s b)
       (subst IsSentOn is b.tied.sent_up) (subst (λ (w : Way). fits_if fits_up (item_on_air w) ≡ true) is b.facts.up) live (untaken_way outgoing_part s.down free) (same_event same)
       (up_seen (control_item outgoing ctrl) sealed is))
+
+  control_alone : (outgoing : Outgoing) (ctrl : Ctrl) (slot : ℕ) (sealed : Bool) → s.up ≡ OnAir (control_item outgoing ctrl) sealed → is_terminate ctrl ≡ false
+      → (phased_after (Takes (Known ctrl) slot (TerminateInd 0)) s.central).control.ends ≡ None → AloneIf (phased_after (Takes (Known ctrl) slot (TerminateInd 0)) s.central)
+  control_alone outgoing ctrl slot sealed is live =
+      let x = is_central s.central.control.table.progress b.indicates.role in
+      takes_alone s.central x.0 x.1 b.goes.central b.holds.alone outgoing ctrl slot (TerminateInd 0) (subst IsSentOn is b.tied.sent_up)
+      (subst (λ (w : Way). fits_if fits_up (item_on_air w) ≡ true) is b.facts.up) live
 
   -- LL_TERMINATE_IND stops the run
   stops : (ctrl : Ctrl) (slot : ℕ) → is_terminate ctrl ≡ true → EndsByCollision (phased_after (Takes (Known ctrl) slot (TerminateInd 0)) s.central).control.ends → ⊥
@@ -245,21 +260,21 @@ module _ (s : Joint) (b : Before s) where
       let t = terminate_is ctrl is in
       subst (λ (c : Ctrl). EndsByCollision (phased_after (Takes (Known c) slot (TerminateInd 0)) s.central).control.ends → ⊥) (sym t.1)
       (going (λ (p : Phased). EndsByCollision p.control.ends → ⊥) (Takes (Known (TerminateInd t.0)) slot (TerminateInd 0)) s.central b.goes.central
-      (terminated_never s.central b.goes.central (quiet_keeps_none s.central b.facts.central) slot t.0 (TerminateInd 0)))
+      (terminated_never s.central b.goes.central (quiet_keeps_none s.central (known s b)) slot t.0 (TerminateInd 0)))
 
   takes_by : (way : Way) (slot : ℕ) → s.up ≡ way → is_some (item_on_air way) ≡ true → is_taken s.down ≡ false → is_same_event s ≡ true → After (joint_takes way slot s)
   takes_by Clear slot is comes free same = absurd (cc)
   takes_by (Fixed item sealed) slot is comes free same = absurd (cc)
   takes_by (Taken item) slot is comes free same = absurd (cc)
   takes_by (OnAir Data sealed) slot is comes free same =
-      after_central s b (phased_after TakesData s.central) s.down (Taken Data) false (data_goes slot sealed is) (taken_after Data slot)
+      after_central s b (phased_after TakesData s.central) s.down (Taken Data) false (data_goes slot sealed is) (taken_after Data slot) (data_alone s.central b.goes.central b.holds.alone)
   takes_by (OnAir (control_item outgoing ctrl) sealed) slot is comes free same = by (is_terminate ctrl) refl
     where
       by : (last_one : Bool) → is_terminate ctrl ≡ last_one
           → After (record s { central = phased_after (Takes (Known ctrl) slot (TerminateInd 0)) s.central; up = Taken (control_item outgoing ctrl); stopped = is_terminate ctrl })
       by false live =
           after_central s b (phased_after (Takes (Known ctrl) slot (TerminateInd 0)) s.central) s.down (Taken (control_item outgoing ctrl)) (is_terminate ctrl)
-          (control_goes outgoing ctrl slot sealed is live free same) (taken_after (control_item outgoing ctrl) slot)
+          (control_goes outgoing ctrl slot sealed is live free same) (taken_after (control_item outgoing ctrl) slot) (control_alone outgoing ctrl slot sealed is live)
       by true ends =
           record {
             goes =

@@ -51,7 +51,7 @@ use Rattle.joint_collisions.proofs.Answers.{Means, ReadAs, means_one, read_as}
 use Rattle.joint_collisions.proofs.CentralEnd.{going, quiet_keeps_none}
 use Rattle.joint_collisions.proofs.CentralSteps.{is_central}
 use Rattle.joint_collisions.proofs.CentralTakes.{not_stopping}
-use Rattle.joint_collisions.proofs.EachStep.{Before}
+use Rattle.joint_collisions.proofs.EachStep.{Before, known}
 use Rattle.joint_collisions.proofs.Findings.{reads_up}
 use Rattle.joint_collisions.proofs.Meanings.{same_ctrl, up_means}
 
@@ -200,7 +200,7 @@ module _ (s : Joint) (b : Before s) (p q : Exclusive) (outgoing : Outgoing) (ctr
     where
       by : (b_quiet : Bool) → is_quiet_now s.central ≡ b_quiet → b_quiet ≡ true
       by true is = refl
-      by false is = absurd (let idle = ap central_kind (b.facts.central.own is) in let runs = c.runs in cc)
+      by false is = absurd (let idle = ap central_kind ((known s b).own is) in let runs = c.runs in cc)
 
   sent : IsSentAs outgoing ctrl
   sent = subst IsSentOn c.takes.on_air b.tied.sent_up
@@ -214,8 +214,8 @@ module _ (s : Joint) (b : Before s) (p q : Exclusive) (outgoing : Outgoing) (ctr
   first : IsFirst ctrl
   first = first_of outgoing ctrl sent begins
 
-  becomes : t.control.ends ≡ None → t ≡ handed s.central b.goes.central quiet (quiet_keeps_none s.central b.facts.central quiet) ctrl first c.takes.slot (TerminateInd 0)
-  becomes = takes_becomes s.central b.goes.central quiet (quiet_keeps_none s.central b.facts.central quiet) ctrl first c.takes.slot (TerminateInd 0)
+  becomes : t.control.ends ≡ None → t ≡ handed s.central b.goes.central quiet (quiet_keeps_none s.central (known s b) quiet) ctrl first c.takes.slot (TerminateInd 0)
+  becomes = takes_becomes s.central b.goes.central quiet (quiet_keeps_none s.central (known s b) quiet) ctrl first c.takes.slot (TerminateInd 0)
 
   abbrev unknown_now : Bool
   unknown_now = is_unknown s.central.phase (role_of s.central.control.table.progress) (ctrl_class ctrl)

@@ -1,9 +1,9 @@
 -- A PDU that a peripheral takes means in its table what it means in a joint run of the procedures that exclude each other.
-use Rattle.std.proofs.Common.{◌≡◌, ℕ, ◌==◌, Bool, true, false, if◌then◌else◌, [], ◌∷◌, ◌++◌, Option, Some, None, is_some, refl, sym, subst, eqb-true}
+use Rattle.std.proofs.Common.{◌≡◌, ℕ, ◌==◌, Bool, true, false, if◌then◌else◌, [], ◌∷◌, ◌++◌, Option, Some, None, is_some, refl, sym, subst, eqb-true, not, List}
 use Rattle.ble_base.specs.declared.error_codes.ErrCode.{ErrCode}
 use Rattle.ble_base.specs.declared.roles.Role.TheVariants.{Peripheral as peripheral_role}
 use Rattle.data_pdu.specs.declared.ctrl.Ctrl.{Ctrl}
-use Rattle.data_pdu.specs.declared.ctrl.Ctrl.TheVariants.{EncReq, PauseEncReq, PauseEncRsp, RejectExtInd, StartEncRsp, TerminateInd}
+use Rattle.data_pdu.specs.declared.ctrl.Ctrl.TheVariants.{EncReq, PauseEncReq, PauseEncRsp, RejectExtInd, StartEncRsp, TerminateInd, UnknownRsp as unknown_rsp}
 use Rattle.data_pdu.specs.declared.ctrl.CtrlRead.TheVariants.{Known}
 use Rattle.enc_phase.specs.declared.classes.PduClass.{PduClass}
 use Rattle.enc_phase.specs.declared.classes.PduClass.TheVariants.{Other as other_class, Request as request_class}
@@ -13,10 +13,18 @@ use Rattle.enc_phase.specs.Taking.{ctrl_class, is_unknown}
 use Rattle.exclusive_stages.specs.declared.pdus.Exclusive.{Exclusive}
 use Rattle.exclusive_stages.specs.declared.pdus.Exclusive.TheVariants.{Map as MapOf, Update as UpdateOf}
 use Rattle.exclusive_stages.specs.declared.pdus.Pdu.{Pdu}
-use Rattle.exclusive_stages.specs.declared.pdus.Pdu.TheVariants.{GrantInd, MapInd, ParamReq, PhyInd as PhyIndPdu, PhyReq as PhyReqPdu, PhyRsp as PhyRspPdu, RejectParam, RejectPhy, UpdateInd}
+use Rattle.exclusive_stages.specs.declared.pdus.Pdu.TheVariants.{GrantInd, MapInd, ParamReq, PhyInd as PhyIndPdu, PhyReq as PhyReqPdu, PhyRsp as PhyRspPdu, Refusal, RejectParam, RejectPhy, UpdateInd}
 use Rattle.exclusive_stages.specs.declared.pdus.Reason.{Reason}
 use Rattle.exclusive_stages.specs.declared.stages.PeerAtPeripheral.TheVariants.{Absent, MapTaken, PhyRspUnsent}
-use Rattle.exclusive_stages.specs.declared.stages.PeripheralStage.TheVariants.{Idle}
+use Rattle.exclusive_stages.specs.declared.stages.PeripheralStage.{PeripheralStage}
+use Rattle.exclusive_stages.specs.declared.stages.PeripheralStage.TheVariants.{Idle, PhySent, PhyUnsent, RequestAcknowledged, RequestGranted, RequestSent, RequestUnsent}
+use Rattle.procedure_stages.specs.declared.stages.OwnPeripheral.{OwnPeripheral}
+use Rattle.procedure_stages.specs.declared.stages.OwnPeripheral.TheVariants.{Exchange as exchange, Exclusive as exclusive}
+use Rattle.procedure_stages.specs.declared.stages.Progress.{Progress}
+use Rattle.procedure_stages.specs.declared.stages.Progress.TheVariants.{Central as central, Peripheral as peripheral}
+use Rattle.procedure_stages.specs.Closing.{is_open}
+use Rattle.procedure_stages.specs.Opcodes.{connection_param_req_opcode, first_opcode, is_opcode, opcode_at_peripheral, phy_req_opcode}
+use Rattle.std.proofs.lemmas.Bool.{or_parts}
 use Rattle.exclusive_stages.specs.Awaited.{awaits_phy_ind, central_answered, has_phy_of_central}
 use Rattle.exclusive_stages.specs.Pdus.{is_timed}
 use Rattle.instants.specs.declared.indications.Indication.{Indication}
@@ -25,7 +33,7 @@ use Rattle.procedure_values.specs.declared.drafts.Draft.TheVariants.{Cipher, Fea
 use Rattle.procedure_values.specs.declared.drafts.Outgoing.{Outgoing}
 use Rattle.procedure_values.specs.declared.drafts.Outgoing.TheVariants.{Disconnect, Nothing, Other, Rejection}
 use Rattle.procedure_values.specs.Drafts.{ctrl_of_draft}
-use Rattle.procedure_stages.specs.Exclusive.{pdu_of_draft}
+use Rattle.procedure_stages.specs.Exclusive.{pdu_of_draft, peripheral_stage}
 use Rattle.procedures.specs.Table.{TableFacts}
 use Rattle.collisions.specs.declared.peripheral.Peripheral.{Peripheral as PeripheralPdus}
 use Rattle.collisions.specs.declared.joint.End.{End}
@@ -33,11 +41,11 @@ use Rattle.collisions.specs.declared.joint.End.TheVariants.{Collided, Open}
 use Rattle.collisions.specs.PeripheralTable
 use Rattle.collisions.specs.JointRun.{is_pdu}
 use Rattle.collision_steps.specs.Parts.{outgoing_part, param_request_opcode, phy_request_opcode, reason_part, rejection_part}
-use Rattle.collision_steps.specs.PeripheralPart.{answer_to, peripheral_of, step_of_ctrl, step_of_read}
+use Rattle.collision_steps.specs.PeripheralPart.{answer_to, peripheral_of, refusal_if, step_of_ctrl, step_of_read, view}
 use Rattle.phased_control.specs.Taken.{seen_if}
 use Rattle.joint_controls.specs.Ends.{IsSentAs}
 use Rattle.joint_controls.specs.Joint.{is_terminate}
-use Rattle.joint_collisions.specs.Facts.{fits_down, is_cipher_down}
+use Rattle.joint_collisions.specs.Facts.{fits_down, is_cipher_down, is_first_up}
 use Rattle.joint_collisions.proofs.Meanings.{same_ctrl}
 use Rattle.joint_collisions.proofs.Readings.{indication_in}
 
@@ -133,6 +141,57 @@ other_known Clear = refl
 other_known Secure = refl
 other_known phase = refl
 
+-- an LL_UNKNOWN_RSP that names none of their first PDUs does nothing to them
+none_named : (b : Bool) (t : PeripheralPdus) → b ≡ false → answer_to (refusal_if b) t ≡ (t, Open)
+none_named true t is = absurd (cc)
+none_named false t is = refl
+
+idle_refused : (t : PeripheralPdus) → t.own ≡ Idle → PeripheralTable.taken false Refusal t ≡ (t, Open)
+idle_refused t is = by t.own is refl
+  where
+    by : (own : PeripheralStage) → own ≡ Idle → t.own ≡ own → ◌≡◌ {A = PeripheralPdus × End} (record t { own = PeripheralTable.own_after_refusal own }, Open) (t, Open)
+    by Idle idle same = λ i. (record t { own = sym same i }, Open)
+    by RequestUnsent idle same = absurd (cc)
+    by RequestSent idle same = absurd (cc)
+    by RequestAcknowledged idle same = absurd (cc)
+    by RequestGranted idle same = absurd (cc)
+    by PhyUnsent idle same = absurd (cc)
+    by PhySent idle same = absurd (cc)
+
+idle_named : (b : Bool) (t : PeripheralPdus) → t.own ≡ Idle → answer_to (refusal_if b) t ≡ (t, Open)
+idle_named true t is = idle_refused t is
+idle_named false t is = refl
+
+record NamesNone (opcode : ℕ) : Type 0 where
+  request : (connection_param_req_opcode == opcode) ≡ false
+  phy : (phy_req_opcode == opcode) ≡ false
+
+names_none : (opcode : ℕ) → not (is_first_up opcode) ≡ true → NamesNone opcode
+names_none opcode h =
+    let both = or_parts (connection_param_req_opcode == opcode) (phy_req_opcode == opcode) (not_true (is_first_up opcode) h) in
+    record { request = both.0; phy = both.1 }
+  where
+    not_true : (b : Bool) → not b ≡ true → b ≡ false
+    not_true true is = absurd (cc)
+    not_true false is = refl
+
+unknown_at : (own : OwnPeripheral) (opcode : ℕ) (t : PeripheralPdus) → t.own ≡ peripheral_stage own → NamesNone opcode
+    → answer_to (refusal_if (is_opcode (opcode_at_peripheral own) opcode)) t ≡ (t, Open)
+unknown_at (exclusive Idle) opcode t is n = refl
+unknown_at (exclusive RequestUnsent) opcode t is n = refl
+unknown_at (exclusive RequestSent) opcode t is n = none_named (connection_param_req_opcode == opcode) t n.request
+unknown_at (exclusive RequestAcknowledged) opcode t is n = none_named (connection_param_req_opcode == opcode) t n.request
+unknown_at (exclusive RequestGranted) opcode t is n = none_named (connection_param_req_opcode == opcode) t n.request
+unknown_at (exclusive PhyUnsent) opcode t is n = refl
+unknown_at (exclusive PhySent) opcode t is n = none_named (phy_req_opcode == opcode) t n.phy
+unknown_at (exchange stage) opcode t is n = idle_named (is_opcode (opcode_at_peripheral (exchange stage)) opcode) t is
+
+unknown_by : (p : Progress) (opcode : ℕ) (opened : Bool) (drafts : List Draft) → NamesNone opcode
+    → answer_to (step_of_ctrl p (unknown_rsp opcode)) (view p opened drafts) ≡ (view p opened drafts, Open)
+unknown_by (peripheral x) opcode opened drafts n = unknown_at x.own opcode (view (peripheral x) opened drafts) refl n
+unknown_by (central x) opcode opened drafts n =
+    idle_named (is_opcode (first_opcode (central x)) opcode) (view (central x) opened drafts) refl
+
 module _ (f : TableFacts) (phase : PhaseFacts) where
   abbrev t : PeripheralPdus
   t = peripheral_of f
@@ -152,6 +211,11 @@ module _ (f : TableFacts) (phase : PhaseFacts) where
 
   known_means : (pdu : PduClass) (ctrl : Ctrl) → is_unknown phase peripheral_role pdu ≡ false → known_of pdu ctrl ≡ answer_to (step_of_ctrl f.progress ctrl) t
   known_means pdu ctrl known = rw known refl
+
+  unknown_seen : (b : Bool) (opcode : ℕ) → not (is_first_up opcode) ≡ true
+      → answer_to (step_of_read f.progress (seen_if b (Known (unknown_rsp opcode)))) t ≡ (t, Open)
+  unknown_seen true opcode h = refl
+  unknown_seen false opcode h = unknown_by f.progress opcode (is_open f.closing) f.queue.drafts (names_none opcode h)
 
   cipher_means : (ctrl : Ctrl) → is_cipher_down ctrl ≡ true → MeansBy None ctrl
   cipher_means (EncReq rand ediv skd_m iv_m) fits lasts = means_none (no_step _ (EncReq rand ediv skd_m iv_m) refl)
@@ -193,7 +257,7 @@ module _ (f : TableFacts) (phase : PhaseFacts) where
   draft_means VersionInd event latency fits lasts = means_none (no_step _ (ctrl_of_draft VersionInd event latency) refl)
   draft_means (LengthReq rx tx) event latency fits lasts = means_none (no_step _ (ctrl_of_draft (LengthReq rx tx) event latency) refl)
   draft_means (LengthRsp rx tx) event latency fits lasts = means_none (no_step _ (ctrl_of_draft (LengthRsp rx tx) event latency) refl)
-  draft_means (UnknownRsp opcode) event latency fits lasts = absurd (cc)
+  draft_means (UnknownRsp opcode) event latency fits lasts = means_none (unknown_seen _ opcode fits)
   draft_means (Cipher ctrl) event latency fits lasts = cipher_means ctrl fits lasts
 
   pub down_means : (outgoing : Outgoing) (ctrl : Ctrl) → IsSentAs outgoing ctrl → fits_down outgoing ≡ true → MeansBy (outgoing_part outgoing) ctrl

@@ -22,6 +22,7 @@ use Rattle.joint_controls.specs.Ends.{outgoing_in}
 use Rattle.joint_controls.proofs.LastPdus.{Tied}
 use Rattle.joint_controls.proofs.Running.{GoesOn, goes_on}
 use Rattle.joint_collisions.specs.Facts.{Facts}
+use Rattle.joint_collisions.proofs.Alone.{AloneIf, CentralKnown, known_of}
 use Rattle.joint_collisions.specs.Views.{item_part, kept_part, view_of, way_if, way_part}
 use Rattle.joint_collisions.proofs.CentralSteps as center
 use Rattle.joint_collisions.proofs.CentralTakes as center_takes
@@ -45,6 +46,7 @@ InstantOn (Taken item) over = ⊤
 pub record Holds (s : Joint) : Type 0 where
   pub seen : Seen (view_of s)
   pub instant : InstantOn s.down (passed_from s.central.control.table.progress)
+  pub alone : AloneIf s.central
 
 pub record Before (s : Joint) : Type 0 where
   pub goes : GoesOn s
@@ -111,12 +113,17 @@ module _ (s : Joint) (b : Before s) where
   abbrev pub peripheral_seen : side.SeenAt s.central.control (way_part outgoing_part s.down) (way_part pdu_of_outgoing s.up) (kept_part s.central.kept) s.peripheral.control
   peripheral_seen = record { role = b.awaits.role; seen = b.holds.seen }
 
+  pub known : CentralKnown s.central
+  known =
+      let x = center.is_central s.central.control.table.progress b.indicates.role in
+      known_of s.central x.0 x.1 b.facts.central b.holds.alone
+
   pub after_central : (c : Phased) (down up : Way) (stopped : Bool)
       → center_takes.GoesAs s.peripheral.control (way_part outgoing_part down) (way_part pdu_of_outgoing up) c
-      → InstantOn down (passed_from c.control.table.progress) → After (record s { central = c; down = down; up = up; stopped = stopped })
-  after_central c down up stopped g instant =
+      → InstantOn down (passed_from c.control.table.progress) → (c.control.ends ≡ None → AloneIf c) → After (record s { central = c; down = down; up = up; stopped = stopped })
+  after_central c down up stopped g instant alone =
       record {
-        goes = λ runs. record { seen = (g.goes (goes_on (record s { central = c; down = down; up = up; stopped = stopped }) runs).central).seen; instant = instant };
+        goes = λ runs. record { seen = (g.goes (goes_on (record s { central = c; down = down; up = up; stopped = stopped }) runs).central).seen; instant = instant; alone = alone (goes_on (record s { central = c; down = down; up = up; stopped = stopped }) runs).central };
         central_never = g.never;
         peripheral_never = λ met. subst EndsByCollision b.goes.peripheral met;
       }
@@ -126,7 +133,7 @@ module _ (s : Joint) (b : Before s) where
       → InstantOn down (passed_from s.central.control.table.progress) → After (record s { peripheral = p; down = down; up = up; stopped = stopped })
   after_peripheral p down up stopped g instant =
       record {
-        goes = λ runs. record { seen = (g.goes (goes_on (record s { peripheral = p; down = down; up = up; stopped = stopped }) runs).peripheral).seen; instant = instant };
+        goes = λ runs. record { seen = (g.goes (goes_on (record s { peripheral = p; down = down; up = up; stopped = stopped }) runs).peripheral).seen; instant = instant; alone = b.holds.alone };
         central_never = λ met. subst EndsByCollision b.goes.central met;
         peripheral_never = g.never;
       }

@@ -1,5 +1,8 @@
 -- The lemmas of this crate.
 pub mod Agreeing
+pub mod Alone
+pub mod AloneSteps
+pub mod AloneTaking
 pub mod Answers
 pub mod CentralEnd
 pub mod CentralJoint
@@ -22,6 +25,7 @@ pub mod Reaching
 pub mod Readings
 pub mod Findings
 pub mod RejectedNext
+pub mod Replies
 pub mod Resting
 pub mod Runs
 pub mod Sending

@@ -189,6 +189,7 @@ module _ (s : Joint) (b : Before s) where
       (λ runs. record {
         seen = subst (λ (way : pdu_way). Seen (view_by s.central.control s.peripheral.control down way kept)) (clear_is s.up parts.0) b.holds.seen;
         instant = b.holds.instant;
+        alone = b.holds.alone;
       })
 
   up_seen : (way : Way) → s.up ≡ way → SeenAt s.central.control down (way_part pdu_of_outgoing way) kept s.peripheral.control
@@ -208,7 +209,7 @@ module _ (s : Joint) (b : Before s) where
   peripheral_sends may =
       let parts = and_parts (is_fixed s.up) (is_free s.down) may in
       after_none s b s.down (sent_up s.up (seals peripheral_role s.peripheral.phase)) s.stopped
-      (λ runs. record { seen = (sent_seen s.up refl parts.0 parts.1 (seals peripheral_role s.peripheral.phase)).seen; instant = b.holds.instant })
+      (λ runs. record { seen = (sent_seen s.up refl parts.0 parts.1 (seals peripheral_role s.peripheral.phase)).seen; instant = b.holds.instant; alone = b.holds.alone })
 
   -- ---- its PDU is acknowledged
 

@@ -109,6 +109,7 @@ module _ (central_rx peripheral_rx : ℕ) (first : Params) (slot : ℕ) (latency
             λ runs. record {
               seen = record { reached = first_reached; central_waits = omega arith; peripheral_waits = tt; far = inl refl; far_earlier = inl refl };
               instant = tt;
+              alone = λ loud. absurd (cc);
             };
         central_never = λ met. met;
         peripheral_never = λ met. met;

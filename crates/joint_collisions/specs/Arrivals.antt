@@ -38,7 +38,8 @@ pub record Collides (s : Joint) (p q : Exclusive) (outgoing : Outgoing) (ctrl : 
   pub runs : central_kind (central_of s.central.control.table).own ≡ Some p
 
 -- the state in which the central has taken it
-abbrev pub collided : (s : Joint) (p q : Exclusive) (outgoing : Outgoing) (ctrl : Ctrl) → Collides s p q outgoing ctrl → Joint
+abbrev pub collided : (s : Joint) (p q : Exclusive) (outgoing : Outgoing) (ctrl : Ctrl) → Collides s p q outgoing ctrl
+    → Joint
 collided s p q outgoing ctrl c = act (CentralTakes c.takes.slot) s
 
 -- the central sends nothing in these steps

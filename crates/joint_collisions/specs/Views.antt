@@ -1,6 +1,6 @@
--- What joint runs of the procedures that exclude each other see of a joint run of both ends (our choice; Core 5.2, volume 6
--- part B, section 5.3): their parts of both tables, their PDUs on the two ways, the PDU that the central keeps, and the
--- numbers of the events.
+-- What joint runs of the procedures that exclude each other see of a joint run of both ends (our choice; Core 5.2,
+-- volume 6 part B, section 5.3): their parts of both tables, their PDUs on the two ways, the PDU that the central keeps,
+-- and the numbers of the events.
 use Rattle.std.specs.Prelude.{◌≡◌, ℕ, true, List, Option, Some, None}
 use Rattle.data_pdu.specs.declared.ctrl.Ctrl.{Ctrl}
 use Rattle.data_pdu.specs.declared.ctrl.Ctrl.TheVariants.{ConnectionParamReq, PhyReq as phy_req}

@@ -1,6 +1,5 @@
 //! The laws of joint runs about the procedures that exclude each other. What they need to know of
-//! one end, of the PDUs of the encryption and of those that are not supported is a premise. The
-//! bodies do nothing: the contracts are the laws.
+//! each end alone is a premise. The bodies do nothing: the contracts are the laws.
 ghost use Rattle.std.specs.Prelude.{◌≡◌, ◌≤◌, ℕ, List, true, false, Some, None, is_none};
 ghost use Rattle.data_pdu.specs.declared.ctrl.Ctrl.{Ctrl};
 ghost use Rattle.exclusive_stages.specs.declared.pdus.Exclusive.{Exclusive};
@@ -16,6 +15,9 @@ ghost use Rattle.procedure_values.specs.declared.drafts.Rejection.{Rejection};
 ghost use Rattle.procedure_values.specs.declared.values.NewParams.{NewParams};
 ghost use Rattle.procedure_stages.specs.Exclusive.{pdu_of_outgoing};
 ghost use Rattle.procedure_stages.specs.Queue.{next_disconnect};
+ghost use Rattle.exclusive_stages.specs.Kinds.{is_idle_at_central};
+ghost use Rattle.collisions.specs.CentralTable.{has_no_peer};
+ghost use Rattle.collisions.specs.JointRun.{is_empty};
 ghost use Rattle.collisions.specs.PeripheralTable.{is_phy_sent, is_requesting};
 ghost use Rattle.collisions.specs.Meaning.{central_reads, peripheral_reads};
 ghost use Rattle.collision_steps.specs.CentralPart.{central_of};
@@ -29,13 +31,14 @@ ghost use Rattle.joint_controls.specs.Ends.{AreStepsInRange};
 ghost use Rattle.phased_control.specs.Phased.{is_open_now};
 ghost use Rattle.joint_collisions.specs.Arrivals.{CentralMayTake, Collides, PeripheralMayTake};
 ghost use Rattle.joint_collisions.specs.Arrivals.{RejectsNext, collided, is_silent};
+ghost use Rattle.joint_collisions.specs.FirstPdus.{has_own_first};
 ghost use Rattle.joint_collisions.specs.Facts.{AllFacts, CentralFacts, IsState};
 ghost use Rattle.joint_collisions.specs.Views.{IsReached, TablesAgree, kept_part, link_of, view_of};
 
-/// As long as it goes on, a joint run of both ends is one of the procedures that exclude each other,
-/// with the numbers of events: the tables, the PDUs on their way, the PDU that the central keeps
-/// and the events are those of such a run (Core 5.2, volume 6 part B, section 5.3). So each law of
-/// these holds of it.
+/// As long as it goes on, a joint run of both ends is one of the procedures that exclude each
+/// other, with the numbers of events: the tables, the PDUs on their way, the PDU that the central
+/// keeps and the events are those of such a run (Core 5.2, volume 6 part B, section 5.3). So each
+/// law of these holds of it.
 pub fn joint_runs_are_runs_of_exclusive_procedures()
     ensures { (central_rx peripheral_rx : ℕ) (first : Params) (slot : ℕ) (steps : List JointStep)
         → let s = beginning central_rx peripheral_rx first slot in first.latency ≤ 499
@@ -127,4 +130,16 @@ pub fn a_collision_of_a_joint_run_is_rejected_next()
         → CentralFacts (collided s p q outgoing ctrl c).central → is_open_now s.central ≡ false
         → next_out (collided s p q outgoing ctrl c).central ≡ next_disconnect
         (collided s p q outgoing ctrl c).central.control.table.queue.disconnect }
+{}
+
+/// A first PDU of the peripheral that waits, is not taken or is kept belongs to the procedure that
+/// it runs: where it runs none of these, there is no such PDU. At a central with no procedure of
+/// either end in progress no PDU of these but rejections waits.
+pub fn no_pdu_of_a_joint_run_outlives_its_procedure()
+    ensures first { (s : Joint) → IsState s → is_running s ≡ true
+        → has_own_first (link_of s) ≡ true }
+    ensures queued { (s : Joint) → IsState s → is_running s ≡ true
+        → is_idle_at_central (central_of s.central.control.table).own ≡ true
+        → has_no_peer (central_of s.central.control.table).peer ≡ true
+        → is_empty (central_of s.central.control.table).queue.items ≡ true }
 {}

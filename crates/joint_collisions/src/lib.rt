@@ -6,6 +6,6 @@ mod laws;
 
 pub use crate::laws::{
     a_collision_of_a_joint_run_is_rejected_next, joint_runs_are_runs_of_exclusive_procedures,
-    no_joint_run_ends_by_a_collision, pdus_of_a_joint_run_mean_what_they_were_sent_as,
-    tables_of_a_joint_run_agree,
+    no_joint_run_ends_by_a_collision, no_pdu_of_a_joint_run_outlives_its_procedure,
+    pdus_of_a_joint_run_mean_what_they_were_sent_as, tables_of_a_joint_run_agree,
 };

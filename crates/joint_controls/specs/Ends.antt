@@ -1,4 +1,4 @@
--- What each end does in a joint run, as steps of that end alone, and what its last PDU is as its table has it (our choice).
+-- What each end does in a joint run, as steps of that end alone, and its last PDU as its table has it (our choice).
 use Rattle.std.specs.Prelude.{◌≡◌, ℕ, Bool, true, false, List, [], ◌∷◌, ◌++◌, Option, Some, None, Ok, if◌then◌else◌, ⊤}
 use Rattle.data_pdu.specs.declared.ctrl.Ctrl.{Ctrl}
 use Rattle.data_pdu.specs.declared.ctrl.Ctrl.TheVariants.{EncRsp, TerminateInd}
