@@ -1,5 +1,5 @@
 -- The laws of the machine of phases, in the words of a joint run.
-use Rattle.std.proofs.Common.{◌≡◌, ℕ, Bool, true, false, not, ◌&&◌, ◌||◌, List, [], ◌∷◌, Option, Some, None, is_none, is_some, refl, ap, sym, subst, ◌∙◌, if◌then◌else◌}
+use Rattle.std.proofs.Common.{◌≡◌, ℕ, Bool, true, false, not, ◌&&◌, Some, is_some, refl, ap, sym, subst, ◌∙◌}
 use Rattle.std.proofs.lemmas.Bool.{and_from, and_parts}
 use Rattle.ble_base.specs.declared.roles.Role.{Role}
 use Rattle.ble_base.specs.declared.roles.Role.TheVariants.{Central as central_role, Peripheral as peripheral_role}
@@ -8,8 +8,8 @@ use Rattle.data_pdu.specs.declared.ctrl.Ctrl.TheVariants.{ConnectionParamRsp, Fe
 use Rattle.enc_phase.specs.declared.classes.PduClass.{PduClass}
 use Rattle.enc_phase.specs.declared.classes.PduClass.TheVariants.{Data as data_class, Other, Request, Terminate}
 use Rattle.enc_phase.specs.declared.facts.PhaseFacts.{PhaseFacts}
-use Rattle.enc_phase.specs.declared.facts.PhaseFacts.TheVariants.{Asked, Clear as clear_phase, HalfClear, HalfKeyed, Pausing, Secure}
-use Rattle.enc_phase.specs.Phases.{is_quiet, opens}
+use Rattle.enc_phase.specs.declared.facts.PhaseFacts.TheVariants.{Asked, Clear as clear_phase, Secure}
+use Rattle.enc_phase.specs.Phases.{is_quiet}
 use Rattle.enc_phase.specs.Taking.{allows, ctrl_class}
 use Rattle.phase_pairs.specs.declared.joint.PhaseEvent.{PhaseEvent}
 use Rattle.phase_pairs.specs.declared.joint.PhaseEvent.TheVariants.{CentralTakes as central_takes_event, PeripheralTakes as peripheral_takes_event}
@@ -17,19 +17,18 @@ use Rattle.phase_pairs.specs.declared.joint.PhaseLink.{PhaseLink}
 use Rattle.phase_pairs.specs.declared.joint.PhaseWay.{PhaseWay}
 use Rattle.phase_pairs.specs.Agreement as machine
 use Rattle.phase_pairs.specs.Agreement.{has_meaning, has_place, is_equal, is_sealing_right, is_step_right}
-use Rattle.phase_pairs.specs.JointRun.{encryption, is_way_taken, phases_may}
+use Rattle.phase_pairs.specs.JointRun.{is_way_taken, phases_may}
 use Rattle.phase_pairs.proofs.Proved.{sealing_right}
-use Rattle.machines.specs.Machine.{run}
-use Rattle.joint_controls.specs.Joint.{Item, Joint, JointStep, Way, CentralTakes, Clear, Control, Data, Fixed, OnAir, PeripheralTakes, Taken, is_running, is_taken, is_terminate, item_on_air, may_act}
+use Rattle.joint_controls.specs.Joint.{Joint, JointStep, Way, CentralTakes, Clear, Control, Data, Fixed, OnAir, PeripheralTakes, Taken, is_running, is_taken, is_terminate, item_on_air, may_act}
 use Rattle.joint_phases.specs.Agreement.{is_allowed_right, is_opened_right, is_sealing_agreed, is_taken_right}
-use Rattle.joint_phases.specs.Classes.{class_down, class_up, item_class}
+use Rattle.joint_phases.specs.Classes.{class_down, class_up}
 use Rattle.joint_phases.specs.Facts.{Facts, has_response, is_enc_rsp}
 use Rattle.joint_phases.specs.Parts.{IsShown, way_down, way_up}
 use Rattle.joint_phases.proofs.JointCentral.{Runs, runs}
 use Rattle.joint_phases.proofs.JointCentralTakes as central_takes
 use Rattle.joint_phases.proofs.JointPeripheralTakes as peripheral_takes
 use Rattle.joint_phases.proofs.MachineFacts.{Settled}
-use Rattle.joint_phases.proofs.Steps.{Reached, Shows, right_in, settled_in}
+use Rattle.joint_phases.proofs.Steps.{Shows, right_in, settled_in}
 use Rattle.joint_phases.proofs.Ways.{taken_same}
 
 -- ---- sealing
@@ -135,7 +134,7 @@ module _ (s : Joint) (m : PhaseLink) (slot : ℕ) (may : not (is_taken s.down) �
   up_control outgoing ctrl sealed true ends p = end_up s.peripheral.knows_version s.central.phase ctrl ends
   up_control outgoing ctrl sealed false ends p =
       let h =
-          central_takes.right_here s m outgoing ctrl sealed slot p.is (record { goes = p.goes.goes; central = p.goes.central; peripheral = p.goes.peripheral }) p.settled p.facts p.right may ends in
+      central_takes.right_here s m outgoing ctrl sealed slot p.is (record { goes = p.goes.goes; central = p.goes.central; peripheral = p.goes.peripheral }) p.settled p.facts p.right may ends in
       and_from _ _
       (allowed_up s.peripheral.knows_version s.central.phase ctrl (ap (λ q. allows q central_role (class_up s.peripheral.knows_version ctrl)) p.is.central.phase ∙ h.0))
       (ap (λ q. has_meaning central_role q (class_up s.peripheral.knows_version ctrl)) p.is.central.phase ∙ h.1)
@@ -164,7 +163,7 @@ module _ (s : Joint) (m : PhaseLink) (slot : ℕ) (response : Ctrl) (answers : i
   down_control outgoing ctrl sealed true ends p = end_down s.central.knows_version s.peripheral.phase ctrl ends
   down_control outgoing ctrl sealed false ends p =
       let h =
-          peripheral_takes.right_here s m outgoing ctrl response sealed slot p.is (record { goes = p.goes.goes; central = p.goes.central; peripheral = p.goes.peripheral }) p.settled p.facts p.right answers may ends in
+      peripheral_takes.right_here s m outgoing ctrl response sealed slot p.is (record { goes = p.goes.goes; central = p.goes.central; peripheral = p.goes.peripheral }) p.settled p.facts p.right answers may ends in
       and_from _ _
       (allowed_down s.central.knows_version s.peripheral.phase ctrl (ap (λ q. allows q peripheral_role (class_down s.central.knows_version ctrl)) p.is.peripheral.phase ∙ h.0))
       (ap (λ q. has_meaning peripheral_role q (class_down s.central.knows_version ctrl)) p.is.peripheral.phase ∙ h.1)
@@ -176,7 +175,7 @@ module _ (s : Joint) (m : PhaseLink) (slot : ℕ) (response : Ctrl) (answers : i
       let right = p.right (peripheral_takes_event false) comes in
       ap (λ q. allows q peripheral_role data_class && has_meaning peripheral_role q data_class) p.is.peripheral.phase
       ∙ (and_parts (allows m.peripheral.phase peripheral_role data_class && has_meaning peripheral_role m.peripheral.phase data_class)
-        (has_place (record m { down = way_down s.central.knows_version (OnAir Data sealed) })) right).0
+      (has_place (record m { down = way_down s.central.knows_version (OnAir Data sealed) })) right).0
 
   down_by : (w : Way) → Premises (record s { down = w }) (record m { down = way_down s.central.knows_version w })
       → is_allowed_right peripheral_role s.peripheral.phase (class_down s.central.knows_version) (item_on_air w) ≡ true

@@ -1,10 +1,10 @@
 -- What a central awaits after a first PDU of the peripheral, in phase Clear or Secure.
-use Rattle.std.proofs.Common.{◌≡◌, ◌==◌, ℕ, Bool, true, false, not, ◌&&◌, ◌||◌, List, [], ◌∷◌, Option, Some, None, is_none, is_some, refl, ap, ap₂, sym, subst, ◌∙◌, if◌then◌else◌}
+use Rattle.std.proofs.Common.{◌≡◌, ◌==◌, ℕ, Bool, true, false, Option, Some, None, refl, if◌then◌else◌}
 use Rattle.ble_base.specs.declared.error_codes.ErrCode.{ErrCode}
 use Rattle.ble_base.specs.declared.procedure_kinds.Kind.TheVariants.{Phy as phy_kind, Request as request_kind}
 use Rattle.ble_base.specs.declared.roles.Role.TheVariants.{Central as central_role}
 use Rattle.data_pdu.specs.declared.ctrl.Ctrl.{Ctrl}
-use Rattle.data_pdu.specs.declared.ctrl.Ctrl.TheVariants.{ConnectionParamReq, LengthReq, PeripheralFeatureReq, PhyReq, RejectExtInd, TerminateInd, VersionInd}
+use Rattle.data_pdu.specs.declared.ctrl.Ctrl.TheVariants.{ConnectionParamReq, LengthReq, PeripheralFeatureReq, PhyReq, RejectExtInd, VersionInd}
 use Rattle.enc_phase.specs.declared.classes.PduClass.{PduClass}
 use Rattle.enc_phase.specs.declared.classes.PduClass.TheVariants.{Other, Refusal, Request}
 use Rattle.enc_phase.specs.Taking.{ctrl_class}
@@ -16,10 +16,9 @@ use Rattle.procedure_stages.specs.declared.stages.OwnCentral.{OwnCentral}
 use Rattle.procedure_stages.specs.declared.stages.OwnCentral.TheVariants.{Exchange as exchange}
 use Rattle.procedure_stages.specs.declared.stages.Progress.{Progress}
 use Rattle.procedure_stages.specs.declared.stages.Progress.TheVariants.{Central as central, Peripheral as peripheral}
-use Rattle.procedure_stages.specs.Awaited.{is_version}
 use Rattle.procedure_stages.specs.Collisions.{collision}
 use Rattle.procedure_stages.specs.Exclusive.{central_stage}
-use Rattle.procedure_stages.specs.Kinds.{exchange_at_central, kind_at_central, own_exchange, role_of, without_own}
+use Rattle.procedure_stages.specs.Kinds.{exchange_at_central, kind_at_central, own_exchange, role_of}
 use Rattle.procedure_stages.specs.Opcodes.{connection_param_req_opcode, phy_req_opcode}
 use Rattle.procedures.specs.declared.outcome.Outcome.{Outcome}
 use Rattle.procedures.specs.Request.{collided, request_judged}

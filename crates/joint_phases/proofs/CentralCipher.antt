@@ -1,45 +1,29 @@
 -- A central takes a PDU outside phases Clear and Secure: what the machine of phases sees of it.
-use Rattle.std.proofs.Common.{◌≡◌, ◌==◌, ℕ, Bool, true, false, not, ◌&&◌, ◌||◌, List, [], ◌∷◌, ◌++◌, Option, Some, None, is_none, is_some, refl, ap, ap₂, sym, subst, ◌∙◌, if◌then◌else◌, nat_le}
+use Rattle.std.proofs.Common.{◌≡◌, Bool, true, false, not, ◌&&◌, ◌||◌, [], ◌∷◌, ◌++◌, Option, Some, None, is_none, is_some, refl, ap, sym, subst, ◌∙◌, if◌then◌else◌}
 use Rattle.procedure_values.specs.declared.drafts.Draft.TheVariants.{Cipher}
 use Rattle.procedures.specs.Encryption.{progress_given}
 use Rattle.procedures.specs.Going.{closing_given}
-use Rattle.std.proofs.lemmas.Bool.{and_from, and_parts, false_from_ne_true}
-use Rattle.ble_base.specs.ErrorCodes.{memory_capacity_exceeded, mic_failure}
-use Rattle.ble_base.specs.declared.error_codes.ErrCode.{ErrCode}
-use Rattle.ble_base.specs.declared.roles.Role.{Role}
-use Rattle.ble_base.specs.declared.roles.Role.TheVariants.{Central as central_role, Peripheral as peripheral_role}
+use Rattle.std.proofs.lemmas.Bool.{and_from}
 use Rattle.data_pdu.specs.declared.ctrl.Ctrl.{Ctrl}
-use Rattle.data_pdu.specs.declared.ctrl.Ctrl.TheVariants.{EncRsp as enc_rsp, PauseEncRsp as pause_enc_rsp, RejectExtInd, RejectInd, StartEncReq as start_enc_req, StartEncRsp as start_enc_rsp}
-use Rattle.data_pdu.specs.declared.ctrl.CtrlRead.{CtrlRead}
-use Rattle.data_pdu.specs.declared.ctrl.CtrlRead.TheVariants.{Known}
 use Rattle.enc_phase.specs.declared.classes.PduClass.{PduClass}
-use Rattle.enc_phase.specs.declared.classes.PduClass.TheVariants.{EncRsp, Other, PauseEncRsp, Refusal, Request, StartEncReq, StartEncRsp}
+use Rattle.enc_phase.specs.declared.classes.PduClass.TheVariants.{EncRsp, Request}
 use Rattle.enc_phase.specs.declared.facts.PhaseFacts.{PhaseFacts}
-use Rattle.enc_phase.specs.declared.facts.PhaseFacts.TheVariants.{Asked, Clear, HalfClear, HalfKeyed, Pausing, Secure}
+use Rattle.enc_phase.specs.declared.facts.PhaseFacts.TheVariants.{Asked, Pausing}
 use Rattle.enc_phase.specs.Phases.{is_quiet}
-use Rattle.enc_phase.specs.Taking.{allows, ctrl_class, is_unknown, phase_taking}
-use Rattle.procedure_stages.specs.declared.closing.Closing.{Closing}
-use Rattle.procedure_stages.specs.declared.closing.Closing.TheVariants.{Open}
+use Rattle.enc_phase.specs.Taking.{phase_taking}
 use Rattle.procedure_stages.specs.Closing.{is_open}
-use Rattle.procedure_stages.specs.Queue.{QueueFacts, waiting_in}
-use Rattle.procedure_stages.specs.declared.stages.Progress.{Progress}
-use Rattle.procedure_stages.specs.declared.stages.Progress.TheVariants.{Central as central, Peripheral as peripheral}
+use Rattle.procedure_stages.specs.Queue.{QueueFacts}
 use Rattle.procedure_stages.specs.Kinds.{role_of}
 use Rattle.procedures.specs.Table.{TableFacts}
 use Rattle.table_laws.specs.Encrypting.{has_encryption}
-use Rattle.control_model.specs.Control.{Control, Takes as control_takes, ended, took}
+use Rattle.control_model.specs.Control.{Control}
 use Rattle.phase_pairs.specs.declared.central.PhaseCentral.{PhaseCentral}
-use Rattle.phase_pairs.specs.Central.{central_following, central_starting, central_taken, central_unlocking, is_ahead}
-use Rattle.phased_control.specs.Phased.{Phased, is_quiet_now, with_owed, with_step}
-use Rattle.phased_control.specs.Taken.{Takes, answered_if_quiet, answered_kept, ciphered, ciphered_at, ciphered_at_central, ended_with, goes_on, is_answered_at, is_version, keeping, keeps_class, knowing, phased_after, role_now, seen_if, with_phase_taking}
+use Rattle.phase_pairs.specs.Central.{is_ahead}
+use Rattle.phased_control.specs.Phased.{Phased, with_owed}
 use Rattle.joint_phases.specs.Classes.{draft_down}
 use Rattle.joint_phases.specs.Parts.{IsCentral, IsRequest, closing_down, goes_down, is_enc_req, queued_then, is_awaiting, is_encryption_unsent, may_reject, wait_down}
-use Rattle.joint_phases.proofs.CentralEnters.{at_open, none_of_two, open_down, opened}
+use Rattle.joint_phases.proofs.CentralEnters.{none_of_two, opened}
 use Rattle.joint_phases.proofs.CentralQueue.{LetsSame, no_rejections, nothing_waits, same_rejects, same_waits}
-use Rattle.joint_phases.proofs.CentralTakes.{some_none, takes_quiet}
-use Rattle.joint_phases.proofs.Outcomes.{keeps_open, took_goes}
-use Rattle.joint_phases.proofs.Plain.{room_now}
-use Rattle.joint_phases.proofs.Stages.{unsent_is_one}
 
 -- ---- the phase keeps what matters of a PDU
 

@@ -1,36 +1,34 @@
 -- A central enters an event: what the machine of phases sees of it.
-use Rattle.std.proofs.Common.{◌≡◌, ℕ, Bool, true, false, not, ◌&&◌, ◌||◌, List, [], ◌∷◌, ◌++◌, Option, Some, None, remove, is_none, is_some, refl, ap, sym, subst, ◌∙◌, if◌then◌else◌}
+use Rattle.std.proofs.Common.{◌≡◌, ℕ, Bool, true, false, not, ◌&&◌, ◌||◌, List, [], ◌∷◌, ◌++◌, Option, Some, None, remove, is_some, refl, ap, sym, subst, ◌∙◌}
 use Rattle.std.proofs.lemmas.Bool.{and_parts, false_from_ne_true}
 use Rattle.ble_base.specs.declared.roles.Role.TheVariants.{Central as central_role}
-use Rattle.data_pdu.specs.declared.ctrl.Ctrl.{Ctrl}
 use Rattle.data_pdu.specs.declared.ctrl.Ctrl.TheVariants.{EncReq as enc_req, PauseEncReq as pause_enc_req}
 use Rattle.enc_phase.specs.declared.classes.PduClass.{PduClass}
-use Rattle.enc_phase.specs.declared.classes.PduClass.TheVariants.{EncReq, PauseEncReq, Other, Request}
+use Rattle.enc_phase.specs.declared.classes.PduClass.TheVariants.{EncReq, PauseEncReq}
 use Rattle.enc_phase.specs.declared.facts.PhaseFacts.{PhaseFacts}
-use Rattle.enc_phase.specs.declared.facts.PhaseFacts.TheVariants.{Asked, Clear, HalfClear, HalfKeyed, Pausing, Secure}
+use Rattle.enc_phase.specs.declared.facts.PhaseFacts.TheVariants.{Asked, Clear, Pausing, Secure}
 use Rattle.enc_phase.specs.Phases.{is_quiet}
 use Rattle.instants.specs.Track.{TrackFacts, next_number, track_after_enter}
 use Rattle.procedure_values.specs.declared.asks.Ask.{Ask}
 use Rattle.procedure_values.specs.declared.asks.Ask.TheVariants.{Encrypt, Features, Length, Map, Phy, Request as ask_request, Update, Version}
 use Rattle.procedure_values.specs.declared.drafts.Draft.{Draft}
-use Rattle.procedure_values.specs.declared.drafts.Draft.TheVariants.{Cipher, FeatureReq, LengthReq, PhyReq, VersionInd, Map as map_draft, Update as update_draft}
+use Rattle.procedure_values.specs.declared.drafts.Draft.TheVariants.{Cipher, FeatureReq, LengthReq, PhyReq, VersionInd}
 use Rattle.procedure_values.specs.Asks.{kind_of_ask}
-use Rattle.exclusive_stages.specs.declared.stages.CentralStage.{CentralStage}
-use Rattle.exclusive_stages.specs.declared.stages.CentralStage.TheVariants.{Idle, MapSent, MapUnsent, PhyUnsent, UpdateSent, UpdateUnsent}
+use Rattle.exclusive_stages.specs.declared.stages.CentralStage.TheVariants.{MapSent, MapUnsent, PhyUnsent, UpdateSent, UpdateUnsent}
 use Rattle.exclusive_stages.specs.Held.{own_held_at_central}
 use Rattle.procedure_stages.specs.declared.closing.Closing.{Closing}
 use Rattle.procedure_stages.specs.declared.closing.Closing.TheVariants.{Closed, Disconnecting, Open}
 use Rattle.procedure_stages.specs.declared.stages.Central.{Central}
 use Rattle.procedure_stages.specs.declared.stages.Exchange.TheVariants.{FeaturesUnsent, LengthUnsent, VersionSent, VersionUnsent}
 use Rattle.procedure_stages.specs.declared.stages.OwnCentral.{OwnCentral}
-use Rattle.procedure_stages.specs.declared.stages.OwnCentral.TheVariants.{EncryptUnsent, Exchange as exchange, Exclusive as exclusive}
+use Rattle.procedure_stages.specs.declared.stages.OwnCentral.TheVariants.{Exchange as exchange, Exclusive as exclusive}
 use Rattle.procedure_stages.specs.declared.stages.Progress.{Progress}
 use Rattle.procedure_stages.specs.declared.stages.Progress.TheVariants.{Central as central, Peripheral as peripheral}
 use Rattle.procedure_stages.specs.Closing.{is_open}
 use Rattle.procedure_stages.specs.Exclusive.{on_central_stage}
 use Rattle.procedure_stages.specs.Held.{progress_held}
 use Rattle.procedure_stages.specs.Kinds.{begins, kind_at_central, own_kind, role_of}
-use Rattle.procedures.specs.Beginning.{ask_at, begin_at, begin_step, facts_begun, place_to_begin}
+use Rattle.procedures.specs.Beginning.{ask_at, begin_at, facts_begun, place_to_begin}
 use Rattle.procedures.specs.Going.{entered_step}
 use Rattle.procedures.specs.Table.{TableFacts}
 use Rattle.table_laws.specs.Encrypting.{has_encryption}
@@ -40,7 +38,7 @@ use Rattle.phase_pairs.specs.declared.central.PhaseCentral.{PhaseCentral}
 use Rattle.phase_pairs.specs.Central.{central_encrypts, may_encrypt}
 use Rattle.phase_pairs.specs.JointRun.{is_request}
 use Rattle.phased_control.specs.Phased.{Phased, encrypting_if, is_encrypt, request_of}
-use Rattle.phased_control.specs.Taken.{Enters, phased_after, role_now}
+use Rattle.phased_control.specs.Taken.{Enters, phased_after}
 use Rattle.joint_phases.specs.Classes.{draft_down, has_request}
 use Rattle.joint_phases.specs.Events.{does_encrypt}
 use Rattle.joint_phases.specs.Facts.{are_of_own, is_first_of, is_unsent_first}
@@ -241,46 +239,44 @@ module _ (s : Phased) (c : PhaseCentral) (track : TrackFacts) (g : TableFacts) (
   encrypts_by : (phase : PhaseFacts) (rand ediv skd_m iv_m : ℕ) (ltk : List ℕ) (used : Bool) (wanted : List Ask) (slot : ℕ)
       → IsCentral (phased_at phase (table_at used)) (central_at phase) → May phase
       → EntersAs true (encrypting_if true (request_of (Some (Encrypt rand ediv ltk skd_m iv_m))) (phased_at phase (facts_begun (table_at used) slot (Encrypt rand ediv ltk skd_m iv_m) wanted))) (central_at phase)
-  encrypts_by Clear rand ediv skd_m iv_m ltk used wanted slot is may =
-      (
-        may_all true c.awaits c.closed refl (no_awaits Clear used is may) may.lasts,
-        record {
-          role = refl;
-          phase = refl;
-          closing = sym (ap closing_down may.lasts);
-          awaits = λ a. none_of_two _ _ may.none (is.awaits a);
-          rejects = rejects_if g.queue.rejections (Asked false false false) (Some EncReq) refl;
-          waits =
-              begins_after (draft_down s.knows_version) Clear (Asked false false false) g.queue.drafts (Cipher (enc_req rand ediv skd_m iv_m)) EncReq may.first
-              (rw may.queued at is.waits) refl refl refl;
-          asks_key = is.asks_key;
-          kept = λ h. absurd (cc);
-          keeps_first = is.keeps_first;
-          encrypts = refl;
-          request = refl;
-          begins = λ h. refl;
-        },
-      )
-  encrypts_by Secure rand ediv skd_m iv_m ltk used wanted slot is may =
-      (
-        may_all true c.awaits c.closed refl (no_awaits Secure used is may) may.lasts,
-        record {
-          role = refl;
-          phase = refl;
-          closing = sym (ap closing_down may.lasts);
-          awaits = λ a. none_of_two _ _ may.none (is.awaits a);
-          rejects = rejects_if g.queue.rejections (Pausing false) (Some PauseEncReq) refl;
-          waits =
-              begins_after (draft_down s.knows_version) Secure (Pausing false) g.queue.drafts (Cipher pause_enc_req) PauseEncReq may.first
-              (rw may.queued at is.waits) refl refl refl;
-          asks_key = is.asks_key;
-          kept = λ h. absurd (cc);
-          keeps_first = is.keeps_first;
-          encrypts = refl;
-          request = refl;
-          begins = λ h. refl;
-        },
-      )
+  encrypts_by Clear rand ediv skd_m iv_m ltk used wanted slot is may = (
+    may_all true c.awaits c.closed refl (no_awaits Clear used is may) may.lasts,
+    record {
+      role = refl;
+      phase = refl;
+      closing = sym (ap closing_down may.lasts);
+      awaits = λ a. none_of_two _ _ may.none (is.awaits a);
+      rejects = rejects_if g.queue.rejections (Asked false false false) (Some EncReq) refl;
+      waits =
+          begins_after (draft_down s.knows_version) Clear (Asked false false false) g.queue.drafts (Cipher (enc_req rand ediv skd_m iv_m)) EncReq may.first
+          (rw may.queued at is.waits) refl refl refl;
+      asks_key = is.asks_key;
+      kept = λ h. absurd (cc);
+      keeps_first = is.keeps_first;
+      encrypts = refl;
+      request = refl;
+      begins = λ h. refl;
+    },
+  )
+  encrypts_by Secure rand ediv skd_m iv_m ltk used wanted slot is may = (
+    may_all true c.awaits c.closed refl (no_awaits Secure used is may) may.lasts,
+    record {
+      role = refl;
+      phase = refl;
+      closing = sym (ap closing_down may.lasts);
+      awaits = λ a. none_of_two _ _ may.none (is.awaits a);
+      rejects = rejects_if g.queue.rejections (Pausing false) (Some PauseEncReq) refl;
+      waits =
+          begins_after (draft_down s.knows_version) Secure (Pausing false) g.queue.drafts (Cipher pause_enc_req) PauseEncReq may.first
+          (rw may.queued at is.waits) refl refl refl;
+      asks_key = is.asks_key;
+      kept = λ h. absurd (cc);
+      keeps_first = is.keeps_first;
+      encrypts = refl;
+      request = refl;
+      begins = λ h. refl;
+    },
+  )
   encrypts_by phase rand ediv skd_m iv_m ltk used wanted slot is may = absurd (none_of_two _ _ refl may.quiet)
 
   abbrev begun_to : PhaseFacts → Bool → ℕ → Ask → List Ask → Type 0
@@ -321,7 +317,6 @@ open_is Disconnecting h = absurd (cc)
 module _ (s : Phased) (c : PhaseCentral) (slot : ℕ) (is : IsCentral (opened s) c)
     (own : are_of_own (draft_down s.knows_version) s.control.table.queue.drafts s.control.table.progress ≡ true)
     (alone : is_quiet c.phase ≡ true → c.queued ≡ None) where
-
   abbrev table : TableFacts
   table = (entered_step s.control.table (is_some (next_number s.control.track))).0
 
@@ -352,8 +347,8 @@ module _ (s : Phased) (c : PhaseCentral) (slot : ℕ) (is : IsCentral (opened s)
       let role : begins central_role (kind_of_ask ask) ≡ true = ap (λ r. begins r (kind_of_ask ask)) (sym is_entered.role) ∙ may.role in
       let first = no_requests (draft_down s.knows_version) table.queue.drafts table.progress may.none (entered_own s c track (is_some (next_number s.control.track)) own) in
       let at_end : goes (central x.0) Open c.phase place ask =
-          λ here. begun s c track table x.0 c.phase table.version_used slot ask (remove table.wanted place) role here
-          (record { quiet = quiet; none = ap is_awaiting (sym x.1) ∙ none; queued = alone quiet; lasts = open_down c.closed lasts; first = first }) in
+      λ here. begun s c track table x.0 c.phase table.version_used slot ask (remove table.wanted place) role here
+      (record { quiet = quiet; none = ap is_awaiting (sym x.1) ∙ none; queued = alone quiet; lasts = open_down c.closed lasts; first = first }) in
       let with_phase : goes (central x.0) Open s.phase place ask = subst (λ (p : PhaseFacts). goes (central x.0) Open p place ask) (sym is.phase) at_end in
       let with_closing : goes (central x.0) table.closing s.phase place ask = subst (λ (cl : Closing). goes (central x.0) cl s.phase place ask) (sym opens) with_phase in
       subst (λ (p : Progress). goes p table.closing s.phase place ask) (sym x.1) with_closing is_entered

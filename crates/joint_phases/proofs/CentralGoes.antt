@@ -1,20 +1,18 @@
 -- A central hears its host, and sees its PDU acknowledged: what the machine of phases sees of it.
-use Rattle.std.proofs.Common.{◌≡◌, ℕ, Bool, true, false, not, ◌&&◌, ◌||◌, List, [], ◌∷◌, ◌++◌, Option, Some, None, Result, Ok, Err, is_none, is_some, refl, ap, sym, subst, ◌∙◌, if◌then◌else◌}
-use Rattle.std.proofs.lemmas.Bool.{and_from, and_parts, false_from_ne_true, or_left}
+use Rattle.std.proofs.Common.{◌≡◌, ℕ, Bool, true, false, not, ◌&&◌, [], ◌∷◌, ◌++◌, Option, Some, None, Result, Ok, Err, is_some, refl, ap, sym, subst, ◌∙◌, if◌then◌else◌}
 use Rattle.ble_base.specs.declared.error_codes.ErrCode.{ErrCode}
-use Rattle.ble_base.specs.declared.roles.Role.TheVariants.{Central as central_role, Peripheral as peripheral_role}
+use Rattle.ble_base.specs.declared.roles.Role.TheVariants.{Central as central_role}
 use Rattle.data_pdu.specs.declared.ctrl.Ctrl.{Ctrl}
 use Rattle.data_pdu.specs.declared.ctrl.Ctrl.TheVariants.{EncReq as enc_req}
 use Rattle.enc_phase.specs.declared.classes.PduClass.{PduClass}
 use Rattle.enc_phase.specs.declared.classes.PduClass.TheVariants.{EncReq}
 use Rattle.enc_phase.specs.declared.facts.PhaseFacts.{PhaseFacts}
-use Rattle.enc_phase.specs.declared.facts.PhaseFacts.TheVariants.{Asked, Clear, HalfClear, HalfKeyed, Pausing, Secure}
+use Rattle.enc_phase.specs.declared.facts.PhaseFacts.TheVariants.{Asked, HalfClear}
 use Rattle.enc_phase.specs.declared.facts.Transition.TheVariants.{Ask as AskTransition}
-use Rattle.enc_phase.specs.Phases.{is_quiet, may_follow, phase_after}
+use Rattle.enc_phase.specs.Phases.{is_quiet, may_follow}
 use Rattle.procedure_values.specs.declared.asks.Ask.{Ask}
 use Rattle.procedure_values.specs.declared.asks.Ask.TheVariants.{Update as ask_update}
-use Rattle.procedure_values.specs.declared.drafts.Draft.{Draft}
-use Rattle.procedure_values.specs.declared.drafts.Draft.TheVariants.{Cipher, Grant}
+use Rattle.procedure_values.specs.declared.drafts.Draft.TheVariants.{Grant}
 use Rattle.procedure_values.specs.declared.drafts.Outgoing.{Outgoing}
 use Rattle.procedure_values.specs.declared.drafts.Outgoing.TheVariants.{Other}
 use Rattle.procedure_values.specs.declared.drafts.Rejection.{Rejection}
@@ -28,7 +26,7 @@ use Rattle.procedure_stages.specs.Acked.{progress_acked}
 use Rattle.procedure_stages.specs.Closing.{is_open}
 use Rattle.procedure_stages.specs.InProgress.{is_host_asked, peer_becomes}
 use Rattle.procedure_stages.specs.Kinds.{role_of}
-use Rattle.procedure_stages.specs.Queue.{QueueFacts, with_draft, with_rejection}
+use Rattle.procedure_stages.specs.Queue.{QueueFacts}
 use Rattle.procedures.specs.Encryption.{progress_given}
 use Rattle.procedures.specs.Going.{host_answer_step, is_answer, owe_step, terminate_step}
 use Rattle.procedures.specs.Sending.{acked_step}
@@ -36,15 +34,15 @@ use Rattle.procedures.specs.Table.{TableFacts}
 use Rattle.table_laws.specs.Encrypting.{has_encryption}
 use Rattle.control_model.specs.Control.{Control, table_if}
 use Rattle.phase_pairs.specs.declared.central.PhaseCentral.{PhaseCentral}
-use Rattle.phase_pairs.specs.Central.{central_asking, central_encrypts, may_encrypt}
-use Rattle.phased_control.specs.Phased.{Phased, asking_if, asks_again, is_open_now, is_pause_rsp}
+use Rattle.phase_pairs.specs.Central.{central_asking}
+use Rattle.phased_control.specs.Phased.{Phased, asking_if, is_pause_rsp}
 use Rattle.phased_control.specs.Taken.{Answers, Asks, Disconnects, GivesKey, LacksKey, SeesAcknowledged, phased_after}
 use Rattle.joint_phases.specs.Classes.{draft_down}
 use Rattle.joint_phases.specs.Parts.{IsCentral, closing_down, is_awaiting, is_enc_req, wait_down}
-use Rattle.joint_phases.proofs.CentralEnters.{none_of_two, open_down, open_is, opened, quiet_step}
+use Rattle.joint_phases.proofs.CentralEnters.{open_down, opened, quiet_step}
 use Rattle.joint_phases.proofs.CentralQueue.{no_rejections, nothing_waits, others_more}
 use Rattle.joint_phases.proofs.MachineFacts.{is_half_clear}
-use Rattle.joint_phases.proofs.Stages.{SameStage, acked_same, same_stage}
+use Rattle.joint_phases.proofs.Stages.{SameStage, acked_same}
 
 -- ---- the host asks for a procedure
 
@@ -126,10 +124,9 @@ module _ (s : Phased) (c : PhaseCentral) (is : IsCentral (opened s) c) where
   closes_if true reason opens =
       let lasts : c.closed ≡ false = open_down c.closed (ap is_open (sym is.closing) ∙ opens) in
       let drafts_same : (b : Bool) → (if b then record s.control.table.queue { disconnect = Some reason } else s.control.table.queue).drafts ≡ s.control.table.queue.drafts =
-          λ b. elim b as (λ x. (if x then record s.control.table.queue { disconnect = Some reason } else s.control.table.queue).drafts ≡ s.control.table.queue.drafts) [ true ↦ refl | false ↦ refl ] in
+      λ b. elim b as (λ x. (if x then record s.control.table.queue { disconnect = Some reason } else s.control.table.queue).drafts ≡ s.control.table.queue.drafts) [ true ↦ refl | false ↦ refl ] in
       let rejections_same : (b : Bool) → (if b then record s.control.table.queue { disconnect = Some reason } else s.control.table.queue).rejections ≡ s.control.table.queue.rejections =
-          λ b. elim b as (λ x. (if x then record s.control.table.queue { disconnect = Some reason } else s.control.table.queue).rejections ≡ s.control.table.queue.rejections) [ true ↦ refl | false ↦ refl ] in
-      (
+      λ b. elim b as (λ x. (if x then record s.control.table.queue { disconnect = Some reason } else s.control.table.queue).rejections ≡ s.control.table.queue.rejections) [ true ↦ refl | false ↦ refl ] in (
         ap not lasts,
         record {
           role = is.role;
@@ -205,8 +202,11 @@ module _ (s : Phased) (c : PhaseCentral) (kept : Bool) (table : TableFacts) wher
   half_clear = record c { phase = HalfClear kept }
 
   asks_with : (rand ediv skd_m iv_m : ℕ) (closing : Closing) → closing ≡ Open → table.closing ≡ closing → IsCentral here half_clear → c.queued ≡ None → c.closed ≡ false
-      → IsCentral (record here { phase = Asked true false kept; request = Some (enc_req rand ediv skd_m iv_m);
-        control = record s.control { table = owe_step table (enc_req rand ediv skd_m iv_m); ends = None } })
+      → IsCentral (record here {
+        phase = Asked true false kept;
+        request = Some (enc_req rand ediv skd_m iv_m);
+        control = record s.control { table = owe_step table (enc_req rand ediv skd_m iv_m); ends = None };
+      })
       (record c { phase = Asked true false kept; queued = Some EncReq })
   asks_with rand ediv skd_m iv_m closing opens at_closing is none lasts =
       let given = given_same table.progress rand ediv skd_m iv_m in
@@ -273,7 +273,7 @@ module _ (s : Phased) (c : PhaseCentral) where
   paused : (phase : PhaseFacts) → s.phase ≡ phase → is_half_clear phase ≡ true → IsCentral (record s { phase = phase; control = record s.control { table = acked_table; ends = None } }) (record c { phase = phase })
       → c.queued ≡ None
       → IsCentral (asking_if (may_follow AskTransition phase && (is_open s.control.table.closing && is_some s.request))
-        (record s { phase = phase; control = record s.control { table = acked_table; ends = None } })) (central_asking (record c { phase = phase }))
+      (record s { phase = phase; control = record s.control { table = acked_table; ends = None } })) (central_asking (record c { phase = phase }))
   paused (HalfClear kept) at_phase half is none = asks_again_then s c kept acked_table (is_open s.control.table.closing) (ap is_open is.closing ∙ open_now c.closed) is none
   paused phase at_phase half is none = absurd (cc)
 
@@ -286,7 +286,7 @@ module _ (s : Phased) (c : PhaseCentral) where
       let here = acked_if s c true is in
       let phase : s.phase ≡ c.phase = is.phase in
       let h : IsCentral (asking_if (may_follow AskTransition s.phase && (is_open s.control.table.closing && is_some s.request)) (with_table_if true)) (central_asking (record c { phase = s.phase })) =
-          paused s.phase refl (ap is_half_clear phase ∙ half refl) (subst (λ (p : PhaseFacts). IsCentral (with_table_if true) (record c { phase = p })) (sym phase) here) (none refl) in
+      paused s.phase refl (ap is_half_clear phase ∙ half refl) (subst (λ (p : PhaseFacts). IsCentral (with_table_if true) (record c { phase = p })) (sym phase) here) (none refl) in
       let one = subst (λ (p : PhaseFacts). IsCentral (asking_if (may_follow AskTransition s.phase && (is_open s.control.table.closing && is_some s.request)) (with_table_if true)) (central_asking (record c { phase = p }))) phase h in
       let two = subst (λ (x : Bool). IsCentral (asking_if (x && (may_follow AskTransition s.phase && (is_open s.control.table.closing && is_some s.request))) (with_table_if true)) (central_asking c)) (sym out) one in
       subst (λ (x : Bool). IsCentral (asking_if (is_pause_rsp s.control.table.out && (may_follow AskTransition s.phase && (is_open s.control.table.closing && is_some s.request))) (with_table_if x)) (central_asking c))

@@ -1,6 +1,6 @@
 -- A central takes a PDU outside phases Clear and Secure: the machine's step.
-use Rattle.std.proofs.Common.{◌≡◌, ◌==◌, ℕ, Bool, true, false, not, ◌&&◌, ◌||◌, List, [], ◌∷◌, Option, Some, None, is_none, is_some, refl, ap, ap₂, sym, subst, ◌∙◌, if◌then◌else◌, nat_le}
-use Rattle.std.proofs.lemmas.Bool.{and_parts, false_from_ne_true}
+use Rattle.std.proofs.Common.{◌≡◌, ◌==◌, ℕ, Bool, true, false, not, ◌&&◌, ◌||◌, Option, Some, None, is_none, refl, ap, sym, subst, ◌∙◌, if◌then◌else◌}
+use Rattle.std.proofs.lemmas.Bool.{and_parts}
 use Rattle.ble_base.specs.ErrorCodes.{memory_capacity_exceeded, mic_failure}
 use Rattle.ble_base.specs.declared.error_codes.ErrCode.{ErrCode}
 use Rattle.ble_base.specs.declared.roles.Role.{Role}
@@ -15,27 +15,24 @@ use Rattle.enc_phase.specs.declared.facts.PhaseFacts.TheVariants.{Asked, Clear, 
 use Rattle.enc_phase.specs.declared.facts.Transition.TheVariants.{Confirm, Refuse}
 use Rattle.enc_phase.specs.Phases.{is_quiet, phase_after}
 use Rattle.enc_phase.specs.Taking.{allows, ctrl_class, is_unknown, phase_taking}
-use Rattle.procedure_stages.specs.Closing.{is_open}
-use Rattle.procedure_stages.specs.Queue.{waiting_in}
 use Rattle.procedures.specs.Encryption.{progress_given}
 use Rattle.procedure_stages.specs.declared.stages.Progress.{Progress}
 use Rattle.procedure_stages.specs.declared.stages.Progress.TheVariants.{Central as central, Peripheral as peripheral}
 use Rattle.table_laws.specs.Encrypting.{has_encryption}
 use Rattle.control_model.specs.Control.{Control, Takes as control_takes, took}
 use Rattle.phase_pairs.specs.declared.central.PhaseCentral.{PhaseCentral}
-use Rattle.phase_pairs.specs.Central.{central_following, central_starting, central_taken, central_unlocking}
-use Rattle.phased_control.specs.Phased.{Phased, is_quiet_now, with_step}
-use Rattle.phased_control.specs.Taken.{Takes, answered_if_quiet, answered_kept, ciphered, ciphered_at, ciphered_at_central, ended_with, goes_on, is_answered_at, is_version, keeping, keeps_class, knowing, lacks_room_now, phased_after, refused_by, role_now, seen_if, with_phase_taking}
+use Rattle.phase_pairs.specs.Central.{central_starting, central_taken, central_unlocking}
+use Rattle.phased_control.specs.Phased.{Phased, with_step}
+use Rattle.phased_control.specs.Taken.{Takes, answered_if_quiet, answered_kept, ciphered, ciphered_at, ciphered_at_central, ended_with, goes_on, is_version, keeping, keeps_class, knowing, lacks_room_now, phased_after, refused_by, role_now, seen_if, with_phase_taking}
 use Rattle.joint_controls.specs.Joint.{is_terminate}
 use Rattle.phase_pairs.specs.Agreement.{is_encryption}
 use Rattle.phase_pairs.specs.JointRun.{is_request}
-use Rattle.joint_phases.specs.Parts.{IsCentral, IsRequest, is_encryption_unsent}
+use Rattle.joint_phases.specs.Parts.{IsCentral, IsRequest}
 use Rattle.joint_phases.proofs.CentralCipher.{owes_next, same_central, taking_central, taking_same}
-use Rattle.joint_phases.proofs.CentralEnters.{at_open, none_of_two, opened}
-use Rattle.joint_phases.proofs.CentralTable.{OverTable, goes_on_same, is_going_on, refusal_over, secured_table}
+use Rattle.joint_phases.proofs.CentralEnters.{none_of_two, opened}
+use Rattle.joint_phases.proofs.CentralTable.{goes_on_same, is_going_on, refusal_over, secured_table}
 use Rattle.joint_phases.proofs.CentralTakes.{some_none}
 use Rattle.joint_phases.proofs.CentralUnquiet.{encryption_over, quiet_again, unsent_none}
-use Rattle.joint_phases.proofs.Plain.{room_now}
 
 given_start : (p : Progress) → progress_given p start_enc_rsp ≡ p
 given_start (central x) = refl
@@ -113,8 +110,8 @@ module _ (s : Phased) (c : PhaseCentral) (ctrl response : Ctrl) (slot : ℕ) (is
   unfolding taken_as
   keeps_it awaited class less =
       let kept : phased_after (Takes (Known ctrl) slot response) (opened s) ≡ keeping (Known ctrl) (opened s) =
-          λ i. taken_as (allowed_here i) (keeps_request (ctrl_class ctrl) (role_now s) (is_quiet s.phase) class is.role unquiet_here i)
-          (lacks_room_now (Known ctrl) (opened s)) (is_unknown s.phase (role_now s) (ctrl_class ctrl)) (is_quiet s.phase) in
+      λ i. taken_as (allowed_here i) (keeps_request (ctrl_class ctrl) (role_now s) (is_quiet s.phase) class is.role unquiet_here i)
+      (lacks_room_now (Known ctrl) (opened s)) (is_unknown s.phase (role_now s) (ctrl_class ctrl)) (is_quiet s.phase) in
       subst (λ (t : Phased). IsCentral t (record c { phase = phase_taking (ctrl_class ctrl) c.phase; awaits = awaited })) (sym kept)
       (taking_central (opened s) c (ctrl_class ctrl) (Some ctrl) awaited is (λ h. none_of_two _ _ unquiet h) class less)
 
@@ -265,10 +262,10 @@ module _ (s : Phased) (c : PhaseCentral) (response : Ctrl) (slot : ℕ) (is : Is
       let role : role_now t ≡ central_role = over.role ∙ is.role in
       let after_it = encryption_over s c is unquiet none unawaited (record t.control { ends = None }) t.knows_version Secure refl role over.closing over.queue over.over in
       let goal : Phased → Type 0 =
-          λ x. (answered_if_quiet slot (ciphered_at_central start_enc_rsp x)).control.ends ≡ None
-          → IsCentral (answered_if_quiet slot (ciphered_at_central start_enc_rsp x)) (record c { phase = phase_after Confirm c.phase }) in
+      λ x. (answered_if_quiet slot (ciphered_at_central start_enc_rsp x)).control.ends ≡ None
+      → IsCentral (answered_if_quiet slot (ciphered_at_central start_enc_rsp x)) (record c { phase = phase_after Confirm c.phase }) in
       let there : phased_after (Takes (Known start_enc_rsp) slot response) (opened s) ≡ answered_if_quiet slot (ciphered_at_central start_enc_rsp t) =
-          g.there ∙ (λ i. answered_if_quiet slot (ciphered_at (role i) response start_enc_rsp t)) in
+      g.there ∙ (λ i. answered_if_quiet slot (ciphered_at (role i) response start_enc_rsp t)) in
       let here : goal t = at_both goal t c.phase is.phase g.lasts (confirm_at t c slot unawaited is.keeps_first c.phase unquiet may after_it) in
       subst (λ (x : Phased). IsCentral x (record c { phase = phase_after Confirm c.phase })) (sym there)
       (here (ap (λ (x : Phased). x.control.ends) (sym there) ∙ lasts))
@@ -281,17 +278,17 @@ module _ (s : Phased) (c : PhaseCentral) (response : Ctrl) (slot : ℕ) (is : Is
       let role : role_now t ≡ central_role = over.role ∙ is.role in
       let after_it = encryption_over s c is unquiet none unawaited (record t.control { ends = None }) t.knows_version Clear refl role over.closing over.queue over.over in
       let goal : Phased → Type 0 =
-          λ x. (answered_if_quiet slot (refused_by Refusal x)).control.ends ≡ None
-          → IsCentral (answered_if_quiet slot (refused_by Refusal x)) (record c { phase = phase_after Refuse c.phase }) in
+      λ x. (answered_if_quiet slot (refused_by Refusal x)).control.ends ≡ None
+      → IsCentral (answered_if_quiet slot (refused_by Refusal x)) (record c { phase = phase_after Refuse c.phase }) in
       let there : phased_after (Takes (Known ctrl) slot response) (opened s) ≡ answered_if_quiet slot (refused_by Refusal t) =
-          g.there ∙ (λ i. answered_if_quiet slot (ciphered_at (role i) response ctrl t)) ∙ ap (answered_if_quiet slot) (refusal_ciphers ctrl t class) in
+      g.there ∙ (λ i. answered_if_quiet slot (ciphered_at (role i) response ctrl t)) ∙ ap (answered_if_quiet slot) (refusal_ciphers ctrl t class) in
       let phase : t.phase ≡ c.phase = ap (λ k. phase_taking k s.phase) class ∙ is.phase in
       let may_refuse : allows c.phase central_role Refusal ≡ true = ap (λ k. allows c.phase central_role k) (sym class) ∙ may in
       let here : goal t =
-          at_both goal t c.phase phase g.lasts
-          (refused_at t c slot unawaited is.keeps_first (has_encryption t.control.table.progress) c.phase over.over unquiet may_refuse after_it) in
+      at_both goal t c.phase phase g.lasts
+      (refused_at t c slot unawaited is.keeps_first (has_encryption t.control.table.progress) c.phase over.over unquiet may_refuse after_it) in
       let done : IsCentral (phased_after (Takes (Known ctrl) slot response) (opened s)) (central_taken crossed Refusal c) =
-          subst (λ (x : Phased). IsCentral x (record c { phase = phase_after Refuse c.phase })) (sym there) (here (ap (λ (x : Phased). x.control.ends) (sym there) ∙ lasts)) in
+      subst (λ (x : Phased). IsCentral x (record c { phase = phase_after Refuse c.phase })) (sym there) (here (ap (λ (x : Phased). x.control.ends) (sym there) ∙ lasts)) in
       subst (λ (k : PduClass). IsCentral (phased_after (Takes (Known ctrl) slot response) (opened s)) (central_taken crossed k c)) (sym class) done
 
 -- the first PDU of a procedure, whatever is queued
@@ -305,7 +302,7 @@ module _ (s : Phased) (c : PhaseCentral) (response : Ctrl) (slot : ℕ) (is : Is
   takes_request ctrl class may lasts =
       let h = keeps_it s c ctrl response slot is unquiet may (not crossed && c.awaits) class (λ a. (and_parts (not crossed) c.awaits a).1) in
       let done : IsCentral (phased_after (Takes (Known ctrl) slot response) (opened s)) (central_taken crossed Request c) =
-          subst (λ (k : PduClass). IsCentral (phased_after (Takes (Known ctrl) slot response) (opened s)) (record c { phase = phase_taking k c.phase; awaits = not crossed && c.awaits })) class h in
+      subst (λ (k : PduClass). IsCentral (phased_after (Takes (Known ctrl) slot response) (opened s)) (record c { phase = phase_taking k c.phase; awaits = not crossed && c.awaits })) class h in
       subst (λ (k : PduClass). IsCentral (phased_after (Takes (Known ctrl) slot response) (opened s)) (central_taken crossed k c)) (sym class) done
 
 -- no other class is allowed
@@ -330,10 +327,10 @@ never_other k phase seldom not_quiet may = absurd (cc)
 
 module _ (s : Phased) (c : PhaseCentral) (response : Ctrl) (slot : ℕ) (is : IsCentral (opened s) c) (unquiet : is_quiet c.phase ≡ false)
     (unawaited : c.awaits ≡ false) (crossed : Bool) where
-  abbrev Takes_it : Ctrl → Type 0
-  Takes_it ctrl = (is_encryption (ctrl_class ctrl) ≡ true → c.queued ≡ None) → Taken s c response slot is unquiet crossed ctrl
+  abbrev MayTake : Ctrl → Type 0
+  MayTake ctrl = (is_encryption (ctrl_class ctrl) ≡ true → c.queued ≡ None) → Taken s c response slot is unquiet crossed ctrl
 
-  rejects_by : (b : Bool) (ctrl : Ctrl) → ctrl_class ctrl ≡ (if b then Refusal else Other) → is_terminate ctrl ≡ false → is_request (ctrl_class ctrl) ≡ false → Takes_it ctrl
+  rejects_by : (b : Bool) (ctrl : Ctrl) → ctrl_class ctrl ≡ (if b then Refusal else Other) → is_terminate ctrl ≡ false → is_request (ctrl_class ctrl) ≡ false → MayTake ctrl
   rejects_by true ctrl class apart no_request none = takes_refusal s c response slot is unquiet (none (ap is_encryption class)) unawaited crossed ctrl class apart no_request
   rejects_by false ctrl class apart no_request none =
       λ may. λ lasts. absurd (never_other Other c.phase refl unquiet (ap (λ k. allows c.phase central_role k) (sym class) ∙ may))
@@ -342,7 +339,7 @@ module _ (s : Phased) (c : PhaseCentral) (response : Ctrl) (slot : ℕ) (is : Is
   no_request_by true = refl
   no_request_by false = refl
 
-  pub takes_unquiet : (ctrl : Ctrl) → is_terminate ctrl ≡ false → Takes_it ctrl
+  pub takes_unquiet : (ctrl : Ctrl) → is_terminate ctrl ≡ false → MayTake ctrl
   takes_unquiet (enc_rsp skd_s iv_s) apart none = takes_rsp s c response slot is unquiet (none refl) unawaited crossed skd_s iv_s
   takes_unquiet start_enc_req apart none = takes_start s c response slot is unquiet (none refl) unawaited crossed
   takes_unquiet start_enc_rsp apart none = takes_confirm s c response slot is unquiet (none refl) unawaited crossed

@@ -1,18 +1,17 @@
 -- What waits at a central, as a PDU is queued or goes, and as the phase changes.
-use Rattle.std.proofs.Common.{◌≡◌, Bool, true, false, not, ◌&&◌, ◌||◌, List, [], ◌∷◌, ◌++◌, remove, Option, Some, None, is_none, is_some, refl, ap, ap₂, sym, subst, ◌∙◌, if◌then◌else◌}
+use Rattle.std.proofs.Common.{◌≡◌, Bool, true, false, ◌||◌, List, [], ◌∷◌, ◌++◌, remove, Option, Some, None, refl, ap₂, subst, ◌∙◌}
 use Rattle.std.proofs.lemmas.Bool.{and_from, and_parts, or_left, or_right}
 use Rattle.data_pdu.specs.declared.ctrl.Ctrl.{Ctrl}
 use Rattle.data_pdu.specs.declared.ctrl.Ctrl.TheVariants.{VersionInd}
 use Rattle.enc_phase.specs.declared.classes.PduClass.{PduClass}
 use Rattle.enc_phase.specs.declared.classes.PduClass.TheVariants.{Other, Request}
 use Rattle.enc_phase.specs.declared.facts.PhaseFacts.{PhaseFacts}
-use Rattle.enc_phase.specs.declared.facts.PhaseFacts.TheVariants.{Asked, Clear, HalfClear, HalfKeyed, Pausing, Secure}
+use Rattle.enc_phase.specs.declared.facts.PhaseFacts.TheVariants.{Asked, Pausing}
 use Rattle.enc_phase.specs.Phases.{is_quiet}
 use Rattle.procedure_values.specs.declared.drafts.Draft.{Draft}
 use Rattle.procedure_values.specs.declared.drafts.Rejection.{Rejection}
 use Rattle.procedure_values.specs.Drafts.{ctrl_of_draft}
-use Rattle.phase_pairs.specs.Agreement.{is_encryption}
-use Rattle.phase_pairs.specs.Central.{is_ahead, is_queued}
+use Rattle.phase_pairs.specs.Central.{is_ahead}
 use Rattle.phase_pairs.specs.JointRun.{is_request}
 use Rattle.joint_phases.specs.Classes.{class_down, draft_down, has_request}
 use Rattle.joint_phases.specs.Parts.{goes_down, may_reject, queued_then, wait_down}

@@ -1,14 +1,12 @@
 -- A central sends a control PDU: what the machine of phases sees of it.
-use Rattle.std.proofs.Common.{◌≡◌, ◌⊎◌, inl, inr, ℕ, Bool, true, false, not, ◌&&◌, ◌||◌, List, [], ◌∷◌, ◌++◌, Option, Some, None, remove, is_none, is_some, refl, ap, sym, subst, ◌∙◌, if◌then◌else◌, option_map, unwrap_or}
-use Rattle.std.proofs.lemmas.Bool.{and_from, and_parts, false_from_ne_true}
+use Rattle.std.proofs.Common.{◌≡◌, ◌⊎◌, inl, inr, ℕ, Bool, true, false, not, ◌&&◌, ◌||◌, List, [], ◌∷◌, Option, Some, None, is_some, refl, ap, sym, ◌∙◌, if◌then◌else◌, unwrap_or}
+use Rattle.std.proofs.lemmas.Bool.{and_parts, false_from_ne_true}
 use Rattle.ble_base.specs.declared.error_codes.ErrCode.{ErrCode}
 use Rattle.ble_base.specs.declared.roles.Role.{Role}
 use Rattle.ble_base.specs.declared.roles.Role.TheVariants.{Central as central_role, Peripheral as peripheral_role}
 use Rattle.data_pdu.specs.declared.ctrl.Ctrl.{Ctrl}
-use Rattle.data_pdu.specs.declared.ctrl.Ctrl.TheVariants.{VersionInd as version_ind}
 use Rattle.enc_phase.specs.declared.classes.PduClass.{PduClass}
 use Rattle.enc_phase.specs.declared.classes.PduClass.TheVariants.{Data, Empty, Other, Request, Terminate}
-use Rattle.enc_phase.specs.declared.facts.PhaseFacts.{PhaseFacts}
 use Rattle.enc_phase.specs.Phases.{is_quiet}
 use Rattle.instants.specs.declared.indications.Indication.{Indication}
 use Rattle.instants.specs.Track.{event_of}
@@ -27,7 +25,7 @@ use Rattle.procedure_stages.specs.declared.stages.Progress.{Progress}
 use Rattle.procedure_stages.specs.declared.stages.Progress.TheVariants.{Central as central, Peripheral as peripheral}
 use Rattle.procedure_stages.specs.Closing.{is_disconnecting}
 use Rattle.procedure_stages.specs.Kinds.{role_of}
-use Rattle.procedure_stages.specs.Queue.{QueueFacts, is_past_instant, next_by, next_disconnect, next_draft}
+use Rattle.procedure_stages.specs.Queue.{is_past_instant, next_disconnect, next_draft}
 use Rattle.procedure_stages.specs.Sent.{own_draft_sent_by_central, progress_after_sending}
 use Rattle.procedures.specs.Queue.{next_of}
 use Rattle.procedures.specs.Sending.{facts_sent}
@@ -222,10 +220,10 @@ module _ (s : Phased) (c : PhaseCentral) (slot : ℕ) where
       let first = and_parts (not (is_request k) || is_first_of draft s.control.table.progress) (are_of_own (draft_down s.knows_version) drafts s.control.table.progress) own in
       let stage = sent_stage_of (other_out draft) event skips s.control.table.progress is.role in
       let is_one : is_request k ≡ true → (is_awaiting s.control.table.progress ≡ false) × (is_awaiting (progress_after_sending (other_out draft) event skips s.control.table.progress) ≡ true) =
-          λ one. first_of_sent draft event skips s.control.table.progress (own_request _ _ one first.0) in
+      λ one. first_of_sent draft event skips s.control.table.progress (own_request _ _ one first.0) in
       let lasts : is_request k ≡ true → c.closed ≡ false =
-          λ one. may_not (is_disconnecting s.control.table.closing) (is_quiet c.phase) c.closed (rw is.phase at ends) (quiet_request k one waits.0)
-          (ap is_disconnecting is.closing ∙ disconnects c.closed) in
+      λ one. may_not (is_disconnecting s.control.table.closing) (is_quiet c.phase) c.closed (rw is.phase at ends) (quiet_request k one waits.0)
+      (ap is_disconnecting is.closing ∙ disconnects c.closed) in
       let none : is_request k ≡ true → c.awaits ≡ false = λ one. false_from_ne_true c.awaits (λ a. none_of_two _ _ (is_one one).0 (is.awaits a)) in
       let goes = goes_as k c waits.0 lasts none in
       let same : class_of_out (other_out draft) ≡ k = same_class s.knows_version draft event skips in

@@ -1,12 +1,11 @@
 -- What a PDU of the encryption does to the table of a central outside phases Clear and Secure.
-use Rattle.std.proofs.Common.{◌≡◌, ◌==◌, eqb-true, ℕ, Bool, true, false, not, ◌&&◌, ◌||◌, List, [], ◌∷◌, Option, Some, None, is_none, is_some, refl, ap, ap₂, sym, subst, ◌∙◌, if◌then◌else◌}
+use Rattle.std.proofs.Common.{◌≡◌, ◌==◌, eqb-true, ℕ, Bool, true, false, ◌||◌, Option, Some, None, is_some, refl, ap, ◌∙◌, if◌then◌else◌}
 use Rattle.ble_base.specs.ErrorCodes.{instant_passed}
 use Rattle.ble_base.specs.declared.error_codes.ErrCode.{ErrCode}
 use Rattle.ble_base.specs.declared.procedure_kinds.Kind.TheVariants.{Encrypt}
 use Rattle.ble_base.specs.declared.roles.Role.TheVariants.{Central as central_role}
 use Rattle.data_pdu.specs.declared.ctrl.Ctrl.{Ctrl}
 use Rattle.data_pdu.specs.declared.ctrl.Ctrl.TheVariants.{EncRsp, PauseEncRsp, RejectExtInd, RejectInd, StartEncReq, StartEncRsp}
-use Rattle.data_pdu.specs.declared.ctrl.CtrlRead.{CtrlRead}
 use Rattle.data_pdu.specs.declared.ctrl.CtrlRead.TheVariants.{Known}
 use Rattle.enc_phase.specs.declared.classes.PduClass.{PduClass}
 use Rattle.enc_phase.specs.declared.classes.PduClass.TheVariants.{Other, Refusal}
@@ -33,7 +32,6 @@ use Rattle.procedures.specs.Taking.{facts_with, outcome_of, taken_by}
 use Rattle.table_laws.specs.Encrypting.{has_encryption}
 use Rattle.table_laws.proofs.Outcomes.{took as table_took}
 use Rattle.control_model.specs.Control.{Control, ended, indicated_by, is_to_come, taken, took}
-use Rattle.phased_control.specs.Phased.{Phased}
 use Rattle.joint_controls.specs.Joint.{is_terminate}
 use Rattle.joint_phases.specs.Parts.{is_encryption_unsent, is_encryption_unsent_at}
 use Rattle.joint_phases.proofs.CentralCipher.{SameTable}
@@ -142,10 +140,6 @@ secured_over : (f : TableFacts) (p : Progress) (b : Bool) → b ≡ true
     × ((with_effect (Cipher StartEncRsp) (if b then with_done Encrypt (moved f p) else unchanged f)).reply ≡ no_reply)
 secured_over f p true is = (refl, refl)
 secured_over f p false is = absurd (cc)
-
--- the PDUs that end it
-abbrev pub is_ending : Ctrl → Type 0
-is_ending ctrl = ctrl_class ctrl ≡ Refusal
 
 over_refused : (p : Progress) (f : TableFacts) (ctrl : Ctrl) → role_of p ≡ central_role → role_of f.progress ≡ central_role → has_encryption f.progress ≡ true
     → is_encryption_unsent f.progress ≡ false → ctrl_class ctrl ≡ Refusal

@@ -1,16 +1,12 @@
 -- A central takes a PDU of another procedure in phase Clear or Secure: what the machine of phases sees of it.
-use Rattle.std.proofs.Common.{◌≡◌, ℕ, Bool, true, false, not, ◌&&◌, ◌||◌, List, [], ◌∷◌, ◌++◌, Option, Some, None, is_none, is_some, refl, ap, ap₂, sym, subst, ◌∙◌, if◌then◌else◌, nat_le}
-use Rattle.std.proofs.lemmas.Bool.{and_parts, false_from_ne_true}
+use Rattle.std.proofs.Common.{◌≡◌, ℕ, Bool, true, false, not, ◌||◌, [], ◌∷◌, ◌++◌, Option, Some, None, is_none, refl, ap, sym, subst, ◌∙◌, if◌then◌else◌, nat_le}
 use Rattle.ble_base.specs.declared.error_codes.ErrCode.{ErrCode}
-use Rattle.ble_base.specs.declared.procedure_kinds.Kind.TheVariants.{Phy as phy_kind, Request as request_kind}
 use Rattle.ble_base.specs.declared.roles.Role.{Role}
-use Rattle.ble_base.specs.declared.roles.Role.TheVariants.{Central as central_role, Peripheral as peripheral_role}
+use Rattle.ble_base.specs.declared.roles.Role.TheVariants.{Central as central_role}
 use Rattle.data_pdu.specs.declared.ctrl.Ctrl.{Ctrl}
-use Rattle.data_pdu.specs.declared.ctrl.Ctrl.TheVariants.{ConnectionParamReq, LengthReq, PeripheralFeatureReq, PhyReq, RejectExtInd, RejectInd, StartEncReq, StartEncRsp, PauseEncRsp, VersionInd}
 use Rattle.data_pdu.specs.declared.ctrl.CtrlRead.{CtrlRead}
 use Rattle.data_pdu.specs.declared.ctrl.CtrlRead.TheVariants.{Known}
 use Rattle.enc_phase.specs.declared.classes.PduClass.{PduClass}
-use Rattle.enc_phase.specs.declared.classes.PduClass.TheVariants.{Other, Refusal, Request}
 use Rattle.enc_phase.specs.declared.facts.PhaseFacts.{PhaseFacts}
 use Rattle.enc_phase.specs.Phases.{is_quiet}
 use Rattle.enc_phase.specs.Taking.{ctrl_class}
@@ -18,19 +14,17 @@ use Rattle.instants.specs.declared.indications.Indication.{Indication}
 use Rattle.procedure_values.specs.declared.drafts.Draft.{Draft}
 use Rattle.procedure_values.specs.declared.drafts.Draft.TheVariants.{FeatureRsp, LengthRsp, PhyInd, UnknownRsp, VersionInd as version_draft}
 use Rattle.procedure_values.specs.declared.drafts.Rejection.{Rejection}
-use Rattle.procedure_values.specs.Values.{are_valid}
 use Rattle.procedure_stages.specs.declared.closing.Closing.{Closing}
 use Rattle.procedure_stages.specs.declared.reply.Reply.{Reply}
 use Rattle.procedure_stages.specs.declared.reply.Reply.TheVariants.{Answer, Nothing as no_reply, Reject}
-use Rattle.procedure_stages.specs.declared.stages.Central.{Central}
 use Rattle.procedure_stages.specs.declared.stages.Progress.{Progress}
 use Rattle.procedure_stages.specs.declared.stages.Progress.TheVariants.{Central as central, Peripheral as peripheral}
 use Rattle.procedure_stages.specs.Closing.{is_open}
-use Rattle.procedure_stages.specs.Queue.{QueueFacts, with_draft, with_reply}
+use Rattle.procedure_stages.specs.Queue.{QueueFacts, with_reply}
 use Rattle.procedures.specs.declared.outcome.Outcome.{Outcome}
 use Rattle.procedures.specs.Calls.{takes}
 use Rattle.procedures.specs.Table.{TableFacts}
-use Rattle.procedures.specs.Taking.{facts_with, lacks_room, outcome_of, taken_by_central}
+use Rattle.procedures.specs.Taking.{facts_with, lacks_room, outcome_of}
 use Rattle.table_laws.specs.Encrypting.{MayBeginBy, has_encryption}
 use Rattle.table_laws.proofs.Outcomes.{is_answer, is_reply, took as table_took}
 use Rattle.ble_base.specs.ErrorCodes.{instant_passed}
@@ -39,17 +33,16 @@ use Rattle.procedure_stages.specs.Kinds.{role_of}
 use Rattle.control_model.specs.Control.{Control, ended, indicated_by, is_to_come, taken, took}
 use Rattle.phase_pairs.specs.declared.central.PhaseCentral.{PhaseCentral}
 use Rattle.ble_base.specs.ErrorCodes.{memory_capacity_exceeded, mic_failure}
-use Rattle.enc_phase.specs.Taking.{allows, is_unknown, phase_taking}
 use Rattle.procedure_stages.specs.Queue.{waiting_in}
 use Rattle.phase_pairs.specs.Agreement.{is_encryption}
 use Rattle.control_model.specs.Control.{Takes as control_takes}
 use Rattle.phased_control.specs.Phased.{Phased, is_quiet_now, with_step}
-use Rattle.phased_control.specs.Taken.{Takes, answered_if_quiet, answered_kept, ciphered, ciphered_at, ended_with, goes_on, is_answered_at, is_version, keeping, keeps_class, knowing, phased_after, role_now, seen_if, with_phase_taking}
+use Rattle.phased_control.specs.Taken.{Takes, answered_if_quiet, answered_kept, ciphered, ciphered_at, ended_with, goes_on, is_answered_at, is_version, keeping, knowing, phased_after, role_now, seen_if, with_phase_taking}
 use Rattle.joint_phases.proofs.Plain.{allows_quiet, keeps_quiet, never_unknown, plain_at_central, room_now, taking_quiet, unanswered}
 use Rattle.joint_controls.specs.Joint.{is_terminate}
 use Rattle.joint_phases.specs.Classes.{draft_down}
 use Rattle.joint_phases.specs.Parts.{IsCentral, closing_down, is_awaiting, wait_down}
-use Rattle.joint_phases.proofs.CentralEnters.{none_of_two, opened, quiet_step}
+use Rattle.joint_phases.proofs.CentralEnters.{opened, quiet_step}
 use Rattle.joint_phases.proofs.CentralQueue.{is_of_others, knows_then, others_more}
 use Rattle.joint_phases.proofs.Outcomes.{keeps_open, none_begins, took_goes}
 
@@ -108,14 +101,14 @@ module _ (s : Phased) (c : PhaseCentral) (ctrl : Ctrl) (slot : ℕ) (awaited : B
       let took = table_took s.control.table true (Known ctrl) in
       let role : role_of k.table.progress ≡ central_role = ap (λ (f : TableFacts). role_of f.progress) is_table ∙ took.role ∙ is.role in
       let closing : k.table.closing ≡ closing_down c.closed =
-          ap (λ (f : TableFacts). f.closing) is_table ∙ keeps_open s.control.table true ctrl apart s.control.table.closing ∙ is.closing in
+      ap (λ (f : TableFacts). f.closing) is_table ∙ keeps_open s.control.table true ctrl apart s.control.table.closing ∙ is.closing in
       let none : has_encryption outcome.progress ≡ false =
-          none_begins s.control.table (Known ctrl) slot true room goes (no_begin s.control.table.progress (Known ctrl) slot true is.role)
-          (is.encrypts ∙ ap not quiet) in
+      none_begins s.control.table (Known ctrl) slot true room goes (no_begin s.control.table.progress (Known ctrl) slot true is.role)
+      (is.encrypts ∙ ap not quiet) in
       let waits : wait_down (draft_down knows) c.phase table_after.queue.drafts c.queued ≡ true =
-          reply_waits knows s.control.table.version_used c.phase s.control.table.queue c.queued quiet
-          (knows_then s.knows_version (is_version (Known ctrl)) c.phase s.control.table.queue.drafts c.queued quiet is.waits)
-          s.control.table.closing outcome.reply (subst (λ (r : Role). is_reply r s.control.table.version_used outcome.reply ≡ true) is.role took.reply) in
+      reply_waits knows s.control.table.version_used c.phase s.control.table.queue c.queued quiet
+      (knows_then s.knows_version (is_version (Known ctrl)) c.phase s.control.table.queue.drafts c.queued quiet is.waits)
+      s.control.table.closing outcome.reply (subst (λ (r : Role). is_reply r s.control.table.version_used outcome.reply ≡ true) is.role took.reply) in
       quiet_step (opened s) c k knows awaited is quiet role closing
       (λ a. ap (λ (f : TableFacts). is_awaiting f.progress) is_table ∙ awaits a)
       (ap (λ (f : TableFacts). has_encryption f.progress) is_table ∙ none)

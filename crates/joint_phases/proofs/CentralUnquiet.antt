@@ -1,41 +1,26 @@
 -- A central takes a PDU outside phases Clear and Secure, by its class: what the machine of phases sees of it.
-use Rattle.std.proofs.Common.{◌≡◌, ◌==◌, eqb-true, ℕ, Bool, true, false, not, ◌&&◌, ◌||◌, List, [], ◌∷◌, ◌++◌, Option, Some, None, is_none, is_some, refl, ap, ap₂, sym, subst, ◌∙◌, if◌then◌else◌, nat_le}
-use Rattle.std.proofs.lemmas.Bool.{and_parts, false_from_ne_true, or_left}
-use Rattle.ble_base.specs.ErrorCodes.{memory_capacity_exceeded, mic_failure}
-use Rattle.ble_base.specs.declared.error_codes.ErrCode.{ErrCode}
-use Rattle.ble_base.specs.declared.roles.Role.{Role}
-use Rattle.ble_base.specs.declared.roles.Role.TheVariants.{Central as central_role, Peripheral as peripheral_role}
+use Rattle.std.proofs.Common.{◌≡◌, ℕ, Bool, true, false, not, [], Option, Some, None, is_some, refl, ap, sym, ◌∙◌, if◌then◌else◌}
+use Rattle.std.proofs.lemmas.Bool.{false_from_ne_true, or_left}
+use Rattle.ble_base.specs.declared.roles.Role.TheVariants.{Central as central_role}
 use Rattle.data_pdu.specs.declared.ctrl.Ctrl.{Ctrl}
-use Rattle.data_pdu.specs.declared.ctrl.Ctrl.TheVariants.{EncRsp as enc_rsp, PauseEncRsp as pause_enc_rsp, RejectExtInd, RejectInd, StartEncReq as start_enc_req, StartEncRsp as start_enc_rsp, TerminateInd}
-use Rattle.data_pdu.specs.declared.ctrl.CtrlRead.{CtrlRead}
-use Rattle.data_pdu.specs.declared.ctrl.CtrlRead.TheVariants.{Known}
+use Rattle.data_pdu.specs.declared.ctrl.Ctrl.TheVariants.{TerminateInd}
 use Rattle.enc_phase.specs.declared.classes.PduClass.{PduClass}
-use Rattle.enc_phase.specs.declared.classes.PduClass.TheVariants.{EncRsp, Other, PauseEncRsp, Refusal, Request, StartEncReq, StartEncRsp}
+use Rattle.enc_phase.specs.declared.classes.PduClass.TheVariants.{Request}
 use Rattle.enc_phase.specs.declared.facts.PhaseFacts.{PhaseFacts}
-use Rattle.enc_phase.specs.declared.facts.PhaseFacts.TheVariants.{Asked, Clear, HalfClear, HalfKeyed, Pausing, Secure}
 use Rattle.enc_phase.specs.Phases.{is_quiet}
-use Rattle.enc_phase.specs.Taking.{allows, ctrl_class, is_unknown, phase_taking}
-use Rattle.procedure_stages.specs.Closing.{is_open}
-use Rattle.procedure_stages.specs.Queue.{QueueFacts, waiting_in, with_reply}
+use Rattle.enc_phase.specs.Taking.{ctrl_class}
+use Rattle.procedure_stages.specs.Queue.{QueueFacts}
 use Rattle.procedure_stages.specs.Kinds.{role_of}
-use Rattle.procedures.specs.Table.{TableFacts}
-use Rattle.procedures.specs.declared.outcome.Outcome.{Outcome}
-use Rattle.procedures.specs.Taking.{facts_with, lacks_room, outcome_of}
 use Rattle.table_laws.specs.Encrypting.{has_encryption}
-use Rattle.control_model.specs.Control.{Control, Takes as control_takes, ended, indicated_by, taken, took}
+use Rattle.control_model.specs.Control.{Control}
 use Rattle.phase_pairs.specs.declared.central.PhaseCentral.{PhaseCentral}
-use Rattle.phase_pairs.specs.Agreement.{is_encryption}
-use Rattle.phase_pairs.specs.JointRun.{is_request}
-use Rattle.phased_control.specs.Phased.{Phased, is_quiet_now, with_step}
-use Rattle.phased_control.specs.Taken.{Takes, answered_if_quiet, answered_kept, ciphered, ended_with, goes_on, is_answered_at, is_version, keeping, keeps_class, knowing, phased_after, role_now, seen_if, with_phase_taking}
+use Rattle.phased_control.specs.Phased.{Phased}
+use Rattle.phased_control.specs.Taken.{answered_if_quiet, answered_kept}
 use Rattle.joint_controls.specs.Joint.{is_terminate}
-use Rattle.joint_phases.specs.Parts.{IsCentral, IsRequest, is_awaiting, is_encryption_unsent, may_reject, wait_down}
-use Rattle.joint_phases.proofs.CentralCipher.{SameTable, same_central, taking_central}
-use Rattle.joint_phases.proofs.CentralEnters.{at_open, none_of_two, opened}
+use Rattle.joint_phases.specs.Parts.{IsCentral, IsRequest, is_encryption_unsent, may_reject, wait_down}
+use Rattle.joint_phases.proofs.CentralEnters.{none_of_two, opened}
 use Rattle.joint_phases.proofs.CentralQueue.{no_rejections, nothing_waits}
-use Rattle.joint_phases.proofs.CentralTakes.{some_none, takes_quiet}
-use Rattle.joint_phases.proofs.Outcomes.{keeps_open, took_goes}
-use Rattle.joint_phases.proofs.Plain.{room_now}
+use Rattle.joint_phases.proofs.CentralTakes.{takes_quiet}
 use Rattle.joint_phases.proofs.Stages.{unsent_is_one}
 use Rattle.joint_phases.specs.Classes.{draft_down}
 

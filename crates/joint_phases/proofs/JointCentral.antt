@@ -1,9 +1,7 @@
 -- A step of the central of a joint run, but for a control PDU that it takes: the machine's event.
-use Rattle.std.proofs.Common.{◌≡◌, ℕ, Bool, true, false, not, ◌&&◌, ◌||◌, List, [], ◌∷◌, Option, Some, None, Result, is_none, is_some, refl, ap, ap₂, sym, subst, ◌∙◌, if◌then◌else◌}
+use Rattle.std.proofs.Common.{◌≡◌, ℕ, Bool, true, false, not, Option, Some, None, is_none, is_some, refl, ap, sym, ◌∙◌, if◌then◌else◌}
 use Rattle.std.proofs.lemmas.Bool.{and_from, and_parts, or_left}
-use Rattle.ble_base.specs.declared.error_codes.ErrCode.{ErrCode}
-use Rattle.ble_base.specs.declared.roles.Role.TheVariants.{Central as central_role, Peripheral as peripheral_role}
-use Rattle.data_pdu.specs.declared.ctrl.Ctrl.{Ctrl}
+use Rattle.ble_base.specs.declared.roles.Role.TheVariants.{Central as central_role}
 use Rattle.enc_phase.specs.declared.classes.PduClass.{PduClass}
 use Rattle.enc_phase.specs.declared.classes.PduClass.TheVariants.{Data as data_class}
 use Rattle.enc_phase.specs.declared.facts.PhaseFacts.{PhaseFacts}
@@ -12,25 +10,23 @@ use Rattle.procedure_stages.specs.Closing.{is_open}
 use Rattle.procedure_stages.specs.InProgress.{is_host_asked}
 use Rattle.phase_pairs.specs.declared.central.PhaseCentral.{PhaseCentral}
 use Rattle.phase_pairs.specs.declared.joint.PhaseEvent.{PhaseEvent}
-use Rattle.phase_pairs.specs.declared.joint.PhaseEvent.TheVariants.{CentralAcked as central_acked_event, CentralCloses, CentralEncrypts, CentralSends as central_sends_event}
+use Rattle.phase_pairs.specs.declared.joint.PhaseEvent.TheVariants.{CentralCloses, CentralEncrypts}
 use Rattle.phase_pairs.specs.declared.joint.PhaseLink.{PhaseLink}
-use Rattle.phase_pairs.specs.declared.joint.PhaseWay.{PhaseWay}
 use Rattle.phase_pairs.specs.declared.joint.PhaseWay.TheVariants.{OnAir as way_on_air}
-use Rattle.phase_pairs.specs.declared.peripheral.PhasePeripheral.{PhasePeripheral}
-use Rattle.phase_pairs.specs.Central.{central_asking, central_encrypts, central_sent, may_encrypt, may_send_pdu}
+use Rattle.phase_pairs.specs.Central.{central_asking, central_encrypts, central_sent, may_send_pdu}
 use Rattle.phase_pairs.specs.JointRun.{is_control_coming, is_pause_rsp_taken, is_way_clear, is_way_taken, phases_act, phases_may}
 use Rattle.phased_control.specs.Phased.{Phased, is_pause_rsp, is_quiet_now}
 use Rattle.phased_control.specs.Taken.{PhasedStep, Answers, Asks, Disconnects, Enters, GivesKey, LacksKey, SeesAcknowledged, Sends, phased_after}
-use Rattle.joint_controls.specs.Joint.{HostStep, Item, Joint, JointStep, Way, AnswersRequest, AsksFor, CentralAcked, CentralEnters, CentralHost, CentralSends, CentralSendsData, Clear, Control, Data, Ends, Fixed, HasKey, HasNoKey, OnAir, Taken, act, is_clear, is_free, is_running, is_taken, may_act, may_transmit, next_item, on_air, sends_data}
+use Rattle.joint_controls.specs.Joint.{HostStep, Item, Joint, Way, AnswersRequest, AsksFor, CentralAcked, CentralEnters, CentralHost, CentralSends, CentralSendsData, Clear, Control, Data, Ends, Fixed, HasKey, HasNoKey, OnAir, Taken, act, is_clear, is_free, is_running, is_taken, may_act, may_transmit, next_item, on_air, sends_data}
 use Rattle.joint_phases.specs.Classes.{class_down, draft_down, item_class}
 use Rattle.joint_phases.specs.Events.{does_encrypt, event_if, event_of_step, item_or_none}
-use Rattle.joint_phases.specs.Facts.{Facts, are_of_own}
-use Rattle.joint_phases.specs.Parts.{IsCentral, IsPeripheral, IsShown, closing_down, way_down, way_up}
-use Rattle.joint_phases.proofs.CentralEnters.{EntersAs, at_open, central_enters, open_down, opened}
+use Rattle.joint_phases.specs.Facts.{are_of_own}
+use Rattle.joint_phases.specs.Parts.{IsCentral, IsShown, closing_down, way_down, way_up}
+use Rattle.joint_phases.proofs.CentralEnters.{EntersAs, at_open, central_enters}
 use Rattle.joint_phases.proofs.CentralGoes.{ClosesAs, central_acked, central_answers, central_asks, central_disconnects, central_key, central_lacks}
 use Rattle.joint_phases.proofs.CentralSends.{central_sends}
 use Rattle.joint_phases.proofs.Knowing.{knows_stays, takes_none}
-use Rattle.joint_phases.proofs.MachineFacts.{Settled, has_pause_rsp, is_half_clear}
+use Rattle.joint_phases.proofs.MachineFacts.{Settled}
 
 -- what a step does in the machine
 abbrev pub Goes : Option PhaseEvent → Joint → PhaseLink → Type 0
@@ -76,8 +72,8 @@ module _ (s : Joint) (m : PhaseLink) (is : IsShown s m) (runs_on : Runs s) where
   goes_enters slot settled own =
       let alone : is_quiet m.central.phase ≡ true → m.central.queued ≡ None = λ quiet. none_of _ (settled.quiet_queued quiet) in
       let P : Phased → Type 0 =
-          λ c. IsCentral c m.central → are_of_own (draft_down c.knows_version) c.control.table.queue.drafts c.control.table.progress ≡ true
-          → EntersAs (does_encrypt c) (phased_after (Enters slot) c) m.central in
+      λ c. IsCentral c m.central → are_of_own (draft_down c.knows_version) c.control.table.queue.drafts c.control.table.progress ≡ true
+      → EntersAs (does_encrypt c) (phased_after (Enters slot) c) m.central in
       let h = at_open P s.central runs_on.central (λ part. λ o. central_enters s.central m.central slot part o alone) is.central own in
       entered_if (does_encrypt s.central) (phased_after (Enters slot) s.central) h (knows_stays (Enters slot) s.central refl)
 
@@ -98,7 +94,7 @@ module _ (s : Joint) (m : PhaseLink) (is : IsShown s m) (runs_on : Runs s) where
       same_part (Asks ask) refl (at_open (λ c. IsCentral c m.central → IsCentral (phased_after (Asks ask) c) m.central) s.central runs_on.central (central_asks s.central m.central ask) is.central)
   goes_host (AnswersRequest answer) quiet =
       let P : Phased → Type 0 =
-          λ c. IsCentral c m.central → (is_host_asked c.control.table.progress ≡ true → is_quiet c.phase ≡ true) → IsCentral (phased_after (Answers answer) c) m.central in
+      λ c. IsCentral c m.central → (is_host_asked c.control.table.progress ≡ true → is_quiet c.phase ≡ true) → IsCentral (phased_after (Answers answer) c) m.central in
       same_part (Answers answer) refl (at_open P s.central runs_on.central (λ part. λ q. central_answers s.central m.central part answer q) is.central quiet)
   goes_host (Ends reason) quiet =
       let P : Phased → Type 0 = λ c. IsCentral c m.central → ClosesAs m.central (is_open c.control.table.closing) (phased_after (Disconnects reason) c) in
@@ -124,8 +120,7 @@ module _ (s : Joint) (m : PhaseLink) (is : IsShown s m) (runs_on : Runs s) where
 
   may_go : may_transmit s.down s.up ≡ true → (is_way_clear m.down ≡ true) × (not (is_control_coming m.up) ≡ true)
   may_go may =
-      let h = and_parts (is_clear s.down) (is_free s.up) may in
-      (
+      let h = and_parts (is_clear s.down) (is_free s.up) may in (
         ap is_way_clear is.down ∙ clear_down s.central.knows_version s.down h.0,
         ap (λ w. not (is_control_coming w)) is.up ∙ free_up s.peripheral.knows_version s.up h.1,
       )
@@ -142,11 +137,10 @@ module _ (s : Joint) (m : PhaseLink) (is : IsShown s m) (runs_on : Runs s) where
       let go = may_go two.0 in
       let pdu : PduClass = item_or_none (class_down s.central.knows_version) (next_item s.central) in
       let P : Phased → Type 0 =
-          λ c. IsCentral c m.central → are_of_own (draft_down c.knows_version) c.control.table.queue.drafts c.control.table.progress ≡ true → is_some (next_item c) ≡ true
-          → (may_send_pdu (item_or_none (class_down c.knows_version) (next_item c)) m.central ≡ true)
-          × IsCentral (phased_after (Sends slot) c) (central_sent (item_or_none (class_down c.knows_version) (next_item c)) m.central) in
-      let h = at_open P s.central runs_on.central (λ part. λ o. λ some. central_sends s.central m.central slot part o some) is.central own two.1 in
-      (
+      λ c. IsCentral c m.central → are_of_own (draft_down c.knows_version) c.control.table.queue.drafts c.control.table.progress ≡ true → is_some (next_item c) ≡ true
+      → (may_send_pdu (item_or_none (class_down c.knows_version) (next_item c)) m.central ≡ true)
+      × IsCentral (phased_after (Sends slot) c) (central_sent (item_or_none (class_down c.knows_version) (next_item c)) m.central) in
+      let h = at_open P s.central runs_on.central (λ part. λ o. λ some. central_sends s.central m.central slot part o some) is.central own two.1 in (
         and_from _ _ go.0 (and_from _ _ go.1 h.0),
         record {
           central = h.1;
@@ -168,11 +162,10 @@ module _ (s : Joint) (m : PhaseLink) (is : IsShown s m) (runs_on : Runs s) where
       let two = and_parts (may_transmit s.down s.up) (sends_data s.central) may in
       let go = may_go two.0 in
       let sends = (and_parts (is_none (next_item s.central)) _ two.1).1 in
-      let parts = and_parts (is_quiet_now s.central) (is_open s.central.control.table.closing) sends in
-      (
+      let parts = and_parts (is_quiet_now s.central) (is_open s.central.control.table.closing) sends in (
         and_from _ _ go.0
-        (and_from _ _ go.1
-        (and_from _ _ (ap is_quiet (sym is.central.phase) ∙ parts.0) (data_may m.central.closed (ap is_open (sym is.central.closing) ∙ parts.1)))),
+            (and_from _ _ go.1
+            (and_from _ _ (ap is_quiet (sym is.central.phase) ∙ parts.0) (data_may m.central.closed (ap is_open (sym is.central.closing) ∙ parts.1)))),
         record {
           central = is.central;
           peripheral = is.peripheral;
@@ -193,13 +186,12 @@ module _ (s : Joint) (m : PhaseLink) (is : IsShown s m) (runs_on : Runs s) where
       let taken = (and_parts (is_taken s.down) _ may).0 in
       let out : is_pause_rsp s.central.control.table.out ≡ is_pause_rsp_taken m.down = is_out taken ∙ ap is_pause_rsp_taken (sym is.down) in
       let P : Phased → Type 0 =
-          λ c. IsCentral c m.central → is_pause_rsp c.control.table.out ≡ is_pause_rsp_taken m.down
-          → IsCentral (phased_after SeesAcknowledged c) (if is_pause_rsp_taken m.down then central_asking m.central else m.central) in
+      λ c. IsCentral c m.central → is_pause_rsp c.control.table.out ≡ is_pause_rsp_taken m.down
+      → IsCentral (phased_after SeesAcknowledged c) (if is_pause_rsp_taken m.down then central_asking m.central else m.central) in
       let h =
-          at_open P s.central runs_on.central
-          (λ part. λ o. central_acked s.central m.central (is_pause_rsp_taken m.down) o (λ b. settled.pause_phase (or_left _ _ b)) (λ b. none_of _ (settled.pause_queued (or_left _ _ b))) part)
-          is.central out in
-      (
+      at_open P s.central runs_on.central
+      (λ part. λ o. central_acked s.central m.central (is_pause_rsp_taken m.down) o (λ b. settled.pause_phase (or_left _ _ b)) (λ b. none_of _ (settled.pause_queued (or_left _ _ b))) part)
+      is.central out in (
         ap is_way_taken is.down ∙ taken_down s.central.knows_version s.down taken,
         record { central = h; peripheral = is.peripheral; down = refl; up = is.up },
       )

@@ -1,6 +1,6 @@
 -- The central of a joint run takes a PDU: the machine's event.
-use Rattle.std.proofs.Common.{◌≡◌, ℕ, Bool, true, false, not, ◌&&◌, ◌||◌, List, [], ◌∷◌, Option, Some, None, is_none, is_some, refl, ap, ap₂, sym, subst, ◌∙◌, if◌then◌else◌}
-use Rattle.std.proofs.lemmas.Bool.{and_from, and_left, and_parts, and_right, false_from_ne_true}
+use Rattle.std.proofs.Common.{◌≡◌, ℕ, Bool, true, false, not, ◌&&◌, ◌||◌, Some, None, is_some, refl, ap, sym, subst, ◌∙◌, if◌then◌else◌}
+use Rattle.std.proofs.lemmas.Bool.{and_from, and_parts, false_from_ne_true}
 use Rattle.ble_base.specs.ErrorCodes.{mic_failure}
 use Rattle.ble_base.specs.declared.roles.Role.TheVariants.{Central as central_role}
 use Rattle.data_pdu.specs.declared.ctrl.Ctrl.{Ctrl}
@@ -8,29 +8,27 @@ use Rattle.data_pdu.specs.declared.ctrl.Ctrl.TheVariants.{TerminateInd, VersionI
 use Rattle.data_pdu.specs.declared.ctrl.CtrlRead.TheVariants.{Known}
 use Rattle.enc_phase.specs.declared.classes.PduClass.{PduClass}
 use Rattle.enc_phase.specs.declared.classes.PduClass.TheVariants.{Data as data_class, Other, Request}
-use Rattle.enc_phase.specs.declared.facts.PhaseFacts.{PhaseFacts}
 use Rattle.enc_phase.specs.Phases.{is_quiet}
-use Rattle.enc_phase.specs.Taking.{allows, ctrl_class, phase_taking}
+use Rattle.enc_phase.specs.Taking.{allows, ctrl_class}
 use Rattle.procedure_values.specs.declared.drafts.Outgoing.{Outgoing}
-use Rattle.procedure_stages.specs.Kinds.{own_exchange, role_of}
-use Rattle.procedures.specs.Table.{TableFacts}
+use Rattle.procedure_stages.specs.Kinds.{own_exchange}
 use Rattle.procedures.specs.Taking.{outcome_of}
 use Rattle.phase_pairs.specs.declared.central.PhaseCentral.{PhaseCentral}
 use Rattle.phase_pairs.specs.declared.joint.PhaseEvent.{PhaseEvent}
 use Rattle.phase_pairs.specs.declared.joint.PhaseEvent.TheVariants.{CentralTakes as central_takes_event}
 use Rattle.phase_pairs.specs.declared.joint.PhaseLink.{PhaseLink}
 use Rattle.phase_pairs.specs.declared.joint.PhaseWay.{PhaseWay}
-use Rattle.phase_pairs.specs.declared.joint.PhaseWay.TheVariants.{OnAir as way_on_air, Taken as way_taken}
+use Rattle.phase_pairs.specs.declared.joint.PhaseWay.TheVariants.{OnAir as way_on_air}
 use Rattle.phase_pairs.specs.Agreement.{has_meaning, is_encryption, is_step_right}
 use Rattle.phase_pairs.specs.Central.{central_taken}
 use Rattle.phase_pairs.specs.JointRun.{is_crossing_down, is_on_air, is_request, is_way_fixed, is_way_taken, phases_act, phases_may, way_kept}
 use Rattle.phased_control.specs.Phased.{Phased}
 use Rattle.phased_control.specs.Taken.{Takes, TakesData, ended_with, is_version as is_version_read, phased_after}
-use Rattle.joint_controls.specs.Joint.{Item, Joint, JointStep, Way, CentralTakes, Clear, Control, Data, Fixed, OnAir, Taken, act, is_item, is_running, is_taken, is_terminate, item_on_air, may_act}
-use Rattle.joint_phases.specs.Classes.{class_down, class_up, is_version, is_version_ctrl, item_class, version_class}
+use Rattle.joint_controls.specs.Joint.{Item, Joint, Way, CentralTakes, Clear, Control, Data, Fixed, OnAir, Taken, act, is_item, is_running, is_taken, is_terminate, item_on_air, may_act}
+use Rattle.joint_phases.specs.Classes.{class_up, is_version, is_version_ctrl, version_class}
 use Rattle.joint_phases.specs.Events.{does_cross_up, event_if, event_of_step}
-use Rattle.joint_phases.specs.Facts.{Facts, is_version_coming, is_version_sent}
-use Rattle.joint_phases.specs.Parts.{IsCentral, IsPeripheral, IsShown, is_awaiting, way_down, way_up}
+use Rattle.joint_phases.specs.Facts.{Facts, is_version_sent}
+use Rattle.joint_phases.specs.Parts.{IsCentral, IsShown, is_awaiting, way_down, way_up}
 use Rattle.joint_phases.proofs.CentralAwaits.{request_awaits, version_awaits}
 use Rattle.joint_phases.proofs.CentralEnters.{at_open, none_of_two, opened}
 use Rattle.joint_phases.proofs.CentralMoves.{takes_unquiet}
@@ -155,7 +153,7 @@ module _ (s : Joint) (m : PhaseLink) (outgoing : Outgoing) (ctrl : Ctrl) (sealed
             let peer : s.peripheral.knows_version ≡ false = version_unknown s.peripheral.knows_version (sym (version_up s.peripheral.knows_version ctrl version) ∙ request) in
             let air = facts.sent_comes sent unknown peer in
             let cross : crossed ≡ true =
-                and_from _ _ version (and_from _ _ (and_from _ _ (ap not unknown) (ap not peer)) air) in
+            and_from _ _ version (and_from _ _ (and_from _ _ (ap not unknown) (ap not peer)) air) in
             none_of_two _ _ not_crossed cross
           where
             version_unknown : (knows : Bool) → version_class knows ≡ Request → knows ≡ false
@@ -257,8 +255,8 @@ module _ (s : Joint) (m : PhaseLink) (outgoing : Outgoing) (ctrl : Ctrl) (sealed
         unquiet_part =
             let allowed : allows m.central.phase central_role (ctrl_class ctrl) ≡ true = ap (λ k. allows m.central.phase central_role k) (sym same_class) ∙ right_here.0 in
             let part : IsCentral after_it (central_taken crossed (ctrl_class ctrl) m.central) =
-                at_open Part s.central runs_on.central
-                (λ p. λ l. takes_unquiet s.central m.central (TerminateInd 0) slot p unquiet unawaited crossed ctrl apart none_queued allowed l) is.central lasts in
+            at_open Part s.central runs_on.central
+            (λ p. λ l. takes_unquiet s.central m.central (TerminateInd 0) slot p unquiet unawaited crossed ctrl apart none_queued allowed l) is.central lasts in
             subst (λ (k : PduClass). IsCentral after_it (central_taken crossed k m.central)) (sym same_class) part
 
         known_by : (known : Bool) → s.central.knows_version ≡ known → m.down ≡ way_down after_it.knows_version s.down
@@ -307,16 +305,15 @@ module _ (s : Joint) (m : PhaseLink) (sealed : Bool) (slot : ℕ) where
     data_part = at_open DataPart s.central runs_on.central (λ p. λ l. data_by _ p l) is.central lasts
 
     pub goes_data : Goes (event_of_step (CentralTakes slot) with_data) (act (CentralTakes slot) with_data) with_data_class
-    goes_data =
-        (
-          and_from _ _ (ap (λ b. not b) (ap is_way_taken is.down ∙ (taken_same s.central.knows_version s.down).0) ∙ may) refl,
-          record {
-            central = data_part;
-            peripheral = is.peripheral;
-            down = is.down ∙ ap (λ b. way_down b s.down) (sym (knows_stays TakesData s.central refl));
-            up = refl;
-          },
-        )
+    goes_data = (
+      and_from _ _ (ap (λ b. not b) (ap is_way_taken is.down ∙ (taken_same s.central.knows_version s.down).0) ∙ may) refl,
+      record {
+        central = data_part;
+        peripheral = is.peripheral;
+        down = is.down ∙ ap (λ b. way_down b s.down) (sym (knows_stays TakesData s.central refl));
+        up = refl;
+      },
+    )
 
 -- ---- whichever comes
 

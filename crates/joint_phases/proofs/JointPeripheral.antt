@@ -1,8 +1,7 @@
 -- A step of the peripheral of a joint run, but for a control PDU that it takes: the machine's event.
-use Rattle.std.proofs.Common.{◌≡◌, ℕ, Bool, true, false, not, ◌&&◌, ◌||◌, List, [], ◌∷◌, Option, Some, None, Result, is_none, is_some, refl, ap, ap₂, sym, subst, ◌∙◌, if◌then◌else◌}
-use Rattle.std.proofs.lemmas.Bool.{and_from, and_parts, or_from, or_left}
-use Rattle.ble_base.specs.declared.error_codes.ErrCode.{ErrCode}
-use Rattle.ble_base.specs.declared.roles.Role.TheVariants.{Central as central_role, Peripheral as peripheral_role}
+use Rattle.std.proofs.Common.{◌≡◌, ℕ, Bool, true, false, not, ◌&&◌, Option, Some, None, is_some, refl, ap, sym, subst, ◌∙◌, if◌then◌else◌}
+use Rattle.std.proofs.lemmas.Bool.{and_from, and_parts, or_from}
+use Rattle.ble_base.specs.declared.roles.Role.TheVariants.{Peripheral as peripheral_role}
 use Rattle.data_pdu.specs.declared.ctrl.Ctrl.{Ctrl}
 use Rattle.data_pdu.specs.declared.ctrl.Ctrl.TheVariants.{RejectExtInd, VersionInd}
 use Rattle.enc_phase.specs.declared.classes.PduClass.{PduClass}
@@ -10,25 +9,22 @@ use Rattle.enc_phase.specs.declared.classes.PduClass.TheVariants.{Data as data_c
 use Rattle.enc_phase.specs.declared.facts.PhaseFacts.{PhaseFacts}
 use Rattle.enc_phase.specs.Phases.{is_quiet, seals}
 use Rattle.procedure_stages.specs.Closing.{is_open}
-use Rattle.phase_pairs.specs.declared.joint.PhaseEvent.{PhaseEvent}
-use Rattle.phase_pairs.specs.declared.joint.PhaseEvent.TheVariants.{KeyGiven, KeyRefused, PeripheralAcked as peripheral_acked_event, PeripheralBegins, PeripheralCloses, PeripheralFixes as peripheral_fixes_event, PeripheralSends as peripheral_sends_event}
+use Rattle.phase_pairs.specs.declared.joint.PhaseEvent.TheVariants.{KeyGiven, KeyRefused, PeripheralBegins, PeripheralCloses}
 use Rattle.phase_pairs.specs.declared.joint.PhaseLink.{PhaseLink}
 use Rattle.phase_pairs.specs.declared.joint.PhaseWay.{PhaseWay}
 use Rattle.phase_pairs.specs.declared.joint.PhaseWay.TheVariants.{Fixed as way_fixed, OnAir as way_on_air}
 use Rattle.phase_pairs.specs.declared.peripheral.PhasePeripheral.{PhasePeripheral}
-use Rattle.phase_pairs.specs.declared.peripheral.UnsentRequest.{UnsentRequest}
-use Rattle.phase_pairs.specs.declared.peripheral.UnsentRequest.TheVariants.{Absent}
-use Rattle.phase_pairs.specs.JointRun.{is_coming, is_control_coming, is_data, is_request, is_way_clear, is_way_fixed, is_way_taken, keeps_request, peripheral_sends, phases_act, phases_may}
-use Rattle.phase_pairs.specs.Peripheral.{has_unsent, is_open as is_peripheral_open, is_unsent, may_fix, may_get_key, peripheral_begins, peripheral_closes, peripheral_fixed, peripheral_with_key, peripheral_without_key}
-use Rattle.phased_control.specs.Phased.{Phased, is_quiet_now}
+use Rattle.phase_pairs.specs.JointRun.{is_coming, is_control_coming, is_data, is_request, is_way_clear, is_way_fixed, is_way_taken, keeps_request, peripheral_sends}
+use Rattle.phase_pairs.specs.Peripheral.{has_unsent, is_unsent, may_fix, peripheral_begins, peripheral_closes, peripheral_fixed, peripheral_with_key, peripheral_without_key}
+use Rattle.phased_control.specs.Phased.{Phased}
 use Rattle.phased_control.specs.Taken.{PhasedStep, Answers, Asks, Disconnects, Enters, GivesKey, LacksKey, SeesAcknowledged, Sends, phased_after}
-use Rattle.joint_controls.specs.Joint.{HostStep, Item, Joint, JointStep, Way, AnswersRequest, AsksFor, Clear, Control, Data, Ends, Fixed, HasKey, HasNoKey, OnAir, PeripheralAcked, PeripheralEnters, PeripheralFixes, PeripheralFixesData, PeripheralHost, PeripheralSends, Taken, act, fixed, is_clear, is_fixed, is_free, is_item, is_taken, may_act, next_item, sends_data, sent_up}
-use Rattle.joint_phases.specs.Classes.{class_down, class_up, draft_up, has_request, item_class, version_class}
+use Rattle.joint_controls.specs.Joint.{HostStep, Item, Joint, Way, AnswersRequest, AsksFor, Clear, Control, Data, Ends, Fixed, HasKey, HasNoKey, OnAir, PeripheralAcked, PeripheralEnters, PeripheralFixes, PeripheralFixesData, PeripheralHost, PeripheralSends, Taken, act, fixed, is_clear, is_fixed, is_free, is_item, is_taken, may_act, next_item, sends_data, sent_up}
+use Rattle.joint_phases.specs.Classes.{class_up, draft_up, has_request, item_class, version_class}
 use Rattle.joint_phases.specs.Events.{does_begin, event_if, event_of_step, item_or_none}
 use Rattle.joint_phases.specs.Facts.{drafts_of, has_no_first, is_first_up, item_untaken}
-use Rattle.joint_phases.specs.Parts.{IsCentral, IsPeripheral, IsShown, way_down, way_up}
-use Rattle.joint_phases.proofs.CentralEnters.{at_open, opened}
-use Rattle.joint_phases.proofs.JointCentral.{Goes, Runs, none_of}
+use Rattle.joint_phases.specs.Parts.{IsPeripheral, IsShown, way_down, way_up}
+use Rattle.joint_phases.proofs.CentralEnters.{at_open}
+use Rattle.joint_phases.proofs.JointCentral.{Goes, Runs}
 use Rattle.joint_phases.proofs.Knowing.{knows_stays, takes_none}
 use Rattle.joint_phases.proofs.MachineFacts.{Settled}
 use Rattle.joint_phases.proofs.PeripheralEnters.{BeginsAs, ClosesAs, begins_quiet, open_up, peripheral_answers, peripheral_asks, peripheral_disconnects, peripheral_enters}
@@ -66,9 +62,6 @@ module _ (s : Joint) (m : PhaseLink) (is : IsShown s m) (runs_on : Runs s) where
 
   -- ---- an event is entered
 
-  absent_request : (request : UnsentRequest) → request ≡ Absent → is_unsent request ≡ false
-  absent_request request h = ap is_unsent h
-
   no_first_up : (knows : Bool) (w : Way) → is_item (is_first_up knows) (item_untaken w) ≡ false → is_coming is_request (way_up knows w) ≡ false
   no_first_up knows Clear h = refl
   no_first_up knows (Fixed item sealed) h = h
@@ -84,11 +77,10 @@ module _ (s : Joint) (m : PhaseLink) (is : IsShown s m) (runs_on : Runs s) where
       let rest = and_parts (not (is_item (is_first_up s.peripheral.knows_version) (item_untaken s.up))) (not (keeps_request s.central.phase)) none.1 in
       let absent = no_first_waits (draft_up s.peripheral.knows_version) (drafts_of s.peripheral) m.peripheral (not_is _ none.0) is.peripheral.waits in
       let unsent : has_unsent m.peripheral ≡ false = ap is_unsent absent in
-      let coming : is_coming is_request m.up ≡ false = ap (is_coming is_request) is.up ∙ no_first_up s.peripheral.knows_version s.up (not_is _ rest.0) in
-      (
+      let coming : is_coming is_request m.up ≡ false = ap (is_coming is_request) is.up ∙ no_first_up s.peripheral.knows_version s.up (not_is _ rest.0) in (
         and_from _ _ (ap is_quiet (sym is.peripheral.phase) ∙ (opens refl).0)
-        (and_from _ _ (sym (open_up m.peripheral.closing) ∙ ap is_open (sym is.peripheral.closing) ∙ (opens refl).1)
-        (and_from _ _ (ap not (or_from (has_unsent m.peripheral) (is_coming is_request m.up) unsent coming)) (ap (λ q. not (keeps_request q)) (sym is.central.phase) ∙ rest.1))),
+            (and_from _ _ (sym (open_up m.peripheral.closing) ∙ ap is_open (sym is.peripheral.closing) ∙ (opens refl).1)
+            (and_from _ _ (ap not (or_from (has_unsent m.peripheral) (is_coming is_request m.up) unsent coming)) (ap (λ q. not (keeps_request q)) (sym is.central.phase) ∙ rest.1))),
         shown_peripheral s m t (peripheral_begins m.peripheral) is h knows,
       )
 
@@ -97,11 +89,11 @@ module _ (s : Joint) (m : PhaseLink) (is : IsShown s m) (runs_on : Runs s) where
       → Goes (event_of_step (PeripheralEnters slot) s) (act (PeripheralEnters slot) s) m
   goes_enters slot alone known =
       let P : Phased → Type 0 =
-          λ c. IsPeripheral c m.peripheral → (does_begin c ≡ true → has_request (draft_up c.knows_version) c.control.table.queue.drafts ≡ false)
-          → (c.knows_version ≡ true → is_open c.control.table.closing ≡ true → c.control.table.version_used ≡ true)
-          → BeginsAs (does_begin c) (phased_after (Enters slot) c) m.peripheral in
+      λ c. IsPeripheral c m.peripheral → (does_begin c ≡ true → has_request (draft_up c.knows_version) c.control.table.queue.drafts ≡ false)
+      → (c.knows_version ≡ true → is_open c.control.table.closing ≡ true → c.control.table.version_used ≡ true)
+      → BeginsAs (does_begin c) (phased_after (Enters slot) c) m.peripheral in
       let first : does_begin s.peripheral ≡ true → has_request (draft_up s.peripheral.knows_version) (drafts_of s.peripheral) ≡ false =
-          λ b. not_is _ (and_parts (not (has_request (draft_up s.peripheral.knows_version) (drafts_of s.peripheral))) _ (alone b)).0 in
+      λ b. not_is _ (and_parts (not (has_request (draft_up s.peripheral.knows_version) (drafts_of s.peripheral))) _ (alone b)).0 in
       let h = at_open P s.peripheral runs_on.peripheral (λ part. λ a. λ k. peripheral_enters s.peripheral m.peripheral slot part a k) is.peripheral first known in
       begins_if (does_begin s.peripheral) (phased_after (Enters slot) s.peripheral) refl h (knows_stays (Enters slot) s.peripheral refl) alone (begins_quiet s.peripheral)
 
@@ -162,12 +154,11 @@ module _ (s : Joint) (m : PhaseLink) (is : IsShown s m) (runs_on : Runs s) where
   goes_fixes slot settled may =
       let two = and_parts (is_clear s.up) (is_some (next_item s.peripheral)) may in
       let P : Phased → Type 0 =
-          λ c. IsPeripheral c m.peripheral → is_some (next_item c) ≡ true
-          → (may_fix (item_or_none (class_up c.knows_version) (next_item c)) m.peripheral ≡ true)
-          × (is_data (item_or_none (class_up c.knows_version) (next_item c)) ≡ false)
-          × IsPeripheral (phased_after (Sends slot) c) (peripheral_fixed (item_or_none (class_up c.knows_version) (next_item c)) m.peripheral) in
-      let h = at_open P s.peripheral runs_on.peripheral (λ part. λ some. peripheral_fixes s.peripheral m.peripheral slot settled.first_keyless part some) is.peripheral two.1 in
-      (
+      λ c. IsPeripheral c m.peripheral → is_some (next_item c) ≡ true
+      → (may_fix (item_or_none (class_up c.knows_version) (next_item c)) m.peripheral ≡ true)
+      × (is_data (item_or_none (class_up c.knows_version) (next_item c)) ≡ false)
+      × IsPeripheral (phased_after (Sends slot) c) (peripheral_fixed (item_or_none (class_up c.knows_version) (next_item c)) m.peripheral) in
+      let h = at_open P s.peripheral runs_on.peripheral (λ part. λ some. peripheral_fixes s.peripheral m.peripheral slot settled.first_keyless part some) is.peripheral two.1 in (
         and_from _ _ (ap is_way_clear is.up ∙ clear_up s.peripheral.knows_version s.up two.0) h.0,
         record {
           central = is.central;
@@ -183,8 +174,7 @@ module _ (s : Joint) (m : PhaseLink) (is : IsShown s m) (runs_on : Runs s) where
   goes_fixes_data may =
       let two = and_parts (is_clear s.up) (sends_data s.peripheral) may in
       let P : Phased → Type 0 = λ c. IsPeripheral c m.peripheral → sends_data c ≡ true → may_fix data_class m.peripheral ≡ true in
-      let h = at_open P s.peripheral runs_on.peripheral (λ part. λ sends. peripheral_fixes_data s.peripheral m.peripheral part sends) is.peripheral two.1 in
-      (
+      let h = at_open P s.peripheral runs_on.peripheral (λ part. λ sends. peripheral_fixes_data s.peripheral m.peripheral part sends) is.peripheral two.1 in (
         and_from _ _ (ap is_way_clear is.up ∙ clear_up s.peripheral.knows_version s.up two.0) h,
         record {
           central = is.central;
@@ -230,10 +220,9 @@ module _ (s : Joint) (m : PhaseLink) (is : IsShown s m) (runs_on : Runs s) where
 
   pub goes_sends : may_act PeripheralSends s ≡ true → Goes (event_of_step PeripheralSends s) (act PeripheralSends s) m
   goes_sends may =
-      let two = and_parts (is_fixed s.up) (is_free s.down) may in
-      (
+      let two = and_parts (is_fixed s.up) (is_free s.down) may in (
         and_from _ _ (ap is_way_fixed is.up ∙ fixed_up s.peripheral.knows_version s.up two.0)
-        (ap (λ w. not (is_control_coming w)) is.down ∙ free_down s.central.knows_version s.down two.1),
+            (ap (λ w. not (is_control_coming w)) is.down ∙ free_down s.central.knows_version s.down two.1),
         subst (λ (u : PhaseWay). sends_to s.up u) (sym is.up) (sends_by s.up two.0),
       )
 
@@ -247,8 +236,7 @@ module _ (s : Joint) (m : PhaseLink) (is : IsShown s m) (runs_on : Runs s) where
   goes_acked may =
       let taken = (and_parts (is_taken s.up) _ may).0 in
       let P : Phased → Type 0 = λ c. IsPeripheral c m.peripheral → IsPeripheral (phased_after SeesAcknowledged c) m.peripheral in
-      let h = at_open P s.peripheral runs_on.peripheral (peripheral_acked s.peripheral m.peripheral) is.peripheral in
-      (
+      let h = at_open P s.peripheral runs_on.peripheral (peripheral_acked s.peripheral m.peripheral) is.peripheral in (
         ap is_way_taken is.up ∙ taken_up s.peripheral.knows_version s.up taken,
         record { central = is.central; peripheral = h; down = is.down; up = refl },
       )

@@ -1,6 +1,6 @@
 -- The peripheral of a joint run takes a PDU: the machine's event.
-use Rattle.std.proofs.Common.{◌≡◌, ◌⊎◌, inl, inr, ℕ, Bool, true, false, not, ◌&&◌, ◌||◌, List, [], ◌∷◌, Option, Some, None, is_none, is_some, refl, ap, ap₂, sym, subst, ◌∙◌, if◌then◌else◌}
-use Rattle.std.proofs.lemmas.Bool.{and_from, and_left, and_parts, and_right, false_from_ne_true, or_left, or_right}
+use Rattle.std.proofs.Common.{◌≡◌, ◌⊎◌, inl, inr, ℕ, Bool, true, false, not, ◌&&◌, ◌||◌, Some, None, is_some, refl, ap, sym, subst, ◌∙◌, if◌then◌else◌}
+use Rattle.std.proofs.lemmas.Bool.{and_from, and_parts, false_from_ne_true, or_left, or_right}
 use Rattle.ble_base.specs.ErrorCodes.{mic_failure}
 use Rattle.ble_base.specs.declared.roles.Role.TheVariants.{Peripheral as peripheral_role}
 use Rattle.data_pdu.specs.declared.ctrl.Ctrl.{Ctrl}
@@ -24,15 +24,15 @@ use Rattle.phase_pairs.specs.declared.joint.PhaseWay.{PhaseWay}
 use Rattle.phase_pairs.specs.declared.joint.PhaseWay.TheVariants.{OnAir as way_on_air, Taken as way_taken}
 use Rattle.phase_pairs.specs.declared.peripheral.PhasePeripheral.{PhasePeripheral}
 use Rattle.phase_pairs.specs.Agreement.{has_meaning, has_place, is_encryption, is_step_right}
-use Rattle.phase_pairs.specs.JointRun.{is_coming, is_crossing_up, is_pause_rsp, is_request, is_way_taken, peripheral_takes, phases_act, phases_may, way_kept}
+use Rattle.phase_pairs.specs.JointRun.{is_coming, is_crossing_up, is_pause_rsp, is_request, is_way_taken, peripheral_takes, phases_may, way_kept}
 use Rattle.phase_pairs.specs.Peripheral.{has_unsent, peripheral_answering, peripheral_taken}
 use Rattle.phased_control.specs.Phased.{Phased}
 use Rattle.phased_control.specs.Taken.{Takes, TakesData, ended_with, is_version as is_version_read, phased_after}
-use Rattle.joint_controls.specs.Joint.{Item, Joint, JointStep, Way, Clear, Control, Data, Fixed, OnAir, PeripheralTakes, Taken, act, is_item, is_late, is_running, is_same_event, is_supervised, is_taken, is_terminate, item_on_air, may_act}
-use Rattle.joint_phases.specs.Classes.{class_down, class_up, draft_up, has_version, is_version, is_version_ctrl, item_class, version_class}
+use Rattle.joint_controls.specs.Joint.{Item, Joint, Way, Clear, Control, Data, Fixed, OnAir, PeripheralTakes, Taken, act, is_running, is_taken, is_terminate, item_on_air, may_act}
+use Rattle.joint_phases.specs.Classes.{class_down, draft_up, has_version, is_version_ctrl, version_class}
 use Rattle.joint_phases.specs.Events.{does_cross_down, event_if, event_of_step}
 use Rattle.joint_phases.specs.Facts.{Facts, drafts_of, is_enc_rsp, is_version_coming, is_version_kept}
-use Rattle.joint_phases.specs.Parts.{IsCentral, IsPeripheral, IsShown, wait_up, way_down, way_up}
+use Rattle.joint_phases.specs.Parts.{IsPeripheral, IsShown, wait_up, way_down, way_up}
 use Rattle.joint_phases.proofs.CentralEnters.{at_open, none_of_two, opened}
 use Rattle.joint_phases.proofs.CentralQueue.{is_of_others}
 use Rattle.joint_phases.proofs.CentralTakes.{some_none}
@@ -146,9 +146,6 @@ module _ (s : Joint) (m : PhaseLink) (outgoing : Outgoing) (ctrl response : Ctrl
       abbrev knows_now : Bool
       knows_now = s.peripheral.knows_version || is_version_read (Known ctrl)
 
-      up_same : TakesAs after_it m.peripheral knows_now → is_version_ctrl ctrl ≡ false → m.up ≡ way_up after_it.knows_version s.up
-      up_same h plain = is.up ∙ ap (λ b. way_up b s.up) (sym (h.knows_it ∙ or_not s.peripheral.knows_version (is_version_read (Known ctrl)) (version_read ctrl ∙ plain)))
-
       plain_knows : is_version_ctrl ctrl ≡ false → knows_now ≡ s.peripheral.knows_version
       plain_knows plain = or_not s.peripheral.knows_version (is_version_read (Known ctrl)) (version_read ctrl ∙ plain)
 
@@ -166,13 +163,13 @@ module _ (s : Joint) (m : PhaseLink) (outgoing : Outgoing) (ctrl response : Ctrl
           let none = settled.down_alone enc in
           let room : HasRoom m.peripheral = record { after = settled.second_after; room = λ h. none_of_two _ _ h none; request = λ h. none_of_two _ _ h none } in
           let Part : Phased → Type 0 =
-              λ c. IsPeripheral c m.peripheral → (phased_after (Takes (Known ctrl) slot response) c).control.ends ≡ None
-              → TakesAs (phased_after (Takes (Known ctrl) slot response) c) (peripheral_taken false (ctrl_class ctrl) m.peripheral) (c.knows_version || is_version_read (Known ctrl)) in
+          λ c. IsPeripheral c m.peripheral → (phased_after (Takes (Known ctrl) slot response) c).control.ends ≡ None
+          → TakesAs (phased_after (Takes (Known ctrl) slot response) c) (peripheral_taken false (ctrl_class ctrl) m.peripheral) (c.knows_version || is_version_read (Known ctrl)) in
           let h : TakesAs after_it (peripheral_taken false (ctrl_class ctrl) m.peripheral) knows_now =
-              at_open Part s.peripheral runs_on.peripheral
-              (λ p. λ l. takes_cipher s.peripheral m.peripheral response slot false p room answers ctrl (ap is_encryption (sym same.0) ∙ enc)
-                (ap (λ k. allows m.peripheral.phase peripheral_role k) (sym same.0) ∙ right_here.0)
-                (ap (λ k. has_meaning peripheral_role m.peripheral.phase k) (sym same.0) ∙ right_here.1) l) is.peripheral lasts in
+          at_open Part s.peripheral runs_on.peripheral
+          (λ p. λ l. takes_cipher s.peripheral m.peripheral response slot false p room answers ctrl (ap is_encryption (sym same.0) ∙ enc)
+          (ap (λ k. allows m.peripheral.phase peripheral_role k) (sym same.0) ∙ right_here.0)
+          (ap (λ k. has_meaning peripheral_role m.peripheral.phase k) (sym same.0) ∙ right_here.1) l) is.peripheral lasts in
           shown_plain (subst (λ (k : PduClass). IsPeripheral after_it (peripheral_taken false k m.peripheral)) (sym same.0) h.part) (up_known _ h same.1)
 
       -- ---- a PDU of another procedure
@@ -190,10 +187,10 @@ module _ (s : Joint) (m : PhaseLink) (outgoing : Outgoing) (ctrl response : Ctrl
         silently : reply_of s.peripheral ≡ no_reply → wait_up (draft_up knows_now) (drafts_of s.peripheral) m.peripheral ≡ true → TakesAs after_it m.peripheral knows_now
         silently reply waits =
             let Part : Phased → Type 0 =
-                λ c. IsPeripheral c m.peripheral → reply_of c ≡ no_reply
-                → wait_up (draft_up (c.knows_version || is_version_read (Known ctrl))) c.control.table.queue.drafts m.peripheral ≡ true
-                → (phased_after (Takes (Known ctrl) slot response) c).control.ends ≡ None
-                → TakesAs (phased_after (Takes (Known ctrl) slot response) c) m.peripheral (c.knows_version || is_version_read (Known ctrl)) in
+            λ c. IsPeripheral c m.peripheral → reply_of c ≡ no_reply
+            → wait_up (draft_up (c.knows_version || is_version_read (Known ctrl))) c.control.table.queue.drafts m.peripheral ≡ true
+            → (phased_after (Takes (Known ctrl) slot response) c).control.ends ≡ None
+            → TakesAs (phased_after (Takes (Known ctrl) slot response) c) m.peripheral (c.knows_version || is_version_read (Known ctrl)) in
             at_open Part s.peripheral runs_on.peripheral
             (λ p. λ r. λ w. λ l. takes_silent s.peripheral m.peripheral ctrl response slot p quiet others.1 apart l r w) is.peripheral reply waits lasts
 
@@ -215,10 +212,10 @@ module _ (s : Joint) (m : PhaseLink) (outgoing : Outgoing) (ctrl response : Ctrl
             → TakesAs after_it (peripheral_answering false m.peripheral) knows_now
         answering request answer waits =
             let Part : Phased → Type 0 =
-                λ c. IsPeripheral c m.peripheral → Answering c
-                → wait_up (draft_up (c.knows_version || is_version_read (Known ctrl))) c.control.table.queue.drafts m.peripheral ≡ true
-                → (phased_after (Takes (Known ctrl) slot response) c).control.ends ≡ None
-                → TakesAs (phased_after (Takes (Known ctrl) slot response) c) (peripheral_answering false m.peripheral) (c.knows_version || is_version_read (Known ctrl)) in
+            λ c. IsPeripheral c m.peripheral → Answering c
+            → wait_up (draft_up (c.knows_version || is_version_read (Known ctrl))) c.control.table.queue.drafts m.peripheral ≡ true
+            → (phased_after (Takes (Known ctrl) slot response) c).control.ends ≡ None
+            → TakesAs (phased_after (Takes (Known ctrl) slot response) c) (peripheral_answering false m.peripheral) (c.knows_version || is_version_read (Known ctrl)) in
             at_open Part s.peripheral runs_on.peripheral
             (λ p. λ a. λ w. λ l. takes_answered s.peripheral m.peripheral ctrl response slot p quiet others.1 apart l a (first_none request) (second_none request) (owes_none request) w)
             is.peripheral answer waits lasts
@@ -239,8 +236,8 @@ module _ (s : Joint) (m : PhaseLink) (outgoing : Outgoing) (ctrl response : Ctrl
             shown_silent Other at refl h (up_known _ h none)
         unversioned_by Request at one none =
             let answer : Answering s.peripheral =
-                λ ends. let a = is_answered s.peripheral.control.table s.peripheral.control.table.progress (is_quiet s.peripheral.phase) s.central.knows_version ctrl is.peripheral.role none at ends in
-                (a.draft, a.reply, a.class knows_now) in
+            λ ends. let a = is_answered s.peripheral.control.table s.peripheral.control.table.progress (is_quiet s.peripheral.phase) s.central.knows_version ctrl is.peripheral.role none at ends in
+            (a.draft, a.reply, a.class knows_now) in
             let h = answering at answer (waits_plain none) in
             shown_answered at h (up_known _ h none)
         unversioned_by k at one none = absurd (cc)
@@ -269,7 +266,7 @@ module _ (s : Joint) (m : PhaseLink) (outgoing : Outgoing) (ctrl response : Ctrl
         version_unused : is_version_ctrl ctrl ≡ true → class ≡ Request → s.peripheral.control.table.version_used ≡ false → target false
         version_unused version request unused =
             let answer : Answering s.peripheral =
-                λ ends. (version_draft, replies ctrl version ∙ ap version_reply unused, ap version_class (knows_it version)) in
+            λ ends. (version_draft, replies ctrl version ∙ ap version_reply unused, ap version_class (knows_it version)) in
             let h = answering request answer (waits_none (facts.unused_queue unused)) in
             shown_answered request h (up_none (facts.unused_way unused))
 
@@ -286,7 +283,7 @@ module _ (s : Joint) (m : PhaseLink) (outgoing : Outgoing) (ctrl response : Ctrl
         crossing_coming c comes_up =
             let h = silently (crossing_reply c) (waits_none (no_version c comes_up)) in
             let on_way : is_version_coming s.up ≡ true =
-                elim (own_version c) [ inl has ↦ none_of_two _ _ (no_version c comes_up) has | inr comes_too ↦ comes_too ] in
+            elim (own_version c) [ inl has ↦ none_of_two _ _ (no_version c comes_up) has | inr comes_too ↦ comes_too ] in
             record {
               central = is.central;
               peripheral = h.part;
@@ -303,13 +300,13 @@ module _ (s : Joint) (m : PhaseLink) (outgoing : Outgoing) (ctrl response : Ctrl
             let none : is_version_coming s.up ≡ false = false_from_ne_true _ (λ comes_too. none_of_two _ _ none_up (coming c comes_too)) in
             let has : has_version (drafts_of s.peripheral) ≡ true = elim (own_version c) [ inl h ↦ h | inr comes_too ↦ none_of_two _ _ none comes_too ] in
             let Part : Phased → Type 0 =
-                λ x. IsPeripheral x m.peripheral → reply_of x ≡ no_reply → x.knows_version ≡ false → has_version x.control.table.queue.drafts ≡ true
-                → (phased_after (Takes (Known ctrl) slot response) x).control.ends ≡ None
-                → TakesAs (phased_after (Takes (Known ctrl) slot response) x) (peripheral_answering true m.peripheral) (x.knows_version || is_version_read (Known ctrl)) in
+            λ x. IsPeripheral x m.peripheral → reply_of x ≡ no_reply → x.knows_version ≡ false → has_version x.control.table.queue.drafts ≡ true
+            → (phased_after (Takes (Known ctrl) slot response) x).control.ends ≡ None
+            → TakesAs (phased_after (Takes (Known ctrl) slot response) x) (peripheral_answering true m.peripheral) (x.knows_version || is_version_read (Known ctrl)) in
             let h : TakesAs after_it (peripheral_answering true m.peripheral) knows_now =
-                at_open Part s.peripheral runs_on.peripheral
-                (λ p. λ r. λ u. λ v. λ l. takes_crossing s.peripheral m.peripheral ctrl response slot p quiet others.1 apart l r u (version_read ctrl ∙ c.version) v
-                  (first_none request) (second_none request) (owes_none request)) is.peripheral (crossing_reply c) c.peripheral has lasts in
+            at_open Part s.peripheral runs_on.peripheral
+            (λ p. λ r. λ u. λ v. λ l. takes_crossing s.peripheral m.peripheral ctrl response slot p quiet others.1 apart l r u (version_read ctrl ∙ c.version) v
+            (first_none request) (second_none request) (owes_none request)) is.peripheral (crossing_reply c) c.peripheral has lasts in
             record {
               central = is.central;
               peripheral = subst (λ (x : PduClass). IsPeripheral after_it (peripheral_taken true x m.peripheral)) (sym request) h.part;
@@ -319,7 +316,7 @@ module _ (s : Joint) (m : PhaseLink) (outgoing : Outgoing) (ctrl response : Ctrl
 
         crossing_by : (b : Bool) → is_coming is_request m.up ≡ b → Crossing
             → IsShown next (if b then record there { up = way_kept Other m.up; down = way_taken (is_pause_rsp class) }
-              else record there { peripheral = peripheral_taken true class m.peripheral; down = way_taken (is_pause_rsp class) })
+            else record there { peripheral = peripheral_taken true class m.peripheral; down = way_taken (is_pause_rsp class) })
         crossing_by true at c = crossing_coming c at
         crossing_by false at c = crossing_waiting c at
 
@@ -375,16 +372,15 @@ module _ (s : Joint) (m : PhaseLink) (response : Ctrl) (sealed : Bool) (slot : �
     data_part = at_open DataPart s.peripheral runs_on.peripheral (λ p. λ l. data_by _ p l) is.peripheral lasts
 
     pub goes_data : Goes (event_of_step (PeripheralTakes slot response) with_data) (act (PeripheralTakes slot response) with_data) with_data_class
-    goes_data =
-        (
-          and_from _ _ (ap (λ b. not b) (ap is_way_taken is.up ∙ (taken_same s.peripheral.knows_version s.up).1) ∙ may) refl,
-          record {
-            central = is.central;
-            peripheral = data_part;
-            down = refl;
-            up = is.up ∙ ap (λ b. way_up b s.up) (sym (knows_stays TakesData s.peripheral refl));
-          },
-        )
+    goes_data = (
+      and_from _ _ (ap (λ b. not b) (ap is_way_taken is.up ∙ (taken_same s.peripheral.knows_version s.up).1) ∙ may) refl,
+      record {
+        central = is.central;
+        peripheral = data_part;
+        down = refl;
+        up = is.up ∙ ap (λ b. way_up b s.up) (sym (knows_stays TakesData s.peripheral refl));
+      },
+    )
 
 -- ---- whichever comes
 

@@ -1,5 +1,5 @@
 -- Whether an end knows the version of the other: only a PDU that it takes changes that.
-use Rattle.std.proofs.Common.{◌≡◌, ℕ, Bool, true, false, not, ◌&&◌, ◌||◌, List, [], ◌∷◌, Option, Some, None, is_none, is_some, refl, ap, sym, subst, ◌∙◌, if◌then◌else◌}
+use Rattle.std.proofs.Common.{◌≡◌, ℕ, Bool, true, false, Option, Some, None, is_none, refl, if◌then◌else◌}
 use Rattle.std.proofs.lemmas.Bool.{or_left}
 use Rattle.ble_base.specs.declared.roles.Role.{Role}
 use Rattle.ble_base.specs.declared.roles.Role.TheVariants.{Central, Peripheral}
@@ -17,7 +17,7 @@ use Rattle.enc_phase.specs.Taking.{ctrl_class}
 use Rattle.ble_base.specs.ErrorCodes.{memory_capacity_exceeded, mic_failure}
 use Rattle.control_model.specs.Control.{Takes as control_takes}
 use Rattle.phased_control.specs.Phased.{Phased, is_quiet_now, with_step, asking_if, encrypting, encrypting_if, refused_if, with_owed_if}
-use Rattle.phased_control.specs.Taken.{PhasedStep, Answers, Asks, Disconnects, Enters, GivesKey, LacksKey, SeesAcknowledged, Sends, Takes, TakesData, answered_if_quiet, answered_kept, ciphered, ciphered_at, ciphered_at_central, ciphered_at_peripheral, goes_on, moved_if, moved_to, phased_after, phased_moved, refused_by, took, does_keep, ended_with, handed_on, is_allowed, keeping, knowing, lacks_room_now, seen_as, took_allowed, with_phase_taking}
+use Rattle.phased_control.specs.Taken.{PhasedStep, Answers, Asks, Disconnects, Enters, GivesKey, LacksKey, SeesAcknowledged, Sends, Takes, TakesData, answered_if_quiet, answered_kept, ciphered, ciphered_at, ciphered_at_central, ciphered_at_peripheral, goes_on, moved_if, phased_after, phased_moved, refused_by, took, does_keep, ended_with, handed_on, is_allowed, keeping, knowing, lacks_room_now, seen_as, took_allowed, with_phase_taking}
 
 -- ---- the steps by which none is taken
 

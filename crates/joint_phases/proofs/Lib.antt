@@ -29,3 +29,9 @@ pub mod JointCentralTakes
 pub mod JointPeripheralTakes
 pub mod Steps
 pub mod Agreeing
+pub mod Pairing
+pub mod Waiting
+pub mod Codes
+pub mod Forged
+pub mod Unforged
+pub mod Testing

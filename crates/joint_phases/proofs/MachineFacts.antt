@@ -1,16 +1,14 @@
 -- What holds in each state of the machine of phases, in the form in which a joint run uses it: more than its laws say,
 -- and computed over the same list of states.
-use Rattle.std.proofs.Common.{◌≡◌, ℕ, Bool, true, false, not, ◌&&◌, ◌||◌, List, Option, Some, None, is_none, is_some, refl, subst, if◌then◌else◌}
+use Rattle.std.proofs.Common.{◌≡◌, ℕ, Bool, true, false, not, ◌&&◌, ◌||◌, List, is_none, refl}
 use Rattle.std.proofs.lemmas.Bool.{and_parts}
-use Rattle.enc_phase.specs.declared.classes.PduClass.{PduClass}
-use Rattle.enc_phase.specs.declared.classes.PduClass.TheVariants.{EncReq, Terminate}
+use Rattle.enc_phase.specs.declared.classes.PduClass.TheVariants.{Terminate}
 use Rattle.enc_phase.specs.declared.facts.PhaseFacts.{PhaseFacts}
 use Rattle.enc_phase.specs.declared.facts.PhaseFacts.TheVariants.{HalfClear}
 use Rattle.enc_phase.specs.Phases.{is_quiet}
 use Rattle.phase_pairs.specs.declared.joint.PhaseEvent.{PhaseEvent}
 use Rattle.phase_pairs.specs.declared.joint.PhaseLink.{PhaseLink}
 use Rattle.phase_pairs.specs.declared.joint.PhaseWay.{PhaseWay}
-use Rattle.phase_pairs.specs.declared.joint.PhaseWay.TheVariants.{Fixed, OnAir, Taken}
 use Rattle.phase_pairs.specs.declared.peripheral.PhaseClosing.{PhaseClosing}
 use Rattle.phase_pairs.specs.declared.peripheral.PhaseClosing.TheVariants.{HasNoKey}
 use Rattle.phase_pairs.specs.declared.peripheral.UnsentRequest.{UnsentRequest}
@@ -18,7 +16,7 @@ use Rattle.phase_pairs.specs.declared.peripheral.UnsentRequest.TheVariants.{Last
 use Rattle.phase_pairs.specs.Agreement.{is_encryption}
 use Rattle.phase_pairs.specs.Central.{is_queued}
 use Rattle.phase_pairs.specs.JointRun.{encryption, is_coming, is_on_air, is_pause_rsp, is_pause_rsp_taken, is_request, is_way_fixed, phases_start}
-use Rattle.phase_pairs.specs.Peripheral.{has_unsent, is_waiting}
+use Rattle.phase_pairs.specs.Peripheral.{has_unsent}
 use Rattle.phase_pairs.proofs.Closed.{all_closed, start_known}
 use Rattle.phase_pairs.proofs.Events.{coded, is_coded}
 use Rattle.phase_pairs.proofs.StateCodes.{back, bool_num, bool_of, class_num, class_of, closing_num, closing_of, code, decode, fields_of, link_of, phase_num, phase_of, queued_num, queued_of, request_num, request_of, stage_num, way_mark, way_of, way_pdu}
@@ -62,11 +60,10 @@ all_hold s =
     && (if_so s.peripheral.asks_key (not (is_after s.peripheral.request))
     && (if_so (has_unsent s.peripheral) (not (is_coming is_request s.up))
     && (if_so (is_queued Terminate s.peripheral.first) (is_keyless s.peripheral.closing)
-    && (if_so (is_queued Terminate s.peripheral.second) (is_keyless s.peripheral.closing)
     && (if_so (is_quiet s.central.phase) (is_none s.central.queued)
     && (if_so (is_on_air is_encryption s.up) (is_none s.central.queued)
     && (if_so (is_none s.peripheral.first) (is_none s.peripheral.second)
-    && not (is_way_fixed s.down)))))))))))))))
+    && not (is_way_fixed s.down))))))))))))))
 
 abbrev holds_in : ℕ → Bool
 holds_in n = all_hold (decode n)
@@ -93,7 +90,6 @@ pub record Settled (s : PhaseLink) : Type 0 where
   -- one first PDU of the peripheral at most
   pub one_unsent : has_unsent s.peripheral ≡ true → not (is_coming is_request s.up) ≡ true
   pub first_keyless : is_queued Terminate s.peripheral.first ≡ true → is_keyless s.peripheral.closing ≡ true
-  pub second_keyless : is_queued Terminate s.peripheral.second ≡ true → is_keyless s.peripheral.closing ≡ true
   pub quiet_queued : is_quiet s.central.phase ≡ true → is_none s.central.queued ≡ true
   pub up_queued : is_on_air is_encryption s.up ≡ true → is_none s.central.queued ≡ true
   pub second_after : is_none s.peripheral.first ≡ true → is_none s.peripheral.second ≡ true
@@ -127,7 +123,6 @@ settled_by s a0 =
     let a12 = tail _ _ a11 in
     let a13 = tail _ _ a12 in
     let a14 = tail _ _ a13 in
-    let a15 = tail _ _ a14 in
     record {
       request_awaited = so_then _ _ (head _ _ a0);
       request_alone = so_then _ _ (head _ _ a1);
@@ -140,11 +135,10 @@ settled_by s a0 =
       key_request = so_then _ _ (head _ _ a8);
       one_unsent = so_then _ _ (head _ _ a9);
       first_keyless = so_then _ _ (head _ _ a10);
-      second_keyless = so_then _ _ (head _ _ a11);
-      quiet_queued = so_then _ _ (head _ _ a12);
-      up_queued = so_then _ _ (head _ _ a13);
-      second_after = so_then _ _ (head _ _ a14);
-      never_fixed = a15;
+      quiet_queued = so_then _ _ (head _ _ a11);
+      up_queued = so_then _ _ (head _ _ a12);
+      second_after = so_then _ _ (head _ _ a13);
+      never_fixed = a14;
     }
 
 known : (events : List PhaseEvent) → is_known coded states (run encryption events) ≡ true

@@ -1,5 +1,5 @@
 -- A control PDU of the peer is taken: what its outcome leaves open.
-use Rattle.std.proofs.Common.{◌≡◌, ℕ, Bool, true, false, not, ◌&&◌, ◌||◌, List, [], ◌∷◌, ◌++◌, Option, Some, None, is_none, is_some, refl, ap, ap₂, sym, subst, ◌∙◌, if◌then◌else◌}
+use Rattle.std.proofs.Common.{◌≡◌, ℕ, Bool, true, false, ◌||◌, Option, Some, None, is_some, refl, sym, ◌∙◌, if◌then◌else◌}
 use Rattle.ble_base.specs.declared.procedure_kinds.Kind.{Kind}
 use Rattle.control_model.proofs.Calls.{settled_as, taken_by_step}
 use Rattle.exclusive_stages.specs.Awaited.{awaits_phy_ind, awaits_phy_rsp, central_answered, has_phy_of_central, peer_answered, reads_as_answer}
@@ -11,16 +11,15 @@ use Rattle.procedure_stages.specs.Exclusive.{central_stage, peripheral_stage}
 use Rattle.procedure_stages.specs.Kinds.{kind_at_central, kind_at_peripheral, own_exchange}
 use Rattle.procedure_stages.specs.Opcodes.{connection_param_req_opcode, first_opcode, is_opcode, later_opcode, phy_req_opcode}
 use Rattle.procedure_values.specs.Values.{are_valid}
-use Rattle.procedures.specs.Outcomes.{empty_step}
 use Rattle.procedures.specs.Refusals.{refused_if}
 use Rattle.procedures.specs.Request.{after_grant, collided, outlived, request_judged}
 use Rattle.procedures.specs.Taking.{taken_by}
 use Rattle.procedures.specs.Update.{follow}
-use Rattle.std.proofs.lemmas.Bool.{and_parts, false_from_ne_true}
+use Rattle.std.proofs.lemmas.Bool.{false_from_ne_true}
 use Rattle.ble_base.specs.declared.error_codes.ErrCode.{ErrCode}
-use Rattle.ble_base.specs.declared.procedure_kinds.Kind.TheVariants.{Encrypt, Features, Length, Map as map_kind, Phy, Request}
+use Rattle.ble_base.specs.declared.procedure_kinds.Kind.TheVariants.{Map as map_kind, Phy, Request}
 use Rattle.data_pdu.specs.declared.ctrl.Ctrl.{Ctrl}
-use Rattle.data_pdu.specs.declared.ctrl.Ctrl.TheVariants.{ChannelMapInd, ConnectionParamReq, ConnectionUpdateInd, EncReq, EncRsp, FeatureRsp, LengthRsp, PauseEncRsp, PhyReq, PhyRsp, PhyUpdateInd, RejectExtInd, RejectInd, StartEncReq, StartEncRsp, TerminateInd, UnknownRsp, VersionInd}
+use Rattle.data_pdu.specs.declared.ctrl.Ctrl.TheVariants.{ChannelMapInd, ConnectionParamReq, ConnectionUpdateInd, EncReq, EncRsp, FeatureRsp, LengthRsp, PauseEncRsp, PhyReq, PhyRsp, PhyUpdateInd, RejectExtInd, RejectInd, StartEncReq, StartEncRsp, TerminateInd, UnknownRsp}
 use Rattle.data_pdu.specs.declared.ctrl.CtrlRead.{CtrlRead}
 use Rattle.data_pdu.specs.declared.ctrl.CtrlRead.TheVariants.{Known}
 use Rattle.procedure_stages.specs.declared.closing.Closing.{Closing}
@@ -33,7 +32,7 @@ use Rattle.procedure_stages.specs.Steps.{closing_after}
 use Rattle.procedures.specs.declared.outcome.Outcome.{Outcome}
 use Rattle.procedures.specs.Calls.{takes}
 use Rattle.procedures.specs.Table.{TableFacts}
-use Rattle.procedures.specs.Taking.{facts_with, lacks_room, no_room, outcome_of, taken_by_central, taken_by_either, taken_by_peripheral, took_step}
+use Rattle.procedures.specs.Taking.{facts_with, lacks_room, outcome_of, taken_by_central, taken_by_either, taken_by_peripheral, took_step}
 use Rattle.table_laws.specs.Encrypting.{MayBeginBy, has_encryption}
 use Rattle.table_laws.proofs.Encrypting.{begins_by}
 use Rattle.control_model.specs.Control.{Control, ended, indicated_by, taken, took}
@@ -55,7 +54,7 @@ module _ (P : Control → Type 0) (c : Control) (read : CtrlRead) (slot : ℕ) (
 
   pub took_goes : ((e : ErrCode) → P (ended e c))
       → (lacks_room c.table outcome ≡ false → outcome.step.ends ≡ None
-        → P (taken (facts_with c.table slot outcome) None (indicated_by outcome.step.effect) c))
+      → P (taken (facts_with c.table slot outcome) None (indicated_by outcome.step.effect) c))
       → P (took read slot quiet c)
   took_goes stops goes =
       goes_by (lacks_room c.table outcome) outcome.step.ends outcome.step (facts_with c.table slot outcome) refl refl stops goes
@@ -82,9 +81,6 @@ module _ (f : TableFacts) (read : CtrlRead) (slot : ℕ) (quiet : Bool) where
 
 abbrev IsOpen : Outcome → Type 0
 IsOpen o = (closing : Closing) → closing_after o.step.effect closing ≡ closing
-
-still : (o : Outcome) → o.step ≡ empty_step → IsOpen o
-still o is closing = rw is refl
 
 open_if : (b : Bool) (x y : Outcome) → IsOpen x → IsOpen y → IsOpen (if b then x else y)
 open_if true x y hx hy = hx

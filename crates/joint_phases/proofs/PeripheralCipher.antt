@@ -1,28 +1,26 @@
 -- A peripheral takes a PDU of the encryption: the machine's step.
-use Rattle.std.proofs.Common.{◌≡◌, ℕ, Bool, true, false, not, ◌&&◌, ◌||◌, List, [], ◌∷◌, ◌++◌, Option, Some, None, is_none, is_some, refl, ap, ap₂, sym, subst, ◌∙◌, if◌then◌else◌}
-use Rattle.std.proofs.lemmas.Bool.{and_parts, false_from_ne_true}
+use Rattle.std.proofs.Common.{◌≡◌, ℕ, Bool, true, false, ◌||◌, Some, None, refl, ap, sym, subst, ◌∙◌, if◌then◌else◌}
 use Rattle.ble_base.specs.declared.roles.Role.TheVariants.{Peripheral as peripheral_role}
 use Rattle.data_pdu.specs.declared.ctrl.Ctrl.{Ctrl}
-use Rattle.data_pdu.specs.declared.ctrl.Ctrl.TheVariants.{EncReq as enc_req, EncRsp as enc_rsp, PauseEncReq as pause_enc_req, PauseEncRsp as pause_enc_rsp, RejectExtInd, RejectInd, StartEncReq as start_enc_req, StartEncRsp as start_enc_rsp, TerminateInd}
+use Rattle.data_pdu.specs.declared.ctrl.Ctrl.TheVariants.{EncReq as enc_req, EncRsp as enc_rsp, PauseEncReq as pause_enc_req, PauseEncRsp as pause_enc_rsp, RejectExtInd, RejectInd, StartEncReq as start_enc_req, StartEncRsp as start_enc_rsp}
 use Rattle.data_pdu.specs.declared.ctrl.CtrlRead.TheVariants.{Known}
 use Rattle.enc_phase.specs.declared.classes.PduClass.{PduClass}
-use Rattle.enc_phase.specs.declared.classes.PduClass.TheVariants.{EncReq, EncRsp, Other, PauseEncReq, PauseEncRsp, Refusal, Request, StartEncReq, StartEncRsp}
+use Rattle.enc_phase.specs.declared.classes.PduClass.TheVariants.{EncReq, EncRsp, Other, PauseEncReq, PauseEncRsp, Refusal, StartEncReq, StartEncRsp}
 use Rattle.enc_phase.specs.declared.facts.PhaseFacts.{PhaseFacts}
-use Rattle.enc_phase.specs.declared.facts.PhaseFacts.TheVariants.{Asked, Clear, HalfClear, HalfKeyed, Pausing, Secure}
+use Rattle.enc_phase.specs.declared.facts.PhaseFacts.TheVariants.{Clear, HalfClear, Pausing, Secure}
 use Rattle.enc_phase.specs.declared.facts.Transition.{Transition}
 use Rattle.enc_phase.specs.declared.facts.Transition.TheVariants.{Ask, Confirm, Pause, Unlock}
 use Rattle.enc_phase.specs.Phases.{is_quiet, may_follow, phase_after}
 use Rattle.enc_phase.specs.Taking.{allows, ctrl_class, is_unknown, phase_taking}
 use Rattle.procedure_values.specs.declared.drafts.Draft.TheVariants.{Cipher}
 use Rattle.procedure_stages.specs.declared.reply.Reply.{Reply}
-use Rattle.procedure_stages.specs.declared.reply.Reply.TheVariants.{Nothing as no_reply}
 use Rattle.procedure_stages.specs.Closing.{is_open}
 use Rattle.procedure_stages.specs.Queue.{with_reply}
 use Rattle.procedures.specs.Going.{closing_given}
 use Rattle.procedures.specs.Taking.{outcome_of}
 use Rattle.phase_pairs.specs.declared.peripheral.PhasePeripheral.{PhasePeripheral}
 use Rattle.phase_pairs.specs.Agreement.{has_meaning}
-use Rattle.phase_pairs.specs.Peripheral.{is_open as is_peripheral_open, peripheral_asked, peripheral_confirming, peripheral_pausing, peripheral_queuing, peripheral_taken}
+use Rattle.phase_pairs.specs.Peripheral.{is_open as is_peripheral_open, peripheral_asked, peripheral_queuing, peripheral_taken}
 use Rattle.phased_control.specs.Phased.{Phased}
 use Rattle.phased_control.specs.Taken.{Takes, asked, ciphered_at_peripheral, is_version, moved_if, moved_to, phased_after}
 use Rattle.joint_controls.specs.Joint.{is_terminate}
@@ -30,7 +28,7 @@ use Rattle.phase_pairs.specs.Agreement.{is_encryption}
 use Rattle.joint_phases.specs.Classes.{draft_up}
 use Rattle.joint_phases.specs.Facts.{is_enc_rsp}
 use Rattle.joint_phases.specs.Parts.{IsPeripheral, wait_up}
-use Rattle.joint_phases.proofs.CentralEnters.{at_open, none_of_two, opened}
+use Rattle.joint_phases.proofs.CentralEnters.{at_open, opened}
 use Rattle.joint_phases.proofs.PeripheralEnters.{open_up}
 use Rattle.joint_phases.proofs.PeripheralGoes.{HasRoom, owes_up, state_peripheral}
 use Rattle.joint_phases.proofs.PeripheralPlain.{TakesAs, or_not}
@@ -122,8 +120,8 @@ module _ (s : Phased) (p : PhasePeripheral) (response : Ctrl) (slot : ℕ) (cros
   abbrev result : Ctrl → Phased
   result ctrl = phased_after (Takes (Known ctrl) slot response) (opened s)
 
-  abbrev Takes_it : Ctrl → Type 0
-  Takes_it ctrl =
+  abbrev MayTake : Ctrl → Type 0
+  MayTake ctrl =
       allows s.phase peripheral_role (ctrl_class ctrl) ≡ true → is_unknown s.phase peripheral_role (ctrl_class ctrl) ≡ false
       → (result ctrl).control.ends ≡ None → TakesAs (result ctrl) (peripheral_taken crossed (ctrl_class ctrl) p) (s.knows_version || is_version (Known ctrl))
 
@@ -131,18 +129,18 @@ module _ (s : Phased) (p : PhasePeripheral) (response : Ctrl) (slot : ℕ) (cros
       (phase : phase_taking (ctrl_class ctrl) s.phase ≡ s.phase)
       (then_is : (t : Phased) → IsPeripheral (opened t) p → IsPeripheral (ciphered_at_peripheral response ctrl (opened t)) (peripheral_taken crossed (ctrl_class ctrl) p))
       (then_knows : (t : Phased) → (ciphered_at_peripheral response ctrl t).knows_version ≡ t.knows_version) where
-    cipher_takes : Takes_it ctrl
+    cipher_takes : MayTake ctrl
     cipher_takes allowed known lasts =
         let g = goes s p ctrl response slot is allowed known lasts in
         let t : Phased = seen s p ctrl response slot is allowed known false in
         let silent = cipher_silent s.control.table s.control.table.progress (is_quiet s.phase) ctrl is.role cipher in
         let knows : (s.knows_version || is_version (Known ctrl)) ≡ s.knows_version = or_not s.knows_version (is_version (Known ctrl)) version in
         let waits : Waits s p ctrl response slot is allowed known p.request p.owes (with_reply s.control.table.closing (outcome_of s.control.table (is_quiet s.phase) (Known ctrl)).reply s.control.table.queue) =
-            record {
-              rejects = ap (λ (r : Reply). (with_reply s.control.table.closing r s.control.table.queue).rejections) silent ∙ is.rejects;
-              waits =
-                  (λ i. wait_up (draft_up (knows i)) (with_reply s.control.table.closing (silent i) s.control.table.queue).drafts p) ∙ is.waits;
-            } in
+        record {
+          rejects = ap (λ (r : Reply). (with_reply s.control.table.closing r s.control.table.queue).rejections) silent ∙ is.rejects;
+          waits =
+              (λ i. wait_up (draft_up (knows i)) (with_reply s.control.table.closing (silent i) s.control.table.queue).drafts p) ∙ is.waits;
+        } in
         let here : IsPeripheral t p = taken_part s p ctrl response slot is allowed known p.request p.owes apart (phase ∙ is.phase) (λ o. waits) g.lasts in
         let after_it = at_open (λ x. IsPeripheral x p → IsPeripheral (ciphered_at_peripheral response ctrl x) (peripheral_taken crossed (ctrl_class ctrl) p)) t g.lasts (then_is t) here in
         record {
@@ -154,27 +152,22 @@ module _ (s : Phased) (p : PhasePeripheral) (response : Ctrl) (slot : ℕ) (cros
   if_knows true t u h = h
   if_knows false t u h = refl
 
-  abbrev is_other_session : Ctrl → Bool
-  is_other_session (enc_rsp skd_s iv_s) = true
-  is_other_session start_enc_req = true
-  is_other_session ctrl = false
-
-  takes_enc_req : (rand ediv skd_m iv_m : ℕ) → Takes_it (enc_req rand ediv skd_m iv_m)
+  takes_enc_req : (rand ediv skd_m iv_m : ℕ) → MayTake (enc_req rand ediv skd_m iv_m)
   takes_enc_req rand ediv skd_m iv_m =
       cipher_takes (enc_req rand ediv skd_m iv_m) refl refl refl refl (λ t here. asked_then t p here room response answers)
       (λ t. if_knows (may_follow Ask t.phase) _ _ refl)
 
-  takes_pause_req : Takes_it pause_enc_req
+  takes_pause_req : MayTake pause_enc_req
   takes_pause_req =
       cipher_takes pause_enc_req refl refl refl refl (λ t here. moved_then t p here room Pause pause_enc_rsp PauseEncRsp refl refl refl)
       (λ t. if_knows (may_follow Pause t.phase) _ _ refl)
 
-  takes_start_rsp : Takes_it start_enc_rsp
+  takes_start_rsp : MayTake start_enc_rsp
   takes_start_rsp =
       cipher_takes start_enc_rsp refl refl refl refl (λ t here. moved_then t p here room Confirm start_enc_rsp StartEncRsp refl refl refl)
       (λ t. if_knows (may_follow Confirm t.phase) _ _ refl)
 
-  takes_pause_rsp : Takes_it pause_enc_rsp
+  takes_pause_rsp : MayTake pause_enc_rsp
   takes_pause_rsp =
       cipher_takes pause_enc_rsp refl refl refl refl (λ t here. unlocked_then t p here room)
       (λ t. if_knows (may_follow Unlock t.phase) _ _ refl)

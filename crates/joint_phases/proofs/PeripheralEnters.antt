@@ -1,21 +1,17 @@
 -- A peripheral enters an event, and hears its host: what the machine of phases sees of it.
-use Rattle.std.proofs.Common.{◌≡◌, ℕ, Bool, true, false, not, ◌&&◌, ◌||◌, List, [], ◌∷◌, ◌++◌, Option, Some, None, Result, Ok, Err, remove, is_none, is_some, refl, ap, ap₂, sym, subst, ◌∙◌, if◌then◌else◌}
-use Rattle.std.proofs.lemmas.Bool.{and_from, and_parts, false_from_ne_true}
+use Rattle.std.proofs.Common.{◌≡◌, ℕ, Bool, true, false, ◌&&◌, List, [], ◌∷◌, ◌++◌, Option, Some, None, Result, remove, is_some, refl, ap, sym, subst, ◌∙◌, if◌then◌else◌}
 use Rattle.ble_base.specs.declared.error_codes.ErrCode.{ErrCode}
-use Rattle.ble_base.specs.declared.roles.Role.TheVariants.{Central as central_role, Peripheral as peripheral_role}
-use Rattle.data_pdu.specs.declared.ctrl.Ctrl.{Ctrl}
-use Rattle.enc_phase.specs.declared.classes.PduClass.{PduClass}
-use Rattle.enc_phase.specs.declared.classes.PduClass.TheVariants.{Other, Request}
-use Rattle.enc_phase.specs.declared.facts.PhaseFacts.{PhaseFacts}
+use Rattle.ble_base.specs.declared.roles.Role.TheVariants.{Peripheral as peripheral_role}
+use Rattle.enc_phase.specs.declared.classes.PduClass.TheVariants.{Request}
 use Rattle.enc_phase.specs.Phases.{is_quiet}
 use Rattle.instants.specs.Track.{TrackFacts, next_number, track_after_enter}
 use Rattle.procedure_values.specs.declared.asks.Ask.{Ask}
 use Rattle.procedure_values.specs.declared.asks.Ask.TheVariants.{Encrypt, Features, Length, Map, Phy, Request as ask_request, Update, Version}
 use Rattle.procedure_values.specs.declared.drafts.Draft.{Draft}
-use Rattle.procedure_values.specs.declared.drafts.Draft.TheVariants.{LengthReq, PeripheralFeatureReq, PhyReq, Request as request_draft, VersionInd}
+use Rattle.procedure_values.specs.declared.drafts.Draft.TheVariants.{VersionInd}
 use Rattle.procedure_values.specs.Asks.{kind_of_ask}
 use Rattle.procedure_stages.specs.declared.closing.Closing.{Closing}
-use Rattle.procedure_stages.specs.declared.closing.Closing.TheVariants.{Closed, Disconnecting, Open}
+use Rattle.procedure_stages.specs.declared.closing.Closing.TheVariants.{Open}
 use Rattle.procedure_stages.specs.declared.stages.OwnPeripheral.{OwnPeripheral}
 use Rattle.procedure_stages.specs.declared.stages.Peripheral.{Peripheral}
 use Rattle.procedure_stages.specs.declared.stages.Progress.{Progress}
@@ -23,7 +19,7 @@ use Rattle.procedure_stages.specs.declared.stages.Progress.TheVariants.{Central 
 use Rattle.procedure_stages.specs.Closing.{is_open}
 use Rattle.procedure_stages.specs.Held.{progress_held}
 use Rattle.procedure_stages.specs.Kinds.{begins, role_of}
-use Rattle.procedures.specs.Beginning.{ask_at, begin_at, begin_step, facts_begun, first_draft, place_to_begin}
+use Rattle.procedures.specs.Beginning.{ask_at, begin_at, facts_begun, first_draft, place_to_begin}
 use Rattle.procedure_stages.specs.InProgress.{is_host_asked}
 use Rattle.procedures.specs.Going.{entered_step, host_answer_step, is_answer, terminate_step}
 use Rattle.procedures.specs.Table.{TableFacts}
@@ -34,9 +30,9 @@ use Rattle.phase_pairs.specs.declared.peripheral.PhaseClosing.TheVariants.{Disco
 use Rattle.phase_pairs.specs.declared.peripheral.PhasePeripheral.{PhasePeripheral}
 use Rattle.phase_pairs.specs.declared.peripheral.UnsentRequest.{UnsentRequest}
 use Rattle.phase_pairs.specs.declared.peripheral.UnsentRequest.TheVariants.{Absent}
-use Rattle.phase_pairs.specs.Peripheral.{has_unsent, is_closing_open, is_open as is_peripheral_open, is_waiting, peripheral_begins, peripheral_closes}
+use Rattle.phase_pairs.specs.Peripheral.{is_closing_open, is_open as is_peripheral_open, peripheral_begins, peripheral_closes}
 use Rattle.phased_control.specs.Phased.{Phased, encrypting_if, is_encrypt, request_of}
-use Rattle.phased_control.specs.Taken.{Answers, Asks, Disconnects as disconnects_step, Enters, phased_after, role_now}
+use Rattle.phased_control.specs.Taken.{Answers, Asks, Disconnects as disconnects_step, Enters, phased_after}
 use Rattle.joint_phases.specs.Classes.{draft_up, has_request}
 use Rattle.joint_phases.specs.Events.{does_begin, has_first_draft}
 use Rattle.joint_phases.specs.Parts.{IsPeripheral, closing_up, wait_up}
@@ -98,7 +94,7 @@ module _ (s : Phased) (p : PhasePeripheral) (track : TrackFacts) (g : TableFacts
       → IsPeripheral (phased_at table) (peripheral_begins p)
   with_first used own draft table is absent progress closing queue class =
       let h : wait_up (draft_up s.knows_version) g.queue.drafts (record p { request = Absent }) ≡ true =
-          subst (λ (r : UnsentRequest). wait_up (draft_up s.knows_version) g.queue.drafts (record p { request = r }) ≡ true) absent is.waits in
+      subst (λ (r : UnsentRequest). wait_up (draft_up s.knows_version) g.queue.drafts (record p { request = r }) ≡ true) absent is.waits in
       record {
         role = ap role_of progress;
         phase = is.phase;
@@ -185,10 +181,10 @@ module _ (s : Phased) (p : PhasePeripheral) (slot : ℕ) (is : IsPeripheral (ope
       let role : begins peripheral_role (kind_of_ask ask) ≡ true = ap (λ r. begins r (kind_of_ask ask)) (sym is_entered.role) ∙ may.role in
       let same = entered_same s.control.table (is_some (next_number s.control.track)) in
       let unknown : table.version_used ≡ false → s.knows_version ≡ true → ⊥ =
-          λ unused. λ knows. none_of_two _ _ (sym (used_same s.control.table (is_some (next_number s.control.track))) ∙ unused)
-          (known knows (ap is_open (sym same.closing) ∙ may.lasts)) in
+      λ unused. λ knows. none_of_two _ _ (sym (used_same s.control.table (is_some (next_number s.control.track))) ∙ unused)
+      (known knows (ap is_open (sym same.closing) ∙ may.lasts)) in
       let at_end : goes (peripheral x.0) Open place ask =
-          λ here. λ none. begun s p track table x.0 table.version_used slot ask (remove table.wanted place) role here none unknown in
+      λ here. λ none. begun s p track table x.0 table.version_used slot ask (remove table.wanted place) role here none unknown in
       let with_closing : goes (peripheral x.0) table.closing place ask = subst (λ (cl : Closing). goes (peripheral x.0) cl place ask) (sym opens) at_end in
       subst (λ (q : Progress). goes q table.closing place ask) (sym x.1) with_closing is_entered absent
 
@@ -257,8 +253,7 @@ module _ (s : Phased) (p : PhasePeripheral) (is : IsPeripheral (opened s) p) whe
       → ClosesAs p b (record s { control = table_if b (terminate_step s.control.table reason) (record s.control { ends = None }) })
   closes_if false reason opens = is
   closes_if true reason opens =
-      let same = same_queue (is_open s.control.table.closing) reason in
-      (
+      let same = same_queue (is_open s.control.table.closing) reason in (
         sym (open_up p.closing) ∙ ap is_open (sym is.closing) ∙ opens,
         record {
           role = is.role;

@@ -1,37 +1,32 @@
 -- A peripheral has a key or none, sends, and sees its PDU acknowledged: what the machine of phases sees of it.
-use Rattle.std.proofs.Common.{◌≡◌, ℕ, Bool, true, false, not, ◌&&◌, ◌||◌, List, [], ◌∷◌, ◌++◌, Option, Some, None, remove, is_none, is_some, refl, ap, ap₂, sym, subst, ◌∙◌, if◌then◌else◌}
-use Rattle.std.proofs.lemmas.Bool.{and_from, and_parts, false_from_ne_true}
+use Rattle.std.proofs.Common.{◌≡◌, Bool, true, false, not, ◌&&◌, [], ◌∷◌, ◌++◌, Some, is_none, refl, ap, sym, subst, ◌∙◌, if◌then◌else◌}
+use Rattle.std.proofs.lemmas.Bool.{and_parts}
 use Rattle.ble_base.specs.ErrorCodes.{pin_or_key_missing}
-use Rattle.ble_base.specs.declared.error_codes.ErrCode.{ErrCode}
 use Rattle.ble_base.specs.declared.roles.Role.TheVariants.{Peripheral as peripheral_role}
 use Rattle.data_pdu.specs.declared.ctrl.Ctrl.{Ctrl}
 use Rattle.data_pdu.specs.declared.ctrl.Ctrl.TheVariants.{RejectExtInd, StartEncReq as start_enc_req, TerminateInd}
 use Rattle.enc_phase.specs.declared.classes.PduClass.{PduClass}
-use Rattle.enc_phase.specs.declared.classes.PduClass.TheVariants.{Data, Other, Refusal, Request, StartEncReq, Terminate}
+use Rattle.enc_phase.specs.declared.classes.PduClass.TheVariants.{Refusal, StartEncReq, Terminate}
 use Rattle.enc_phase.specs.declared.facts.PhaseFacts.{PhaseFacts}
 use Rattle.enc_phase.specs.declared.facts.Transition.TheVariants.{Refuse as RefuseTransition}
-use Rattle.enc_phase.specs.Phases.{is_quiet, may_follow, phase_after, phase_starting}
-use Rattle.procedure_values.specs.declared.drafts.Draft.{Draft}
+use Rattle.enc_phase.specs.Phases.{may_follow, phase_after, phase_starting}
 use Rattle.procedure_values.specs.declared.drafts.Draft.TheVariants.{Cipher}
-use Rattle.procedure_stages.specs.declared.closing.Closing.{Closing}
-use Rattle.procedure_stages.specs.declared.closing.Closing.TheVariants.{Open}
 use Rattle.procedure_stages.specs.declared.stages.Progress.{Progress}
 use Rattle.procedure_stages.specs.declared.stages.Progress.TheVariants.{Central as central, Peripheral as peripheral}
 use Rattle.procedure_stages.specs.Closing.{closed, is_open}
 use Rattle.procedure_stages.specs.Kinds.{role_of}
-use Rattle.procedure_stages.specs.Queue.{QueueFacts, with_draft}
+use Rattle.procedure_stages.specs.Queue.{with_draft}
 use Rattle.procedures.specs.Encryption.{is_rejection, progress_given}
-use Rattle.procedures.specs.Going.{closing_given, owe_step}
+use Rattle.procedures.specs.Going.{closing_given}
 use Rattle.procedure_stages.specs.Opcodes.{enc_req_opcode}
-use Rattle.phase_pairs.specs.declared.peripheral.PhaseClosing.{PhaseClosing}
-use Rattle.phase_pairs.specs.declared.peripheral.PhaseClosing.TheVariants.{Disconnects, HasNoKey, Open as open_closing}
+use Rattle.phase_pairs.specs.declared.peripheral.PhaseClosing.TheVariants.{HasNoKey}
 use Rattle.phase_pairs.specs.declared.peripheral.PhasePeripheral.{PhasePeripheral}
-use Rattle.phase_pairs.specs.Peripheral.{is_closing_open, is_open as is_peripheral_open, is_waiting, may_get_key, peripheral_queuing, peripheral_with_key, peripheral_without_key}
+use Rattle.phase_pairs.specs.Peripheral.{is_open as is_peripheral_open, is_waiting, may_get_key, peripheral_queuing, peripheral_with_key, peripheral_without_key}
 use Rattle.phased_control.specs.Phased.{Phased, key_lacking, refused_if, with_owed}
 use Rattle.phased_control.specs.Taken.{GivesKey, LacksKey, phased_after}
 use Rattle.joint_phases.specs.Classes.{draft_up}
 use Rattle.joint_phases.specs.Parts.{IsPeripheral, closing_up, wait_up}
-use Rattle.joint_phases.proofs.CentralEnters.{none_of_two, open_is, opened}
+use Rattle.joint_phases.proofs.CentralEnters.{open_is, opened}
 use Rattle.joint_phases.proofs.MachineFacts.{is_after}
 use Rattle.joint_phases.proofs.PeripheralEnters.{open_up}
 use Rattle.joint_phases.proofs.PeripheralQueue.{is_queued_class, queues_more, state_waits}
@@ -71,7 +66,7 @@ module _ (t : Phased) (p : PhasePeripheral) (ctrl : Ctrl) (k : PduClass) (is : I
     (one : is_queued_class k ≡ true) (room : HasRoom p) where
   queue_by : (b : Bool)
       → (wait_up (draft_up t.knows_version) (if b then record t.control.table.queue { drafts = t.control.table.queue.drafts ++ Cipher ctrl ∷ [] } else t.control.table.queue).drafts
-        (if b then (if is_waiting p then record p { second = Some k } else record p { first = Some k }) else p) ≡ true)
+      (if b then (if is_waiting p then record p { second = Some k } else record p { first = Some k }) else p) ≡ true)
       × ((if b then record t.control.table.queue { drafts = t.control.table.queue.drafts ++ Cipher ctrl ∷ [] } else t.control.table.queue).rejections ≡ [])
   queue_by true =
       (queues_more (draft_up t.knows_version) p t.control.table.queue.drafts k (Cipher ctrl) class one is.waits room.after room.room room.request, is.rejects)
@@ -84,7 +79,7 @@ module _ (t : Phased) (p : PhasePeripheral) (ctrl : Ctrl) (k : PduClass) (is : I
       × ((with_draft t.control.table.closing (Cipher ctrl) t.control.table.queue).rejections ≡ [])
   queue_up =
       subst (λ (b : Bool). (wait_up (draft_up t.knows_version) (with_draft t.control.table.closing (Cipher ctrl) t.control.table.queue).drafts
-        (if b then (if is_waiting p then record p { second = Some k } else record p { first = Some k }) else p) ≡ true)
+      (if b then (if is_waiting p then record p { second = Some k } else record p { first = Some k }) else p) ≡ true)
       × ((with_draft t.control.table.closing (Cipher ctrl) t.control.table.queue).rejections ≡ []))
       opens (queue_by (is_open t.control.table.closing))
 
@@ -135,14 +130,13 @@ module _ (s : Phased) (p : PhasePeripheral) (is : IsPeripheral (opened s) p) (ro
   key_by : (b : Bool) → (s.asks_key && is_open s.control.table.closing) ≡ b
       → KeyAs p b (if b then with_owed start_enc_req (record (opened s) { asks_key = false; phase = phase_starting s.phase }) else opened s)
   key_by false asked = is
-  key_by true asked =
-      (
-        may_get asked,
-        subst (λ (q : PhaseFacts). IsPeripheral (with_owed start_enc_req (record (opened s) { asks_key = false; phase = phase_starting s.phase })) (peripheral_queuing StartEncReq (record p { asks_key = false; phase = phase_starting q })))
+  key_by true asked = (
+    may_get asked,
+    subst (λ (q : PhaseFacts). IsPeripheral (with_owed start_enc_req (record (opened s) { asks_key = false; phase = phase_starting s.phase })) (peripheral_queuing StartEncReq (record p { asks_key = false; phase = phase_starting q })))
         is.phase
         (owes_up (record s { asks_key = false; phase = phase_starting s.phase }) (record p { asks_key = false; phase = phase_starting s.phase }) start_enc_req StartEncReq
         (state_peripheral (opened s) p (phase_starting s.phase) false is) refl refl (without_state (phase_starting s.phase) (asked_room asked)) refl),
-      )
+  )
 
   pub peripheral_key : KeyAs p (s.asks_key && is_open s.control.table.closing) (phased_after GivesKey (opened s))
   peripheral_key = key_by (s.asks_key && is_open s.control.table.closing) refl
@@ -196,12 +190,11 @@ module _ (s : Phased) (p : PhasePeripheral) (is : IsPeripheral (opened s) p) (ro
 
   lacks_by : (b : Bool) → (s.asks_key && is_open s.control.table.closing) ≡ b → NoKeyAs p b (if b then key_lacking (opened s) else opened s)
   lacks_by false asked = is
-  lacks_by true asked =
-      (
-        may_get asked,
-        subst (λ (q : PhaseFacts). IsPeripheral (key_lacking (opened s)) (if may_follow RefuseTransition q then refused_to q else keyless)) is.phase
+  lacks_by true asked = (
+    may_get asked,
+    subst (λ (q : PhaseFacts). IsPeripheral (key_lacking (opened s)) (if may_follow RefuseTransition q then refused_to q else keyless)) is.phase
         (lacks_if (may_follow RefuseTransition s.phase) (asked_room asked) (and_parts s.asks_key (is_open s.control.table.closing) asked).1),
-      )
+  )
 
   pub peripheral_lacks : NoKeyAs p (s.asks_key && is_open s.control.table.closing) (phased_after LacksKey (opened s))
   peripheral_lacks = lacks_by (s.asks_key && is_open s.control.table.closing) refl

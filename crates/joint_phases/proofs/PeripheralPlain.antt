@@ -1,39 +1,32 @@
 -- A peripheral takes a PDU of another procedure in phase Clear or Secure: the machine's step.
-use Rattle.std.proofs.Common.{◌≡◌, ℕ, Bool, true, false, not, ◌&&◌, ◌||◌, List, [], ◌∷◌, ◌++◌, Option, Some, None, is_none, is_some, refl, ap, ap₂, sym, subst, ◌∙◌, if◌then◌else◌}
-use Rattle.std.proofs.lemmas.Bool.{and_parts, false_from_ne_true}
+use Rattle.std.proofs.Common.{◌≡◌, ℕ, Bool, true, false, ◌||◌, [], ◌∷◌, ◌++◌, Option, None, refl, ap, sym, subst, ◌∙◌, if◌then◌else◌}
 use Rattle.ble_base.specs.declared.roles.Role.TheVariants.{Peripheral as peripheral_role}
 use Rattle.data_pdu.specs.declared.ctrl.Ctrl.{Ctrl}
 use Rattle.data_pdu.specs.declared.ctrl.Ctrl.TheVariants.{VersionInd}
 use Rattle.data_pdu.specs.declared.ctrl.CtrlRead.TheVariants.{Known}
 use Rattle.enc_phase.specs.declared.classes.PduClass.{PduClass}
-use Rattle.enc_phase.specs.declared.classes.PduClass.TheVariants.{Other, Request}
-use Rattle.enc_phase.specs.declared.facts.PhaseFacts.{PhaseFacts}
+use Rattle.enc_phase.specs.declared.classes.PduClass.TheVariants.{Other}
 use Rattle.enc_phase.specs.Phases.{is_quiet}
 use Rattle.enc_phase.specs.Taking.{allows, ctrl_class, is_unknown}
 use Rattle.procedures.specs.declared.outcome.Outcome.{Outcome}
 use Rattle.procedure_values.specs.declared.drafts.Draft.{Draft}
-use Rattle.procedure_values.specs.declared.drafts.Draft.TheVariants.{VersionInd as version_draft}
 use Rattle.procedure_stages.specs.declared.reply.Reply.{Reply}
 use Rattle.procedure_stages.specs.declared.reply.Reply.TheVariants.{Answer, Nothing as no_reply}
 use Rattle.procedure_stages.specs.Closing.{is_open}
 use Rattle.procedure_stages.specs.Queue.{QueueFacts, with_draft, with_reply}
 use Rattle.procedures.specs.Taking.{outcome_of}
-use Rattle.procedures.specs.Version.{version_reply}
 use Rattle.phase_pairs.specs.declared.peripheral.PhasePeripheral.{PhasePeripheral}
 use Rattle.phase_pairs.specs.declared.peripheral.UnsentRequest.{UnsentRequest}
 use Rattle.phase_pairs.specs.declared.peripheral.UnsentRequest.TheVariants.{Absent}
-use Rattle.phase_pairs.specs.Agreement.{is_encryption}
 use Rattle.phase_pairs.specs.Peripheral.{is_open as is_peripheral_open, peripheral_answering}
 use Rattle.phased_control.specs.Phased.{Phased}
 use Rattle.phased_control.specs.Taken.{Takes, is_version, phased_after}
 use Rattle.joint_controls.specs.Joint.{is_terminate}
-use Rattle.joint_phases.specs.Classes.{class_down, draft_up, has_version, is_version_ctrl}
+use Rattle.joint_phases.specs.Classes.{draft_up, has_version, is_version_ctrl}
 use Rattle.joint_phases.specs.Parts.{IsPeripheral, wait_up}
-use Rattle.joint_phases.proofs.CentralEnters.{none_of_two, opened}
-use Rattle.joint_phases.proofs.CentralTable.{took_table_if}
+use Rattle.joint_phases.proofs.CentralEnters.{opened}
 use Rattle.joint_phases.proofs.PeripheralEnters.{open_up}
-use Rattle.joint_phases.proofs.PeripheralQueue.{crosses, owes_more, unversioned, with_waits}
-use Rattle.joint_phases.proofs.PeripheralTable.{IsAnswered, is_answered, is_silent, version_sent}
+use Rattle.joint_phases.proofs.PeripheralQueue.{crosses, owes_more, with_waits}
 use Rattle.joint_phases.proofs.PeripheralTakes.{Waits, goes, seen, taken_part}
 use Rattle.joint_phases.proofs.Plain.{allows_quiet, is_session, known_at_peripheral, plain_at_peripheral, taking_quiet}
 
@@ -112,11 +105,10 @@ module _ (s : Phased) (p : PhasePeripheral) (ctrl response : Ctrl) (slot : ℕ) 
       → wait_up (draft_up now) s.control.table.queue.drafts p ≡ true
       → ((with_reply s.control.table.closing reply s.control.table.queue).rejections ≡ [])
       × (wait_up (draft_up now) (with_reply s.control.table.closing reply s.control.table.queue).drafts p ≡ true)
-  silent_waits now reply none waits =
-      (
-        ap (λ (r : Reply). (with_reply s.control.table.closing r s.control.table.queue).rejections) none ∙ is.rejects,
-        ap (λ (r : Reply). wait_up (draft_up now) (with_reply s.control.table.closing r s.control.table.queue).drafts p) none ∙ waits,
-      )
+  silent_waits now reply none waits = (
+    ap (λ (r : Reply). (with_reply s.control.table.closing r s.control.table.queue).rejections) none ∙ is.rejects,
+    ap (λ (r : Reply). wait_up (draft_up now) (with_reply s.control.table.closing r s.control.table.queue).drafts p) none ∙ waits,
+  )
 
   pub takes_silent : (reply_none : outcome.reply ≡ no_reply) → wait_up (draft_up knows_now) s.control.table.queue.drafts p ≡ true → TakesAs result p knows_now
   takes_silent reply_none waits =
@@ -133,12 +125,11 @@ module _ (s : Phased) (p : PhasePeripheral) (ctrl response : Ctrl) (slot : ℕ) 
       → ((with_reply s.control.table.closing reply s.control.table.queue).rejections ≡ [])
       × (wait_up (draft_up knows_now) (with_reply s.control.table.closing reply s.control.table.queue).drafts (peripheral_answering false p) ≡ true)
   answer_waits draft reply is_answer class first second none waits =
-      let done = answer_by (draft_up knows_now) p s.control.table.queue draft class first second none waits (is_open s.control.table.closing) in
-      (
+      let done = answer_by (draft_up knows_now) p s.control.table.queue draft class first second none waits (is_open s.control.table.closing) in (
         ap (λ (r : Reply). (with_reply s.control.table.closing r s.control.table.queue).rejections) is_answer
-        ∙ rejections_same (is_open s.control.table.closing) s.control.table.queue draft ∙ is.rejects,
+            ∙ rejections_same (is_open s.control.table.closing) s.control.table.queue draft ∙ is.rejects,
         ap (λ (r : Reply). wait_up (draft_up knows_now) (with_reply s.control.table.closing r s.control.table.queue).drafts (peripheral_answering false p)) is_answer
-        ∙ subst (λ (b : Bool). wait_up (draft_up knows_now) (with_draft s.control.table.closing draft s.control.table.queue).drafts (record p { owes = b || p.owes }) ≡ true) opens done,
+            ∙ subst (λ (b : Bool). wait_up (draft_up knows_now) (with_draft s.control.table.closing draft s.control.table.queue).drafts (record p { owes = b || p.owes }) ≡ true) opens done,
       )
 
   pub takes_answered : (outcome.step.ends ≡ None → (draft : Draft) × (outcome.reply ≡ Answer draft) × (draft_up knows_now draft ≡ Other)) → p.first ≡ None → p.second ≡ None → p.owes ≡ false
@@ -146,8 +137,8 @@ module _ (s : Phased) (p : PhasePeripheral) (ctrl response : Ctrl) (slot : ℕ) 
   takes_answered answers first second none waits =
       takes_with p.request (is_peripheral_open p || p.owes)
       (λ goes. let a = answers goes in
-        let h = answer_waits a.0 outcome.reply a.1 a.2 first second none waits in
-        record { rejects = h.0; waits = h.1 })
+      let h = answer_waits a.0 outcome.reply a.1 a.2 first second none waits in
+      record { rejects = h.0; waits = h.1 })
 
   -- ---- an LL_VERSION_IND that crosses the own one, which waits
 
@@ -156,16 +147,16 @@ module _ (s : Phased) (p : PhasePeripheral) (ctrl response : Ctrl) (slot : ℕ) 
   takes_crossing reply_none unknown version has first second none =
       let here : wait_up (draft_up false) s.control.table.queue.drafts p ≡ true = subst (λ (b : Bool). wait_up (draft_up b) s.control.table.queue.drafts p ≡ true) unknown is.waits in
       let h : wait_up (draft_up false) s.control.table.queue.drafts (with_waits p None None p.request false) ≡ true =
-          subst (λ (o : Bool). wait_up (draft_up false) s.control.table.queue.drafts (with_waits p None None p.request o) ≡ true) none
-          (subst (λ (k : Option PduClass). wait_up (draft_up false) s.control.table.queue.drafts (with_waits p None k p.request p.owes) ≡ true) second
-          (subst (λ (k : Option PduClass). wait_up (draft_up false) s.control.table.queue.drafts (with_waits p k p.second p.request p.owes) ≡ true) first here)) in
+      subst (λ (o : Bool). wait_up (draft_up false) s.control.table.queue.drafts (with_waits p None None p.request o) ≡ true) none
+      (subst (λ (k : Option PduClass). wait_up (draft_up false) s.control.table.queue.drafts (with_waits p None k p.request p.owes) ≡ true) second
+      (subst (λ (k : Option PduClass). wait_up (draft_up false) s.control.table.queue.drafts (with_waits p k p.second p.request p.owes) ≡ true) first here)) in
       let done = crosses s.control.table.queue.drafts p p.request has h in
       let one : wait_up (draft_up true) s.control.table.queue.drafts (record p { request = Absent; owes = true }) ≡ true =
-          subst (λ (k : Option PduClass). wait_up (draft_up true) s.control.table.queue.drafts (with_waits p k p.second Absent true) ≡ true) (sym first)
-          (subst (λ (k : Option PduClass). wait_up (draft_up true) s.control.table.queue.drafts (with_waits p None k Absent true) ≡ true) (sym second) done) in
+      subst (λ (k : Option PduClass). wait_up (draft_up true) s.control.table.queue.drafts (with_waits p k p.second Absent true) ≡ true) (sym first)
+      (subst (λ (k : Option PduClass). wait_up (draft_up true) s.control.table.queue.drafts (with_waits p None k Absent true) ≡ true) (sym second) done) in
       let knows_it : knows_now ≡ true = (λ i. unknown i || version i) in
       let waits : wait_up (draft_up knows_now) s.control.table.queue.drafts (record p { request = Absent; owes = true }) ≡ true =
-          subst (λ (b : Bool). wait_up (draft_up b) s.control.table.queue.drafts (record p { request = Absent; owes = true }) ≡ true) (sym knows_it) one in
+      subst (λ (b : Bool). wait_up (draft_up b) s.control.table.queue.drafts (record p { request = Absent; owes = true }) ≡ true) (sym knows_it) one in
       takes_with Absent true
       (λ goes. record {
         rejects = ap (λ (r : Reply). (with_reply s.control.table.closing r s.control.table.queue).rejections) reply_none ∙ is.rejects;

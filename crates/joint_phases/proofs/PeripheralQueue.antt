@@ -10,10 +10,8 @@ use Rattle.procedure_values.specs.Drafts.{ctrl_of_draft}
 use Rattle.phase_pairs.specs.declared.peripheral.PhasePeripheral.{PhasePeripheral}
 use Rattle.phase_pairs.specs.declared.peripheral.UnsentRequest.{UnsentRequest}
 use Rattle.phase_pairs.specs.declared.peripheral.UnsentRequest.TheVariants.{Absent, First, Last}
-use Rattle.phase_pairs.specs.Agreement.{is_encryption}
-use Rattle.phase_pairs.specs.Central.{is_queued}
 use Rattle.phase_pairs.specs.JointRun.{is_request}
-use Rattle.phase_pairs.specs.Peripheral.{has_unsent, is_next, is_unsent, is_waiting, peripheral_begins, peripheral_popping}
+use Rattle.phase_pairs.specs.Peripheral.{has_unsent, is_next, is_unsent, is_waiting}
 use Rattle.enc_phase.specs.declared.facts.PhaseFacts.{PhaseFacts}
 use Rattle.phase_pairs.specs.declared.peripheral.PhaseClosing.{PhaseClosing}
 use Rattle.joint_phases.specs.Classes.{class_up, draft_up, has_request, has_version, is_version_ctrl}
@@ -31,14 +29,6 @@ is_queued_class Other = false
 is_queued_class Data = false
 is_queued_class Empty = false
 is_queued_class k = true
-
-no_one : (k : PduClass) → is_queued k None ≡ true → ⊥
-no_one Request h = absurd (cc)
-no_one k h = absurd (cc)
-
-queued_itself : (k : PduClass) → is_queued k (Some k) ≡ true
-queued_itself Request = refl
-queued_itself k = refl
 
 module _ (class_of : Draft → PduClass) (p : PhasePeripheral) where
   abbrev pub here : List Draft → Option PduClass → Option PduClass → UnsentRequest → Bool → Type 0
@@ -227,15 +217,15 @@ module _ (class_of : Draft → PduClass) (p : PhasePeripheral) (drafts : List Dr
   queued_by None at =
       let second : p.second ≡ None = none_is p.second (after (ap is_none at)) in
       let h : here class_of p drafts None None p.request p.owes =
-          subst (λ (s : Option PduClass). here class_of p drafts None s p.request p.owes) second
-          (subst (λ (f : Option PduClass). here class_of p drafts f p.second p.request p.owes) at waits) in
+      subst (λ (s : Option PduClass). here class_of p drafts None s p.request p.owes) second
+      (subst (λ (f : Option PduClass). here class_of p drafts f p.second p.request p.owes) at waits) in
       let done = queues_first class_of p drafts p.request p.owes k draft class one h in
       subst (λ (s : Option PduClass). here class_of p (drafts ++ draft ∷ []) (Some k) s p.request p.owes) (sym second) done
   queued_by (Some first) at =
       let second : p.second ≡ None = none_is p.second (room (ap is_none at)) in
       let h : here class_of p drafts (Some first) None p.request p.owes =
-          subst (λ (s : Option PduClass). here class_of p drafts (Some first) s p.request p.owes) second
-          (subst (λ (f : Option PduClass). here class_of p drafts f p.second p.request p.owes) at waits) in
+      subst (λ (s : Option PduClass). here class_of p drafts (Some first) s p.request p.owes) second
+      (subst (λ (f : Option PduClass). here class_of p drafts f p.second p.request p.owes) at waits) in
       let done = queues_second class_of p drafts first p.request p.owes k draft class one (request (ap is_none at)) h in
       subst (λ (f : Option PduClass). here class_of p (drafts ++ draft ∷ []) f (Some k) p.request p.owes) (sym at) done
 

@@ -1,12 +1,12 @@
 -- A peripheral fixes a PDU, and sees it acknowledged: what the machine of phases sees of it.
-use Rattle.std.proofs.Common.{◌≡◌, ℕ, Bool, true, false, not, ◌&&◌, ◌||◌, List, [], ◌∷◌, ◌++◌, Option, Some, None, remove, is_none, is_some, refl, ap, ap₂, sym, subst, ◌∙◌, if◌then◌else◌}
-use Rattle.std.proofs.lemmas.Bool.{and_from, and_parts, and_right, false_from_ne_true}
+use Rattle.std.proofs.Common.{◌≡◌, ℕ, Bool, true, false, not, ◌&&◌, List, [], ◌∷◌, Option, Some, None, is_none, is_some, refl, ap, sym, subst, ◌∙◌, if◌then◌else◌}
+use Rattle.std.proofs.lemmas.Bool.{and_parts, and_right}
 use Rattle.ble_base.specs.declared.error_codes.ErrCode.{ErrCode}
 use Rattle.ble_base.specs.declared.roles.Role.{Role}
 use Rattle.ble_base.specs.declared.roles.Role.TheVariants.{Central as central_role, Peripheral as peripheral_role}
 use Rattle.data_pdu.specs.declared.ctrl.Ctrl.{Ctrl}
 use Rattle.enc_phase.specs.declared.classes.PduClass.{PduClass}
-use Rattle.enc_phase.specs.declared.classes.PduClass.TheVariants.{Data, Empty, Other, Request, Terminate}
+use Rattle.enc_phase.specs.declared.classes.PduClass.TheVariants.{Data, Other, Request, Terminate}
 use Rattle.enc_phase.specs.Phases.{is_quiet, may_follow}
 use Rattle.enc_phase.specs.declared.facts.Transition.TheVariants.{Ask as AskTransition}
 use Rattle.instants.specs.declared.indications.Indication.{Indication}
@@ -14,7 +14,7 @@ use Rattle.instants.specs.Track.{event_of}
 use Rattle.procedure_values.specs.declared.drafts.Draft.{Draft}
 use Rattle.procedure_values.specs.declared.drafts.Draft.TheVariants.{Cipher}
 use Rattle.procedure_values.specs.declared.drafts.Outgoing.{Outgoing}
-use Rattle.procedure_values.specs.declared.drafts.Outgoing.TheVariants.{Disconnect, Nothing, Other as other_out, Rejection}
+use Rattle.procedure_values.specs.declared.drafts.Outgoing.TheVariants.{Disconnect, Nothing, Other as other_out}
 use Rattle.procedure_values.specs.declared.drafts.Rejection.{Rejection as TheRejection}
 use Rattle.procedure_values.specs.Drafts.{ctrl_of_draft, ctrl_of_outgoing, indication_of, is_out, waits_for_instant}
 use Rattle.procedure_stages.specs.declared.stages.Progress.{Progress}
@@ -23,9 +23,8 @@ use Rattle.procedure_stages.specs.declared.closing.Closing.{Closing}
 use Rattle.procedure_stages.specs.declared.closing.Closing.TheVariants.{Closed, Disconnecting, Open}
 use Rattle.procedure_stages.specs.Acked.{progress_acked}
 use Rattle.procedure_stages.specs.Closing.{is_disconnecting, is_open}
-use Rattle.procedure_stages.specs.Exclusive.{pdu_of_outgoing}
 use Rattle.procedure_stages.specs.Kinds.{role_of}
-use Rattle.procedure_stages.specs.Queue.{is_past_instant, next_after_rejections, next_by, next_disconnect, next_draft}
+use Rattle.procedure_stages.specs.Queue.{is_past_instant, next_by, next_disconnect, next_draft}
 use Rattle.procedure_stages.specs.Sent.{progress_after_sending}
 use Rattle.procedures.specs.Queue.{next_of}
 use Rattle.procedures.specs.Sending.{acked_step, facts_sent}
@@ -43,9 +42,9 @@ use Rattle.joint_controls.specs.Joint.{item_by, next_item, sends_data}
 use Rattle.joint_phases.specs.Classes.{class_up, draft_up}
 use Rattle.joint_phases.specs.Events.{item_or_none}
 use Rattle.joint_phases.specs.Parts.{IsPeripheral, closing_up, goes_up, wait_up, without_up}
-use Rattle.joint_phases.proofs.CentralEnters.{none_of_two, opened}
+use Rattle.joint_phases.proofs.CentralEnters.{opened}
 use Rattle.joint_phases.proofs.MachineFacts.{is_keyless}
-use Rattle.joint_phases.proofs.PeripheralEnters.{SameAtPeripheral, open_up, same_peripheral}
+use Rattle.joint_phases.proofs.PeripheralEnters.{SameAtPeripheral, same_peripheral}
 
 pub same_class_up : (knows : Bool) (draft : Draft) (event skips : ℕ) → class_up knows (ctrl_of_draft draft event skips) ≡ draft_up knows draft
 same_class_up knows (Cipher ctrl) event skips = refl
@@ -66,9 +65,6 @@ record FixesAs (k : PduClass) (p : PhasePeripheral) : Type 0 where
   may : may_fix_pdu k p ≡ true
   control : is_data k ≡ false
   fixed : peripheral_fixed k p ≡ without_up k p
-
-not_disconnecting : (p : PhasePeripheral) (k : PduClass) → is_terminate k ≡ false → (is_disconnecting_up p.closing && is_terminate k) ≡ false
-not_disconnecting p k apart = and_right (is_disconnecting_up p.closing) (is_terminate k) apart
 
 fixes_by : (b : Bool) (x y : PhasePeripheral) → b ≡ false → (if b then x else y) ≡ y
 fixes_by true x y h = absurd (cc)
@@ -140,7 +136,7 @@ module _ (s : Phased) (p : PhasePeripheral) (slot : ℕ) (keyless : is_queued Te
       → SendsAs (queue_at [] (Some code) drafts) (Disconnect code)
   sends_end code drafts is ends =
       let both : (is_disconnecting_up p.closing && is_quiet p.phase) ≡ true =
-          (λ i. sym (closing_here {f = queue_at [] (Some code) drafts} is) i && is_quiet (sym is.phase i)) ∙ ends in
+      (λ i. sym (closing_here {f = queue_at [] (Some code) drafts} is) i && is_quiet (sym is.phase i)) ∙ ends in
       let first = (and_parts (is_disconnecting_up p.closing) (is_quiet p.phase) both).0 in
       record {
         may = ends_with _ p _ both;
@@ -160,7 +156,7 @@ module _ (s : Phased) (p : PhasePeripheral) (slot : ℕ) (keyless : is_queued Te
       let goes = fixes_as k p waits.0 keyless in
       let same : class_of_out (other_out draft) ≡ k = same_class_up s.knows_version draft event skips in
       let none : (is_disconnecting_up p.closing && is_quiet p.phase) ≡ false =
-          (λ i. sym (closing_here {f = queue_at [] disconnect (draft ∷ drafts)} is) i && is_quiet (sym is.phase i)) ∙ ends in
+      (λ i. sym (closing_here {f = queue_at [] disconnect (draft ∷ drafts)} is) i && is_quiet (sym is.phase i)) ∙ ends in
       record {
         may = rw same (other_with _ _ _ none goes.may);
         control = rw same goes.control;
@@ -253,9 +249,9 @@ module _ (s : Phased) (p : PhasePeripheral) (slot : ℕ) (keyless : is_queued Te
       × IsPeripheral (phased_after (Sends slot) (opened s)) (peripheral_fixed (item_or_none (class_up s.knows_version) (next_item s)) p)
   peripheral_fixes is some =
       let goes = some_item out (ctrl_of_outgoing out event skips) some in
-      let h = by_rejections s.control.table.queue.rejections s.control.table.queue.disconnect s.control.table.queue.drafts is goes in
-      (
-        h.may, h.control,
+      let h = by_rejections s.control.table.queue.rejections s.control.table.queue.disconnect s.control.table.queue.drafts is goes in (
+        h.may,
+        h.control,
         goes_if (is_some (ctrl_of_outgoing out event skips)) _ _ _ goes (followed (role_of s.control.table.progress) (indication_of out event skips) _ _ h.is),
       )
 
@@ -328,7 +324,7 @@ module _ (s : Phased) (p : PhasePeripheral) where
       let one = and_parts (is_none (next_item s)) _ sends in
       let two = and_parts (is_quiet s.phase) (is_open s.control.table.closing) one.1 in
       let empty = by_none s.control.table.queue.rejections s.control.table.queue.drafts s.control.table.queue.disconnect is.rejects
-          (open_goes_on s.control.table.closing (is_quiet s.phase) two.1) is.role one.0 in
+      (open_goes_on s.control.table.closing (is_quiet s.phase) two.1) is.role one.0 in
       fixes_data (is_quiet p.phase) (is_waiting p) (is_disconnecting_up p.closing) (ap is_quiet (sym is.phase) ∙ two.0)
       (none_waits s.control.table.queue.drafts empty is.waits) (open_ends p.closing (ap is_open (sym is.closing) ∙ two.1))
 

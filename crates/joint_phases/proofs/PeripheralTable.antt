@@ -1,17 +1,14 @@
 -- What a PDU of the central does to the table of a peripheral: what is sent for it.
-use Rattle.std.proofs.Common.{◌≡◌, ◌==◌, ℕ, Bool, true, false, not, ◌&&◌, ◌||◌, List, [], ◌∷◌, Option, Some, None, is_none, is_some, refl, ap, ap₂, sym, subst, ◌∙◌, if◌then◌else◌}
+use Rattle.std.proofs.Common.{◌≡◌, ℕ, Bool, true, false, ◌||◌, Option, Some, None, refl, if◌then◌else◌}
 use Rattle.ble_base.specs.declared.error_codes.ErrCode.{ErrCode}
-use Rattle.ble_base.specs.declared.procedure_kinds.Kind.{Kind}
 use Rattle.ble_base.specs.declared.procedure_kinds.Kind.TheVariants.{Map as map_kind, Phy}
 use Rattle.ble_base.specs.declared.roles.Role.TheVariants.{Peripheral as peripheral_role}
 use Rattle.data_pdu.specs.declared.ctrl.Ctrl.{Ctrl}
-use Rattle.data_pdu.specs.declared.ctrl.Ctrl.TheVariants.{ChannelMapInd, ConnectionParamReq, ConnectionParamRsp, ConnectionUpdateInd, EncReq as enc_req, FeatureReq, FeatureRsp, LengthReq, LengthRsp, PauseEncReq as pause_enc_req, PauseEncRsp as pause_enc_rsp, PeripheralFeatureReq, PhyReq, PhyRsp, PhyUpdateInd, RejectExtInd, RejectInd, StartEncReq as start_enc_req, StartEncRsp as start_enc_rsp, TerminateInd, UnknownRsp, VersionInd, EncRsp as enc_rsp}
-use Rattle.enc_phase.specs.declared.classes.PduClass.{PduClass}
-use Rattle.enc_phase.specs.declared.classes.PduClass.TheVariants.{Other, Refusal, Request}
+use Rattle.data_pdu.specs.declared.ctrl.Ctrl.TheVariants.{ChannelMapInd, ConnectionParamReq, ConnectionParamRsp, ConnectionUpdateInd, EncReq as enc_req, FeatureReq, FeatureRsp, LengthReq, LengthRsp, PauseEncReq as pause_enc_req, PauseEncRsp as pause_enc_rsp, PeripheralFeatureReq, PhyReq, PhyRsp, PhyUpdateInd, RejectExtInd, StartEncRsp as start_enc_rsp, UnknownRsp, VersionInd}
+use Rattle.enc_phase.specs.declared.classes.PduClass.TheVariants.{Other, Request}
 use Rattle.procedure_values.specs.declared.drafts.Draft.{Draft}
 use Rattle.procedure_values.specs.declared.drafts.Draft.TheVariants.{FeatureRsp as feature_rsp, LengthRsp as length_rsp, PhyRsp as phy_rsp, UnknownRsp as unknown_rsp}
 use Rattle.exclusive_stages.specs.Awaited.{awaits_phy_ind, central_answered, has_phy_of_central, reads_as_answer}
-use Rattle.procedure_stages.specs.declared.reply.Reply.{Reply}
 use Rattle.procedure_stages.specs.declared.reply.Reply.TheVariants.{Answer, Nothing as no_reply}
 use Rattle.procedure_stages.specs.declared.stages.Ahead.{Ahead}
 use Rattle.procedure_stages.specs.declared.stages.Ahead.TheVariants.{Map as map_ahead, Nothing as nothing_ahead, Update as update_ahead}
@@ -25,7 +22,7 @@ use Rattle.procedure_stages.specs.Kinds.{kind_at_peripheral, own_exchange, role_
 use Rattle.procedure_stages.specs.Opcodes.{first_opcode, is_opcode, later_opcode}
 use Rattle.procedures.specs.declared.outcome.Outcome.{Outcome}
 use Rattle.procedures.specs.Refusals.{refused_if}
-use Rattle.procedures.specs.Request.{after_grant, outlived}
+use Rattle.procedures.specs.Request.{outlived}
 use Rattle.procedures.specs.Table.{TableFacts}
 use Rattle.procedures.specs.Taking.{taken_by, taken_by_peripheral}
 use Rattle.procedures.specs.Update.{follow}

@@ -1,50 +1,33 @@
 -- A peripheral takes a PDU of another procedure: what the machine of phases sees of it.
-use Rattle.std.proofs.Common.{◌≡◌, ℕ, Bool, true, false, not, ◌&&◌, ◌||◌, List, [], ◌∷◌, ◌++◌, Option, Some, None, is_none, is_some, refl, ap, ap₂, sym, subst, ◌∙◌, if◌then◌else◌, nat_le}
-use Rattle.std.proofs.lemmas.Bool.{and_parts, false_from_ne_true}
+use Rattle.std.proofs.Common.{◌≡◌, ℕ, Bool, true, false, ◌||◌, [], Option, Some, None, is_none, refl, ap, sym, subst, ◌∙◌, if◌then◌else◌}
 use Rattle.ble_base.specs.ErrorCodes.{memory_capacity_exceeded, mic_failure}
 use Rattle.ble_base.specs.declared.error_codes.ErrCode.{ErrCode}
-use Rattle.ble_base.specs.declared.roles.Role.{Role}
 use Rattle.ble_base.specs.declared.roles.Role.TheVariants.{Peripheral as peripheral_role}
 use Rattle.data_pdu.specs.declared.ctrl.Ctrl.{Ctrl}
-use Rattle.data_pdu.specs.declared.ctrl.Ctrl.TheVariants.{EncReq as enc_req, PauseEncReq as pause_enc_req, PauseEncRsp as pause_enc_rsp, StartEncRsp as start_enc_rsp, VersionInd}
+use Rattle.data_pdu.specs.declared.ctrl.Ctrl.TheVariants.{EncReq as enc_req, PauseEncReq as pause_enc_req, PauseEncRsp as pause_enc_rsp, StartEncRsp as start_enc_rsp}
 use Rattle.data_pdu.specs.declared.ctrl.CtrlRead.TheVariants.{Known}
-use Rattle.enc_phase.specs.declared.classes.PduClass.{PduClass}
-use Rattle.enc_phase.specs.declared.classes.PduClass.TheVariants.{Other, Request}
-use Rattle.enc_phase.specs.declared.facts.PhaseFacts.{PhaseFacts}
 use Rattle.enc_phase.specs.declared.facts.Transition.TheVariants.{Ask, Confirm, Pause, Unlock}
 use Rattle.enc_phase.specs.Phases.{is_quiet, may_follow}
 use Rattle.enc_phase.specs.Taking.{allows, ctrl_class, is_unknown, phase_taking}
-use Rattle.procedure_values.specs.declared.drafts.Draft.{Draft}
-use Rattle.procedure_values.specs.declared.drafts.Draft.TheVariants.{VersionInd as version_draft}
-use Rattle.procedure_stages.specs.declared.closing.Closing.{Closing}
 use Rattle.procedure_stages.specs.declared.reply.Reply.{Reply}
-use Rattle.procedure_stages.specs.declared.reply.Reply.TheVariants.{Answer, Nothing as no_reply}
-use Rattle.procedure_stages.specs.Closing.{is_open}
 use Rattle.procedure_stages.specs.Kinds.{role_of}
-use Rattle.procedure_stages.specs.Queue.{QueueFacts, waiting_in, with_reply}
-use Rattle.procedures.specs.declared.outcome.Outcome.{Outcome}
+use Rattle.procedure_stages.specs.Queue.{QueueFacts, with_reply}
 use Rattle.procedures.specs.Table.{TableFacts}
 use Rattle.procedures.specs.Taking.{outcome_of}
 use Rattle.table_laws.proofs.Outcomes.{took as table_took}
 use Rattle.control_model.specs.Control.{Control, Takes as control_takes, took}
 use Rattle.phase_pairs.specs.declared.peripheral.PhasePeripheral.{PhasePeripheral}
 use Rattle.phase_pairs.specs.declared.peripheral.UnsentRequest.{UnsentRequest}
-use Rattle.phase_pairs.specs.declared.peripheral.UnsentRequest.TheVariants.{Absent}
-use Rattle.phase_pairs.specs.Agreement.{is_encryption}
-use Rattle.phase_pairs.specs.Peripheral.{is_open as is_peripheral_open}
 use Rattle.phased_control.specs.Phased.{Phased, is_quiet_now, with_step}
-use Rattle.phased_control.specs.Taken.{Takes, answered_if_quiet, answered_kept, ciphered, ciphered_at, ciphered_at_peripheral, ended_with, goes_on, is_answered_at, is_version, keeping, keeps_class, knowing, lacks_room_now, moved_to, phased_after, role_now, seen_if, with_phase_taking}
+use Rattle.phased_control.specs.Taken.{Takes, answered_if_quiet, answered_kept, ciphered, ciphered_at, ciphered_at_peripheral, ended_with, goes_on, is_version, keeping, keeps_class, knowing, lacks_room_now, moved_to, phased_after, role_now, seen_if, with_phase_taking}
 use Rattle.joint_controls.specs.Joint.{is_terminate}
-use Rattle.joint_phases.specs.Classes.{class_down, draft_up, has_version, is_version_ctrl}
+use Rattle.joint_phases.specs.Classes.{draft_up}
 use Rattle.joint_phases.specs.Parts.{IsPeripheral, closing_up, wait_up}
-use Rattle.joint_phases.proofs.CentralEnters.{none_of_two, opened}
+use Rattle.joint_phases.proofs.CentralEnters.{opened}
 use Rattle.joint_phases.proofs.CentralTable.{took_table_if}
 use Rattle.joint_phases.proofs.CentralTakes.{some_none}
 use Rattle.joint_phases.proofs.Outcomes.{keeps_open}
-use Rattle.joint_phases.proofs.PeripheralEnters.{open_up}
-use Rattle.joint_phases.proofs.PeripheralQueue.{crosses, owes_more, unversioned}
-use Rattle.joint_phases.proofs.PeripheralTable.{is_answered, is_silent, version_sent}
-use Rattle.joint_phases.proofs.Plain.{never_keeps, plain_at_peripheral, taking_quiet}
+use Rattle.joint_phases.proofs.Plain.{never_keeps}
 
 -- ---- what a PDU leaves, before the phase has gone on
 
@@ -161,12 +144,12 @@ module _ (s : Phased) (p : PhasePeripheral) (ctrl response : Ctrl) (slot : ℕ) 
       → control_after.ends ≡ None → IsPeripheral (seen false) (record p { request = request; owes = owes })
   taken_part request owes apart phase waits lasts =
       let h : HasPart request owes control_after.table =
-          took_table_if s.control ctrl slot (is_quiet s.phase) (HasPart request owes)
-          (λ goes. record {
-            role = (table_took s.control.table (is_quiet s.phase) (Known ctrl)).role ∙ is.role;
-            closing = keeps_open s.control.table (is_quiet s.phase) ctrl apart s.control.table.closing ∙ is.closing;
-            queue = waits goes;
-          }) lasts in
+      took_table_if s.control ctrl slot (is_quiet s.phase) (HasPart request owes)
+      (λ goes. record {
+        role = (table_took s.control.table (is_quiet s.phase) (Known ctrl)).role ∙ is.role;
+        closing = keeps_open s.control.table (is_quiet s.phase) ctrl apart s.control.table.closing ∙ is.closing;
+        queue = waits goes;
+      }) lasts in
       record {
         role = h.role;
         phase = phase;

@@ -1,11 +1,11 @@
 -- What a phase makes of a PDU that is not of the encryption.
-use Rattle.std.proofs.Common.{◌≡◌, ◌==◌, ℕ, Bool, true, false, not, ◌&&◌, ◌||◌, List, [], ◌∷◌, Option, Some, None, is_none, is_some, refl, ap, sym, subst, ◌∙◌, if◌then◌else◌, nat_le}
+use Rattle.std.proofs.Common.{◌≡◌, ◌==◌, Bool, true, false, ◌&&◌, refl, if◌then◌else◌}
 use Rattle.ble_base.specs.declared.roles.Role.{Role}
 use Rattle.ble_base.specs.declared.roles.Role.TheVariants.{Central, Peripheral}
 use Rattle.data_pdu.specs.declared.ctrl.Ctrl.{Ctrl}
-use Rattle.data_pdu.specs.declared.ctrl.Ctrl.TheVariants.{EncReq as enc_req, EncRsp as enc_rsp, PauseEncReq as pause_enc_req, PauseEncRsp as pause_enc_rsp, RejectExtInd, RejectInd, StartEncReq as start_enc_req, StartEncRsp as start_enc_rsp}
+use Rattle.data_pdu.specs.declared.ctrl.Ctrl.TheVariants.{EncReq as enc_req, PauseEncReq as pause_enc_req, PauseEncRsp as pause_enc_rsp, RejectExtInd, RejectInd, StartEncReq as start_enc_req, StartEncRsp as start_enc_rsp}
 use Rattle.enc_phase.specs.declared.classes.PduClass.{PduClass}
-use Rattle.enc_phase.specs.declared.classes.PduClass.TheVariants.{Data, EncReq, EncRsp, Other, PauseEncReq, PauseEncRsp, Refusal, Request, StartEncReq, StartEncRsp}
+use Rattle.enc_phase.specs.declared.classes.PduClass.TheVariants.{EncReq, EncRsp, Other, PauseEncReq, PauseEncRsp, Refusal, Request, StartEncReq, StartEncRsp}
 use Rattle.enc_phase.specs.declared.facts.PhaseFacts.{PhaseFacts}
 use Rattle.enc_phase.specs.declared.facts.PhaseFacts.TheVariants.{Clear, Secure}
 use Rattle.enc_phase.specs.Phases.{is_quiet}

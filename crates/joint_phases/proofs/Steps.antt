@@ -1,7 +1,6 @@
 -- Each step of a joint run is the machine's event, and each state of a run that goes on shows a state of the machine.
-use Rattle.std.proofs.Common.{◌≡◌, ℕ, Bool, true, false, not, ◌&&◌, ◌||◌, List, [], ◌∷◌, ◌++◌, Option, Some, None, is_none, is_some, refl, ap, sym, subst, ◌∙◌, if◌then◌else◌}
+use Rattle.std.proofs.Common.{◌≡◌, ℕ, Bool, true, false, ◌&&◌, List, [], ◌∷◌, ◌++◌, Option, Some, None, refl, ap, sym, subst, ◌∙◌, if◌then◌else◌}
 use Rattle.std.proofs.lemmas.Bool.{and_parts}
-use Rattle.data_pdu.specs.declared.ctrl.Ctrl.{Ctrl}
 use Rattle.instants.specs.declared.indications.Params.{Params}
 use Rattle.machines.specs.Machine.{run, run_from, step}
 use Rattle.phase_pairs.specs.declared.joint.PhaseEvent.{PhaseEvent}
@@ -9,7 +8,7 @@ use Rattle.phase_pairs.specs.declared.joint.PhaseLink.{PhaseLink}
 use Rattle.phase_pairs.specs.Agreement.{is_step_right}
 use Rattle.phase_pairs.specs.JointRun.{encryption, phases_act, phases_may, phases_start}
 use Rattle.phase_pairs.proofs.Proved.{step_right}
-use Rattle.joint_controls.specs.Joint.{HostStep, Joint, JointStep, CentralAcked, CentralEnters, CentralHost, CentralSends, CentralSendsData, CentralTakes, PeripheralAcked, PeripheralEnters, PeripheralFixes, PeripheralFixesData, PeripheralHost, PeripheralSends, PeripheralTakes, Shuts, act, after, after_all, beginning, is_running, may, may_act}
+use Rattle.joint_controls.specs.Joint.{Joint, JointStep, CentralAcked, CentralEnters, CentralHost, CentralSends, CentralSendsData, CentralTakes, PeripheralAcked, PeripheralEnters, PeripheralFixes, PeripheralFixesData, PeripheralHost, PeripheralSends, PeripheralTakes, Shuts, act, after, after_all, beginning, is_running, may, may_act}
 use Rattle.joint_phases.specs.Events.{event_of_step, events_of, with_event}
 use Rattle.joint_phases.specs.Facts.{Facts, FactsHold, has_response}
 use Rattle.joint_phases.specs.Parts.{IsShown}
@@ -85,10 +84,6 @@ may_not s step stopped = ap (λ b. if b && may_act step s then act step s else s
 stays_stopped : (steps : List JointStep) (s : Joint) → is_running s ≡ false → is_running (after_all steps s) ≡ false
 stays_stopped [] s stopped = stopped
 stays_stopped (step ∷ steps) s stopped = stays_stopped steps (after step s) (ap is_running (may_not s step stopped) ∙ stopped)
-
-false_not : (b : Bool) (E : Type 0) → b ≡ false → b ≡ true → E
-false_not true E a b = absurd (cc)
-false_not false E a b = absurd (cc)
 
 module _ (s : Joint) (m : PhaseLink) (step : JointStep) where
   -- the state of the machine after one step

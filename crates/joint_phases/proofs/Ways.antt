@@ -1,16 +1,14 @@
 -- The PDUs that are on their way, by their classes, and as the version of an end becomes known.
-use Rattle.std.proofs.Common.{◌≡◌, ◌==◌, ℕ, Bool, true, false, not, ◌&&◌, ◌||◌, List, [], ◌∷◌, Option, Some, None, is_none, is_some, refl, ap, ap₂, sym, subst, ◌∙◌, if◌then◌else◌}
-use Rattle.std.proofs.lemmas.Bool.{and_from, and_parts, and_left, and_right}
+use Rattle.std.proofs.Common.{◌≡◌, ◌==◌, Bool, true, false, not, refl, ap, sym, if◌then◌else◌}
 use Rattle.ble_base.specs.declared.roles.Role.TheVariants.{Central as central_role, Peripheral as peripheral_role}
 use Rattle.data_pdu.specs.declared.ctrl.Ctrl.{Ctrl}
 use Rattle.data_pdu.specs.declared.ctrl.Ctrl.TheVariants.{ConnectionParamRsp, EncReq, EncRsp, FeatureReq, PauseEncReq, PauseEncRsp, RejectExtInd, RejectInd, StartEncReq, StartEncRsp, TerminateInd, VersionInd}
 use Rattle.enc_phase.specs.declared.classes.PduClass.{PduClass}
-use Rattle.enc_phase.specs.declared.classes.PduClass.TheVariants.{Data as data_class, Other, Refusal, Request}
+use Rattle.enc_phase.specs.declared.classes.PduClass.TheVariants.{Other, Refusal, Request}
 use Rattle.enc_phase.specs.declared.facts.PhaseFacts.{PhaseFacts}
-use Rattle.enc_phase.specs.declared.facts.PhaseFacts.TheVariants.{Asked, Clear as clear_phase, HalfClear, HalfKeyed, Pausing, Secure}
+use Rattle.enc_phase.specs.declared.facts.PhaseFacts.TheVariants.{Asked, Clear as clear_phase, Secure}
 use Rattle.enc_phase.specs.Phases.{is_quiet}
 use Rattle.enc_phase.specs.Taking.{allows, ctrl_class}
-use Rattle.phase_pairs.specs.declared.joint.PhaseWay.{PhaseWay}
 use Rattle.phase_pairs.specs.declared.joint.PhaseWay.TheVariants.{Fixed as way_fixed, OnAir as way_on_air, Taken as way_taken}
 use Rattle.phase_pairs.specs.Agreement.{has_meaning, is_encryption}
 use Rattle.phase_pairs.specs.JointRun.{is_coming, is_on_air, is_pause_rsp, is_request, is_way_fixed, is_way_taken, way_kept}

@@ -1,6 +1,8 @@
--- What holds of the phases of the two ends of a joint run, in each state and at each PDU that is taken (Core 5.2, volume 6
--- part B, section 5.1.3).
-use Rattle.std.specs.Prelude.{Bool, true, false, ◌&&◌, List, [], ◌∷◌, ◌++◌, Option, Some, None, not}
+-- What holds of the phases of the two ends of a joint run, in each state and at each PDU that is taken (Core 5.2,
+-- volume 6 part B, section 5.1.3).
+use Rattle.std.specs.Prelude.{◌==◌, Bool, true, false, ◌&&◌, ◌||◌, Option, Some, None}
+use Rattle.ble_base.specs.ErrorCodes.{mic_failure}
+use Rattle.ble_base.specs.declared.error_codes.ErrCode.{ErrCode}
 use Rattle.ble_base.specs.declared.roles.Role.{Role}
 use Rattle.ble_base.specs.declared.roles.Role.TheVariants.{Central as central_role, Peripheral as peripheral_role}
 use Rattle.data_pdu.specs.declared.ctrl.Ctrl.{Ctrl}
@@ -37,3 +39,14 @@ is_taken_right (CentralTakes slot) s =
 is_taken_right (PeripheralTakes slot response) s =
     is_allowed_right peripheral_role s.peripheral.phase (class_down s.central.knows_version) (item_on_air s.down)
 is_taken_right step s = true
+
+-- ---- how the link does not end
+
+-- by a message integrity failure
+abbrev pub is_integrity_failure : Option ErrCode → Bool
+is_integrity_failure None = false
+is_integrity_failure (Some code) = code.0 == mic_failure
+
+abbrev pub ends_by_integrity_failure : Joint → Bool
+ends_by_integrity_failure s =
+    is_integrity_failure s.central.control.ends || is_integrity_failure s.peripheral.control.ends

@@ -1,6 +1,6 @@
 -- The classes of PDUs in a joint run: which end answers a PDU, and whether it is of the encryption (Core 5.2, volume 6
 -- part B, section 5.1).
-use Rattle.std.specs.Prelude.{Bool, true, false, ◌||◌, List, [], ◌∷◌, if◌then◌else◌}
+use Rattle.std.specs.Prelude.{Bool, true, false, ◌||◌, List, [], ◌∷◌}
 use Rattle.data_pdu.specs.declared.ctrl.Ctrl.{Ctrl}
 use Rattle.data_pdu.specs.declared.ctrl.Ctrl.TheVariants.{ConnectionParamRsp, FeatureReq, RejectExtInd, VersionInd}
 use Rattle.enc_phase.specs.declared.classes.PduClass.{PduClass}

@@ -1,5 +1,5 @@
--- What the machine of phases asks of the other procedures of a link: facts of a state of a joint run (Core 5.2, volume 6
--- part B, sections 5.1.3 to 5.1.10).
+-- What the machine of phases asks of the other procedures of a link: facts of a state of a joint run (Core 5.2,
+-- volume 6 part B, sections 5.1.3 to 5.1.10).
 use Rattle.std.specs.Prelude.{◌≡◌, ⊤, Bool, true, false, not, ◌&&◌, ◌||◌, List, [], ◌∷◌, Option, Some, None}
 use Rattle.data_pdu.specs.declared.ctrl.Ctrl.{Ctrl}
 use Rattle.data_pdu.specs.declared.ctrl.Ctrl.TheVariants.{EncRsp}
@@ -13,7 +13,6 @@ use Rattle.procedure_stages.specs.declared.stages.OwnCentral.{OwnCentral}
 use Rattle.procedure_stages.specs.declared.stages.OwnCentral.TheVariants.{Exchange as exchange, Exclusive as exclusive}
 use Rattle.procedure_stages.specs.declared.stages.Progress.{Progress}
 use Rattle.procedure_stages.specs.declared.stages.Progress.TheVariants.{Central as central, Peripheral as peripheral}
-use Rattle.procedure_stages.specs.Closing.{is_open}
 use Rattle.procedure_stages.specs.InProgress.{is_host_asked}
 use Rattle.procedure_stages.specs.Kinds.{own_exchange}
 use Rattle.phase_pairs.specs.JointRun.{is_pause_rsp_taken, is_request, keeps_request}
@@ -75,13 +74,15 @@ is_version_sent own = false
 abbrev pub has_no_first : Joint → Bool
 has_no_first s =
     not (has_request (draft_up s.peripheral.knows_version) (drafts_of s.peripheral))
-    && (not (is_item (is_first_up s.peripheral.knows_version) (item_untaken s.up)) && not (keeps_request s.central.phase))
+    && (not (is_item (is_first_up s.peripheral.knows_version) (item_untaken s.up))
+    && not (keeps_request s.central.phase))
 
 -- ---- the facts
 
 pub record Facts (s : Joint) : Type 0 where
   -- of the PDUs that wait at the central the peripheral answers only the first one of the procedure in progress
-  pub own_first : are_of_own (draft_down s.central.knows_version) (drafts_of s.central) s.central.control.table.progress ≡ true
+  pub own_first :
+      are_of_own (draft_down s.central.knows_version) (drafts_of s.central) s.central.control.table.progress ≡ true
   -- the central's host is asked about a request only in Clear and Secure
   pub asked_in_quiet : is_host_asked s.central.control.table.progress ≡ true → is_quiet_now s.central ≡ true
   -- what the central's table has sent is what was taken
@@ -107,7 +108,8 @@ pub record Facts (s : Joint) : Type 0 where
       → s.peripheral.knows_version ≡ false → is_item is_version (item_on_air s.down) ≡ true
   -- a peripheral that knows the version of the central has used its own, unless the link is to end
   pub known_used :
-      s.peripheral.knows_version ≡ true → is_open_now s.peripheral ≡ true → s.peripheral.control.table.version_used ≡ true
+      s.peripheral.knows_version ≡ true → is_open_now s.peripheral ≡ true
+      → s.peripheral.control.table.version_used ≡ true
 
 -- an LL_ENC_REQ that is taken would be answered with an LL_ENC_RSP
 abbrev pub is_enc_rsp : Ctrl → Bool

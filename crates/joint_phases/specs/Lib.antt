@@ -3,4 +3,6 @@ pub mod Agreement
 pub mod Classes
 pub mod Events
 pub mod Facts
+pub mod Pairs
 pub mod Parts
+pub mod Worked

@@ -1,17 +1,16 @@
 -- What the machine of phases sees of the two ends of a joint run and of what is on its way (Core 5.2, volume 6 part B,
 -- section 5.1.3).
-use Rattle.std.specs.Prelude.{◌≡◌, ⊤, Bool, true, false, not, ◌&&◌, ◌||◌, List, [], ◌∷◌, Option, Some, None, is_none, is_some, if◌then◌else◌}
+use Rattle.std.specs.Prelude.{◌≡◌, ⊤, Bool, true, false, not, ◌&&◌, ◌||◌, List, [], ◌∷◌, Option, Some, None, is_none, is_some}
 use Rattle.ble_base.specs.declared.roles.Role.TheVariants.{Central, Peripheral}
 use Rattle.data_pdu.specs.declared.ctrl.Ctrl.{Ctrl}
 use Rattle.data_pdu.specs.declared.ctrl.Ctrl.TheVariants.{EncReq as enc_req}
 use Rattle.enc_phase.specs.declared.classes.PduClass.{PduClass}
-use Rattle.enc_phase.specs.declared.classes.PduClass.TheVariants.{Data as data_class, Empty, Other, Request}
+use Rattle.enc_phase.specs.declared.classes.PduClass.TheVariants.{Data as data_class, Other, Request}
 use Rattle.enc_phase.specs.declared.facts.PhaseFacts.{PhaseFacts}
 use Rattle.enc_phase.specs.Phases.{is_quiet}
 use Rattle.enc_phase.specs.Taking.{ctrl_class}
 use Rattle.procedure_values.specs.declared.drafts.Draft.{Draft}
 use Rattle.procedure_values.specs.declared.drafts.Rejection.{Rejection}
-use Rattle.exclusive_stages.specs.declared.stages.CentralStage.{CentralStage}
 use Rattle.exclusive_stages.specs.declared.stages.CentralStage.TheVariants.{PhySent}
 use Rattle.procedure_stages.specs.declared.closing.Closing.{Closing}
 use Rattle.procedure_stages.specs.declared.closing.Closing.TheVariants.{Closed, Disconnecting, Open as open_link}
@@ -21,9 +20,9 @@ use Rattle.procedure_stages.specs.declared.stages.OwnCentral.TheVariants.{Encryp
 use Rattle.procedure_stages.specs.declared.stages.Progress.{Progress}
 use Rattle.procedure_stages.specs.declared.stages.Progress.TheVariants.{Central as central, Peripheral as peripheral}
 use Rattle.table_laws.specs.Encrypting.{has_encryption}
-use Rattle.phased_control.specs.Phased.{Phased, is_quiet_now}
+use Rattle.phased_control.specs.Phased.{Phased}
 use Rattle.phased_control.specs.Taken.{role_now}
-use Rattle.joint_controls.specs.Joint.{Item, Joint, Way, Clear, Fixed, OnAir, Taken}
+use Rattle.joint_controls.specs.Joint.{Joint, Way, Clear, Fixed, OnAir, Taken}
 use Rattle.phase_pairs.specs.declared.central.PhaseCentral.{PhaseCentral}
 use Rattle.phase_pairs.specs.declared.joint.PhaseLink.{PhaseLink}
 use Rattle.phase_pairs.specs.declared.joint.PhaseWay.{PhaseWay}
@@ -35,7 +34,7 @@ use Rattle.phase_pairs.specs.declared.peripheral.UnsentRequest.{UnsentRequest}
 use Rattle.phase_pairs.specs.Agreement.{is_encryption}
 use Rattle.phase_pairs.specs.Central.{is_ahead, is_queued}
 use Rattle.phase_pairs.specs.JointRun.{is_pause_rsp}
-use Rattle.phase_pairs.specs.Peripheral.{is_next, is_unsent, is_waiting, may_fix_pdu, peripheral_popping}
+use Rattle.phase_pairs.specs.Peripheral.{is_unsent, is_waiting, may_fix_pdu, peripheral_popping}
 use Rattle.joint_phases.specs.Classes.{class_down, class_up, draft_down, draft_up, item_class}
 
 -- ---- what is on its way
@@ -54,8 +53,8 @@ way_up knows (Taken item) = way_taken false
 
 -- ---- what waits at a central, where one PDU of the encryption may be queued
 
--- rejections and answers go in Clear and Secure, or ahead of the first PDU of an encryption; the first PDU of a procedure
--- goes in Clear and Secure alone
+-- rejections and answers go in Clear and Secure, or ahead of the first PDU of an encryption; the first PDU of a
+-- procedure goes in Clear and Secure alone
 abbrev pub goes_down : PduClass → PhaseFacts → Option PduClass → Bool
 goes_down Other phase queued = is_quiet phase || is_ahead phase queued
 goes_down Request phase queued = is_quiet phase
@@ -66,7 +65,7 @@ queued_then Other queued = queued
 queued_then Request queued = queued
 queued_then pdu queued = None
 
--- these may go in this order, and no PDU of the encryption is queued besides them
+-- these may go in this order, and no other PDU of the encryption is queued
 abbrev pub wait_down : (Draft → PduClass) → PhaseFacts → List Draft → Option PduClass → Bool
 wait_down class_of phase [] queued = is_none queued
 wait_down class_of phase (draft ∷ drafts) queued =
@@ -92,7 +91,7 @@ without_up pdu p = peripheral_popping p
 abbrev pub is_emptied : PhasePeripheral → Bool
 is_emptied p = not (is_waiting p) && (is_none p.second && (not (is_unsent p.request) && not p.owes))
 
--- these may be fixed in this order, and nothing waits besides them
+-- these may be fixed in this order, and nothing else waits
 abbrev pub wait_up : (Draft → PduClass) → List Draft → PhasePeripheral → Bool
 wait_up class_of [] p = is_emptied p
 wait_up class_of (draft ∷ drafts) p =

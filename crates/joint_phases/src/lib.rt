@@ -3,3 +3,6 @@
 #![tactic(auto)]
 
 pub mod laws;
+mod rows;
+
+pub use crate::rows::{a_kept_version_is_answered, crossed_versions_are_known};

@@ -6,4 +6,4 @@ use Rattle.joint_phases.proofs.laws.both_ends_agree_on_sealing.Goals as goal
 pub returns : goal.returns
 returns c =
     λ central_rx peripheral_rx first slot steps facts running.
-        sealing_agreed _ _ (shows_run central_rx peripheral_rx first slot steps facts running)
+    sealing_agreed _ _ (shows_run central_rx peripheral_rx first slot steps facts running)

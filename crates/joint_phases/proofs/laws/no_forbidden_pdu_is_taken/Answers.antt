@@ -1,5 +1,4 @@
 -- The proof of `no_forbidden_pdu_is_taken`.
-use Rattle.std.proofs.Common.{Bool}
 use Rattle.std.proofs.lemmas.Bool.{and_parts}
 use Rattle.joint_phases.proofs.Agreeing.{taken_right}
 use Rattle.joint_phases.proofs.Steps.{shows_run}
@@ -8,5 +7,5 @@ use Rattle.joint_phases.proofs.laws.no_forbidden_pdu_is_taken.Goals as goal
 pub returns : goal.returns
 returns c =
     λ central_rx peripheral_rx first slot steps step facts here responds may.
-        let both = and_parts _ _ may in
-        taken_right _ _ (shows_run central_rx peripheral_rx first slot steps facts both.0) both.0 here step responds both.1
+    let both = and_parts _ _ may in
+    taken_right _ _ (shows_run central_rx peripheral_rx first slot steps facts both.0) both.0 here step responds both.1
