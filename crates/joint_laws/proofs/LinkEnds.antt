@@ -1,5 +1,5 @@
 -- How a step of a joint run may end the link: an end of the run is that of an indication that came after its Instant.
-use Rattle.std.proofs.Common.{◌≡◌, ◌≤◌, ℕ, Bool, true, false, not, ◌&&◌, ◌||◌, if◌then◌else◌, List, [], ◌∷◌, Option, Some, None, is_some, refl, ap, sym, subst, ◌∙◌}
+use Rattle.std.proofs.Common.{◌≡◌, ◌≤◌, ◌⊎◌, inl, inr, arith, ℕ, Bool, true, false, not, ◌&&◌, ◌||◌, if◌then◌else◌, List, [], ◌∷◌, Option, Some, None, is_some, refl, ap, sym, subst, ◌∙◌}
 use Rattle.std.proofs.lemmas.Bool.{and_parts}
 use Rattle.ble_base.specs.ErrorCodes.{instant_passed}
 use Rattle.ble_base.specs.declared.error_codes.ErrCode.{ErrCode}
@@ -20,10 +20,13 @@ use Rattle.phase_pairs.specs.JointRun.{encryption}
 use Rattle.phased_control.specs.Phased.{Phased, is_quiet_now}
 use Rattle.phased_control.specs.Taken.{PhasedStep, Enters, SeesAcknowledged, Sends, Takes, TakesData, phased_after, phased_after_all, role_now, seen_as}
 use Rattle.joint_controls.specs.Ends.{IsStepInRange, central_does, peripheral_does, takes_if}
-use Rattle.joint_controls.specs.Joint.{AnswersRequest, AsksFor, CentralAcked, CentralEnters, CentralHost, CentralSends, CentralSendsData, CentralTakes, Clear, Control, Data, Ends, Fixed, HasKey, HasNoKey, HostStep, Item, Joint, JointStep, OnAir, PeripheralAcked, PeripheralEnters, PeripheralFixes, PeripheralFixesData, PeripheralHost, PeripheralSends, PeripheralTakes, Shuts, Taken, Way, act, after, after_all, beginning, host_step, is_running, item_on_air, may, may_act}
+use Rattle.joint_controls.specs.Joint.{AnswersRequest, AsksFor, CentralAcked, CentralEnters, CentralHost, CentralSends, CentralSendsData, CentralTakes, Clear, Control, Data, Ends, Fixed, HasKey, HasNoKey, HostStep, Item, Joint, JointStep, OnAir, PeripheralAcked, PeripheralEnters, PeripheralFixes, PeripheralFixesData, PeripheralHost, PeripheralSends, PeripheralTakes, Shuts, Taken, Way, act, after, after_all, beginning, host_step, is_late, is_running, is_same_event, is_supervised, is_taken, item_on_air, may, may_act}
 use Rattle.joint_controls.proofs.EndSteps.{central_acts, peripheral_acts}
 use Rattle.joint_controls.proofs.Running.{goes_on}
-use Rattle.joint_collisions.proofs.Runs.{Walk, walk, walk_step}
+use Rattle.joint_collisions.proofs.Runs.{Walk, before, walk, walk_step}
+use Rattle.joint_collisions.proofs.EachStep.{Before}
+use Rattle.joint_laws.specs.Ends.{EndsLateAlone}
+use Rattle.joint_laws.proofs.Lateness.{is_late_now}
 use Rattle.joint_exchanges.specs.Agreement.{end_at}
 use Rattle.joint_exchanges.specs.Runs.{GoesOn}
 use Rattle.joint_exchanges.specs.SentByRole.{Responds}
@@ -205,3 +208,31 @@ module _ (central_rx peripheral_rx : ℕ) (first : Params) (slot : ℕ) (steps :
             peripheral_takes_end slot response (item_on_air s.down) is refl (at_of (PeripheralTakes slot response) is)
             (subst (λ (y : JointStep). is_taken_right y s ≡ true) is taken_right)
         by x is = lasts_end _ (ap (λ (t : Phased). t.control.ends) (at_of x is) ∙ peripheral_lasts)
+
+    -- ---- an end for a passed Instant
+
+    late_end : (ends : Option ErrCode) → PeripheralEnd step s ends → EndsLateAlone s ends
+    late_end None no_end = inl refl
+    late_end (Some code) (too_late takes) = inr (refl, passed_now)
+      where
+        here : Before s
+        here =
+            before central_rx peripheral_rx first slot is.latency s (walk central_rx peripheral_rx first slot is.latency steps known.range known.exclusive) running now.exclusive
+
+        may_take : may_act (PeripheralTakes takes.slot takes.response) s ≡ true
+        may_take = (and_parts (is_running s) (may_act (PeripheralTakes takes.slot takes.response) s) (ap (λ (y : JointStep). may y s) (sym takes.is) ∙ comes)).1
+
+        passed_now : is_late s ≡ true
+        passed_now =
+            let on = item_is s.down (Control takes.outgoing takes.ctrl) takes.item in
+            let parts = and_parts (is_some (item_on_air s.down)) (not (is_taken s.up) && ((is_same_event s || is_late s) && is_supervised s)) may_take in
+            let rest = and_parts (not (is_taken s.up)) ((is_same_event s || is_late s) && is_supervised s) parts.1 in
+            let time = and_parts (is_same_event s || is_late s) (is_supervised s) rest.1 in
+            is_late_now s here takes.outgoing takes.ctrl on.0 on.1 (let less = few Peripheral in omega (arith, less)) (not_true (is_taken s.up) rest.0) time.0 takes.late
+          where
+            not_true : (b : Bool) → not b ≡ true → b ≡ false
+            not_true true is = absurd (cc)
+            not_true false is = refl
+
+    pub peripheral_ends_late : EndsLateAlone s (act step s).peripheral.control.ends
+    peripheral_ends_late = late_end (act step s).peripheral.control.ends peripheral_end
