@@ -161,11 +161,11 @@ module _ (central_rx peripheral_rx : ℕ) (first : Params) (slot : ℕ) (steps :
         → (end_at role s).control.table.version_used ≡ not (is_idle (version_stage_at (end_at role s)))
     used_if_running Central unknown =
         subst (λ l. VersionRun.knows Central l ≡ false → (VersionRun.end_of Central l).used ≡ not (is_idle (VersionRun.end_of Central l).own))
-        (sym (versions_now central_rx peripheral_rx first slot steps run_on.responds run_on.goes))
+        (sym (versions_now central_rx peripheral_rx first slot steps run_on))
         (used_while_unknown (events_of versions_event (moves_in steps (beginning central_rx peripheral_rx first slot))) Central) unknown
     used_if_running Peripheral unknown =
         subst (λ l. VersionRun.knows Peripheral l ≡ false → (VersionRun.end_of Peripheral l).used ≡ not (is_idle (VersionRun.end_of Peripheral l).own))
-        (sym (versions_now central_rx peripheral_rx first slot steps run_on.responds run_on.goes))
+        (sym (versions_now central_rx peripheral_rx first slot steps run_on))
         (used_while_unknown (events_of versions_event (moves_in steps (beginning central_rx peripheral_rx first slot))) Peripheral) unknown
 
     pub sent_comes : is_version_sent (own_exchange s.central.control.table.progress) ≡ true → s.central.knows_version ≡ false
@@ -196,7 +196,7 @@ module _ (central_rx peripheral_rx : ℕ) (first : Params) (slot : ℕ) (steps :
         used_or_closed : s.peripheral.knows_version ≡ true → (s.peripheral.control.table.version_used || not (is_open_now s.peripheral)) ≡ true
         used_or_closed =
             subst (λ l. VersionRun.knows Peripheral l ≡ true → (l.peripheral.used || l.peripheral.closed) ≡ true)
-            (sym (versions_now central_rx peripheral_rx first slot steps run_on.responds run_on.goes))
+            (sym (versions_now central_rx peripheral_rx first slot steps run_on))
             (known_or_closed (run versions (events_of versions_event (moves_in steps (beginning central_rx peripheral_rx first slot)))) (version_parts (events_of versions_event (moves_in steps (beginning central_rx peripheral_rx first slot))) Peripheral).used)
 
     -- a peripheral that runs no exchange of versions has its LL_VERSION_IND nowhere on the way to its first meaning
@@ -218,7 +218,7 @@ module _ (central_rx peripheral_rx : ℕ) (first : Params) (slot : ℕ) (steps :
     idle_central : passes Agreement.is_version_ctrl s.central.kept ≡ true → is_idle (version_stage_at s.central) ≡ true
     idle_central kept =
         subst (λ (l : VersionRun.VersionLink). l.kept ≡ true → is_idle l.central.own ≡ true)
-        (sym (versions_now central_rx peripheral_rx first slot steps run_on.responds run_on.goes))
+        (sym (versions_now central_rx peripheral_rx first slot steps run_on))
         (kept_then_idle (events_of versions_event (moves_in steps (beginning central_rx peripheral_rx first slot))))
         (count_pair_some (is_some_version (pdu_kept s.central.kept)) (passes Agreement.is_version_ctrl s.central.kept) (version_kept s.central.kept) kept)
 

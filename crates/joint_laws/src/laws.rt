@@ -5,7 +5,7 @@ ghost use Rattle.instants.specs.declared.indications.Params.{Params};
 ghost use Rattle.joint_controls.specs.Joint.{JointStep, after_all, beginning, is_running, may};
 ghost use Rattle.joint_collisions.specs.Facts.{AllFacts};
 ghost use Rattle.joint_exchanges.specs.Runs.{AllBefore};
-ghost use Rattle.joint_exchanges.specs.SentByRole.{HaveMeaning, Responds};
+ghost use Rattle.joint_exchanges.specs.SentByRole.{HaveMeaning};
 ghost use Rattle.joint_phases.specs.Agreement.{is_sealing_agreed, is_taken_right};
 ghost use Rattle.joint_phases.specs.Facts.{Facts, FactsHold};
 ghost use Rattle.joint_laws.specs.Pairs.{ArePaired};
@@ -43,7 +43,7 @@ pub fn phases_of_a_joint_run_agree()
         → let s = after_all steps (beginning central_rx peripheral_rx first slot) in
         is_running s ≡ true → is_sealing_agreed s ≡ true }
     ensures taken { (central_rx peripheral_rx : ℕ) (first : Params) (slot : ℕ)
-        (steps : List JointStep) (step : JointStep) → IsRun first steps → Responds step
+        (steps : List JointStep) (step : JointStep) → IsRun first steps
         → let s = after_all steps (beginning central_rx peripheral_rx first slot) in
         may step s ≡ true → is_taken_right step s ≡ true }
 {}
