@@ -106,7 +106,7 @@ draft_out true VersionInd event latency = refl
 draft_out false VersionInd event latency = refl
 draft_out knows draft event latency = refl
 
-outgoing_out : (knows : Bool) (outgoing : Outgoing) (ctrl : Ctrl) (event latency : ℕ) → ctrl_of_outgoing outgoing event latency ≡ Some ctrl
+pub outgoing_out : (knows : Bool) (outgoing : Outgoing) (ctrl : Ctrl) (event latency : ℕ) → ctrl_of_outgoing outgoing event latency ≡ Some ctrl
     → is_pause_rsp outgoing ≡ is_pause_class (class_down knows ctrl)
 outgoing_out knows Nothing ctrl event latency is = absurd (cc)
 outgoing_out knows (Rejection rejection) ctrl event latency is = ap (λ c. is_pause_class (class_down knows c)) (some_ctrl is)

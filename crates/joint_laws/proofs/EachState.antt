@@ -1,11 +1,10 @@
 -- Each state of a joint run, in which that goes on, is one of each machine: what a machine asks of the others holds in the
 -- states before.
-use Rattle.std.proofs.Common.{◌≡◌, ◌≤◌, ℕ, true, List, [], ◌∷◌, ◌++◌, refl, ap, sym, subst, ◌∙◌}
+use Rattle.std.proofs.Common.{◌≡◌, ◌≤◌, ℕ, true, List, [], ◌∷◌, ◌++◌, refl, ap, sym, subst}
 use Rattle.data_pdu.specs.declared.ctrl.Ctrl.{Ctrl}
 use Rattle.data_pdu.specs.declared.ctrl.Ctrl.TheVariants.{EncRsp}
 use Rattle.instants.specs.declared.indications.Params.{Params}
 use Rattle.machines.specs.Machine.{run}
-use Rattle.phase_pairs.specs.declared.joint.PhaseEvent.{PhaseEvent}
 use Rattle.phase_pairs.specs.JointRun.{encryption}
 use Rattle.phased_control.specs.Ends.{IsResponse}
 use Rattle.joint_controls.specs.Ends.{AreStepsInRange, IsStepInRange}
@@ -91,7 +90,7 @@ module _ (central_rx peripheral_rx : ℕ) (first : Params) (slot : ℕ) (latency
       let shows = shows_run central_rx peripheral_rx first slot steps known.facts goes in
       record {
         facts = facts_hold central_rx peripheral_rx first slot steps on reached;
-        exclusive = exclusive_facts central_rx peripheral_rx first slot steps on known.meant reached (events_of steps start) shows.shown;
+        exclusive = exclusive_facts central_rx peripheral_rx first slot steps on known.meant (events_of steps start) shows.shown;
         meant = have_meaning (after_all steps start) (events_of steps start) shows.shown;
         reached = reached;
         shown = shows.shown;

@@ -1,11 +1,8 @@
 -- What the machine of the procedures that exclude each other asks of one end, and of what is on the air, holds in each state
 -- of a joint run in which that goes on.
-use Rattle.std.proofs.Common.{◌≡◌, ℕ, eqb-true, ◌==◌, if◌then◌else◌, Bool, true, false, not, ◌&&◌, ◌||◌, List, [], ◌∷◌, Option, Some, None, is_some, refl, ap, sym, subst, ◌∙◌}
-use Rattle.std.specs.List.{All, AllByRecursion}
+use Rattle.std.proofs.Common.{◌≡◌, ℕ, eqb-true, ◌==◌, if◌then◌else◌, Bool, true, false, not, ◌||◌, List, [], ◌∷◌, Option, Some, None, is_some, refl, ap, sym, subst, ◌∙◌}
+use Rattle.std.specs.List.{AllByRecursion}
 use Rattle.std.proofs.lemmas.List.Elements.{All-from_recursion}
-use Rattle.std.proofs.lemmas.Bool.{and_from}
-use Rattle.ble_base.specs.declared.error_codes.ErrCode.{ErrCode}
-use Rattle.ble_base.specs.declared.roles.Role.{Role}
 use Rattle.ble_base.specs.declared.roles.Role.TheVariants.{Central, Peripheral}
 use Rattle.data_pdu.specs.declared.ctrl.Ctrl.{Ctrl}
 use Rattle.data_pdu.specs.declared.ctrl.Ctrl.TheVariants.{EncReq, EncRsp, PauseEncReq, PauseEncRsp, RejectExtInd, StartEncReq, StartEncRsp, TerminateInd}
@@ -13,34 +10,20 @@ use Rattle.enc_phase.specs.declared.classes.PduClass.TheVariants.{Request}
 use Rattle.enc_phase.specs.declared.facts.PhaseFacts.{PhaseFacts}
 use Rattle.enc_phase.specs.declared.facts.PhaseFacts.TheVariants.{Asked, Clear, HalfClear, HalfKeyed, Pausing, Secure}
 use Rattle.enc_phase.specs.Phases.{is_quiet}
-use Rattle.enc_phase.specs.Taking.{allows, ctrl_class}
-use Rattle.exclusive_stages.specs.declared.stages.CentralStage.TheVariants.{Idle}
-use Rattle.exclusive_stages.specs.Kinds.{is_idle_at_central}
+use Rattle.enc_phase.specs.Taking.{allows}
 use Rattle.instants.specs.declared.indications.Params.{Params}
 use Rattle.machines.specs.Machine.{run}
-use Rattle.procedure_values.specs.declared.drafts.Draft.{Draft}
 use Rattle.procedure_values.specs.declared.drafts.Draft.TheVariants.{Cipher, UnknownRsp}
 use Rattle.procedure_values.specs.declared.drafts.Outgoing.{Outgoing}
 use Rattle.procedure_values.specs.declared.drafts.Outgoing.TheVariants.{Disconnect, Nothing, Other, Rejection}
 use Rattle.procedure_values.specs.declared.drafts.Rejection.{Rejection as TheRejection}
 use Rattle.procedure_stages.specs.declared.closing.Closing.{Closing}
-use Rattle.procedure_stages.specs.declared.stages.OwnCentral.{OwnCentral}
-use Rattle.procedure_stages.specs.declared.stages.OwnCentral.TheVariants.{EncryptSent, EncryptUnsent}
-use Rattle.procedure_stages.specs.declared.stages.Progress.{Progress}
-use Rattle.procedure_stages.specs.declared.stages.Progress.TheVariants.{Central as central, Peripheral as peripheral}
-use Rattle.procedure_stages.specs.Awaited.{is_own_encryption}
 use Rattle.procedure_stages.specs.Closing.{is_disconnecting, is_open}
-use Rattle.procedure_stages.specs.Exclusive.{central_stage}
-use Rattle.procedure_stages.specs.InProgress.{has_peer}
-use Rattle.procedure_stages.specs.Kinds.{role_of}
-use Rattle.table_laws.specs.Encrypting.{has_encryption}
-use Rattle.collisions.specs.CentralTable.{has_no_peer}
-use Rattle.collision_steps.specs.CentralPart.{central_of, view}
-use Rattle.collision_steps.specs.Parts.{drafts_part, reason_part, rejection_part}
+use Rattle.collision_steps.specs.Parts.{reason_part, rejection_part}
 use Rattle.phase_pairs.specs.declared.joint.PhaseEvent.{PhaseEvent}
 use Rattle.phase_pairs.specs.JointRun.{encryption}
 use Rattle.phased_control.specs.Ends.{IsFirst, is_half_keyed, says_kept}
-use Rattle.phased_control.specs.Phased.{Phased, first_phased, is_open_now, is_quiet_now}
+use Rattle.phased_control.specs.Phased.{Phased, first_phased, is_quiet_now}
 use Rattle.phased_control.specs.Taken.{phased_after_all}
 use Rattle.exclusive_stages.specs.declared.pdus.Pdu.{Pdu}
 use Rattle.exclusive_stages.specs.declared.pdus.Pdu.TheVariants.{RejectParam, RejectPhy}
@@ -49,15 +32,17 @@ use Rattle.phased_control.proofs.Kept.{first_now, none_quietly, said_now}
 use Rattle.joint_controls.specs.Ends.{steps_of_central}
 use Rattle.joint_controls.specs.Joint.{Joint, JointStep, Way, Clear as clear_way, Control, Data, Fixed, Item, OnAir, Taken, after_all, beginning, item_on_air}
 use Rattle.joint_controls.proofs.EndSteps.{central_runs}
-use Rattle.joint_collisions.specs.Facts.{CentralFacts, Facts, PeripheralFacts, fits_down, fits_if, fits_up, is_cipher_down, is_cipher_up, item_fits}
-use Rattle.joint_collisions.specs.Views.{IsReached, view_of}
+use Rattle.joint_collisions.specs.Facts.{CentralFacts, Facts, fits_down, fits_if, fits_up, is_cipher_down, is_cipher_up, item_fits}
 use Rattle.joint_exchanges.specs.Runs.{AllBefore, GoesOn}
-use Rattle.joint_exchanges.specs.SentByRole.{AreOfRoles, HaveMeaning, IsItemOf, IsWayOf, is_cipher_of, is_draft_of, is_outgoing_of, is_rejection_of}
+use Rattle.joint_exchanges.specs.SentByRole.{AreOfRoles, HaveMeaning, IsItemOf, IsWayOf, is_cipher_of, is_outgoing_of, is_rejection_of}
 use Rattle.joint_exchanges.proofs.Few.{meant_roles}
-use Rattle.joint_phases.specs.Parts.{IsShown, closing_down}
-use Rattle.joint_laws.specs.Firsts.{is_empty}
-use Rattle.joint_laws.proofs.ExclusiveFirsts.{free_none}
-use Rattle.joint_laws.proofs.PeerInQuiet.{peer_quietly}
+use Rattle.joint_phases.specs.Parts.{IsShown, closing_down, way_down}
+use Rattle.joint_laws.proofs.CentralFacts.{outgoing_out}
+use Rattle.joint_laws.proofs.PausePlaces.{pausing}
+use Rattle.joint_controls.proofs.LastPdus.{first_tied, tied}
+use Rattle.joint_controls.specs.Ends.{IsSentOn, outgoing_on}
+use Rattle.phased_control.specs.Phased.{is_pause_rsp}
+use Rattle.phase_pairs.specs.JointRun.{is_coming, is_pause_rsp as is_pause_class, is_pause_rsp_taken}
 
 -- ---- what a central keeps
 
@@ -70,31 +55,29 @@ kept_allows (HalfClear k) kept ctrl quiet said is = refl
 kept_allows (Asked after_pause enc_rsp k) kept ctrl quiet said is = ap not (sym (said refl) ∙ ap is_some is)
 kept_allows (Pausing k) kept ctrl quiet said is = ap not (sym (said refl) ∙ ap is_some is)
 
--- ---- what a central has in progress outside Clear and Secure
+-- ---- its LL_PAUSE_ENC_RSP
 
-own_idle : (own : OwnCentral) → is_own_encryption own ≡ true → central_stage own ≡ Idle
-own_idle EncryptUnsent is = refl
-own_idle EncryptSent is = refl
-own_idle own is = absurd (cc)
+pausing_way : (knows : Bool) (way : Way) → IsSentOn way → is_pause_rsp (outgoing_on way) ≡ true
+    → (is_coming is_pause_class (way_down knows way) || is_pause_rsp_taken (way_down knows way)) ≡ true
+pausing_way knows clear_way sent is = absurd (cc)
+pausing_way knows (Fixed Data sealed) sent is = absurd (cc)
+pausing_way knows (OnAir Data sealed) sent is = absurd (cc)
+pausing_way knows (Taken Data) sent is = absurd (cc)
+pausing_way knows (Fixed (Control outgoing ctrl) sealed) sent is =
+    ap (λ b. b || false) (sym (outgoing_out knows outgoing ctrl sent.event sent.latency sent.is) ∙ is)
+pausing_way knows (OnAir (Control outgoing ctrl) sealed) sent is =
+    ap (λ b. b || false) (sym (outgoing_out knows outgoing ctrl sent.event sent.latency sent.is) ∙ is)
+pausing_way knows (Taken (Control outgoing ctrl)) sent is = sym (outgoing_out knows outgoing ctrl sent.event sent.latency sent.is) ∙ is
 
-idle_view : (p : Progress) (is_open : Bool) (rejections : List TheRejection) (drafts : List Draft) → role_of p ≡ Central → has_encryption p ≡ true
-    → (view p is_open rejections drafts).own ≡ Idle
-idle_view (central c) is_open rejections drafts role has = own_idle c.own has
-idle_view (peripheral p) is_open rejections drafts role has = absurd (cc)
+not_true : (b : Bool) → not b ≡ true → b ≡ false
+not_true true is = absurd (cc)
+not_true false is = refl
 
-no_peer_view : (p : Progress) (is_open : Bool) (rejections : List TheRejection) (drafts : List Draft) → role_of p ≡ Central → has_peer p ≡ false
-    → has_no_peer (view p is_open rejections drafts).peer ≡ true
-no_peer_view (central c) is_open rejections drafts role none = ap not none
-no_peer_view (peripheral p) is_open rejections drafts role none = absurd (cc)
+implied : (a b : Bool) → (not a || b) ≡ true → a ≡ true → b ≡ true
+implied true b is given = is
+implied false b is given = absurd (cc)
 
-empty_view : (p : Progress) (is_open : Bool) (rejections : List TheRejection) (drafts : List Draft) → role_of p ≡ Central
-    → is_empty (view p is_open rejections drafts).queue.items ≡ true → drafts_part drafts ≡ []
-empty_view (central c) is_open rejections drafts role empty = by (drafts_part drafts) empty
-  where
-    by : (pdus : List Pdu) → is_empty pdus ≡ true → pdus ≡ []
-    by [] is = refl
-    by (pdu ∷ pdus) is = absurd (cc)
-empty_view (peripheral p) is_open rejections drafts role empty = absurd (cc)
+-- ---- until it takes LL_TERMINATE_IND it is to end only by the Disconnect of its host
 
 closing_by : (b : Bool) (closing : Closing) → closing ≡ closing_down b → is_open closing ≡ false → is_disconnecting closing ≡ true
 closing_by true closing is ended = ap is_disconnecting is
@@ -180,41 +163,17 @@ module _ (central_rx peripheral_rx : ℕ) (first : Params) (slot : ℕ) (steps :
   of_central : (P : Phased → Type 0) → P (phased_after_all (steps_of_central steps start) (first_phased Central central_rx first slot)) → P s.central
   of_central P h = subst P (sym (central_runs steps start)) h
 
-  module _ (run_on : GoesOn steps start) (meant : AllBefore HaveMeaning steps start) (reached : IsReached (view_of s)) (events : List PhaseEvent)
+  module _ (run_on : GoesOn steps start) (meant : AllBefore HaveMeaning steps start) (events : List PhaseEvent)
       (shown : IsShown s (run encryption events)) where
     roles : AreOfRoles false s
     roles = meant_roles central_rx peripheral_rx first slot steps run_on meant
 
-    role_is : role_of s.central.control.table.progress ≡ Central
-    role_is = roles.central.table.same_role
-
-    loud : is_quiet_now s.central ≡ false → is_quiet (run encryption events).central.phase ≡ false
-    loud is = ap is_quiet (sym shown.central.phase) ∙ is
-
-    encrypts : is_quiet_now s.central ≡ false → has_encryption s.central.control.table.progress ≡ true
-    encrypts is = shown.central.encrypts ∙ ap not (loud is)
-
-    peer_none : is_quiet_now s.central ≡ false → has_peer s.central.control.table.progress ≡ false
-    peer_none is = by (has_peer s.central.control.table.progress) refl
-      where
-        quietly : has_peer s.central.control.table.progress ≡ true → is_quiet_now s.central ≡ true
-        quietly =
-            of_central (λ (t : Phased). has_peer t.control.table.progress ≡ true → is_quiet_now t ≡ true)
-            (peer_quietly central_rx first slot (steps_of_central steps start))
-
-        by : (b : Bool) → has_peer s.central.control.table.progress ≡ b → b ≡ false
-        by true has = let quiet = quietly has in absurd (cc)
-        by false has = refl
-
-    own : is_quiet_now s.central ≡ false → (central_of s.central.control.table).own ≡ Idle
-    own is =
-        idle_view s.central.control.table.progress _ s.central.control.table.queue.rejections s.central.control.table.queue.drafts role_is (encrypts is)
-
-    drafts : is_quiet_now s.central ≡ false → drafts_part s.central.control.table.queue.drafts ≡ []
-    drafts is =
-        empty_view s.central.control.table.progress _ s.central.control.table.queue.rejections s.central.control.table.queue.drafts role_is
-        (free_none (view_of s) reached (ap is_idle_at_central (own is))
-        (no_peer_view s.central.control.table.progress _ s.central.control.table.queue.rejections s.central.control.table.queue.drafts role_is (peer_none is)))
+    pauses : is_pause_rsp s.central.control.table.out ≡ true → is_quiet_now s.central ≡ false
+    pauses is =
+        let all = tied steps start (first_tied central_rx peripheral_rx first slot) in
+        let way = pausing_way s.central.knows_version s.down all.sent_down (ap (λ outgoing. is_pause_rsp outgoing) (sym all.central) ∙ is) in
+        let down = ap (λ way. is_coming is_pause_class way || is_pause_rsp_taken way) shown.down ∙ way in
+        ap is_quiet shown.central.phase ∙ not_true _ (implied _ _ (pausing events) down)
 
     central_facts : CentralFacts s.central
     central_facts =
@@ -226,8 +185,7 @@ module _ (central_rx peripheral_rx : ℕ) (first : Params) (slot : ℕ) (steps :
               is;
           first = λ ctrl. λ is.
               subst IsFirst is (of_central (λ (t : Phased). IsFirst t.kept) (first_now Central central_rx first slot (steps_of_central steps start)));
-          own = own;
-          drafts = drafts;
+          pauses = pauses;
           rejections = All-from_recursion (λ rejection. is_some (rejection_part rejection) ≡ true) _ (all_some s.central.control.table.queue.rejections roles.central.table.rejections);
           closing = λ ended. closing_by _ s.central.control.table.closing shown.central.closing ended;
         }

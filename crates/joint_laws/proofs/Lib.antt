@@ -14,7 +14,7 @@ pub mod FactsHold
 pub mod Meanings
 pub mod ExclusiveFactsHold
 pub mod EachState
-pub mod Pairs
+pub mod WaitsDown
 pub mod PhaseLaws
 pub mod CiphersWait
 pub mod FewWait
@@ -22,3 +22,5 @@ pub mod TakenEnds
 pub mod StepEnds
 pub mod LinkEnds
 pub mod Lateness
+pub mod SoundStates
+pub mod PausePlaces

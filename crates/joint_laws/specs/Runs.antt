@@ -3,7 +3,7 @@
 use Rattle.std.specs.Prelude.{◌≡◌, ◌≤◌, ℕ, true, List}
 use Rattle.instants.specs.declared.indications.Params.{Params}
 use Rattle.joint_controls.specs.Ends.{AreStepsInRange}
-use Rattle.joint_controls.specs.Joint.{Joint, JointStep, after_all, beginning, is_running}
+use Rattle.joint_controls.specs.Joint.{JointStep, after_all, beginning, is_running}
 use Rattle.joint_exchanges.specs.Runs.{AllRespond}
 
 -- the latency that the link begins with is in its range, and so is what the hosts ask; LL_ENC_REQ would be answered with
