@@ -1,5 +1,4 @@
 -- The lemmas of this crate.
-pub mod VersionsUsed
 pub mod VersionPdus
 pub mod VersionFacts
 pub mod FirstPlaces

@@ -1,5 +1,5 @@
--- Where the first PDUs of the procedures that exclude each other are in a joint run of these (Core 5.2, volume 6 part B,
--- section 5.3).
+-- Where the first PDUs of the procedures that exclude each other are in a joint run of these (Core 5.2, volume 6
+-- part B, section 5.3).
 use Rattle.std.specs.Prelude.{Bool, true, false, not, ◌&&◌, ◌||◌, List, [], ◌∷◌, is_none}
 use Rattle.exclusive_stages.specs.declared.pdus.Pdu.{Pdu}
 use Rattle.exclusive_stages.specs.declared.pdus.Pdu.TheVariants.{ParamReq, PhyReq}
