@@ -1,6 +1,5 @@
 -- What waits at a central, and what it sent last, in each state of a joint run in which that goes on.
 use Rattle.std.proofs.Common.{◌≡◌, ◌≤◌, ℕ, Bool, true, false, not, List, Option, Some, None, refl, ap, sym, ◌∙◌, arith}
-use Rattle.std.proofs.lemmas.Bool.{or_left}
 use Rattle.ble_base.specs.declared.roles.Role.TheVariants.{Central}
 use Rattle.data_pdu.specs.declared.ctrl.Ctrl.{Ctrl}
 use Rattle.data_pdu.specs.declared.ctrl.Ctrl.TheVariants.{PauseEncRsp, RejectExtInd, VersionInd as version_pdu}
@@ -29,7 +28,7 @@ use Rattle.exchange_steps.specs.Ends.{features_stage, lengths_stage, version_sta
 use Rattle.phase_pairs.specs.JointRun.{is_pause_rsp as is_pause_class, is_pause_rsp_taken}
 use Rattle.phased_control.specs.Phased.{is_pause_rsp}
 use Rattle.joint_controls.specs.Ends.{IsSentOn, outgoing_on}
-use Rattle.joint_controls.specs.Joint.{Joint, JointStep, Way, Clear, Control, Data, Fixed, OnAir, Taken, after_all, beginning, is_fixed, is_taken}
+use Rattle.joint_controls.specs.Joint.{Joint, JointStep, Way, Control, Data, Taken, after_all, beginning, is_taken}
 use Rattle.joint_controls.proofs.LastPdus.{first_tied, tied}
 use Rattle.joint_collisions.specs.Views.{IsReached, view_of}
 use Rattle.joint_exchanges.specs.Agreement.{Asked, Features, Lengths, is_version_ind, questions_waiting, stage_at, version_stage_at, waiting}
@@ -40,7 +39,6 @@ use Rattle.joint_exchanges.proofs.States.{asked_idle, asked_sent, version_once, 
 use Rattle.joint_phases.specs.Classes.{class_down, draft_down}
 use Rattle.joint_phases.specs.Facts.{are_of_own, drafts_of, is_first_of, is_unsent_first}
 use Rattle.joint_phases.specs.Parts.{way_down}
-use Rattle.joint_phases.proofs.MachineFacts.{has_pause_rsp}
 use Rattle.joint_laws.specs.Firsts.{has, is_phy_unsent}
 use Rattle.joint_laws.proofs.CentralFirsts.{all_of_own}
 use Rattle.joint_laws.proofs.ExclusiveFirsts.{phy_unsent}
@@ -108,7 +106,7 @@ draft_out true VersionInd event latency = refl
 draft_out false VersionInd event latency = refl
 draft_out knows draft event latency = refl
 
-outgoing_out : (knows : Bool) (outgoing : Outgoing) (ctrl : Ctrl) (event latency : ℕ) → ctrl_of_outgoing outgoing event latency ≡ Some ctrl
+pub outgoing_out : (knows : Bool) (outgoing : Outgoing) (ctrl : Ctrl) (event latency : ℕ) → ctrl_of_outgoing outgoing event latency ≡ Some ctrl
     → is_pause_rsp outgoing ≡ is_pause_class (class_down knows ctrl)
 outgoing_out knows Nothing ctrl event latency is = absurd (cc)
 outgoing_out knows (Rejection rejection) ctrl event latency is = ap (λ c. is_pause_class (class_down knows c)) (some_ctrl is)
@@ -120,15 +118,6 @@ way_out knows (Taken Data) sent taken = refl
 way_out knows (Taken (Control outgoing ctrl)) sent taken = outgoing_out knows outgoing ctrl sent.event sent.latency sent.is
 way_out knows way sent taken = absurd (cc)
 
--- its last PDU is LL_PAUSE_ENC_RSP: the machine sees that on the way down
-pause_way : (knows : Bool) (way : Way) → IsSentOn way → is_fixed way ≡ false → is_pause_rsp (outgoing_on way) ≡ true → has_pause_rsp (way_down knows way) ≡ true
-pause_way knows (Taken Data) sent unfixed is = absurd (cc)
-pause_way knows (Taken (Control outgoing ctrl)) sent unfixed is = or_left _ _ (sym (outgoing_out knows outgoing ctrl sent.event sent.latency sent.is) ∙ is)
-pause_way knows (OnAir Data sealed) sent unfixed is = absurd (cc)
-pause_way knows (OnAir (Control outgoing ctrl) sealed) sent unfixed is = sym (outgoing_out knows outgoing ctrl sent.event sent.latency sent.is) ∙ is
-pause_way knows (Fixed item sealed) sent unfixed is = absurd (cc)
-pause_way knows Clear sent unfixed is = absurd (cc)
-
 -- ---- in a joint run
 
 module _ (central_rx peripheral_rx : ℕ) (first : Params) (slot : ℕ) (steps : List JointStep) where
@@ -139,11 +128,6 @@ module _ (central_rx peripheral_rx : ℕ) (first : Params) (slot : ℕ) (steps :
   taken_is_out taken =
       let all = tied steps (beginning central_rx peripheral_rx first slot) (first_tied central_rx peripheral_rx first slot) in
       ap (λ outgoing. is_pause_rsp outgoing) all.central ∙ way_out s.central.knows_version s.down all.sent_down taken
-
-  pub pause_is_out : is_pause_rsp s.central.control.table.out ≡ true → has_pause_rsp (way_down s.central.knows_version s.down) ≡ true
-  pause_is_out is =
-      let all = tied steps (beginning central_rx peripheral_rx first slot) (first_tied central_rx peripheral_rx first slot) in
-      pause_way s.central.knows_version s.down all.sent_down all.down (sym (ap (λ outgoing. is_pause_rsp outgoing) all.central) ∙ is)
 
   module _ (run_on : GoesOn steps (beginning central_rx peripheral_rx first slot)) (reached : IsReached (view_of s)) where
     roles : AreOfRoles true s

@@ -1,5 +1,5 @@
 -- How many PDUs of the encryption wait at each end, with LL_TERMINATE_IND for lack of a key.
-use Rattle.std.proofs.Common.{◌≡◌, ◌≤◌, ℕ, ◌+◌, ◌==◌, if◌then◌else◌, Bool, true, false, not, ◌&&◌, List, [], ◌∷◌, ◌++◌, length, Option, Some, None, is_some, refl, ap, sym, subst, ◌∙◌, arith}
+use Rattle.std.proofs.Common.{◌≡◌, ◌≤◌, ℕ, ◌+◌, ◌==◌, if◌then◌else◌, Bool, true, false, ◌&&◌, List, [], ◌∷◌, ◌++◌, length, Option, Some, None, is_some, refl, sym, subst, arith}
 use Rattle.std.specs.List.{AllByRecursion}
 use Rattle.std.proofs.lemmas.Bool.{and_parts}
 use Rattle.ble_base.specs.declared.roles.Role.TheVariants.{Central, Peripheral}
@@ -8,16 +8,16 @@ use Rattle.data_pdu.specs.declared.ctrl.Ctrl.TheVariants.{EncReq as enc_req, Enc
 use Rattle.enc_phase.specs.declared.classes.PduClass.{PduClass}
 use Rattle.enc_phase.specs.declared.classes.PduClass.TheVariants.{Data, Empty, EncReq, EncRsp, Other, PauseEncReq, PauseEncRsp, Refusal, Request, StartEncReq, StartEncRsp, Terminate}
 use Rattle.procedure_values.specs.declared.drafts.Draft.{Draft}
-use Rattle.procedure_values.specs.declared.drafts.Draft.TheVariants.{Cipher, Update}
+use Rattle.procedure_values.specs.declared.drafts.Draft.TheVariants.{Cipher}
 use Rattle.table_laws.specs.Waiting.{count_if, number_of}
 use Rattle.phase_pairs.specs.declared.peripheral.PhasePeripheral.{PhasePeripheral}
-use Rattle.phase_pairs.specs.Agreement.{encryption_pdu, is_encryption, waiting_pdu}
+use Rattle.phase_pairs.specs.Agreement.{encryption_pdu, is_encryption}
 use Rattle.phase_pairs.specs.Central.{is_queued}
 use Rattle.joint_exchanges.specs.SentByRole.{is_cipher_of, is_draft_of}
 use Rattle.joint_exchanges.specs.Waiting.{is_cipher}
 use Rattle.joint_phases.specs.Classes.{class_down, class_up, draft_down, draft_up}
 use Rattle.joint_phases.specs.Parts.{goes_up, wait_up, without_up}
-use Rattle.joint_laws.specs.Pairs.{encryption_in}
+use Rattle.joint_phases.specs.Pairs.{encryption_waiting}
 
 -- ---- at a central each is one of the encryption
 
@@ -39,14 +39,14 @@ one_pdu : (pdu : PduClass) (pdus : List PduClass) (n : ℕ) → is_encryption pd
 one_pdu pdu pdus n is less = subst (λ (b : Bool). 1 + n ≤ length ((if b then pdu ∷ [] else []) ++ pdus)) (sym is) (omega (arith, less))
 
 pub ciphers_down : (knows : Bool) (drafts : List Draft) → AllByRecursion (λ draft. is_draft_of false Central draft ≡ true) drafts
-    → number_of is_cipher drafts ≤ length (encryption_in (draft_down knows) drafts)
+    → number_of is_cipher drafts ≤ length (encryption_waiting (draft_down knows) drafts)
 ciphers_down knows [] all = omega arith
 ciphers_down knows (draft ∷ drafts) all = by draft all.0 (ciphers_down knows drafts all.1)
   where
-    by : (draft : Draft) → is_draft_of false Central draft ≡ true → number_of is_cipher drafts ≤ length (encryption_in (draft_down knows) drafts)
-        → number_of is_cipher (draft ∷ drafts) ≤ length (encryption_in (draft_down knows) (draft ∷ drafts))
-    by (Cipher ctrl) is less = one_pdu (class_down knows ctrl) (encryption_in (draft_down knows) drafts) (number_of is_cipher drafts) (cipher_class knows ctrl is) less
-    by draft is less = more_pdus (draft_down knows draft) (encryption_in (draft_down knows) drafts) (0 + number_of is_cipher drafts) (omega (arith, less))
+    by : (draft : Draft) → is_draft_of false Central draft ≡ true → number_of is_cipher drafts ≤ length (encryption_waiting (draft_down knows) drafts)
+        → number_of is_cipher (draft ∷ drafts) ≤ length (encryption_waiting (draft_down knows) (draft ∷ drafts))
+    by (Cipher ctrl) is less = one_pdu (class_down knows ctrl) (encryption_waiting (draft_down knows) drafts) (number_of is_cipher drafts) (cipher_class knows ctrl is) less
+    by draft is less = more_pdus (draft_down knows draft) (encryption_waiting (draft_down knows) drafts) (0 + number_of is_cipher drafts) (omega (arith, less))
 
 -- ---- at a peripheral each is the first that waits in its turn
 

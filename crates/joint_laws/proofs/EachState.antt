@@ -73,7 +73,7 @@ module _ (central_rx peripheral_rx : ℕ) (first : Params) (slot : ℕ) (latency
       let shows = shows_run central_rx peripheral_rx first slot steps known.facts goes in
       record {
         facts = facts_hold central_rx peripheral_rx first slot steps goes reached;
-        exclusive = exclusive_facts central_rx peripheral_rx first slot steps goes known.meant reached (events_of steps start) shows.shown;
+        exclusive = exclusive_facts central_rx peripheral_rx first slot steps goes known.meant (events_of steps start) shows.shown;
         meant = have_meaning (after_all steps start) (events_of steps start) shows.shown;
         reached = reached;
         shown = shows.shown;

@@ -19,28 +19,30 @@ use Rattle.procedure_values.specs.declared.drafts.Outgoing.TheVariants.{Disconne
 use Rattle.procedure_values.specs.declared.drafts.Rejection.{Rejection as TheRejection}
 use Rattle.procedure_stages.specs.declared.closing.Closing.{Closing}
 use Rattle.procedure_stages.specs.Closing.{is_disconnecting, is_open}
-use Rattle.procedure_stages.specs.Kinds.{role_of}
 use Rattle.collision_steps.specs.Parts.{reason_part, rejection_part}
 use Rattle.phase_pairs.specs.declared.joint.PhaseEvent.{PhaseEvent}
 use Rattle.phase_pairs.specs.JointRun.{encryption}
 use Rattle.phased_control.specs.Ends.{IsFirst, is_half_keyed, says_kept}
-use Rattle.phased_control.specs.Phased.{Phased, first_phased, is_pause_rsp, is_quiet_now}
+use Rattle.phased_control.specs.Phased.{Phased, first_phased, is_quiet_now}
 use Rattle.phased_control.specs.Taken.{phased_after_all}
 use Rattle.exclusive_stages.specs.declared.pdus.Pdu.{Pdu}
 use Rattle.exclusive_stages.specs.declared.pdus.Pdu.TheVariants.{RejectParam, RejectPhy}
 use Rattle.procedure_stages.specs.Opcodes.{connection_param_req_opcode, enc_req_opcode, phy_req_opcode}
 use Rattle.phased_control.proofs.Kept.{first_now, none_quietly, said_now}
 use Rattle.joint_controls.specs.Ends.{steps_of_central}
-use Rattle.joint_controls.specs.Joint.{Joint, JointStep, Way, Control, Data, Item, OnAir, after_all, beginning, item_on_air}
+use Rattle.joint_controls.specs.Joint.{Joint, JointStep, Way, Clear as clear_way, Control, Data, Fixed, Item, OnAir, Taken, after_all, beginning, item_on_air}
 use Rattle.joint_controls.proofs.EndSteps.{central_runs}
 use Rattle.joint_collisions.specs.Facts.{CentralFacts, Facts, fits_down, fits_if, fits_up, is_cipher_down, is_cipher_up, item_fits}
-use Rattle.joint_collisions.specs.Views.{IsReached, view_of}
 use Rattle.joint_exchanges.specs.Runs.{AllBefore, GoesOn}
 use Rattle.joint_exchanges.specs.SentByRole.{AreOfRoles, HaveMeaning, IsItemOf, IsWayOf, is_cipher_of, is_outgoing_of, is_rejection_of}
 use Rattle.joint_exchanges.proofs.Few.{meant_roles}
-use Rattle.joint_phases.specs.Parts.{IsShown, closing_down}
-use Rattle.joint_phases.proofs.MachineFacts.{has_pause_rsp, is_half_clear, settled}
-use Rattle.joint_laws.proofs.CentralFacts.{pause_is_out}
+use Rattle.joint_phases.specs.Parts.{IsShown, closing_down, way_down}
+use Rattle.joint_laws.proofs.CentralFacts.{outgoing_out}
+use Rattle.joint_laws.proofs.PausePlaces.{pausing}
+use Rattle.joint_controls.proofs.LastPdus.{first_tied, tied}
+use Rattle.joint_controls.specs.Ends.{IsSentOn, outgoing_on}
+use Rattle.phased_control.specs.Phased.{is_pause_rsp}
+use Rattle.phase_pairs.specs.JointRun.{is_coming, is_pause_rsp as is_pause_class, is_pause_rsp_taken}
 
 -- ---- what a central keeps
 
@@ -53,11 +55,29 @@ kept_allows (HalfClear k) kept ctrl quiet said is = refl
 kept_allows (Asked after_pause enc_rsp k) kept ctrl quiet said is = ap not (sym (said refl) ∙ ap is_some is)
 kept_allows (Pausing k) kept ctrl quiet said is = ap not (sym (said refl) ∙ ap is_some is)
 
--- ---- what a central does after a pause, and how it is to end
+-- ---- its LL_PAUSE_ENC_RSP
 
-loud_half_clear : (phase : PhaseFacts) → is_half_clear phase ≡ true → is_quiet phase ≡ false
-loud_half_clear (HalfClear kept) is = refl
-loud_half_clear phase is = absurd (cc)
+pausing_way : (knows : Bool) (way : Way) → IsSentOn way → is_pause_rsp (outgoing_on way) ≡ true
+    → (is_coming is_pause_class (way_down knows way) || is_pause_rsp_taken (way_down knows way)) ≡ true
+pausing_way knows clear_way sent is = absurd (cc)
+pausing_way knows (Fixed Data sealed) sent is = absurd (cc)
+pausing_way knows (OnAir Data sealed) sent is = absurd (cc)
+pausing_way knows (Taken Data) sent is = absurd (cc)
+pausing_way knows (Fixed (Control outgoing ctrl) sealed) sent is =
+    ap (λ b. b || false) (sym (outgoing_out knows outgoing ctrl sent.event sent.latency sent.is) ∙ is)
+pausing_way knows (OnAir (Control outgoing ctrl) sealed) sent is =
+    ap (λ b. b || false) (sym (outgoing_out knows outgoing ctrl sent.event sent.latency sent.is) ∙ is)
+pausing_way knows (Taken (Control outgoing ctrl)) sent is = sym (outgoing_out knows outgoing ctrl sent.event sent.latency sent.is) ∙ is
+
+not_true : (b : Bool) → not b ≡ true → b ≡ false
+not_true true is = absurd (cc)
+not_true false is = refl
+
+implied : (a b : Bool) → (not a || b) ≡ true → a ≡ true → b ≡ true
+implied true b is given = is
+implied false b is given = absurd (cc)
+
+-- ---- until it takes LL_TERMINATE_IND it is to end only by the Disconnect of its host
 
 closing_by : (b : Bool) (closing : Closing) → closing ≡ closing_down b → is_open closing ≡ false → is_disconnecting closing ≡ true
 closing_by true closing is ended = ap is_disconnecting is
@@ -143,18 +163,17 @@ module _ (central_rx peripheral_rx : ℕ) (first : Params) (slot : ℕ) (steps :
   of_central : (P : Phased → Type 0) → P (phased_after_all (steps_of_central steps start) (first_phased Central central_rx first slot)) → P s.central
   of_central P h = subst P (sym (central_runs steps start)) h
 
-  module _ (run_on : GoesOn steps start) (meant : AllBefore HaveMeaning steps start) (reached : IsReached (view_of s)) (events : List PhaseEvent)
+  module _ (run_on : GoesOn steps start) (meant : AllBefore HaveMeaning steps start) (events : List PhaseEvent)
       (shown : IsShown s (run encryption events)) where
     roles : AreOfRoles false s
     roles = meant_roles central_rx peripheral_rx first slot steps run_on meant
 
-    role_is : role_of s.central.control.table.progress ≡ Central
-    role_is = roles.central.table.same_role
-
     pauses : is_pause_rsp s.central.control.table.out ≡ true → is_quiet_now s.central ≡ false
     pauses is =
-        loud_half_clear s.central.phase
-        (ap is_half_clear shown.central.phase ∙ (settled events).pause_phase (ap has_pause_rsp shown.down ∙ pause_is_out central_rx peripheral_rx first slot steps is))
+        let all = tied steps start (first_tied central_rx peripheral_rx first slot) in
+        let way = pausing_way s.central.knows_version s.down all.sent_down (ap (λ outgoing. is_pause_rsp outgoing) (sym all.central) ∙ is) in
+        let down = ap (λ way. is_coming is_pause_class way || is_pause_rsp_taken way) shown.down ∙ way in
+        ap is_quiet shown.central.phase ∙ not_true _ (implied _ _ (pausing events) down)
 
     central_facts : CentralFacts s.central
     central_facts =

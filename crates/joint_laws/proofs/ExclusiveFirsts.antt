@@ -1,16 +1,14 @@
 -- Where the first PDUs of the procedures that exclude each other are in a joint run of both ends.
 use Rattle.std.proofs.Common.{◌≡◌, Bool, true, false, not, ◌&&◌, ◌||◌, is_none, refl, sym, subst, ◌∙◌}
-use Rattle.std.proofs.lemmas.Bool.{and_from, and_parts}
+use Rattle.std.proofs.lemmas.Bool.{and_parts}
 use Rattle.machines.specs.Machine.{run}
 use Rattle.collisions.specs.declared.joint.Link.{Link}
 use Rattle.collisions.specs.Agreement.{is_phy_request, untaken}
 use Rattle.collisions.specs.JointRun.{is_pdu}
-use Rattle.collisions.specs.CentralTable.{has_no_peer}
-use Rattle.exclusive_stages.specs.Kinds.{is_idle_at_central}
 use Rattle.collisions.specs.Numbers.{numbered_collisions}
 use Rattle.collisions.proofs.Gaps.{is_run}
 use Rattle.joint_collisions.specs.Views.{IsReached, View, numbered_of}
-use Rattle.joint_laws.specs.Firsts.{are_firsts_right, free_has_none, has, has_no_first, is_empty, is_first, is_over, is_phy_unsent, over_has_no_first, phy_waits_unsent}
+use Rattle.joint_laws.specs.Firsts.{are_firsts_right, has, has_no_first, is_first, is_over, is_phy_unsent, over_has_no_first, phy_waits_unsent}
 use Rattle.joint_laws.proofs.FirstPlaces.{firsts_right}
 
 not_true : (b : Bool) → not b ≡ true → b ≡ false
@@ -41,19 +39,12 @@ module _ (v : View) (reached : IsReached v) where
 
   pub over_none : is_over v.peripheral.own ≡ true → HasNoFirst v
   over_none over =
-      let one = and_parts (over_has_no_first link) (phy_waits_unsent link && free_has_none link) right in
+      let one = and_parts (over_has_no_first link) (phy_waits_unsent link) right in
       let none = implied (is_over v.peripheral.own) (has_no_first link) one.0 over in
       let two = and_parts (not (has is_first v.peripheral.queue.items)) (not (is_pdu is_first (untaken v.up)) && is_none v.kept) none in
       let three = and_parts (not (is_pdu is_first (untaken v.up))) (is_none v.kept) two.1 in
       record { queue = not_true _ two.0; way = not_true _ three.0; kept = three.1 }
 
-  waiting_right : (phy_waits_unsent link ≡ true) × (free_has_none link ≡ true)
-  waiting_right = and_parts (phy_waits_unsent link) (free_has_none link) (and_parts (over_has_no_first link) (phy_waits_unsent link && free_has_none link) right).1
-
   pub phy_unsent : has is_phy_request v.central.queue.items ≡ true → is_phy_unsent v.central.own ≡ true
   phy_unsent waits =
-      implied (has is_phy_request v.central.queue.items) (is_phy_unsent v.central.own) waiting_right.0 waits
-
-  pub free_none : is_idle_at_central v.central.own ≡ true → has_no_peer v.central.peer ≡ true → is_empty v.central.queue.items ≡ true
-  free_none idle no_peer =
-      implied (is_idle_at_central v.central.own && has_no_peer v.central.peer) (is_empty v.central.queue.items) waiting_right.1 (and_from _ _ idle no_peer)
+      implied (has is_phy_request v.central.queue.items) (is_phy_unsent v.central.own) (and_parts (over_has_no_first link) (phy_waits_unsent link) right).1 waits

@@ -1,5 +1,5 @@
 -- At most ten control PDUs wait at an end of a joint run.
-use Rattle.std.proofs.Common.{◌≡◌, ◌≤◌, ℕ, ◌+◌, Bool, true, false, List, [], ◌∷◌, ◌++◌, if◌then◌else◌, length, Option, Some, None, is_some, refl, ap, sym, subst, ◌∙◌, arith}
+use Rattle.std.proofs.Common.{◌≡◌, ◌≤◌, ℕ, ◌+◌, Bool, true, false, List, [], ◌∷◌, if◌then◌else◌, length, Option, Some, None, is_some, refl, ap, sym, subst, ◌∙◌, arith}
 use Rattle.std.specs.List.{AllByRecursion}
 use Rattle.ble_base.specs.declared.roles.Role.{Role}
 use Rattle.ble_base.specs.declared.roles.Role.TheVariants.{Central, Peripheral}
@@ -19,32 +19,30 @@ use Rattle.ble_base.specs.declared.error_codes.ErrCode.{ErrCode}
 use Rattle.table_laws.specs.Waiting.{count_if, number_of}
 use Rattle.collisions.specs.declared.joint.Link.{Link}
 use Rattle.collisions.specs.JointRun.{collisions}
-use Rattle.collisions.specs.Numbers.{numbered_collisions}
 use Rattle.collisions.proofs.Collisions.{few_wait}
 use Rattle.collisions.proofs.Gaps.{is_run}
 use Rattle.collision_steps.specs.CentralPart
 use Rattle.collision_steps.specs.Parts.{drafts_part, rejection_part, rejections_part, with_part}
 use Rattle.collision_steps.specs.PeripheralPart
 use Rattle.phase_pairs.specs.declared.joint.PhaseEvent.{PhaseEvent}
-use Rattle.phase_pairs.specs.declared.peripheral.PhasePeripheral.{PhasePeripheral}
-use Rattle.phase_pairs.specs.Agreement.{encryption_pdu, is_encryption, waiting_pdu}
+use Rattle.phase_pairs.specs.Agreement.{is_encryption, waiting_pdu}
 use Rattle.phase_pairs.specs.JointRun.{encryption}
 use Rattle.enc_phase.specs.declared.classes.PduClass.{PduClass}
 use Rattle.phased_control.specs.Phased.{Phased}
 use Rattle.joint_controls.specs.Joint.{Joint, JointStep, after_all, beginning}
 use Rattle.joint_collisions.specs.Views.{IsReached, View, numbered_of, view_of}
-use Rattle.joint_exchanges.specs.Agreement.{Features, Lengths, end_at, is_version_ind, waiting}
+use Rattle.joint_exchanges.specs.Agreement.{Features, Lengths, end_at, waiting}
 use Rattle.joint_exchanges.specs.Runs.{AllBefore, GoesOn}
 use Rattle.joint_exchanges.specs.SentByRole.{AreOfRoles, HaveMeaning, is_rejection_of}
-use Rattle.joint_exchanges.specs.Waiting.{disconnects_waiting, is_cipher, is_exclusive, is_unknown_rsp, rejections_waiting}
+use Rattle.joint_exchanges.specs.Waiting.{disconnects_waiting, is_cipher, is_exclusive, rejections_waiting}
 use Rattle.joint_exchanges.proofs.Few.{exchange_few, meant_roles, none_rejects, unknown_none, version_few, waiting_sum}
-use Rattle.joint_phases.specs.Classes.{draft_down, draft_up}
+use Rattle.joint_phases.specs.Classes.{draft_down}
 use Rattle.joint_phases.specs.Facts.{drafts_of}
 use Rattle.joint_phases.specs.Parts.{IsShown}
-use Rattle.joint_laws.specs.Pairs.{encryption_in}
-use Rattle.joint_laws.proofs.CiphersWait.{ciphers_down, ciphers_up, count_waiting, some_least}
+use Rattle.joint_phases.specs.Pairs.{encryption_waiting}
+use Rattle.joint_laws.proofs.CiphersWait.{ciphers_down, ciphers_up, some_least}
 use Rattle.joint_laws.proofs.ExclusiveFactsHold.{rejection_some}
-use Rattle.joint_laws.proofs.Pairs.{waits_down}
+use Rattle.joint_laws.proofs.WaitsDown.{waits_down}
 
 -- ---- of the procedures that exclude each other
 
@@ -157,7 +155,7 @@ module _ (central_rx peripheral_rx : ℕ) (first : Params) (slot : ℕ) (steps :
     cipher_central : waiting is_cipher s.central ≤ 1
     cipher_central =
         let all = ciphers_down s.central.knows_version (drafts_of s.central) roles.central.table.drafts in
-        let same : length (encryption_in (draft_down s.central.knows_version) (drafts_of s.central)) ≡ length (waiting_pdu (run encryption events).central.queued) =
+        let same : length (encryption_waiting (draft_down s.central.knows_version) (drafts_of s.central)) ≡ length (waiting_pdu (run encryption events).central.queued) =
         ap (λ pdus. length pdus) (waits_down (draft_down s.central.knows_version) (run encryption events).central.phase (drafts_of s.central) (run encryption events).central.queued shown.central.waits) in
         let most = one_queued (run encryption events).central.queued in omega (arith, all, same, most)
 

@@ -1,11 +1,10 @@
 -- An indication that comes after its Instant comes to a peripheral that has passed that.
-use Rattle.std.proofs.Common.{◌≡◌, ◌≤◌, ◌<◌, ℕ, ◌+◌, ◌-◌, ◌%◌, ◌^◌, ◌==◌, nat_le, nat_lt, Bool, true, false, not, ◌&&◌, ◌||◌, if◌then◌else◌, List, [], ◌∷◌, Option, Some, None, is_some, refl, ap, sym, subst, ◌∙◌, arith, leb-true, leb-false, ltb-false}
-use Rattle.std.proofs.lemmas.Bool.{and_parts}
+use Rattle.std.proofs.Common.{◌≡◌, ◌≤◌, ℕ, ◌+◌, ◌-◌, ◌%◌, ◌^◌, ◌==◌, nat_le, nat_lt, Bool, true, false, ◌||◌, if◌then◌else◌, List, [], ◌∷◌, Option, Some, None, is_some, refl, ap, sym, subst, ◌∙◌, arith, leb-true, ltb-false}
 use Rattle.ble_base.specs.Instant.{gap_of}
 use Rattle.ble_base.specs.declared.error_codes.ErrCode.{ErrCode}
 use Rattle.ble_base.specs.declared.counters.EventNo.{EventNo}
 use Rattle.ble_base.specs.declared.roles.Role.{Role}
-use Rattle.ble_base.specs.declared.roles.Role.TheVariants.{Central as central_role, Peripheral as peripheral_role}
+use Rattle.ble_base.specs.declared.roles.Role.TheVariants.{Peripheral as peripheral_role}
 use Rattle.data_pdu.specs.declared.ctrl.Ctrl.{Ctrl}
 use Rattle.data_pdu.specs.declared.ctrl.Ctrl.TheVariants.{TerminateInd}
 use Rattle.data_pdu.specs.declared.ctrl.CtrlRead.{CtrlRead}
@@ -23,7 +22,7 @@ use Rattle.procedure_values.specs.declared.drafts.Draft.TheVariants.{Grant, Map,
 use Rattle.procedure_values.specs.declared.drafts.Outgoing.{Outgoing}
 use Rattle.procedure_values.specs.declared.drafts.Outgoing.TheVariants.{Disconnect, Nothing, Other, Rejection}
 use Rattle.procedure_values.specs.Drafts.{indication_of}
-use Rattle.joint_controls.specs.Joint.{Control, Item, Joint, OnAir, Way, has_passed, instant_now, is_indication, is_item, is_late, item_on_air, last_change}
+use Rattle.joint_controls.specs.Joint.{Control, Joint, OnAir, Way, has_passed, is_indication, is_item, is_late, item_on_air, last_change}
 use Rattle.control_model.specs.Waits.{last_event_of}
 use Rattle.collision_steps.specs.CentralPart.{passed_from, passed_from_of}
 use Rattle.collision_steps.specs.Parts.{outgoing_part, param_request_opcode, phy_request_opcode, reason_part}
@@ -36,7 +35,7 @@ use Rattle.collisions.specs.declared.peripheral.Peripheral.{Peripheral as Periph
 use Rattle.collision_steps.specs.Answers.{stops_run}
 use Rattle.collision_steps.specs.PeripheralPart.{answer_to, peripheral_of, step_of_read}
 use Rattle.collision_steps.proofs.PeripheralTaking
-use Rattle.control_model.specs.Control.{indicated_by, is_to_come}
+use Rattle.control_model.specs.Control.{indicated_by}
 use Rattle.control_model.specs.Waits.{kind_awaited}
 use Rattle.control_model.proofs.Outcomes.{Hands, HandsOn, fits}
 use Rattle.exclusive_stages.specs.declared.pdus.Exclusive.{Exclusive}
@@ -65,7 +64,7 @@ use Rattle.joint_controls.specs.Joint.{is_terminate}
 use Rattle.phased_control.specs.Taken.{opcode_of, seen_if}
 use Rattle.procedure_stages.specs.declared.stages.Peripheral.{Peripheral as ThePeripheral}
 use Rattle.procedure_stages.specs.declared.stages.Progress.{Progress}
-use Rattle.procedure_stages.specs.declared.stages.Progress.TheVariants.{Central as central, Peripheral as peripheral}
+use Rattle.procedure_stages.specs.declared.stages.Progress.TheVariants.{Peripheral as peripheral}
 use Rattle.procedure_stages.specs.declared.steps.Step.{Step as the_step}
 use Rattle.procedure_stages.specs.Kinds.{role_of}
 use Rattle.procedure_stages.specs.Queue.{waiting_in}

@@ -1,5 +1,4 @@
 -- The lemmas of this crate.
-pub mod VersionsUsed
 pub mod VersionPdus
 pub mod VersionFacts
 pub mod FirstPlaces
@@ -14,7 +13,7 @@ pub mod FactsHold
 pub mod Meanings
 pub mod ExclusiveFactsHold
 pub mod EachState
-pub mod Pairs
+pub mod WaitsDown
 pub mod PhaseLaws
 pub mod CiphersWait
 pub mod FewWait
@@ -22,3 +21,5 @@ pub mod TakenEnds
 pub mod StepEnds
 pub mod LinkEnds
 pub mod Lateness
+pub mod SoundStates
+pub mod PausePlaces

@@ -1,5 +1,5 @@
 -- How a step of a joint run may end the link: an end of the run is that of an indication that came after its Instant.
-use Rattle.std.proofs.Common.{◌≡◌, ◌≤◌, ◌⊎◌, inl, inr, arith, ℕ, Bool, true, false, not, ◌&&◌, ◌||◌, if◌then◌else◌, List, [], ◌∷◌, Option, Some, None, is_some, refl, ap, sym, subst, ◌∙◌}
+use Rattle.std.proofs.Common.{◌≡◌, ◌≤◌, inl, inr, arith, ℕ, Bool, true, false, not, ◌&&◌, ◌||◌, if◌then◌else◌, List, [], ◌∷◌, Option, Some, None, is_some, refl, ap, sym, subst, ◌∙◌}
 use Rattle.std.proofs.lemmas.Bool.{and_parts}
 use Rattle.ble_base.specs.ErrorCodes.{instant_passed}
 use Rattle.ble_base.specs.declared.error_codes.ErrCode.{ErrCode}
@@ -9,17 +9,14 @@ use Rattle.data_pdu.specs.declared.ctrl.Ctrl.{Ctrl}
 use Rattle.data_pdu.specs.declared.ctrl.CtrlRead.TheVariants.{Known}
 use Rattle.enc_phase.specs.Taking.{allows, ctrl_class}
 use Rattle.instants.specs.declared.indications.Params.{Params}
-use Rattle.procedure_stages.specs.Kinds.{role_of}
 use Rattle.procedure_stages.specs.Queue.{waiting_in}
 use Rattle.procedure_values.specs.declared.drafts.Outgoing.{Outgoing}
 use Rattle.control_model.specs.Waits.{EndsByCollision}
-use Rattle.machines.specs.Machine.{run}
 use Rattle.phase_pairs.specs.Agreement.{has_meaning}
-use Rattle.phase_pairs.specs.JointRun.{encryption}
 use Rattle.phased_control.specs.Phased.{Phased, is_quiet_now}
-use Rattle.phased_control.specs.Taken.{PhasedStep, Response, Enters, SeesAcknowledged, Sends, Takes, TakesData, phased_after, phased_after_all, role_now, seen_as}
+use Rattle.phased_control.specs.Taken.{PhasedStep, Response, Enters, SeesAcknowledged, Sends, Takes, phased_after, phased_after_all, role_now, seen_as}
 use Rattle.joint_controls.specs.Ends.{IsStepInRange, central_does, peripheral_does, takes_if}
-use Rattle.joint_controls.specs.Joint.{AnswersRequest, AsksFor, CentralAcked, CentralEnters, CentralHost, CentralSends, CentralSendsData, CentralTakes, Clear, Control, Data, Ends, Fixed, HasKey, HasNoKey, HostStep, Item, Joint, JointStep, OnAir, PeripheralAcked, PeripheralEnters, PeripheralFixes, PeripheralFixesData, PeripheralHost, PeripheralSends, PeripheralTakes, Shuts, Taken, Way, act, after, after_all, beginning, host_step, is_late, is_running, is_same_event, is_supervised, is_taken, item_on_air, may, may_act, no_response}
+use Rattle.joint_controls.specs.Joint.{AnswersRequest, AsksFor, CentralAcked, CentralEnters, CentralHost, CentralSends, CentralTakes, Clear, Control, Data, Ends, Fixed, HasKey, HasNoKey, HostStep, Item, Joint, JointStep, OnAir, PeripheralAcked, PeripheralEnters, PeripheralFixes, PeripheralHost, PeripheralTakes, Taken, Way, act, after, after_all, beginning, host_step, is_late, is_running, is_same_event, is_supervised, is_taken, item_on_air, may, may_act, no_response}
 use Rattle.joint_controls.proofs.EndSteps.{central_acts, peripheral_acts}
 use Rattle.joint_controls.proofs.Running.{goes_on}
 use Rattle.joint_collisions.proofs.Runs.{Walk, before, walk, walk_step}
@@ -27,7 +24,6 @@ use Rattle.joint_collisions.proofs.EachStep.{Before}
 use Rattle.joint_laws.specs.Ends.{EndsLateAlone}
 use Rattle.joint_laws.proofs.Lateness.{is_late_now}
 use Rattle.joint_exchanges.specs.Agreement.{end_at}
-use Rattle.joint_exchanges.specs.Runs.{GoesOn}
 use Rattle.joint_phases.specs.Agreement.{is_allowed_right, is_taken_right}
 use Rattle.joint_phases.specs.Classes.{class_down, class_up, item_class}
 use Rattle.joint_phases.specs.Events.{events_of}
@@ -35,7 +31,7 @@ use Rattle.joint_laws.specs.Runs.{IsRun}
 use Rattle.joint_laws.proofs.EachState.{Known as KnownBefore, Now}
 use Rattle.joint_laws.proofs.FewWait.{few_control_pdus}
 use Rattle.joint_laws.proofs.PhaseLaws.{known_of, now_of, taken_now}
-use Rattle.joint_laws.proofs.StepEnds.{PhasedEnd, collided, data_lasts, others_last, passed, still, takes_nothing, takes_phased}
+use Rattle.joint_laws.proofs.StepEnds.{PhasedEnd, collided, data_lasts, others_last, passed, takes_nothing, takes_phased}
 use Rattle.joint_laws.proofs.TakenEnds.{IsLate}
 
 host_takes_nothing : (step : HostStep) → takes_nothing (host_step step) ≡ true

@@ -1,6 +1,6 @@
 -- While a procedure of the peripheral that excludes others is in progress at a central, no encryption of the central is:
 -- what each step of procedures leaves of that.
-use Rattle.std.proofs.Common.{◌≡◌, ◌≤◌, ◌⊎◌, inl, inr, unwrap_or, option_map, ℕ, ◌+◌, Bool, true, false, not, ◌&&◌, ◌||◌, if◌then◌else◌, Option, Some, None, Result, Ok, Err, is_some, refl, ap, sym, subst, ◌∙◌, arith, List, [], ◌∷◌, ◌++◌}
+use Rattle.std.proofs.Common.{◌≡◌, ◌⊎◌, inl, inr, unwrap_or, option_map, ℕ, Bool, true, false, not, ◌&&◌, ◌||◌, if◌then◌else◌, Option, Some, None, Result, Ok, Err, is_some, refl, ap, sym, ◌∙◌, List, [], ◌∷◌, ◌++◌}
 use Rattle.ble_base.specs.declared.error_codes.ErrCode.{ErrCode}
 use Rattle.ble_base.specs.declared.roles.Role.TheVariants.{Central as central_role}
 use Rattle.data_pdu.specs.declared.ctrl.Ctrl.{Ctrl}

@@ -1,10 +1,8 @@
 -- With which codes a step of one end with its phase may end the link, where few control PDUs wait and the phase allows what
 -- is taken.
-use Rattle.std.proofs.Common.{◌≡◌, ◌≤◌, ℕ, ◌+◌, nat_le, Bool, true, false, not, ◌&&◌, if◌then◌else◌, List, [], ◌∷◌, ◌++◌, length, Option, Some, None, is_some, refl, ap, sym, subst, ◌∙◌, arith, leb-true}
-use Rattle.std.specs.Prelude.{⊤}
-use Rattle.std.proofs.lemmas.Bool.{and_parts}
+use Rattle.std.proofs.Common.{◌≡◌, ◌≤◌, ℕ, ◌+◌, nat_le, Bool, true, false, ◌&&◌, if◌then◌else◌, List, [], ◌∷◌, ◌++◌, Option, Some, None, is_some, refl, ap, sym, subst, ◌∙◌, arith, leb-true}
 use Rattle.std.proofs.lemmas.List.{length-append}
-use Rattle.ble_base.specs.ErrorCodes.{instant_passed, memory_capacity_exceeded, mic_failure}
+use Rattle.ble_base.specs.ErrorCodes.{instant_passed, mic_failure}
 use Rattle.ble_base.specs.declared.error_codes.ErrCode.{ErrCode}
 use Rattle.ble_base.specs.declared.roles.Role.{Role}
 use Rattle.ble_base.specs.declared.roles.Role.TheVariants.{Central, Peripheral}
@@ -24,8 +22,7 @@ use Rattle.procedure_stages.specs.declared.steps.Step.{Step as the_step}
 use Rattle.procedure_stages.specs.Closing.{is_open}
 use Rattle.procedure_stages.specs.InProgress.{is_host_asked}
 use Rattle.procedure_stages.specs.Kinds.{role_of}
-use Rattle.procedure_stages.specs.Queue.{QueueFacts, waiting_in, with_draft, with_reply}
-use Rattle.procedures.specs.declared.outcome.Outcome.{Outcome}
+use Rattle.procedure_stages.specs.Queue.{QueueFacts, waiting_in, with_reply}
 use Rattle.procedures.specs.Going.{is_answer}
 use Rattle.procedures.specs.Table.{TableFacts}
 use Rattle.procedures.specs.Taking.{facts_with, lacks_room, no_room, outcome_of, took_step}
@@ -34,7 +31,7 @@ use Rattle.control_model.specs.Control.{Answers as control_answers, Asks as cont
 use Rattle.control_model.specs.Waits.{EndsByCollision}
 use Rattle.control_model.proofs.Calls.{any_step, either_way}
 use Rattle.phased_control.specs.Phased.{Phased, is_open_now, is_quiet_now}
-use Rattle.phased_control.specs.Taken.{PhasedStep, Response, Answers, Asks, Disconnects, Enters, GivesKey, LacksKey, SeesAcknowledged, Sends, Takes, TakesData, answered_kept, ciphered, ended_with, is_allowed, is_answered, lacks_room_now, phased_after, role_now, seen_as, took, took_data}
+use Rattle.phased_control.specs.Taken.{PhasedStep, Response, Answers, Asks, Disconnects, Enters, GivesKey, LacksKey, SeesAcknowledged, Sends, Takes, TakesData, answered_kept, ciphered, ended_with, is_allowed, is_answered, lacks_room_now, phased_after, role_now, seen_as, took}
 use Rattle.phased_control.specs.Steps.{control_steps, end_by_phase, ended_if, owed_steps, read_answer, seen_by_procedures}
 use Rattle.phased_control.proofs.Agreeing.{lasts_answered}
 use Rattle.phased_control.proofs.Answering.{answers}

@@ -1,27 +1,21 @@
 -- With which codes a PDU that is taken may end the link at an end where there is room for answers.
-use Rattle.std.proofs.Common.{◌≡◌, ◌≤◌, ◌⊎◌, inl, inr, ℕ, ◌+◌, nat_le, Bool, true, false, not, ◌&&◌, ◌||◌, if◌then◌else◌, List, Option, Some, None, is_some, refl, ap, sym, subst, ◌∙◌, arith, leb-true}
+use Rattle.std.proofs.Common.{◌≡◌, ◌≤◌, inl, inr, ℕ, nat_le, Bool, true, false, ◌&&◌, ◌||◌, if◌then◌else◌, Option, Some, None, is_some, refl, ap, sym, subst, ◌∙◌, arith, leb-true}
 use Rattle.ble_base.specs.ErrorCodes.{instant_passed}
 use Rattle.ble_base.specs.declared.error_codes.ErrCode.{ErrCode}
-use Rattle.ble_base.specs.declared.roles.Role.{Role}
-use Rattle.ble_base.specs.declared.roles.Role.TheVariants.{Central as central_role, Peripheral as peripheral_role}
-use Rattle.data_pdu.specs.declared.ctrl.Ctrl.{Ctrl}
+use Rattle.ble_base.specs.declared.roles.Role.TheVariants.{Peripheral as peripheral_role}
 use Rattle.data_pdu.specs.declared.ctrl.Ctrl.TheVariants.{TerminateInd}
 use Rattle.data_pdu.specs.declared.ctrl.CtrlRead.{CtrlRead}
-use Rattle.data_pdu.specs.declared.ctrl.CtrlRead.TheVariants.{Bare, Known, Unknown}
+use Rattle.data_pdu.specs.declared.ctrl.CtrlRead.TheVariants.{Known}
 use Rattle.exclusive_stages.specs.declared.pdus.Exclusive.{Exclusive}
 use Rattle.exclusive_stages.specs.declared.pdus.Exclusive.TheVariants.{Map, Phy, Request, Update}
 use Rattle.exclusive_stages.specs.declared.stages.PeerAtPeripheral.TheVariants.{MapTaken, PhyRspUnsent}
 use Rattle.exclusive_stages.specs.Pdus.{reason_of, rejection_of}
 use Rattle.instants.specs.Track.{track_after_take}
-use Rattle.exclusive_stages.specs.declared.pdus.Pdu.{Pdu}
 use Rattle.exclusive_stages.specs.declared.pdus.Pdu.TheVariants.{GrantInd, MapInd, ParamReq, PhyReq, PhyRsp, UpdateInd}
-use Rattle.exclusive_stages.specs.declared.pdus.Reason.{Reason}
 use Rattle.exclusive_stages.specs.declared.pdus.Reason.TheVariants.{SameKind}
 use Rattle.exclusive_stages.specs.Awaited.{central_answered, peer_answered}
 use Rattle.exclusive_stages.specs.Kinds.{central_kind}
 use Rattle.instants.specs.declared.indications.Indication.{Indication}
-use Rattle.procedure_stages.specs.declared.stages.Central.{Central}
-use Rattle.procedure_stages.specs.declared.stages.Peripheral.{Peripheral}
 use Rattle.procedure_stages.specs.declared.stages.Progress.{Progress}
 use Rattle.procedure_stages.specs.declared.stages.Progress.TheVariants.{Central as central, Peripheral as peripheral}
 use Rattle.procedure_stages.specs.declared.steps.Step.{Step as the_step}
@@ -29,9 +23,8 @@ use Rattle.procedure_stages.specs.Closing.{is_open}
 use Rattle.procedure_stages.specs.Kinds.{role_of}
 use Rattle.procedure_stages.specs.Queue.{has_reply, waiting_in}
 use Rattle.procedure_stages.specs.Steps.{asks_host}
-use Rattle.procedures.specs.declared.outcome.Outcome.{Outcome}
 use Rattle.procedures.specs.Table.{TableFacts}
-use Rattle.procedures.specs.Taking.{lacks_room, outcome_of, settled, taken_by, took_step}
+use Rattle.procedures.specs.Taking.{lacks_room, outcome_of, taken_by, took_step}
 use Rattle.collisions.specs.CentralTable
 use Rattle.collisions.specs.PeripheralTable
 use Rattle.collisions.specs.declared.central.Central.{Central as TheCentral}
@@ -44,7 +37,7 @@ use Rattle.collision_steps.specs.PeripheralPart
 use Rattle.collision_steps.proofs.CentralTaking
 use Rattle.collision_steps.proofs.CentralTaking.{step_of_settled}
 use Rattle.collision_steps.proofs.PeripheralTaking
-use Rattle.control_model.specs.Control.{Control, Step, Takes, after, ended, indicated_by, is_to_come, taken}
+use Rattle.control_model.specs.Control.{Control, Takes, after, ended, indicated_by, is_to_come, taken}
 use Rattle.control_model.specs.Waits.{EndsByCollision}
 use Rattle.control_model.proofs.Calls.{open_step}
 use Rattle.control_model.proofs.Outcomes.{Hands, fits}

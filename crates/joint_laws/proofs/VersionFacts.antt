@@ -27,12 +27,11 @@ use Rattle.joint_exchanges.specs.Runs.{GoesOn, moves_in}
 use Rattle.joint_exchanges.specs.SentByRole.{AreOfRoles}
 use Rattle.joint_exchanges.proofs.Few.{all_roles}
 use Rattle.joint_exchanges.proofs.MachineRuns.{versions_now}
-use Rattle.joint_exchanges.proofs.States.{version_once, version_sent}
+use Rattle.joint_exchanges.proofs.States.{version_kept_unused, version_known_used, version_once, version_running, version_sent, version_used_for}
 use Rattle.joint_phases.specs.Classes.{has_version, is_version}
 use Rattle.joint_phases.specs.Facts.{drafts_of, is_version_coming, is_version_kept, is_version_sent}
 use Rattle.phased_control.specs.Phased.{is_open_now}
 use Rattle.joint_laws.proofs.VersionPdus.{count_none, count_some, kept_same, queue_none, queue_some, way_same}
-use Rattle.joint_laws.proofs.VersionsUsed.{kept_then_idle, used_while_unknown}
 
 -- what was sent and not taken is fixed or on the air
 air_none : (way : Way) → is_version_coming way ≡ false → is_item is_version (item_on_air way) ≡ false
@@ -47,11 +46,6 @@ air_some (Fixed item sealed) not_fixed some = absurd (cc)
 air_some (OnAir item sealed) not_fixed some = some
 air_some (Taken item) not_fixed some = absurd (cc)
 
-or_not : (a b : Bool) → (a || not b) ≡ true → b ≡ true → a ≡ true
-or_not true b is open_end = refl
-or_not false true is open_end = absurd (cc)
-or_not false false is open_end = absurd (cc)
-
 stage_sent : (own : Option Exchange) → is_version_sent own ≡ true → version_stage own ≡ Sent
 stage_sent (Some VersionSent) is = refl
 stage_sent other is = absurd (cc)
@@ -62,11 +56,6 @@ count_at b c is = ap count_if is
 most_one : (b : Bool) → count_if b ≤ 1
 most_one true = omega arith
 most_one false = omega arith
-
-count_pair_some : (a b : Bool) → exchange_count a ≡ count_if b → b ≡ true → a ≡ true
-count_pair_some true b is some = refl
-count_pair_some false true is some = absurd (cc)
-count_pair_some false false is some = absurd (cc)
 
 or_first : (a b c : Bool) → a ≡ true → (a || (b || c)) ≡ true
 or_first a b c is = rw is refl
@@ -159,14 +148,13 @@ module _ (central_rx peripheral_rx : ℕ) (first : Params) (slot : ℕ) (steps :
     -- until an end knows the version of the other, its own was queued exactly where its exchange runs
     pub used_if_running : (role : Role) → (end_at role s).knows_version ≡ false
         → (end_at role s).control.table.version_used ≡ not (is_idle (version_stage_at (end_at role s)))
-    used_if_running Central unknown =
-        subst (λ l. VersionRun.knows Central l ≡ false → (VersionRun.end_of Central l).used ≡ not (is_idle (VersionRun.end_of Central l).own))
-        (sym (versions_now central_rx peripheral_rx first slot steps run_on))
-        (used_while_unknown (events_of versions_event (moves_in steps (beginning central_rx peripheral_rx first slot))) Central) unknown
-    used_if_running Peripheral unknown =
-        subst (λ l. VersionRun.knows Peripheral l ≡ false → (VersionRun.end_of Peripheral l).used ≡ not (is_idle (VersionRun.end_of Peripheral l).own))
-        (sym (versions_now central_rx peripheral_rx first slot steps run_on))
-        (used_while_unknown (events_of versions_event (moves_in steps (beginning central_rx peripheral_rx first slot))) Peripheral) unknown
+    used_if_running role unknown = by (end_at role s).control.table.version_used (is_idle (version_stage_at (end_at role s))) refl refl
+      where
+        by : (used idle : Bool) → (end_at role s).control.table.version_used ≡ used → is_idle (version_stage_at (end_at role s)) ≡ idle → used ≡ not idle
+        by true true is at = let running = version_used_for central_rx peripheral_rx first slot steps run_on role is unknown in absurd (cc)
+        by true false is at = refl
+        by false true is at = refl
+        by false false is at = let used = version_running central_rx peripheral_rx first slot steps run_on role at in absurd (cc)
 
     pub sent_comes : is_version_sent (own_exchange s.central.control.table.progress) ≡ true → s.central.knows_version ≡ false
         → s.peripheral.knows_version ≡ false → is_item is_version (item_on_air s.down) ≡ true
@@ -181,23 +169,7 @@ module _ (central_rx peripheral_rx : ℕ) (first : Params) (slot : ℕ) (steps :
         (count_some (is_version_coming s.down) (omega (arith, used, none, all, not_taken, same)))
 
     pub known_used : s.peripheral.knows_version ≡ true → is_open_now s.peripheral ≡ true → s.peripheral.control.table.version_used ≡ true
-    known_used knows open_end = or_not s.peripheral.control.table.version_used (is_open_now s.peripheral) (used_or_closed knows) open_end
-      where
-        implied : (a b : Bool) → implies a b ≡ true → a ≡ true → b ≡ true
-        implied true b is given = is
-        implied false b is given = absurd (cc)
-
-        known_or_closed : (r : VersionRun.VersionLink) → is_used_right Peripheral r ≡ true → VersionRun.knows Peripheral r ≡ true
-            → (r.peripheral.used || r.peripheral.closed) ≡ true
-        known_or_closed r right knows =
-            implied (VersionRun.knows Peripheral r) (r.peripheral.used || r.peripheral.closed)
-            (and_parts _ (implies (VersionRun.knows Peripheral r) (r.peripheral.used || r.peripheral.closed)) right).1 knows
-
-        used_or_closed : s.peripheral.knows_version ≡ true → (s.peripheral.control.table.version_used || not (is_open_now s.peripheral)) ≡ true
-        used_or_closed =
-            subst (λ l. VersionRun.knows Peripheral l ≡ true → (l.peripheral.used || l.peripheral.closed) ≡ true)
-            (sym (versions_now central_rx peripheral_rx first slot steps run_on))
-            (known_or_closed (run versions (events_of versions_event (moves_in steps (beginning central_rx peripheral_rx first slot)))) (version_parts (events_of versions_event (moves_in steps (beginning central_rx peripheral_rx first slot))) Peripheral).used)
+    known_used = version_known_used central_rx peripheral_rx first slot steps run_on Peripheral
 
     -- a peripheral that runs no exchange of versions has its LL_VERSION_IND nowhere on the way to its first meaning
     pub record NoVersion : Type 0 where
@@ -215,21 +187,10 @@ module _ (central_rx peripheral_rx : ℕ) (first : Params) (slot : ℕ) (steps :
           kept = count_none (passes Agreement.is_version_ctrl s.central.kept) (omega (arith, all, none));
         }
 
-    idle_central : passes Agreement.is_version_ctrl s.central.kept ≡ true → is_idle (version_stage_at s.central) ≡ true
-    idle_central kept =
-        subst (λ (l : VersionRun.VersionLink). l.kept ≡ true → is_idle l.central.own ≡ true)
-        (sym (versions_now central_rx peripheral_rx first slot steps run_on))
-        (kept_then_idle (events_of versions_event (moves_in steps (beginning central_rx peripheral_rx first slot))))
-        (count_pair_some (is_some_version (pdu_kept s.central.kept)) (passes Agreement.is_version_ctrl s.central.kept) (version_kept s.central.kept) kept)
-
-    -- while it is kept neither end knows the version of the other
+    -- while the central keeps it the peripheral does not know the version of the central
     kept_unknown : passes Agreement.is_version_ctrl s.central.kept ≡ true → s.peripheral.knows_version ≡ false
     kept_unknown kept =
-        let all = up_places in
-        let most = most_one s.peripheral.control.table.version_used in
-        let one : count_if (passes Agreement.is_version_ctrl s.central.kept) ≡ 1 = ap count_if kept in
-        let unknown = count_none s.central.knows_version (omega (arith, all, most, one)) in
-        let unused : count_if s.central.control.table.version_used ≡ 0 = ap count_if (used_if_running Central unknown ∙ ap not (idle_central kept)) in
+        let unused : count_if s.central.control.table.version_used ≡ 0 = ap count_if (version_kept_unused central_rx peripheral_rx first slot steps run_on (ap count_if kept)) in
         let there = down_places in
         count_none s.peripheral.knows_version (omega (arith, there, unused))
 

@@ -1,5 +1,5 @@
--- Where the first PDUs of the procedures that exclude each other are in a joint run of these (Core 5.2, volume 6 part B,
--- section 5.3).
+-- Where the first PDUs of the procedures that exclude each other are in a joint run of these (Core 5.2, volume 6
+-- part B, section 5.3).
 use Rattle.std.specs.Prelude.{Bool, true, false, not, ◌&&◌, ◌||◌, List, [], ◌∷◌, is_none}
 use Rattle.exclusive_stages.specs.declared.pdus.Pdu.{Pdu}
 use Rattle.exclusive_stages.specs.declared.pdus.Pdu.TheVariants.{ParamReq, PhyReq}
@@ -7,10 +7,9 @@ use Rattle.exclusive_stages.specs.declared.stages.CentralStage.{CentralStage}
 use Rattle.exclusive_stages.specs.declared.stages.CentralStage.TheVariants.{PhyUnsent}
 use Rattle.exclusive_stages.specs.declared.stages.PeripheralStage.{PeripheralStage}
 use Rattle.exclusive_stages.specs.Held.{own_held_at_peripheral}
-use Rattle.exclusive_stages.specs.Kinds.{is_idle_at_central, is_idle_at_peripheral}
+use Rattle.exclusive_stages.specs.Kinds.{is_idle_at_peripheral}
 use Rattle.collisions.specs.declared.joint.Link.{Link}
 use Rattle.collisions.specs.Agreement.{is_phy_request, untaken}
-use Rattle.collisions.specs.CentralTable.{has_no_peer}
 use Rattle.collisions.specs.JointRun.{is_pdu}
 
 abbrev pub has : (Pdu → Bool) → List Pdu → Bool
@@ -46,14 +45,5 @@ is_phy_unsent own = false
 abbrev pub phy_waits_unsent : Link → Bool
 phy_waits_unsent s = not (has is_phy_request s.central.queue.items) || is_phy_unsent s.central.own
 
--- nothing of these procedures waits where neither end has one in progress there
-abbrev pub is_empty : List Pdu → Bool
-is_empty [] = true
-is_empty (pdu ∷ pdus) = false
-
-abbrev pub free_has_none : Link → Bool
-free_has_none s =
-    not (is_idle_at_central s.central.own && has_no_peer s.central.peer) || is_empty s.central.queue.items
-
 abbrev pub are_firsts_right : Link → Bool
-are_firsts_right s = over_has_no_first s && (phy_waits_unsent s && free_has_none s)
+are_firsts_right s = over_has_no_first s && phy_waits_unsent s

@@ -1,5 +1,6 @@
 -- The definitions of this crate.
 pub mod Firsts
 pub mod Runs
-pub mod Pairs
 pub mod Ends
+pub mod Sound
+pub mod Pauses

@@ -4,4 +4,6 @@
 
 mod laws;
 
-pub use crate::laws::{machines_meet_in_each_joint_run, phases_of_a_joint_run_agree};
+pub use crate::laws::{
+    joint_runs_are_sound, machines_meet_in_each_joint_run, phases_of_a_joint_run_agree,
+};
