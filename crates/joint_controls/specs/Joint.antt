@@ -303,3 +303,8 @@ after step s = (if may step s then act step s else s)
 abbrev pub after_all : List JointStep → Joint → Joint
 after_all [] s = s
 after_all (step ∷ steps) s = after_all steps (after step s)
+
+-- each of the steps may come where those before it lead
+abbrev pub may_all : List JointStep → Joint → Bool
+may_all [] s = true
+may_all (step ∷ steps) s = may step s && may_all steps (after step s)

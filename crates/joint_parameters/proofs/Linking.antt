@@ -15,11 +15,11 @@ use Rattle.two_tracks.proofs.Read.{near, packets, replies}
 use Rattle.control_model.proofs.Sending.{may_of}
 use Rattle.phased_control.specs.Phased.{is_quiet_now}
 use Rattle.phased_control.specs.Taken.{Sends}
-use Rattle.joint_controls.specs.Joint.{CentralAcked, CentralEnters, CentralHost, CentralSends, CentralSendsData, CentralTakes, Joint, JointStep, PeripheralAcked, PeripheralEnters, PeripheralFixes, PeripheralFixesData, PeripheralHost, PeripheralSends, PeripheralTakes, Shuts, act, after, after_all, beginning, has_passed, host_step, is_near, is_running, is_taken, may}
+use Rattle.joint_controls.specs.Joint.{CentralAcked, CentralEnters, CentralHost, CentralSends, CentralSendsData, CentralTakes, Joint, JointStep, PeripheralAcked, PeripheralEnters, PeripheralFixes, PeripheralFixesData, PeripheralHost, PeripheralSends, PeripheralTakes, Shuts, act, after, after_all, beginning, has_passed, host_step, is_near, is_running, is_taken, may, may_all}
 use Rattle.joint_controls.specs.Ends.{AreStepsInRange, IsStepInRange}
 use Rattle.joint_controls.proofs.Running.{GoesOn, goes_on}
 use Rattle.joint_parameters.specs.Indications.{changes_taken}
-use Rattle.joint_parameters.specs.Turns.{Alone, AreLinksInRange, Begins, CentralShuts, IsAnswered, IsHeard, IsLinkInRange, IsPaired, IsPairedWith, Link, LinkStep, MayLink, MayLinkAll, MayTransmit, PeripheralShuts, SendsControl, SendsData, SendsEmpty, all_joint_steps, first_link, is_alone, joint_steps, link_after, link_after_all, may_all, next_indication, step_if, turn_steps}
+use Rattle.joint_parameters.specs.Turns.{Alone, AreLinksInRange, Begins, CentralShuts, IsAnswered, IsHeard, IsLinkInRange, IsPaired, IsPairedWith, Link, LinkStep, MayLink, MayLinkAll, MayTransmit, PeripheralShuts, SendsControl, SendsData, SendsEmpty, all_joint_steps, first_link, is_alone, joint_steps, link_after, link_after_all, next_indication, step_if, turn_steps}
 use Rattle.joint_parameters.specs.Views.{View, change_on_air, view}
 use Rattle.joint_parameters.proofs.Hearing.{is_answered, is_heard, meets_rule, near_rule}
 use Rattle.joint_parameters.proofs.Meeting.{Meets}

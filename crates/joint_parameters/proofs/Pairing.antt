@@ -12,9 +12,9 @@ use Rattle.two_tracks.specs.TwoEnds.{LastPdu, Untaken, Acknowledged, TwoEnds, af
 use Rattle.two_tracks.specs.TwoEnds as two_ends
 use Rattle.two_tracks.specs.Reached.{untaken}
 use Rattle.phased_control.specs.Taken.{Enters, Sends, phased_after, role_now}
-use Rattle.joint_controls.specs.Joint.{CentralEnters, CentralSends, CentralSendsData, Clear, Control as control_item, Data, Fixed, Item, Joint, JointStep, OnAir, PeripheralEnters, Taken, Way, act, after, after_all, event_now, is_clear, is_free, is_running, item_by, last_change, latency_now, may, may_act, may_transmit, next_item, next_out, on_air, sends_data}
+use Rattle.joint_controls.specs.Joint.{CentralEnters, CentralSends, CentralSendsData, Clear, Control as control_item, Data, Fixed, Item, Joint, JointStep, OnAir, PeripheralEnters, Taken, Way, act, after, after_all, event_now, is_clear, is_free, is_running, item_by, last_change, latency_now, may, may_act, may_transmit, next_item, next_out, on_air, sends_data, may_all}
 use Rattle.joint_controls.proofs.Running.{GoesOn, goes_on}
-use Rattle.joint_parameters.specs.Turns.{IsPairedWith, fits, may_all, next_indication, step_if}
+use Rattle.joint_parameters.specs.Turns.{IsPairedWith, fits, next_indication, step_if}
 use Rattle.joint_parameters.specs.Views.{View, change_on_air, view}
 use Rattle.joint_parameters.proofs.Ends.{ends_still, enters_one, enters_sent, indication_next, sends_one}
 use Rattle.joint_parameters.proofs.Meeting.{air_if, last_of_more}

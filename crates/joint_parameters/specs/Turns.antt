@@ -104,11 +104,6 @@ abbrev pub all_joint_steps : List LinkStep → Link → List JointStep
 all_joint_steps [] l = []
 all_joint_steps (step ∷ steps) l = joint_steps step l ++ all_joint_steps steps (link_after step l)
 
--- each of the steps of a joint run may come where those before it lead
-abbrev pub may_all : List JointStep → Joint → Bool
-may_all [] s = true
-may_all (step ∷ steps) s = may step s && may_all steps (after step s)
-
 -- ---- the rules of a link: nothing is said of the numbers of events
 
 -- a PDU is first transmitted in an event, where the one before it is acknowledged

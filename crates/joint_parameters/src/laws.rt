@@ -13,7 +13,7 @@ ghost use Rattle.two_tracks.specs.Reached.{AllMay, IsReached};
 ghost use Rattle.control_model.specs.Waits.{kind_awaited};
 ghost use Rattle.phased_control.specs.Taken.{Response};
 ghost use Rattle.joint_controls.specs.Ends.{AreStepsInRange};
-ghost use Rattle.joint_controls.specs.Joint.{Joint, JointStep, after, after_all, beginning};
+ghost use Rattle.joint_controls.specs.Joint.{Joint, JointStep, after, after_all, beginning, may_all};
 ghost use Rattle.joint_controls.specs.Joint.{event_now, instant_now, is_indication, is_item};
 ghost use Rattle.joint_controls.specs.Joint.{is_late, is_running, is_same_event, item_on_air};
 ghost use Rattle.joint_controls.specs.Joint.{may, next_item};
@@ -21,7 +21,7 @@ ghost use Rattle.joint_parameters.specs.Indications.{AreAllButLast, EndsLate, ch
 ghost use Rattle.joint_parameters.specs.Indications.{indication_read, takes_late};
 ghost use Rattle.joint_parameters.specs.Turns.{AreLinksInRange, IsPaired, LinkStep, MayLink};
 ghost use Rattle.joint_parameters.specs.Turns.{MayLinkAll, all_joint_steps, first_link};
-ghost use Rattle.joint_parameters.specs.Turns.{joint_steps, link_after_all, may_all, turn_steps};
+ghost use Rattle.joint_parameters.specs.Turns.{joint_steps, link_after_all, turn_steps};
 ghost use Rattle.joint_parameters.specs.Views.{HaveEqual};
 
 /// The indications that the peripheral took are the first that the central sent, each with the same
