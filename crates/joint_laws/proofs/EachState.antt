@@ -7,7 +7,7 @@ use Rattle.instants.specs.declared.indications.Params.{Params}
 use Rattle.machines.specs.Machine.{run}
 use Rattle.phase_pairs.specs.JointRun.{encryption}
 use Rattle.phased_control.specs.Ends.{IsResponse}
-use Rattle.joint_controls.specs.Ends.{AreStepsInRange, IsStepInRange}
+use Rattle.joint_controls.specs.Ends.{AreStepsInRange, IsStepInRange, is_enc_rsp as is_response}
 use Rattle.joint_controls.specs.Joint.{Joint, JointStep, PeripheralTakes, after, after_all, beginning, is_running}
 use Rattle.joint_collisions.specs.Facts.{AllFacts, Facts as ExclusiveFacts}
 use Rattle.joint_collisions.specs.Views.{IsReached, view_of}
@@ -48,6 +48,19 @@ module _ (step : JointStep) where
       → AllBefore P (steps ++ step ∷ []) s
   before_more P [] s all one = (one, tt)
   before_more P (first ∷ steps) s all one = (all.0, before_more P steps (after first s) all.1 one)
+
+-- an end whose steps are in range answers LL_ENC_REQ with LL_ENC_RSP
+response_of : (response : Ctrl) → is_response response ≡ true → IsResponse response
+response_of (EncRsp skd_s iv_s) is = tt
+response_of ctrl is = absurd (cc)
+
+pub responds_of : (step : JointStep) → IsStepInRange step → Responds step
+responds_of (PeripheralTakes slot response) is = response_of response is
+responds_of step is = tt
+
+pub all_respond : (steps : List JointStep) → AreStepsInRange steps → AllRespond steps
+all_respond [] all = tt
+all_respond (step ∷ steps) all = (responds_of step all.0, all_respond steps all.1)
 
 responds_with : (response : Ctrl) → IsResponse response → is_enc_rsp response ≡ true
 responds_with (EncRsp skd_s iv_s) is = refl
@@ -116,4 +129,4 @@ module _ (central_rx peripheral_rx : ℕ) (first : Params) (slot : ℕ) (latency
       subst Known (joined before step steps) (all (before ++ step ∷ []) steps (more before step known range.0 responds.0) range.1 responds.1)
 
   pub all_known : (steps : List JointStep) → IsRun first steps → Known steps
-  all_known steps is = all [] steps (record { range = tt; responds = tt; facts = tt; exclusive = tt; meant = tt }) is.in_range is.responds
+  all_known steps is = all [] steps (record { range = tt; responds = tt; facts = tt; exclusive = tt; meant = tt }) is.in_range (all_respond steps is.in_range)

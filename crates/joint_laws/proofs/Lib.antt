@@ -1,4 +1,5 @@
 -- The lemmas of this crate.
+pub mod Common
 pub mod VersionPdus
 pub mod VersionFacts
 pub mod FirstPlaces

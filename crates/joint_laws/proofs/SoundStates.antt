@@ -21,7 +21,7 @@ use Rattle.joint_exchanges.proofs.States.{asked_idle, asked_sent, asked_unsent, 
 use Rattle.joint_phases.specs.Events.{events_of}
 use Rattle.joint_laws.specs.Runs.{IsRun}
 use Rattle.joint_laws.specs.Sound.{AreInPlace, ExchangeAgrees, IsSound, VersionAgrees, VersionIsInPlace}
-use Rattle.joint_laws.proofs.EachState.{Known, Now}
+use Rattle.joint_laws.proofs.EachState.{Known, Now, all_respond}
 use Rattle.joint_laws.proofs.FewWait.{few_control_pdus}
 use Rattle.joint_laws.proofs.PhaseLaws.{known_of, now_of, pairs_now, sealing_now}
 
@@ -81,7 +81,7 @@ module _ (central_rx peripheral_rx : ℕ) (first : Params) (slot : ℕ) (steps :
   now = now_of central_rx peripheral_rx first slot steps is running
 
   run_on : GoesOn steps start
-  run_on = record { responds = is.responds; goes = running }
+  run_on = record { responds = all_respond steps is.in_range; goes = running }
 
   exchange : (asked : Asked) (role : Role) → ExchangeAgrees asked role s
   exchange asked role = by (stage_at asked (end_at role s)) refl
@@ -110,7 +110,7 @@ module _ (central_rx peripheral_rx : ℕ) (first : Params) (slot : ℕ) (steps :
       (agrees_now Central central_rx first slot (steps_of_central steps start) (central_responds (steps_of_central steps start)))
   encrypts Peripheral =
       subst (λ (t : Phased). is_quiet_now t ≡ not (has_encryption t.control.table.progress)) (sym (peripheral_runs steps start))
-      (agrees_now Peripheral peripheral_rx first slot (steps_of_peripheral steps start) (peripheral_responds steps start is.responds))
+      (agrees_now Peripheral peripheral_rx first slot (steps_of_peripheral steps start) (peripheral_responds steps start (all_respond steps is.in_range)))
 
   pub sound_now : IsSound s
   sound_now =

@@ -7,7 +7,7 @@ ghost use Rattle.joint_controls.specs.Joint.{JointStep, act, after_all, beginnin
 ghost use Rattle.joint_controls.specs.Joint.{may};
 ghost use Rattle.joint_collisions.specs.Facts.{AllFacts, IsState};
 ghost use Rattle.joint_exchanges.specs.Runs.{AllBefore};
-ghost use Rattle.joint_exchanges.specs.SentByRole.{HaveMeaning, Responds};
+ghost use Rattle.joint_exchanges.specs.SentByRole.{HaveMeaning};
 ghost use Rattle.joint_phases.specs.Agreement.{is_sealing_agreed, is_taken_right};
 ghost use Rattle.joint_phases.specs.Facts.{Facts, FactsHold};
 ghost use Rattle.joint_phases.specs.Pairs.{are_phases_paired};
@@ -51,7 +51,7 @@ pub fn phases_of_a_joint_run_agree()
         → let s = after_all steps (beginning central_rx peripheral_rx first slot) in
         is_running s ≡ true → is_sealing_agreed s ≡ true }
     ensures taken { (central_rx peripheral_rx : ℕ) (first : Params) (slot : ℕ)
-        (steps : List JointStep) (step : JointStep) → IsRun first steps → Responds step
+        (steps : List JointStep) (step : JointStep) → IsRun first steps → IsStepInRange step
         → let s = after_all steps (beginning central_rx peripheral_rx first slot) in
         may step s ≡ true → is_taken_right step s ≡ true }
 {}
@@ -60,7 +60,7 @@ pub fn phases_of_a_joint_run_agree()
 /// for the PDUs that are on their way; the phases agree, with what is sealed; and at most ten
 /// control PDUs wait at an end. No step of it ends the link at the central. At the peripheral a
 /// step ends the link only where that has passed the Instant of the indication that it takes, and
-/// with the code for that. So no step ends it for want of room (0x07), for a PDU that a phase
+/// with the code for that. So no step ends it for lack of room (0x07), for a PDU that a phase
 /// forbids (0x3D), or for a collision (0x23, 0x2A).
 pub fn joint_runs_are_sound()
     ensures state { (central_rx peripheral_rx : ℕ) (first : Params) (slot : ℕ)
@@ -69,12 +69,12 @@ pub fn joint_runs_are_sound()
         is_running s ≡ true → IsSound s }
     ensures central { (central_rx peripheral_rx : ℕ) (first : Params) (slot : ℕ)
         (steps : List JointStep) (step : JointStep) → IsRun first steps
-        → IsStepInRange step → Responds step
+        → IsStepInRange step
         → let s = after_all steps (beginning central_rx peripheral_rx first slot) in
         may step s ≡ true → (act step s).central.control.ends ≡ None }
     ensures peripheral { (central_rx peripheral_rx : ℕ) (first : Params) (slot : ℕ)
         (steps : List JointStep) (step : JointStep) → IsRun first steps
-        → IsStepInRange step → Responds step
+        → IsStepInRange step
         → let s = after_all steps (beginning central_rx peripheral_rx first slot) in
         may step s ≡ true → EndsLateAlone s (act step s).peripheral.control.ends }
 {}

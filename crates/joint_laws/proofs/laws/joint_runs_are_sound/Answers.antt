@@ -9,10 +9,10 @@ returns-clause-state c = λ central_rx peripheral_rx first slot steps is running
 
 pub returns-clause-central : goal.returns-clause-central
 returns-clause-central c =
-    λ central_rx peripheral_rx first slot steps step is in_range responds comes.
-    central_end central_rx peripheral_rx first slot steps is (and_parts _ _ comes).0 step in_range responds comes
+    λ central_rx peripheral_rx first slot steps step is in_range comes.
+    central_end central_rx peripheral_rx first slot steps is (and_parts _ _ comes).0 step in_range comes
 
 pub returns-clause-peripheral : goal.returns-clause-peripheral
 returns-clause-peripheral c =
-    λ central_rx peripheral_rx first slot steps step is in_range responds comes.
-    peripheral_ends_late central_rx peripheral_rx first slot steps is (and_parts _ _ comes).0 step in_range responds comes
+    λ central_rx peripheral_rx first slot steps step is in_range comes.
+    peripheral_ends_late central_rx peripheral_rx first slot steps is (and_parts _ _ comes).0 step in_range comes
