@@ -2,7 +2,6 @@
 use Rattle.std.proofs.Common.{◌≡◌, ℕ, ◌≤◌, List, ◌++◌, Option, Some, None, Result, Ok, Err, refl, sym, subst, inl, inr}
 use Rattle.std.specs.Prelude.{OnOk, IfOk, IfErr}
 use Rattle.std.specs.Result.{IsErrAnd}
-use Rattle.outside.specs.Known.{WhereKnown}
 use Rattle.journal.specs.declared.entries.Entry.{Entry}
 use Rattle.journal.specs.Text.{text}
 use Rattle.journal_pdus.specs.Lawful.{IsLawful, IsWhole}
@@ -17,11 +16,10 @@ use Rattle.radio_replay.specs.Schedule.{Right, Wrong, TooMany, schedule_of, IsFa
 use Rattle.radio_replay.specs.Script.{Script}
 use Rattle.ble_tool.specs.declared.faults.Fault.{Fault}
 use Rattle.ble_tool.specs.declared.faults.Fault.TheVariants.{CannotRead, BadLine, CannotWrite, NoMemory, Unseen, TooLong, TooManyTurns}
-use Rattle.ble_tool.specs.declared.commands.Source.TheVariants.{A, B, Schedule}
-use Rattle.ble_tool.specs.Causes.{IsWithinLimit, AllFit, OfJournal, OfRun, IsWholeRun, OfUnseen, IsEnded, OfEnded, OfFiles, IsFirstBadLine, IsFirstLongLine}
-use Rattle.ble_tool.specs.Causes.{IsWriteFault, IsScheduleFault, IsEndOf, IsWrittenEnd, IsOctetsFault, IsPairFault, IsPairDone}
+use Rattle.ble_tool.specs.Causes.{OfJournal, OfRun, IsWholeRun, IsEnded, IsWriteFault, IsScheduleFault, IsEndOf, IsWrittenEnd, IsPairFault}
+use Rattle.ble_tool.specs.Commands.{schedule_place}
 use Rattle.ble_tool.specs.Conversions.{fault_of_schedule, end_of}
-use Rattle.ble_tool.specs.World.{Reads, Writes, world_of, writes_of, HasFailed, HasWritten, HasWrittenPart, HasWrittenNothing}
+use Rattle.ble_tool.specs.World.{Writes, writes_of, HasFailed, HasWritten, HasWrittenPart, HasWrittenNothing}
 use Rattle.ble_tool.proofs.Growth.{grew_part, rose_since}
 
 -- what holds of the fault that an `Err` hands on
@@ -30,7 +28,8 @@ pub handed_on : {X : Type 0} (result : Result X Fault) (fact : Fault → Type 0)
 handed_on (Ok value) fact fault is holds = tt
 handed_on (Err other) fact fault is holds = subst fact (sym is) holds
 
-failed_since : (is_reliable is_reliable_now : Type 0) (first before now : ℕ) → (is_reliable → is_reliable_now) → first ≤ before
+-- calls that failed since some time failed since an earlier one
+pub failed_since : (is_reliable is_reliable_now : Type 0) (first before now : ℕ) → (is_reliable → is_reliable_now) → first ≤ before
     → HasFailed is_reliable_now before now → HasFailed is_reliable first now
 failed_since is_reliable is_reliable_now first before now stays le failed =
     (rose_since first before now le failed.0, λ reliable. failed.1 (stays reliable))
@@ -52,12 +51,12 @@ part_not_written written is_reliable faults first middle last front more rest wh
 
 -- ---- schedules and runs
 
-pub schedule_not_read : (schedule : List ℕ) (fault : ScheduleFault)
+pub schedule_not_read : (place : ℕ) (schedule : List ℕ) (fault : ScheduleFault)
     → IsFault (λ line. schedule_of schedule ≡ Wrong line) (λ line. schedule_of schedule ≡ TooMany line) fault
-    → IsScheduleFault schedule (fault_of_schedule fault)
-schedule_not_read schedule (OutsideGrammar line) is = is
-schedule_not_read schedule (PastTurns line) is = is
-schedule_not_read schedule NoRoomForTurns is = tt
+    → IsScheduleFault place schedule (fault_of_schedule place fault)
+schedule_not_read place schedule (OutsideGrammar line) is = (refl, is)
+schedule_not_read place schedule (PastTurns line) is = (refl, is)
+schedule_not_read place schedule NoRoomForTurns is = tt
 
 pub run_ended : (script : Script) (given : Given) (run : Result (List Entry) RunFault) → IfOk run (IsRun given) → IfErr run (IsRunFault given)
     → IfErr run (IsDueAtFault script) → IfOk (end_of run) (λ end. IsEndOf script given end.0 end.1)
@@ -83,15 +82,15 @@ run_not_ended (Err (EndedUnseen turn packet sent heard journal)) = tt
 run_not_ended (Err NoRoomForRun) = refl
 
 -- a schedule that was not read is a fault of the whole, of which nothing is written
-pub stopped_by_schedule : (writes : Writes) (a b schedule : List ℕ) (fault : Fault) → IsScheduleFault schedule fault
-    → HasWrittenNothing writes → IsOctetsFault writes a b schedule fault
-stopped_by_schedule writes a b schedule (BadLine number) is same = (is, same)
-stopped_by_schedule writes a b schedule (TooManyTurns number) is same = (is, same)
+pub stopped_by_schedule : (writes : Writes) (a b schedule : List ℕ) (fault : Fault) → IsScheduleFault schedule_place schedule fault
+    → HasWrittenNothing writes → IsPairFault writes fault a b schedule
+stopped_by_schedule writes a b schedule (BadLine place number) is same = (is.0, is.1, same)
+stopped_by_schedule writes a b schedule (TooManyTurns place number) is same = (is.0, is.1, same)
 stopped_by_schedule writes a b schedule NoMemory is same = inl same
 stopped_by_schedule writes a b schedule CannotWrite is same = absurd is
 stopped_by_schedule writes a b schedule (Unseen turn packet sent heard) is same = absurd is
-stopped_by_schedule writes a b schedule (CannotRead source) is same = absurd is
-stopped_by_schedule writes a b schedule (TooLong source) is same = absurd is
+stopped_by_schedule writes a b schedule (CannotRead place) is same = absurd is
+stopped_by_schedule writes a b schedule (TooLong place) is same = absurd is
 
 -- a fact of the text of a journal of a schedule that was read
 of_journal : (is_journal : Script → Given → List Entry → Type 0) (fact : List ℕ → Type 0) (a b schedule : List ℕ) (script : Script)
@@ -111,39 +110,39 @@ of_journal is_journal fact a b schedule script journal read is lawful holds = re
 is_ended : (script : Script) (given : Given) (journal : List Entry) (fault : Option Fault) → IsEndOf script given journal fault → IsEnded script given journal
 is_ended script given journal None end = inl end
 is_ended script given journal (Some (Unseen turn packet sent heard)) end = inr (turn, packet, sent, heard, end)
-is_ended script given journal (Some (BadLine number)) end = absurd end
-is_ended script given journal (Some (TooManyTurns number)) end = absurd end
+is_ended script given journal (Some (BadLine place number)) end = absurd end
+is_ended script given journal (Some (TooManyTurns place number)) end = absurd end
 is_ended script given journal (Some NoMemory) end = absurd end
 is_ended script given journal (Some CannotWrite) end = absurd end
-is_ended script given journal (Some (CannotRead source)) end = absurd end
-is_ended script given journal (Some (TooLong source)) end = absurd end
+is_ended script given journal (Some (CannotRead place)) end = absurd end
+is_ended script given journal (Some (TooLong place)) end = absurd end
 
 -- a fault that is reported after the journal that was written
 reported : (writes : Writes) (a b schedule : List ℕ) (script : Script) (journal : List Entry) (fault : Fault)
     → schedule_of schedule ≡ Right script.a script.b script.turns → IsEndOf script (given_of a b script) journal (Some fault)
-    → IsLawful a b script journal → HasWritten writes (text journal) → IsOctetsFault writes a b schedule fault
+    → IsLawful a b script journal → HasWritten writes (text journal) → IsPairFault writes fault a b schedule
 reported writes a b schedule script journal (Unseen turn packet sent heard) read end lawful wrote =
     of_journal _ (HasWritten writes) a b schedule script journal read end lawful wrote
-reported writes a b schedule script journal (BadLine number) read end lawful wrote = absurd end
-reported writes a b schedule script journal (TooManyTurns number) read end lawful wrote = absurd end
+reported writes a b schedule script journal (BadLine place number) read end lawful wrote = absurd end
+reported writes a b schedule script journal (TooManyTurns place number) read end lawful wrote = absurd end
 reported writes a b schedule script journal NoMemory read end lawful wrote = absurd end
 reported writes a b schedule script journal CannotWrite read end lawful wrote = absurd end
-reported writes a b schedule script journal (CannotRead source) read end lawful wrote = absurd end
-reported writes a b schedule script journal (TooLong source) read end lawful wrote = absurd end
+reported writes a b schedule script journal (CannotRead place) read end lawful wrote = absurd end
+reported writes a b schedule script journal (TooLong place) read end lawful wrote = absurd end
 
 -- a journal that was not written whole
 not_written : (writes : Writes) (a b schedule : List ℕ) (script : Script) (journal : List Entry) (fault : Fault)
     → schedule_of schedule ≡ Right script.a script.b script.turns → IsEnded script (given_of a b script) journal
-    → IsLawful a b script journal → IsWriteFault writes (text journal) fault → IsOctetsFault writes a b schedule fault
+    → IsLawful a b script journal → IsWriteFault writes (text journal) fault → IsPairFault writes fault a b schedule
 not_written writes a b schedule script journal CannotWrite read end lawful is =
     (is.0, of_journal IsEnded (HasWrittenPart writes) a b schedule script journal read end lawful is.1)
 not_written writes a b schedule script journal NoMemory read end lawful is =
     inr (of_journal IsEnded (HasWrittenPart writes) a b schedule script journal read end lawful is)
-not_written writes a b schedule script journal (BadLine number) read end lawful is = absurd is
-not_written writes a b schedule script journal (TooManyTurns number) read end lawful is = absurd is
+not_written writes a b schedule script journal (BadLine place number) read end lawful is = absurd is
+not_written writes a b schedule script journal (TooManyTurns place number) read end lawful is = absurd is
 not_written writes a b schedule script journal (Unseen turn packet sent heard) read end lawful is = absurd is
-not_written writes a b schedule script journal (CannotRead source) read end lawful is = absurd is
-not_written writes a b schedule script journal (TooLong source) read end lawful is = absurd is
+not_written writes a b schedule script journal (CannotRead place) read end lawful is = absurd is
+not_written writes a b schedule script journal (TooLong place) read end lawful is = absurd is
 
 -- the journal of a run was written, with what is reported after it
 pub octets_done : (writes : Writes) (a b schedule : List ℕ) (script : Script) (journal : List Entry) (fault : Option Fault)
@@ -158,75 +157,10 @@ octets_done writes a b schedule script journal fault (Ok done) read end lawful w
 pub octets_not_done : (writes : Writes) (a b schedule : List ℕ) (script : Script) (journal : List Entry) (fault : Option Fault)
     (result : Result (Unit {0}) Fault) → schedule_of schedule ≡ Right script.a script.b script.turns
     → IsEndOf script (given_of a b script) journal fault → IsLawful a b script journal → IsWrittenEnd writes (text journal) fault result
-    → IfErr result (IsOctetsFault writes a b schedule)
+    → IfErr result (λ cause. IsPairFault writes cause a b schedule)
 octets_not_done writes a b schedule script journal fault (Ok done) read end lawful written = tt
 octets_not_done writes a b schedule script journal fault (Err cause) read end lawful written =
     elim written [
       | inl is ↦ reported writes a b schedule script journal cause read (subst (IsEndOf script (given_of a b script) journal) is.0 end) lawful is.1
       | inr is ↦ not_written writes a b schedule script journal cause read (is_ended script (given_of a b script) journal fault end) lawful is
     ]
-
--- ---- files
-
--- these octets are the content of a file, where it is known
-abbrev IsContent : Option (List ℕ) → List ℕ → Type 0
-IsContent content octets = WhereKnown content (λ known. octets ≡ known)
-
--- a fact of the octets that were read is one of the content
-of_content : (content : Option (List ℕ)) (octets : List ℕ) (fact : List ℕ → Type 0) → IsContent content octets → fact octets
-    → WhereKnown content fact
-of_content None octets fact is holds = tt
-of_content (Some content) octets fact is holds = subst fact is holds
-
--- the octets of the three files, each within the limit
-pub record AreRead (reads : Reads) (a b schedule : List ℕ) : Type 0 where
-  pub is_a : IsContent (reads.content A) a
-  pub is_b : IsContent (reads.content B) b
-  pub is_schedule : IsContent (reads.content Schedule) schedule
-  pub fits_a : IsWithinLimit a
-  pub fits_b : IsWithinLimit b
-  pub fits_schedule : IsWithinLimit schedule
-
-all_fit : (reads : Reads) (a b schedule : List ℕ) → AreRead reads a b schedule → AllFit reads
-all_fit reads a b schedule are = (
-  of_content (reads.content A) a IsWithinLimit are.is_a are.fits_a,
-  of_content (reads.content B) b IsWithinLimit are.is_b are.fits_b,
-  of_content (reads.content Schedule) schedule IsWithinLimit are.is_schedule are.fits_schedule,
-)
-
-of_files : (reads : Reads) (a b schedule : List ℕ) (fact : List ℕ → List ℕ → List ℕ → Type 0) → AreRead reads a b schedule
-    → fact a b schedule → OfFiles reads fact
-of_files reads a b schedule fact are holds =
-    of_content (reads.content A) a _ are.is_a
-    (of_content (reads.content B) b _ are.is_b (of_content (reads.content Schedule) schedule (fact a b) are.is_schedule holds))
-
-pub files_done : (result : Result (Unit {0}) Fault) (reads : Reads) (writes : Writes) (a b schedule : List ℕ)
-    → AreRead reads a b schedule → OnOk result (OfRun (HasWritten writes) a b schedule)
-    → OnOk result (IsPairDone (world_of reads writes))
-files_done (Err fault) reads writes a b schedule are run = tt
-files_done (Ok value) reads writes a b schedule are run =
-    (all_fit reads a b schedule are, of_files reads a b schedule (OfRun (HasWritten writes)) are run)
-
-files_fault : (reads : Reads) (writes : Writes) (a b schedule : List ℕ) (fault : Fault) → AreRead reads a b schedule
-    → IsOctetsFault writes a b schedule fault → IsPairFault (world_of reads writes) fault
-files_fault reads writes a b schedule (BadLine number) are is =
-    (of_content (reads.content Schedule) schedule (IsFirstBadLine number) are.is_schedule is.0, all_fit reads a b schedule are, is.1)
-files_fault reads writes a b schedule (TooManyTurns number) are is =
-    (of_content (reads.content Schedule) schedule (IsFirstLongLine number) are.is_schedule is.0, all_fit reads a b schedule are, is.1)
-files_fault reads writes a b schedule CannotWrite are is =
-    (is.0, all_fit reads a b schedule are, of_files reads a b schedule (OfEnded (HasWrittenPart writes)) are is.1)
-files_fault reads writes a b schedule NoMemory are is =
-    elim is [
-      | inl same ↦ inl same
-      | inr run ↦ inr (of_files reads a b schedule (OfEnded (HasWrittenPart writes)) are run)
-    ]
-files_fault reads writes a b schedule (Unseen turn packet sent heard) are is =
-    (all_fit reads a b schedule are, of_files reads a b schedule (OfUnseen turn packet sent heard (HasWritten writes)) are is)
-files_fault reads writes a b schedule (CannotRead source) are is = absurd is
-files_fault reads writes a b schedule (TooLong source) are is = absurd is
-
-pub files_not_done : (result : Result (Unit {0}) Fault) (reads : Reads) (writes : Writes) (a b schedule : List ℕ)
-    → AreRead reads a b schedule → IfErr result (IsOctetsFault writes a b schedule)
-    → IfErr result (IsPairFault (world_of reads writes))
-files_not_done (Ok value) reads writes a b schedule are is = tt
-files_not_done (Err fault) reads writes a b schedule are is = files_fault reads writes a b schedule fault are is

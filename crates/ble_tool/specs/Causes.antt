@@ -1,6 +1,5 @@
 -- What a command does, and what holds where it ends with which fault (our choice).
-use Rattle.std.specs.Prelude.{◌≡◌, ℕ, ◌<◌, ◌≤◌, List, length, Option, Some, None, Result, Ok, Err, ◌⊎◌}
-use Rattle.outside.specs.Known.{WhereKnown}
+use Rattle.std.specs.Prelude.{◌≡◌, ℕ, List, [], slice_index_or, Option, Some, None, Result, Ok, Err, ◌⊎◌}
 use Rattle.ble_base.specs.declared.Config.{Config}
 use Rattle.journal.specs.declared.entries.Entry.{Entry}
 use Rattle.journal.specs.Text.{text}
@@ -11,43 +10,14 @@ use Rattle.run_model.specs.Run.{Given}
 use Rattle.radio_replay.specs.Schedule.{Right, Wrong, TooMany, schedule_of, line_number}
 use Rattle.radio_replay.specs.Script.{Script, Turn}
 use Rattle.ble_tool.specs.declared.faults.Fault.{Fault}
-use Rattle.ble_tool.specs.declared.faults.Fault.TheVariants.{CannotRead, BadLine, CannotWrite, NoMemory, Unseen}
-use Rattle.ble_tool.specs.declared.faults.Fault.TheVariants.{TooLong, TooManyTurns}
+use Rattle.ble_tool.specs.declared.faults.Fault.TheVariants.{BadLine, CannotWrite, NoMemory, Unseen}
+use Rattle.ble_tool.specs.declared.faults.Fault.TheVariants.{TooManyTurns}
 use Rattle.ble_tool.specs.declared.commands.Command.{Command}
 use Rattle.ble_tool.specs.declared.commands.Command.TheVariants.{Pair}
-use Rattle.ble_tool.specs.declared.commands.Source.{Source}
-use Rattle.ble_tool.specs.declared.commands.Source.TheVariants.{A, B, Schedule}
+use Rattle.ble_tool.specs.Commands.{files_of, schedule_place}
+use Rattle.ble_tool.specs.Reading.{IsReadFault, OfRead}
 use Rattle.ble_tool.specs.Status.{Outcome, Done, NoCommand, Failed}
-use Rattle.ble_tool.specs.World.{Reads, Writes, World, HaveReadsFailed, HaveWritesFailed, HasWritten, HasWrittenPart}
-use Rattle.ble_tool.specs.World.{HasWrittenNothing}
-
--- ---- limits
-
--- the most octets in each file of a command: 1 MiB (our choice)
-abbrev pub file_limit : ℕ
-file_limit = 1048576
-
--- a content is within the limit
-abbrev pub IsWithinLimit : List ℕ → Type 0
-IsWithinLimit octets = length octets ≤ file_limit
-
--- a content is over the limit
-abbrev pub IsOverLimit : List ℕ → Type 0
-IsOverLimit octets = file_limit < length octets
-
--- a file is within the limit, where its content is known
-abbrev pub Fits : Reads → Source → Type 0
-Fits reads source = WhereKnown (reads.content source) IsWithinLimit
-
--- the files of `pair` that are read before this one are within the limit
-abbrev pub EarlierFit : Reads → Source → Type 0
-EarlierFit reads A = Unit {0}
-EarlierFit reads B = Fits reads A
-EarlierFit reads Schedule = Fits reads A × Fits reads B
-
--- all three are within the limit
-abbrev pub AllFit : Reads → Type 0
-AllFit reads = Fits reads A × Fits reads B × Fits reads Schedule
+use Rattle.ble_tool.specs.World.{Writes, World, HaveWritesFailed, HasWritten, HasWrittenPart, HasWrittenNothing}
 
 -- ---- journals
 
@@ -96,12 +66,6 @@ IsEnded script given journal = IsRun given journal
 abbrev pub OfEnded : (List ℕ → Type 0) → List ℕ → List ℕ → List ℕ → Type 0
 OfEnded fact a b schedule = OfJournal IsEnded fact a b schedule
 
--- a fact of the three files, where their content is known
-abbrev pub OfFiles : Reads → (List ℕ → List ℕ → List ℕ → Type 0) → Type 0
-OfFiles reads fact =
-    WhereKnown (reads.content A) (λ a. WhereKnown (reads.content B) (λ b.
-    WhereKnown (reads.content Schedule) (fact a b)))
-
 -- ---- faults
 
 -- the first line outside the grammar, as a fault carries its number
@@ -112,26 +76,18 @@ IsFirstBadLine number schedule = (line : ℕ) × (schedule_of schedule ≡ Wrong
 abbrev pub IsFirstLongLine : ℕ → List ℕ → Type 0
 IsFirstLongLine number schedule = (line : ℕ) × (schedule_of schedule ≡ TooMany line) × (number ≡ line_number line)
 
--- what holds where a file was not read: reads of it have failed, or it is over the limit, where its content is known;
--- or an allocation failed, of which no clause speaks
-abbrev pub IsReadFault : Reads → Source → Fault → Type 0
-IsReadFault reads source (CannotRead other) = (other ≡ source) × HaveReadsFailed reads source
-IsReadFault reads source (TooLong other) = (other ≡ source) × WhereKnown (reads.content source) IsOverLimit
-IsReadFault reads source NoMemory = Unit {0}
-IsReadFault reads source _ = ⊥
-
 -- what holds where a text was not written whole
 abbrev pub IsWriteFault : Writes → List ℕ → Fault → Type 0
 IsWriteFault writes octets CannotWrite = HaveWritesFailed writes × HasWrittenPart writes octets
 IsWriteFault writes octets NoMemory = HasWrittenPart writes octets
 IsWriteFault writes octets _ = ⊥
 
--- what holds where the text of a schedule was not read
-abbrev pub IsScheduleFault : List ℕ → Fault → Type 0
-IsScheduleFault schedule (BadLine number) = IsFirstBadLine number schedule
-IsScheduleFault schedule (TooManyTurns number) = IsFirstLongLine number schedule
-IsScheduleFault schedule NoMemory = Unit {0}
-IsScheduleFault schedule _ = ⊥
+-- what holds where the text of the schedule at this place was not read
+abbrev pub IsScheduleFault : ℕ → List ℕ → Fault → Type 0
+IsScheduleFault place schedule (BadLine other number) = (other ≡ place) × IsFirstBadLine number schedule
+IsScheduleFault place schedule (TooManyTurns other number) = (other ≡ place) × IsFirstLongLine number schedule
+IsScheduleFault place schedule NoMemory = Unit {0}
+IsScheduleFault place schedule _ = ⊥
 
 -- a run left this journal, and this fault to report after it, if there is one
 abbrev pub IsEndOf : Script → Given → List Entry → Option Fault → Type 0
@@ -148,58 +104,41 @@ IsWrittenEnd writes octets fault (Err cause) =
 
 -- what holds where a run of these streams and of this schedule's text did not end well, or its journal was not
 -- written whole
-abbrev pub IsOctetsFault : Writes → List ℕ → List ℕ → List ℕ → Fault → Type 0
-IsOctetsFault writes a b schedule (BadLine number) = IsFirstBadLine number schedule × HasWrittenNothing writes
-IsOctetsFault writes a b schedule (TooManyTurns number) = IsFirstLongLine number schedule × HasWrittenNothing writes
-IsOctetsFault writes a b schedule CannotWrite = HaveWritesFailed writes × OfEnded (HasWrittenPart writes) a b schedule
-IsOctetsFault writes a b schedule NoMemory = HasWrittenNothing writes ⊎ OfEnded (HasWrittenPart writes) a b schedule
-IsOctetsFault writes a b schedule (Unseen turn packet sent heard) =
+abbrev pub IsPairFault : Writes → Fault → List ℕ → List ℕ → List ℕ → Type 0
+IsPairFault writes (BadLine place number) a b schedule =
+    (place ≡ schedule_place) × IsFirstBadLine number schedule × HasWrittenNothing writes
+IsPairFault writes (TooManyTurns place number) a b schedule =
+    (place ≡ schedule_place) × IsFirstLongLine number schedule × HasWrittenNothing writes
+IsPairFault writes CannotWrite a b schedule = HaveWritesFailed writes × OfEnded (HasWrittenPart writes) a b schedule
+IsPairFault writes NoMemory a b schedule = HasWrittenNothing writes ⊎ OfEnded (HasWrittenPart writes) a b schedule
+IsPairFault writes (Unseen turn packet sent heard) a b schedule =
     OfUnseen turn packet sent heard (HasWritten writes) a b schedule
-IsOctetsFault writes a b schedule _ = ⊥
-
--- the whole journal was written
-abbrev pub HasWrittenAll : World → Type 0
-HasWrittenAll world = OfFiles world.reads (OfRun (HasWritten world.writes))
-
--- the journal of all that came before this packet was written whole
-abbrev pub HasWrittenAllBefore : ℕ → ℕ → List ℕ → List ℕ → World → Type 0
-HasWrittenAllBefore turn packet sent heard world =
-    OfFiles world.reads (OfUnseen turn packet sent heard (HasWritten world.writes))
-
--- a prefix of the journal of either run was written
-abbrev pub HasWrittenPartOfJournal : World → Type 0
-HasWrittenPartOfJournal world = OfFiles world.reads (OfEnded (HasWrittenPart world.writes))
-
--- what holds where `pair` ends with a fault
-abbrev pub IsPairFault : World → Fault → Type 0
-IsPairFault world (CannotRead source) =
-    HaveReadsFailed world.reads source × EarlierFit world.reads source × HasWrittenNothing world.writes
-IsPairFault world (TooLong source) =
-    WhereKnown (world.reads.content source) IsOverLimit × EarlierFit world.reads source × HasWrittenNothing world.writes
-IsPairFault world (BadLine number) =
-    WhereKnown (world.reads.content Schedule) (IsFirstBadLine number)
-    × AllFit world.reads × HasWrittenNothing world.writes
-IsPairFault world (TooManyTurns number) =
-    WhereKnown (world.reads.content Schedule) (IsFirstLongLine number)
-    × AllFit world.reads × HasWrittenNothing world.writes
-IsPairFault world CannotWrite = HaveWritesFailed world.writes × AllFit world.reads × HasWrittenPartOfJournal world
-IsPairFault world NoMemory = HasWrittenNothing world.writes ⊎ HasWrittenPartOfJournal world
-IsPairFault world (Unseen turn packet sent heard) =
-    AllFit world.reads × HasWrittenAllBefore turn packet sent heard world
-
--- `pair` has done its work
-abbrev pub IsPairDone : World → Type 0
-IsPairDone world = AllFit world.reads × HasWrittenAll world
+IsPairFault writes _ a b schedule = ⊥
 
 -- ---- commands
 
--- a command has done its work
-abbrev pub IsPerformed : Command → World → Type 0
-IsPerformed (Pair files) world = IsPairDone world
+-- a fact of the octets of the three files of `pair`
+abbrev pub OfPair : (List ℕ → List ℕ → List ℕ → Type 0) → List (List ℕ) → Type 0
+OfPair fact contents = fact (slice_index_or contents 0 []) (slice_index_or contents 1 []) (slice_index_or contents 2 [])
 
--- what holds where a command ends with a fault
+-- the work of a command over the octets of its files is done
+abbrev pub IsWorkDone : Command → Writes → List (List ℕ) → Type 0
+IsWorkDone (Pair names) writes contents = OfPair (OfRun (HasWritten writes)) contents
+
+-- what holds where the work of a command over the octets of its files ends with a fault
+abbrev pub IsWorkFault : Command → Writes → Fault → List (List ℕ) → Type 0
+IsWorkFault (Pair names) writes fault contents = OfPair (IsPairFault writes fault) contents
+
+-- a command has read its files and done its work
+abbrev pub IsPerformed : Command → World → Type 0
+IsPerformed command world = OfRead world.reads (files_of command) (IsWorkDone command world.writes)
+
+-- what holds where a command ends with a fault: some of its files was not read, and nothing was written; or all were,
+-- and its work over their octets ends with that fault
 abbrev pub IsNotPerformed : Command → World → Fault → Type 0
-IsNotPerformed (Pair files) world fault = IsPairFault world fault
+IsNotPerformed command world fault =
+    (IsReadFault world.reads (files_of command) fault × HasWrittenNothing world.writes)
+    ⊎ OfRead world.reads (files_of command) (IsWorkFault command world.writes fault)
 
 -- what holds where a call that gives this command, or none, ends so
 abbrev pub HasCause : Option Command → World → Outcome → Type 0

@@ -1,44 +1,65 @@
--- The commands, in the words after the program's name (our choice).
-use Rattle.std.specs.Prelude.{ℕ, Bool, ◌&&◌, ◌==◌, List, [], length, slice_index_or, codes, Option, Some, None}
-use Rattle.std.specs.Prelude.{if◌then◌else◌}
+-- The commands, in the words after the program's name, and the files of each (our choice).
+use Rattle.std.specs.Prelude.{ℕ, Bool, ◌&&◌, ◌==◌, List, [], ◌∷◌, length, slice_get, slice_index_or, codes}
+use Rattle.std.specs.Prelude.{Option, Some, None, if◌then◌else◌}
 use Rattle.std.specs.Option.{option_map_or}
 use Rattle.std.specs.Str.{bytes_eq}
 use Rattle.ble_tool.specs.declared.commands.Command.{Command}
 use Rattle.ble_tool.specs.declared.commands.Command.TheVariants.{Pair}
-use Rattle.ble_tool.specs.declared.commands.Source.{Source}
-use Rattle.ble_tool.specs.declared.commands.Source.TheVariants.{A, B, Schedule}
+use Rattle.ble_tool.specs.FileRow.{FileRow}
 use Rattle.ble_tool.specs.PairFiles.{PairFiles}
+
+-- ---- files
+
+-- the most octets of a host, and of the text of a schedule: 1 MiB (our choice)
+abbrev pub file_limit : ℕ
+file_limit = 1048576
+
+-- a file of the octets of a host
+abbrev pub host_file : List ℕ → FileRow
+host_file name = record { name = name; limit = file_limit; word = codes "host" }
+
+-- a file of the text of a schedule
+abbrev pub schedule_file : List ℕ → FileRow
+schedule_file name = record { name = name; limit = file_limit; word = codes "schedule" }
+
+-- the name of the file at this place, counted from 0; there is none past the last
+abbrev pub name_at : List FileRow → ℕ → List ℕ
+name_at files place = option_map_or (λ file. file.name) (slice_get files place) []
+
+-- the word for the file at this place; there is none past the last
+abbrev pub word_at : List FileRow → ℕ → List ℕ
+word_at files place = option_map_or (λ file. file.word) (slice_get files place) []
+
+-- ---- commands
 
 -- whether the words are `pair` and three names
 abbrev pub is_pair : List (List ℕ) → Bool
 is_pair words = (length words == 4) && bytes_eq (slice_index_or words 0 []) (codes "pair")
 
 -- the names after `pair`, in this order
-abbrev pub pair_files : List (List ℕ) → PairFiles
-pair_files words = record {
+abbrev pub pair_names : List (List ℕ) → PairFiles
+pair_names words = record {
   a = slice_index_or words 1 [];
   b = slice_index_or words 2 [];
   schedule = slice_index_or words 3 [];
 }
 
+-- the files of `pair`, in the order in which they are read
+abbrev pub pair_files : PairFiles → List FileRow
+pair_files names = host_file names.a ∷ host_file names.b ∷ schedule_file names.schedule ∷ []
+
+-- the place of the schedule among them
+abbrev pub schedule_place : ℕ
+schedule_place = 2
+
 -- the command of these words, where they are those of one
 abbrev pub command_of : List (List ℕ) → Option Command
-command_of words = if is_pair words then Some (Pair (pair_files words)) else None
+command_of words = if is_pair words then Some (Pair (pair_names words)) else None
 
--- the name of a file of `pair`
-abbrev pub pair_name : PairFiles → Source → List ℕ
-pair_name files A = files.a
-pair_name files B = files.b
-pair_name files Schedule = files.schedule
+-- the files of a command, in the order in which they are read
+abbrev pub files_of : Command → List FileRow
+files_of (Pair names) = pair_files names
 
--- the name of a file of a command
-abbrev pub name_of : Command → Source → List ℕ
-name_of (Pair files) = pair_name files
-
--- the name of a file of the command of these words, where they are those of one
-abbrev pub name_in : List (List ℕ) → Source → List ℕ
-name_in words source = option_map_or (λ command. name_of command source) (command_of words) []
-
--- a fact of each file that a command reads
-abbrev pub OfEachFile : Command → (Source → Type 0) → Type 0
-OfEachFile (Pair files) fact = fact A × fact B × fact Schedule
+-- the files of the command of these words, where they are those of one
+abbrev pub files_in : List (List ℕ) → List FileRow
+files_in words = option_map_or files_of (command_of words) []

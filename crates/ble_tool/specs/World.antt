@@ -2,18 +2,17 @@
 use Rattle.std.specs.Prelude.{◌≡◌, ℕ, List, Option}
 use Rattle.outside.specs.Count.{HasRisen}
 use Rattle.outside.specs.Growth.{HasGrownBy, HasGrownByPrefix}
-use Rattle.ble_tool.specs.declared.commands.Source.{Source}
 
--- what is seen of the files of a command
+-- what is seen of files, by their names
 pub record Reads : Type 1 where
   -- what a file holds, where it is known
-  pub content : Source → Option (List ℕ)
+  pub content : List ℕ → Option (List ℕ)
   -- no read of it fails from the start of the call on
-  pub is_reliable : Source → Type 0
+  pub is_reliable : List ℕ → Type 0
   -- how many reads of it failed before the call
-  pub faults_before : Source → ℕ
+  pub faults_before : List ℕ → ℕ
   -- how many have failed now
-  pub faults_now : Source → ℕ
+  pub faults_now : List ℕ → ℕ
 
 -- what is seen of the output
 pub record Writes : Type 1 where
@@ -36,14 +35,14 @@ pub record World : Type 1 where
 abbrev pub world_of : Reads → Writes → World
 world_of reads writes = record { reads = reads; writes = writes }
 
--- what is seen of the files of these names, from the members of `Files` before and after
+-- what is seen of files, from the members of `Files` before and after
 abbrev pub reads_of : {Files : Type 0} → (Files → List ℕ → Option (List ℕ)) → (Files → List ℕ → Type 0)
-    → (Files → List ℕ → ℕ) → Files → Files → (Source → List ℕ) → Reads
-reads_of content is_reliable faults before now name = record {
-  content = λ source. content before (name source);
-  is_reliable = λ source. is_reliable before (name source);
-  faults_before = λ source. faults before (name source);
-  faults_now = λ source. faults now (name source);
+    → (Files → List ℕ → ℕ) → Files → Files → Reads
+reads_of content is_reliable faults before now = record {
+  content = content before;
+  is_reliable = is_reliable before;
+  faults_before = faults before;
+  faults_now = faults now;
 }
 
 -- what is seen of the output, from the members of `Sink` before and after
@@ -60,10 +59,9 @@ writes_of written is_reliable faults before now = record {
 abbrev pub HasFailed : Type 0 → ℕ → ℕ → Type 0
 HasFailed is_reliable before now = HasRisen before now × (¬ is_reliable)
 
--- reads of a file have failed
-abbrev pub HaveReadsFailed : Reads → Source → Type 0
-HaveReadsFailed reads source =
-    HasFailed (reads.is_reliable source) (reads.faults_before source) (reads.faults_now source)
+-- reads of the file of a name have failed
+abbrev pub HaveReadsFailed : Reads → List ℕ → Type 0
+HaveReadsFailed reads name = HasFailed (reads.is_reliable name) (reads.faults_before name) (reads.faults_now name)
 
 -- writes to the output have failed
 abbrev pub HaveWritesFailed : Writes → Type 0

@@ -1,21 +1,81 @@
-//! The commands of the program, as its words give them.
-ghost use Rattle.std.specs.Prelude.{◌≡◌, map, string_bytes};
-ghost use Rattle.ble_tool.specs.Commands.{command_of, pair_name, name_of};
+//! The commands of the program, as its words give them, and the files that each reads.
+ghost use Rattle.std.specs.Prelude.{◌≡◌, map, slice_get, string_bytes};
+ghost use Rattle.ble_tool.specs.Commands.{host_file, schedule_file, name_at, word_at};
+ghost use Rattle.ble_tool.specs.Commands.{pair_files, command_of, files_of};
 
 use std::marker::Model;
 
-/// How long each file of a command may be, in octets.
+/// How long the octets of a host and the text of a schedule may be, in octets.
 pub const FILE_LIMIT: u32 = 1_048_576;
 
+/// The place of the schedule among the files of `pair`, counted from 0.
+pub(crate) const SCHEDULE: usize = 2;
+
 /// A file that a command reads.
-#[derive(Clone, Copy, Debug, PartialEq, Eq)]
-pub enum Source {
-    /// The octets of A's host, in the order in which they are fed.
-    A,
-    /// The octets of B's host.
-    B,
-    /// The text of the schedule.
-    Schedule,
+///
+/// Contracts see it as the octets of its name, its limit and the octets of its word.
+#[derive(Drop)]
+pub struct CommandFile<'a> {
+    name: &'a str,
+    limit: u32,
+    word: &'static str,
+}
+
+impl<'a> Model for CommandFile<'a> {
+    ghost use Rattle.ble_tool.specs.FileRow.{FileRow};
+
+    ghost Value = { FileRow };
+
+    ghost view = { λ file. record {
+      name = file.name.now;
+      limit = file.limit;
+      word = file.word.now;
+    } };
+}
+
+impl<'a> CommandFile<'a> {
+    /// A file of the octets of a host, in the order in which they are fed.
+    fn host(name: &'a str) -> CommandFile<'a>
+        ensures { result ≡ host_file name.now }
+    {
+        CommandFile {
+            name,
+            limit: FILE_LIMIT,
+            word: "host",
+        }
+    }
+
+    /// A file of the text of a schedule.
+    fn schedule(name: &'a str) -> CommandFile<'a>
+        ensures { result ≡ schedule_file name.now }
+    {
+        CommandFile {
+            name,
+            limit: FILE_LIMIT,
+            word: "schedule",
+        }
+    }
+
+    /// Its name.
+    pub fn name(&self) -> &'a str
+        ensures { result.now ≡ self.now.name }
+    {
+        self.name
+    }
+
+    /// How many octets it may have.
+    pub fn limit(&self) -> u32
+        ensures { result ≡ self.now.limit }
+    {
+        self.limit
+    }
+
+    /// The word for it in a message on one of its lines.
+    pub fn word(&self) -> &'static str
+        ensures { result.now ≡ self.now.word }
+    {
+        self.word
+    }
 }
 
 /// The names of the three files of `pair`.
@@ -41,14 +101,15 @@ impl<'a> Model for PairNames<'a> {
 }
 
 impl<'a> PairNames<'a> {
-    /// The name of a file.
-    pub fn of(&self, source: Source) -> &'a str
-        ensures { result.now ≡ pair_name self.now source }
+    /// The file at this place, or `None` past the last.
+    fn file_at(&self, place: usize) -> Option<CommandFile<'a>>
+        ensures { result ≡ slice_get (pair_files self.now) place }
     {
-        match source {
-            Source::A => self.a,
-            Source::B => self.b,
-            Source::Schedule => self.schedule,
+        match place {
+            0 => Some(CommandFile::host(self.a)),
+            1 => Some(CommandFile::host(self.b)),
+            SCHEDULE => Some(CommandFile::schedule(self.schedule)),
+            _ => None,
         }
     }
 }
@@ -75,12 +136,33 @@ impl<'a> Command<'a> {
         }
     }
 
-    /// The name of a file of the command.
-    pub fn name_of(&self, source: Source) -> &'a str
-        ensures { result.now ≡ name_of self.now source }
+    /// The file at this place among those that the command reads, counted from 0 in the order in
+    /// which it reads them, or `None` past the last.
+    pub fn file_at(&self, place: usize) -> Option<CommandFile<'a>>
+        ensures { result ≡ slice_get (files_of self.now) place }
     {
         match self {
-            Command::Pair(names) => names.of(source),
+            Command::Pair(names) => names.file_at(place),
+        }
+    }
+
+    /// The name of the file at this place. Past the last there is none.
+    pub fn name_at(&self, place: usize) -> &'a str
+        ensures { result.now ≡ name_at (files_of self.now) place }
+    {
+        match self.file_at(place) {
+            Some(file) => file.name(),
+            None => "",
+        }
+    }
+
+    /// The word for the file at this place, in a message on one of its lines.
+    pub fn word_at(&self, place: usize) -> &'static str
+        ensures { result.now ≡ word_at (files_of self.now) place }
+    {
+        match self.file_at(place) {
+            Some(file) => file.word(),
+            None => "",
         }
     }
 }

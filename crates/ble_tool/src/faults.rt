@@ -4,7 +4,6 @@ ghost use Rattle.ble_tool.specs.Conversions.{fault_of_file, fault_of_sink, fault
 ghost use Rattle.ble_tool.specs.Conversions.{end_of};
 ghost use Rattle.ble_tool.specs.Status.{status_of};
 
-use crate::commands::Source;
 use journal::{Journal, Octets};
 use outside::{FileFault, SinkFault};
 use pair_world::RunFault;
@@ -13,10 +12,18 @@ use radio_replay::ScheduleFault;
 /// Why a command does not end with status 0 (our choice).
 #[derive(Drop)]
 pub enum Fault {
-    /// The file could not be read.
-    CannotRead(Source),
-    /// This line of the schedule, counted from 1, is the first outside the grammar.
-    BadLine(u32),
+    /// A file could not be read.
+    CannotRead {
+        /// Its place among the files of the command, counted from 0.
+        place: usize,
+    },
+    /// A line of a file is the first outside the grammar.
+    BadLine {
+        /// The place of the file among those of the command, counted from 0.
+        place: usize,
+        /// The number of the line, counted from 1.
+        line: u32,
+    },
     /// The journal could not be written.
     CannotWrite,
     /// An allocation failed.
@@ -32,11 +39,18 @@ pub enum Fault {
         /// Its octets as they would be heard.
         heard: Octets,
     },
-    /// The file is longer than its limit, 1,048,576 octets.
-    TooLong(Source),
-    /// This line of the schedule, counted from 1, is the first with which there are more than
-    /// 100,000 turns.
-    TooManyTurns(u32),
+    /// A file is longer than its limit.
+    TooLong {
+        /// Its place among the files of the command, counted from 0.
+        place: usize,
+    },
+    /// A line of a file is the first with which there are more than 100,000 turns.
+    TooManyTurns {
+        /// The place of the file among those of the command, counted from 0.
+        place: usize,
+        /// The number of the line, counted from 1.
+        line: u32,
+    },
 }
 
 impl Fault {
@@ -45,23 +59,23 @@ impl Fault {
         ensures { result ≡ status_of self.now }
     {
         match self {
-            Fault::CannotRead(_) => 2,
-            Fault::BadLine(_) => 3,
+            Fault::CannotRead { .. } => 2,
+            Fault::BadLine { .. } => 3,
             Fault::CannotWrite => 4,
             Fault::NoMemory => 5,
             Fault::Unseen { .. } => 6,
-            Fault::TooLong(_) | Fault::TooManyTurns(_) => 7,
+            Fault::TooLong { .. } | Fault::TooManyTurns { .. } => 7,
         }
     }
 }
 
-/// The fault of a read of this file.
-pub(crate) fn fault_of_file(source: Source, fault: FileFault) -> Fault
-    ensures { result ≡ fault_of_file source fault }
+/// The fault of a read of the file at this place.
+pub(crate) fn fault_of_file(place: usize, fault: FileFault) -> Fault
+    ensures { result ≡ fault_of_file place fault }
 {
     match fault {
-        FileFault::Failed => Fault::CannotRead(source),
-        FileFault::TooLong => Fault::TooLong(source),
+        FileFault::Failed => Fault::CannotRead { place },
+        FileFault::TooLong => Fault::TooLong { place },
         FileFault::Memory => Fault::NoMemory,
     }
 }
@@ -76,13 +90,13 @@ pub(crate) fn fault_of_sink(fault: SinkFault) -> Fault
     }
 }
 
-/// The fault of a schedule.
-pub(crate) fn fault_of_schedule(fault: ScheduleFault) -> Fault
-    ensures { result ≡ fault_of_schedule fault }
+/// The fault of the schedule at this place.
+pub(crate) fn fault_of_schedule(place: usize, fault: ScheduleFault) -> Fault
+    ensures { result ≡ fault_of_schedule place fault }
 {
     match fault {
-        ScheduleFault::BadLine(line) => Fault::BadLine(line),
-        ScheduleFault::TooLong(line) => Fault::TooManyTurns(line),
+        ScheduleFault::BadLine(line) => Fault::BadLine { place, line },
+        ScheduleFault::TooLong(line) => Fault::TooManyTurns { place, line },
         ScheduleFault::Memory => Fault::NoMemory,
     }
 }

@@ -5,8 +5,9 @@ mod commands;
 mod faults;
 mod messages;
 mod pairs;
+mod reading;
 mod tool;
 
-pub use crate::commands::{Command, FILE_LIMIT, PairNames, Source};
+pub use crate::commands::{Command, CommandFile, FILE_LIMIT, PairNames};
 pub use crate::faults::Fault;
 pub use crate::tool::ble_tool;

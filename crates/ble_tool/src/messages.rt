@@ -2,9 +2,9 @@
 ghost use Rattle.std.specs.Prelude.{◌≡◌, ◌∷◌, [], ◌++◌, ◌≤◌, length, decimal};
 ghost use Rattle.hex.specs.Hex.{encode_lower};
 ghost use Rattle.journal.specs.Words.{hexadecimal};
-ghost use Rattle.ble_tool.specs.Commands.{name_of};
+ghost use Rattle.ble_tool.specs.Commands.{files_of};
 ghost use Rattle.ble_tool.specs.Puts.{IsPut, Says};
-ghost use Rattle.ble_tool.specs.Status.{fault_line, unseen_text, usage_line};
+ghost use Rattle.ble_tool.specs.Status.{fault_line, line_text, unseen_text, usage_line};
 
 use crate::commands::Command;
 use crate::faults::Fault;
@@ -27,14 +27,27 @@ fn put_part<E: Sink>(err: &mut E, octets: &[u8]) -> Result<(), SinkFault>
     err.put(octets)
 }
 
+/// Writes three parts.
+fn put_parts<E: Sink>(
+    err: &mut E,
+    first: &[u8],
+    second: &[u8],
+    third: &[u8],
+) -> Result<(), SinkFault>
+    ensures { IsPut E.written E.faults E.wants_memory err.old err.new result
+        (first.now ++ second.now ++ third.now) }
+{
+    put_part(err, first)?;
+    put_part(err, second)?;
+    put_part(err, third)
+}
+
 /// Writes a line of two parts.
 fn put_line<E: Sink>(err: &mut E, front: &[u8], back: &[u8]) -> Result<(), SinkFault>
     ensures { IsPut E.written E.faults E.wants_memory err.old err.new result
         (front.now ++ back.now ++ 10 ∷ []) }
 {
-    put_part(err, front)?;
-    put_part(err, back)?;
-    put_part(err, b"\n")
+    put_parts(err, front, back, b"\n")
 }
 
 /// Writes a text, and a number after it.
@@ -125,6 +138,29 @@ fn put_unseen_line<E: Sink>(
     put_part(err, b"\n")
 }
 
+/// Writes the text on a line of a file for which there is this word.
+fn put_line_text<E: Sink>(err: &mut E, word: &[u8], line: u32) -> Result<(), SinkFault>
+    ensures { IsPut E.written E.faults E.wants_memory err.old err.new result
+        (line_text word.now line) }
+{
+    put_parts(err, word, b" line ", Buffer::new().format(line).as_bytes())
+}
+
+/// Writes the line on a line of a file, after a text.
+fn put_file_line<E: Sink>(
+    err: &mut E,
+    front: &[u8],
+    word: &[u8],
+    line: u32,
+) -> Result<(), SinkFault>
+    ensures { IsPut E.written E.faults E.wants_memory err.old err.new result
+        (front.now ++ line_text word.now line ++ 10 ∷ []) }
+{
+    put_part(err, front)?;
+    put_line_text(err, word, line)?;
+    put_part(err, b"\n")
+}
+
 /// Writes a line of two parts, or a prefix of it where the stream fails.
 fn say<E: Sink>(err: &mut E, front: &[u8], back: &[u8])
     ensures { Says E.written E.faults E.wants_memory err.old err.new
@@ -133,12 +169,12 @@ fn say<E: Sink>(err: &mut E, front: &[u8], back: &[u8])
     let _ = put_line(err, front, back);
 }
 
-/// Writes a line of a text and the number of a line, or a prefix of it where the stream fails.
-fn say_line_number<E: Sink>(err: &mut E, front: &[u8], line: u32)
+/// Writes the line on a line of a file, or a prefix of it where the stream fails.
+fn say_file_line<E: Sink>(err: &mut E, front: &[u8], word: &str, line: u32)
     ensures { Says E.written E.faults E.wants_memory err.old err.new
-        (front.now ++ decimal line ++ 10 ∷ []) }
+        (front.now ++ line_text word.now line ++ 10 ∷ []) }
 {
-    say(err, front, Buffer::new().format(line).as_bytes());
+    let _ = put_file_line(err, front, word.as_bytes(), line);
 }
 
 /// Writes the line on damage that would be judged good, or a prefix of it where the stream fails.
@@ -162,11 +198,13 @@ pub fn refuse_words<E: Sink>(err: &mut E) -> u8
 /// Writes why a command did not do its work: one line, or a prefix of it where the stream fails.
 pub fn report<E: Sink>(err: &mut E, command: &Command<'_>, fault: &Fault)
     ensures { Says E.written E.faults E.wants_memory err.old err.new
-        (fault_line (name_of command.now) fault.now) }
+        (fault_line (files_of command.now) fault.now) }
 {
     match fault {
-        Fault::CannotRead(source) => say(err, b"cannot read ", command.name_of(*source).as_bytes()),
-        Fault::BadLine(line) => say_line_number(err, b"schedule line ", *line),
+        Fault::CannotRead { place } => {
+            say(err, b"cannot read ", command.name_at(*place).as_bytes());
+        }
+        Fault::BadLine { place, line } => say_file_line(err, b"", command.word_at(*place), *line),
         Fault::CannotWrite => say(err, b"cannot write", b""),
         Fault::NoMemory => say(err, b"no memory", b""),
         Fault::Unseen {
@@ -175,7 +213,11 @@ pub fn report<E: Sink>(err: &mut E, command: &Command<'_>, fault: &Fault)
             sent,
             heard,
         } => say_unseen(err, *turn, *packet, sent.as_slice(), heard.as_slice()),
-        Fault::TooLong(source) => say(err, b"too long: ", command.name_of(*source).as_bytes()),
-        Fault::TooManyTurns(line) => say_line_number(err, b"too long: schedule line ", *line),
+        Fault::TooLong { place } => {
+            say(err, b"too long: ", command.name_at(*place).as_bytes());
+        }
+        Fault::TooManyTurns { place, line } => {
+            say_file_line(err, b"too long: ", command.word_at(*place), *line);
+        }
     }
 }

@@ -1,56 +1,25 @@
 //! The command `pair`.
-ghost use Rattle.std.specs.Prelude.{◌≡◌, ℕ, List, ◌++◌, ◌<◌, ◌≤◌, length, OnOk, IfOk, IfErr, None};
-ghost use Rattle.outside.specs.Known.{WhereKnown};
+ghost use Rattle.std.specs.Prelude.{◌≡◌, ◌++◌, ◌<◌, ◌≤◌, length, map, vec_items, None};
+ghost use Rattle.std.specs.Prelude.{OnOk, IfOk, IfErr};
 ghost use Rattle.journal.specs.Text.{text};
 ghost use Rattle.journal_pdus.specs.Lawful.{IsLawful, IsWhole};
 ghost use Rattle.run_model.specs.Pair.{given_of};
 ghost use Rattle.radio_replay.specs.Schedule.{Right, schedule_of};
-ghost use Rattle.ble_tool.specs.Causes.{IsWithinLimit, IsReadFault, IsWriteFault, OfRun};
-ghost use Rattle.ble_tool.specs.Causes.{IsScheduleFault, IsEndOf, IsWrittenEnd, IsOctetsFault};
-ghost use Rattle.ble_tool.specs.Causes.{IsPairDone, IsPairFault};
-ghost use Rattle.ble_tool.specs.Commands.{pair_name};
-ghost use Rattle.ble_tool.specs.World.{world_of, reads_of, writes_of, HasWritten};
+ghost use Rattle.ble_tool.specs.Causes.{IsWriteFault, OfRun, OfPair, IsScheduleFault};
+ghost use Rattle.ble_tool.specs.Causes.{IsEndOf, IsWrittenEnd, IsPairFault};
+ghost use Rattle.ble_tool.specs.Commands.{schedule_place};
+ghost use Rattle.ble_tool.specs.World.{writes_of, HasWritten};
 
-use crate::commands::{FILE_LIMIT, PairNames, Source};
-use crate::faults::{Fault, end_of, fault_of_file, fault_of_schedule, fault_of_sink};
+use crate::commands::SCHEDULE;
+use crate::faults::{Fault, end_of, fault_of_schedule, fault_of_sink};
 use journal::{Entry, Journal, write_lines};
-use outside::{Files, Sink};
+use outside::Sink;
 use pair_world::run_pair;
 use radio_replay::Schedule;
 use std::alloc::Global;
 
 /// How many lines of the journal are written at once.
 const BLOCK: usize = 256;
-
-/// Reads one of the three files.
-fn read_source<F: Files>(
-    alloc: Global,
-    files: &mut F,
-    names: &PairNames<'_>,
-    source: Source,
-) -> Result<Vec<u8>, Fault>
-    // The whole content within the limit, or why not.
-    ensures fits { IfOk result (λ octets. IsWithinLimit octets.items) }
-    ensures ok { IfOk result (λ octets.
-        WhereKnown (F.content files.old (pair_name names.now source))
-        (λ content. octets.items ≡ content)) }
-    ensures err { IfErr result (IsReadFault
-        (reads_of F.content F.is_reliable F.faults files.old files.new (pair_name names.now))
-        source) }
-
-    // What stays the same of all names.
-    ensures contents { (name : List ℕ)
-        → F.content files.new name ≡ F.content files.old name }
-    ensures counts { (name : List ℕ)
-        → F.faults files.old name ≤ F.faults files.new name }
-    ensures stays_reliable { (name : List ℕ)
-        → F.is_reliable files.old name → F.is_reliable files.new name }
-{
-    match files.read_file(alloc, names.of(source), FILE_LIMIT) {
-        Ok(octets) => Ok(octets),
-        Err(fault) => Err(fault_of_file(source, fault)),
-    }
-}
 
 /// Writes the lines of some entries. The allocation for their text is asked for first.
 fn write_block<O: Sink>(alloc: Global, entries: &[Entry], out: &mut O) -> Result<(), Fault>
@@ -102,11 +71,11 @@ fn read_schedule(alloc: Global, octets: &[u8]) -> Result<Schedule, Fault>
         schedule_of octets.now ≡ Right schedule.a schedule.b schedule.turns) }
     ensures words_a { IfOk result (λ schedule. 1 ≤ length schedule.a.words.items) }
     ensures words_b { IfOk result (λ schedule. 1 ≤ length schedule.b.words.items) }
-    ensures err { IfErr result (IsScheduleFault octets.now) }
+    ensures err { IfErr result (IsScheduleFault schedule_place octets.now) }
 {
     match Schedule::read(alloc, octets) {
         Ok(schedule) => Ok(schedule),
-        Err(fault) => Err(fault_of_schedule(fault)),
+        Err(fault) => Err(fault_of_schedule(SCHEDULE, fault)),
     }
 }
 
@@ -158,8 +127,8 @@ fn pair_octets<O: Sink>(
     ensures ok { OnOk result (OfRun
         (HasWritten (writes_of O.written O.is_reliable O.faults out.old out.new))
         a.now b.now schedule.now) }
-    ensures err { IfErr result (IsOctetsFault
-        (writes_of O.written O.is_reliable O.faults out.old out.new)
+    ensures err { IfErr result (λ fault. IsPairFault
+        (writes_of O.written O.is_reliable O.faults out.old out.new) fault
         a.now b.now schedule.now) }
 {
     let schedule = read_schedule(alloc, schedule)?;
@@ -167,22 +136,19 @@ fn pair_octets<O: Sink>(
     write_end(alloc, &journal, fault, out)
 }
 
-/// Reads the three files, runs the two streams by the schedule, and writes the journal.
-pub fn pair<F: Files, O: Sink>(
-    alloc: Global,
-    names: &PairNames<'_>,
-    files: &mut F,
-    out: &mut O,
-) -> Result<(), Fault>
-    ensures ok { OnOk result (IsPairDone (world_of
-        (reads_of F.content F.is_reliable F.faults files.old files.new (pair_name names.now))
-        (writes_of O.written O.is_reliable O.faults out.old out.new))) }
-    ensures err { IfErr result (IsPairFault (world_of
-        (reads_of F.content F.is_reliable F.faults files.old files.new (pair_name names.now))
-        (writes_of O.written O.is_reliable O.faults out.old out.new))) }
+/// Does the work of `pair` over the octets of its three files: runs the two streams by the
+/// schedule, and writes the journal.
+pub(crate) fn pair<O: Sink>(alloc: Global, contents: &[Vec<u8>], out: &mut O) -> Result<(), Fault>
+    requires { length contents.now ≡ 3 }
+    ensures ok { OnOk result (OfPair
+        (OfRun (HasWritten (writes_of O.written O.is_reliable O.faults out.old out.new)))
+        (map vec_items contents.now)) }
+    ensures err { IfErr result (λ fault. OfPair
+        (IsPairFault (writes_of O.written O.is_reliable O.faults out.old out.new) fault)
+        (map vec_items contents.now)) }
 {
-    let a = read_source(alloc, files, names, Source::A)?;
-    let b = read_source(alloc, files, names, Source::B)?;
-    let schedule = read_source(alloc, files, names, Source::Schedule)?;
-    pair_octets(alloc, &a, &b, &schedule, out)
+    let [a, b, schedule] = contents else {
+        unreachable!();
+    };
+    pair_octets(alloc, a, b, schedule, out)
 }

@@ -1,7 +1,8 @@
 //! A call of the program: from its words to its status.
-ghost use Rattle.std.specs.Prelude.{◌≡◌, ◌↔◌, ◌⊎◌, Some, IsNone, map, string_bytes, OnOk, IfErr};
-ghost use Rattle.ble_tool.specs.Causes.{IsPerformed, IsNotPerformed};
-ghost use Rattle.ble_tool.specs.Commands.{command_of, name_of, name_in};
+ghost use Rattle.std.specs.Prelude.{◌≡◌, ◌↔◌, ◌⊎◌, Some, IsNone, map, length, OnOk, IfErr};
+ghost use Rattle.std.specs.Prelude.{string_bytes, vec_items};
+ghost use Rattle.ble_tool.specs.Causes.{IsWorkDone, IsWorkFault, IsPerformed, IsNotPerformed};
+ghost use Rattle.ble_tool.specs.Commands.{command_of, files_of};
 ghost use Rattle.ble_tool.specs.Ending.{IsEnding, CanPerform, NoneHasRisen, IsReliable};
 ghost use Rattle.ble_tool.specs.Puts.{Says};
 ghost use Rattle.ble_tool.specs.World.{world_of, reads_of, writes_of};
@@ -11,10 +12,31 @@ use crate::commands::Command;
 use crate::faults::Fault;
 use crate::messages::{refuse_words, report};
 use crate::pairs::pair;
+use crate::reading::read_files;
 use outside::{Files, Sink};
 use std::alloc::Global;
 
-/// Does the work of a command.
+/// Does the work of a command over the octets of its files.
+fn work<O: Sink>(
+    alloc: Global,
+    command: &Command<'_>,
+    contents: &[Vec<u8>],
+    out: &mut O,
+) -> Result<(), Fault>
+    requires { length contents.now ≡ length (files_of command.now) }
+    ensures ok { OnOk result (IsWorkDone command.now
+        (writes_of O.written O.is_reliable O.faults out.old out.new)
+        (map vec_items contents.now)) }
+    ensures err { IfErr result (λ fault. IsWorkFault command.now
+        (writes_of O.written O.is_reliable O.faults out.old out.new) fault
+        (map vec_items contents.now)) }
+{
+    match command {
+        Command::Pair(_) => pair(alloc, contents, out),
+    }
+}
+
+/// Reads the files of a command, and does its work.
 fn perform<F: Files, O: Sink>(
     alloc: Global,
     command: &Command<'_>,
@@ -22,15 +44,14 @@ fn perform<F: Files, O: Sink>(
     out: &mut O,
 ) -> Result<(), Fault>
     ensures ok { OnOk result (IsPerformed command.now (world_of
-        (reads_of F.content F.is_reliable F.faults files.old files.new (name_of command.now))
+        (reads_of F.content F.is_reliable F.faults files.old files.new)
         (writes_of O.written O.is_reliable O.faults out.old out.new))) }
     ensures err { IfErr result (IsNotPerformed command.now (world_of
-        (reads_of F.content F.is_reliable F.faults files.old files.new (name_of command.now))
+        (reads_of F.content F.is_reliable F.faults files.old files.new)
         (writes_of O.written O.is_reliable O.faults out.old out.new))) }
 {
-    match command {
-        Command::Pair(names) => pair(alloc, names, files, out),
-    }
+    let contents = read_files(alloc, files, command)?;
+    work(alloc, command, &contents, out)
 }
 
 /// Does what the words after the program's name say, and gives the exit status (our choice).
@@ -67,7 +88,7 @@ pub fn ble_tool<F: Files, O: Sink, E: Sink>(
     ensures complete { (command : Command)
         → let given = map string_bytes words.now.items in
         let world = world_of
-        (reads_of F.content F.is_reliable F.faults files.old files.new (name_in given))
+        (reads_of F.content F.is_reliable F.faults files.old files.new)
         (writes_of O.written O.is_reliable O.faults out.old out.new) in
         command_of given ≡ Some command → CanPerform command world.reads
         → NoneHasRisen command world → (result ≡ 0) ⊎ (result ≡ 5) }
@@ -75,7 +96,7 @@ pub fn ble_tool<F: Files, O: Sink, E: Sink>(
     ensures reliable { (command : Command)
         → let given = map string_bytes words.now.items in
         let world = world_of
-        (reads_of F.content F.is_reliable F.faults files.old files.new (name_in given))
+        (reads_of F.content F.is_reliable F.faults files.old files.new)
         (writes_of O.written O.is_reliable O.faults out.old out.new) in
         command_of given ≡ Some command → CanPerform command world.reads
         → IsReliable command world → (result ≡ 0) ⊎ (result ≡ 5) }
@@ -83,7 +104,7 @@ pub fn ble_tool<F: Files, O: Sink, E: Sink>(
     // Every call has an ending: its status, what holds then, and what was written to `err`.
     ensures ending { let given = map string_bytes words.now.items in
         let world = world_of
-        (reads_of F.content F.is_reliable F.faults files.old files.new (name_in given))
+        (reads_of F.content F.is_reliable F.faults files.old files.new)
         (writes_of O.written O.is_reliable O.faults out.old out.new) in
         IsEnding given world (Says E.written E.faults E.wants_memory err.old err.new) result }
 {

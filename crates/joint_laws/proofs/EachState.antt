@@ -1,21 +1,18 @@
 -- Each state of a joint run, in which that goes on, is one of each machine: what a machine asks of the others holds in the
 -- states before.
 use Rattle.std.proofs.Common.{◌≡◌, ◌≤◌, ℕ, true, List, [], ◌∷◌, ◌++◌, refl, ap, sym, subst}
-use Rattle.data_pdu.specs.declared.ctrl.Ctrl.{Ctrl}
-use Rattle.data_pdu.specs.declared.ctrl.Ctrl.TheVariants.{EncRsp}
 use Rattle.instants.specs.declared.indications.Params.{Params}
 use Rattle.machines.specs.Machine.{run}
 use Rattle.phase_pairs.specs.JointRun.{encryption}
-use Rattle.phased_control.specs.Ends.{IsResponse}
-use Rattle.joint_controls.specs.Ends.{AreStepsInRange, IsStepInRange, is_enc_rsp as is_response}
-use Rattle.joint_controls.specs.Joint.{Joint, JointStep, PeripheralTakes, after, after_all, beginning, is_running}
+use Rattle.joint_controls.specs.Ends.{AreStepsInRange, IsStepInRange}
+use Rattle.joint_controls.specs.Joint.{Joint, JointStep, after, after_all, beginning, is_running}
 use Rattle.joint_collisions.specs.Facts.{AllFacts, Facts as ExclusiveFacts}
 use Rattle.joint_collisions.specs.Views.{IsReached, view_of}
 use Rattle.joint_collisions.proofs.Runs.{walk}
-use Rattle.joint_exchanges.specs.Runs.{AllBefore, AllRespond, GoesOn}
-use Rattle.joint_exchanges.specs.SentByRole.{HaveMeaning, Responds}
+use Rattle.joint_exchanges.specs.Runs.{AllBefore}
+use Rattle.joint_exchanges.specs.SentByRole.{HaveMeaning}
 use Rattle.joint_phases.specs.Events.{events_of}
-use Rattle.joint_phases.specs.Facts.{Facts, FactsHold, has_response, is_enc_rsp}
+use Rattle.joint_phases.specs.Facts.{Facts, FactsHold}
 use Rattle.joint_phases.specs.Parts.{IsShown}
 use Rattle.joint_phases.proofs.Steps.{shows_run}
 use Rattle.joint_laws.proofs.ExclusiveFactsHold.{exclusive_facts}
@@ -26,18 +23,14 @@ use Rattle.joint_laws.specs.Runs.{IsRun}
 -- ---- one more step
 
 module _ (step : JointStep) where
-  range_more : (steps : List JointStep) → AreStepsInRange steps → IsStepInRange step → AreStepsInRange (steps ++ step ∷ [])
+  pub range_more : (steps : List JointStep) → AreStepsInRange steps → IsStepInRange step → AreStepsInRange (steps ++ step ∷ [])
   range_more [] all one = (one, tt)
   range_more (first ∷ steps) all one = (all.0, range_more steps all.1 one)
 
-  responds_more : (steps : List JointStep) → AllRespond steps → Responds step → AllRespond (steps ++ step ∷ [])
-  responds_more [] all one = (one, tt)
-  responds_more (first ∷ steps) all one = (all.0, responds_more steps all.1 one)
-
-  facts_more : (steps : List JointStep) (s : Joint) → FactsHold s steps → (is_running (after_all steps s) ≡ true → Facts (after_all steps s)) → has_response step ≡ true
+  facts_more : (steps : List JointStep) (s : Joint) → FactsHold s steps → (is_running (after_all steps s) ≡ true → Facts (after_all steps s))
       → FactsHold s (steps ++ step ∷ [])
-  facts_more [] s all one responds = (one, (responds, tt))
-  facts_more (first ∷ steps) s all one responds = (all.0, (all.1.0, facts_more steps (after first s) all.1.1 one responds))
+  facts_more [] s all one = (one, tt)
+  facts_more (first ∷ steps) s all one = (all.0, facts_more steps (after first s) all.1 one)
 
   exclusive_more : (steps : List JointStep) (s : Joint) → AllFacts steps s → (is_running (after_all steps s) ≡ true → ExclusiveFacts (after_all steps s))
       → AllFacts (steps ++ step ∷ []) s
@@ -48,27 +41,6 @@ module _ (step : JointStep) where
       → AllBefore P (steps ++ step ∷ []) s
   before_more P [] s all one = (one, tt)
   before_more P (first ∷ steps) s all one = (all.0, before_more P steps (after first s) all.1 one)
-
--- an end whose steps are in range answers LL_ENC_REQ with LL_ENC_RSP
-response_of : (response : Ctrl) → is_response response ≡ true → IsResponse response
-response_of (EncRsp skd_s iv_s) is = tt
-response_of ctrl is = absurd (cc)
-
-pub responds_of : (step : JointStep) → IsStepInRange step → Responds step
-responds_of (PeripheralTakes slot response) is = response_of response is
-responds_of step is = tt
-
-pub all_respond : (steps : List JointStep) → AreStepsInRange steps → AllRespond steps
-all_respond [] all = tt
-all_respond (step ∷ steps) all = (responds_of step all.0, all_respond steps all.1)
-
-responds_with : (response : Ctrl) → IsResponse response → is_enc_rsp response ≡ true
-responds_with (EncRsp skd_s iv_s) is = refl
-responds_with ctrl is = absurd is
-
-pub response_is : (step : JointStep) → Responds step → has_response step ≡ true
-response_is (PeripheralTakes slot response) is = responds_with response is
-response_is step is = refl
 
 joined : (xs : List JointStep) (step : JointStep) (steps : List JointStep) → (xs ++ step ∷ []) ++ steps ≡ xs ++ step ∷ steps
 joined [] step steps = refl
@@ -83,7 +55,6 @@ module _ (central_rx peripheral_rx : ℕ) (first : Params) (slot : ℕ) (latency
   -- what is known of the states before
   pub record Known (steps : List JointStep) : Type 0 where
     pub range : AreStepsInRange steps
-    pub responds : AllRespond steps
     pub facts : FactsHold start steps
     pub exclusive : AllFacts steps start
     pub meant : AllBefore HaveMeaning steps start
@@ -98,35 +69,33 @@ module _ (central_rx peripheral_rx : ℕ) (first : Params) (slot : ℕ) (latency
 
   pub now : (steps : List JointStep) → Known steps → is_running (after_all steps start) ≡ true → Now steps
   now steps known goes =
-      let on : GoesOn steps start = record { responds = known.responds; goes = goes } in
       let reached = ((walk central_rx peripheral_rx first slot latency steps known.range known.exclusive).holds goes).seen.reached in
       let shows = shows_run central_rx peripheral_rx first slot steps known.facts goes in
       record {
-        facts = facts_hold central_rx peripheral_rx first slot steps on reached;
-        exclusive = exclusive_facts central_rx peripheral_rx first slot steps on known.meant (events_of steps start) shows.shown;
+        facts = facts_hold central_rx peripheral_rx first slot steps goes reached;
+        exclusive = exclusive_facts central_rx peripheral_rx first slot steps goes known.meant (events_of steps start) shows.shown;
         meant = have_meaning (after_all steps start) (events_of steps start) shows.shown;
         reached = reached;
         shown = shows.shown;
       }
 
-  more : (steps : List JointStep) (step : JointStep) → Known steps → IsStepInRange step → Responds step → Known (steps ++ step ∷ [])
-  more steps step known range responds =
+  more : (steps : List JointStep) (step : JointStep) → Known steps → IsStepInRange step → Known (steps ++ step ∷ [])
+  more steps step known range =
       record {
         range = range_more step steps known.range range;
-        responds = responds_more step steps known.responds responds;
-        facts = facts_more step steps start known.facts (λ goes. (now steps known goes).facts) (response_is step responds);
+        facts = facts_more step steps start known.facts (λ goes. (now steps known goes).facts);
         exclusive = exclusive_more step steps start known.exclusive (λ goes. (now steps known goes).exclusive);
         meant = before_more step HaveMeaning steps start known.meant (λ goes. (now steps known goes).meant);
       }
 
-  all : (before steps : List JointStep) → Known before → AreStepsInRange steps → AllRespond steps → Known (before ++ steps)
-  all before [] known range responds = subst Known (sym (ends before)) known
+  all : (before steps : List JointStep) → Known before → AreStepsInRange steps → Known (before ++ steps)
+  all before [] known range = subst Known (sym (ends before)) known
     where
       ends : (xs : List JointStep) → xs ++ [] ≡ xs
       ends [] = refl
       ends (x ∷ xs) = ap (λ (more : List JointStep). x ∷ more) (ends xs)
-  all before (step ∷ steps) known range responds =
-      subst Known (joined before step steps) (all (before ++ step ∷ []) steps (more before step known range.0 responds.0) range.1 responds.1)
+  all before (step ∷ steps) known range =
+      subst Known (joined before step steps) (all (before ++ step ∷ []) steps (more before step known range.0) range.1)
 
   pub all_known : (steps : List JointStep) → IsRun first steps → Known steps
-  all_known steps is = all [] steps (record { range = tt; responds = tt; facts = tt; exclusive = tt; meant = tt }) is.in_range (all_respond steps is.in_range)
+  all_known steps is = all [] steps (record { range = tt; facts = tt; exclusive = tt; meant = tt }) is.in_range

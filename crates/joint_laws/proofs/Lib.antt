@@ -24,3 +24,4 @@ pub mod LinkEnds
 pub mod Lateness
 pub mod SoundStates
 pub mod PausePlaces
+pub mod Rejected

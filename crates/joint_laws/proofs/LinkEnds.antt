@@ -6,7 +6,6 @@ use Rattle.ble_base.specs.declared.error_codes.ErrCode.{ErrCode}
 use Rattle.ble_base.specs.declared.roles.Role.{Role}
 use Rattle.ble_base.specs.declared.roles.Role.TheVariants.{Central, Peripheral}
 use Rattle.data_pdu.specs.declared.ctrl.Ctrl.{Ctrl}
-use Rattle.data_pdu.specs.declared.ctrl.Ctrl.TheVariants.{TerminateInd}
 use Rattle.data_pdu.specs.declared.ctrl.CtrlRead.TheVariants.{Known}
 use Rattle.enc_phase.specs.Taking.{allows, ctrl_class}
 use Rattle.instants.specs.declared.indications.Params.{Params}
@@ -15,9 +14,9 @@ use Rattle.procedure_values.specs.declared.drafts.Outgoing.{Outgoing}
 use Rattle.control_model.specs.Waits.{EndsByCollision}
 use Rattle.phase_pairs.specs.Agreement.{has_meaning}
 use Rattle.phased_control.specs.Phased.{Phased, is_quiet_now}
-use Rattle.phased_control.specs.Taken.{PhasedStep, Enters, SeesAcknowledged, Sends, Takes, phased_after, phased_after_all, role_now, seen_as}
+use Rattle.phased_control.specs.Taken.{PhasedStep, Response, Enters, SeesAcknowledged, Sends, Takes, phased_after, phased_after_all, role_now, seen_as}
 use Rattle.joint_controls.specs.Ends.{IsStepInRange, central_does, peripheral_does, takes_if}
-use Rattle.joint_controls.specs.Joint.{AnswersRequest, AsksFor, CentralAcked, CentralEnters, CentralHost, CentralSends, CentralTakes, Clear, Control, Data, Ends, Fixed, HasKey, HasNoKey, HostStep, Item, Joint, JointStep, OnAir, PeripheralAcked, PeripheralEnters, PeripheralFixes, PeripheralHost, PeripheralTakes, Taken, Way, act, after, after_all, beginning, host_step, is_late, is_running, is_same_event, is_supervised, is_taken, item_on_air, may, may_act}
+use Rattle.joint_controls.specs.Joint.{AnswersRequest, AsksFor, CentralAcked, CentralEnters, CentralHost, CentralSends, CentralTakes, Clear, Control, Data, Ends, Fixed, HasKey, HasNoKey, HostStep, Item, Joint, JointStep, OnAir, PeripheralAcked, PeripheralEnters, PeripheralFixes, PeripheralHost, PeripheralTakes, Taken, Way, act, after, after_all, beginning, host_step, is_late, is_running, is_same_event, is_supervised, is_taken, item_on_air, may, may_act, no_response}
 use Rattle.joint_controls.proofs.EndSteps.{central_acts, peripheral_acts}
 use Rattle.joint_controls.proofs.Running.{goes_on}
 use Rattle.joint_collisions.proofs.Runs.{Walk, before, walk, walk_step}
@@ -56,7 +55,7 @@ item_is (OnAir other sealed) item is = (sealed, ap (λ (x : Item). OnAir x seale
 -- the peripheral takes an indication that comes too late
 pub record TakesLate (step : JointStep) (s : Joint) : Type 0 where
   pub slot : ℕ
-  pub response : Ctrl
+  pub response : Response
   pub is : step ≡ PeripheralTakes slot response
   pub outgoing : Outgoing
   pub ctrl : Ctrl
@@ -83,7 +82,7 @@ module _ (central_rx peripheral_rx : ℕ) (first : Params) (slot : ℕ) (steps :
 
   few : (role : Role) → waiting_in (end_at role s).control.table.queue ≤ 10
   few role =
-      few_control_pdus central_rx peripheral_rx first slot steps (record { responds = known.responds; goes = running }) known.meant now.reached (events_of steps start) now.shown role
+      few_control_pdus central_rx peripheral_rx first slot steps running known.meant now.reached (events_of steps start) now.shown role
 
   central_lasts : s.central.control.ends ≡ None
   central_lasts = (goes_on s running).central
@@ -107,7 +106,7 @@ module _ (central_rx peripheral_rx : ℕ) (first : Params) (slot : ℕ) (steps :
     peripheral_never met = walked.peripheral_never (subst (λ (t : Joint). EndsByCollision t.peripheral.control.ends) (sym acted) met)
 
     taken_right : is_taken_right step s ≡ true
-    taken_right = taken_now central_rx peripheral_rx first slot steps step is in_range comes
+    taken_right = taken_now central_rx peripheral_rx first slot steps step is comes
 
     -- ---- the central
 
@@ -120,7 +119,7 @@ module _ (central_rx peripheral_rx : ℕ) (first : Params) (slot : ℕ) (steps :
         apart : ◌≡◌ {A = Role} Central Peripheral → ⊥
         apart is = absurd (cc)
 
-    central_takes_end : (slot : ℕ) (item : Option Item) → (act step s).central ≡ phased_after_all (takes_if item slot (TerminateInd 0)) s.central
+    central_takes_end : (slot : ℕ) (item : Option Item) → (act step s).central ≡ phased_after_all (takes_if item slot no_response) s.central
         → is_allowed_right Central s.central.phase (class_up s.peripheral.knows_version) item ≡ true → (act step s).central.control.ends ≡ None
     central_takes_end slot None is allowed = ap (λ (t : Phased). t.control.ends) is ∙ central_lasts
     central_takes_end slot (Some Data) is allowed =
@@ -128,12 +127,12 @@ module _ (central_rx peripheral_rx : ℕ) (first : Params) (slot : ℕ) (steps :
         ∙ data_lasts s.central central_lasts (subst (λ (r : Role). allows s.central.phase r (item_class ctrl_class Data) ≡ true) (sym central_role_is) (and_parts _ (has_meaning Central s.central.phase (item_class (class_up s.peripheral.knows_version) Data)) allowed).0)
     central_takes_end slot (Some (Control outgoing ctrl)) is allowed =
         ap (λ (t : Phased). t.control.ends) is
-        ∙ by (phased_after (Takes (Known ctrl) slot (TerminateInd 0)) s.central).control.ends refl
-        (takes_phased slot (TerminateInd 0) (Known ctrl) s.central central_lasts (few Central)
+        ∙ by (phased_after (Takes (Known ctrl) slot no_response) s.central).control.ends refl
+        (takes_phased slot no_response (Known ctrl) s.central central_lasts (few Central)
         (subst (λ (r : Role). allows s.central.phase r (ctrl_class ctrl) ≡ true) (sym central_role_is) (and_parts (allows s.central.phase Central (ctrl_class ctrl)) _ allowed).0)
         (λ there. not_peripheral there))
       where
-        by : (ends : Option ErrCode) → (phased_after (Takes (Known ctrl) slot (TerminateInd 0)) s.central).control.ends ≡ ends → PhasedEnd (Known ctrl) s.central ends → ends ≡ None
+        by : (ends : Option ErrCode) → (phased_after (Takes (Known ctrl) slot no_response) s.central).control.ends ≡ ends → PhasedEnd (Known ctrl) s.central ends → ends ≡ None
         by None at end = refl
         by (Some code) at (collided other met) = absurd (central_never (subst EndsByCollision (sym (ap (λ (t : Phased). t.control.ends) is ∙ at)) met))
         by (Some code) at (passed late) = not_peripheral late.role
@@ -164,7 +163,7 @@ module _ (central_rx peripheral_rx : ℕ) (first : Params) (slot : ℕ) (steps :
     lasts_end : (ends : Option ErrCode) → ends ≡ None → PeripheralEnd step s ends
     lasts_end ends is = subst (PeripheralEnd step s) (sym is) no_end
 
-    peripheral_takes_end : (slot : ℕ) (response : Ctrl) (item : Option Item) → step ≡ PeripheralTakes slot response → item_on_air s.down ≡ item
+    peripheral_takes_end : (slot : ℕ) (response : Response) (item : Option Item) → step ≡ PeripheralTakes slot response → item_on_air s.down ≡ item
         → (act step s).peripheral ≡ phased_after_all (takes_if item slot response) s.peripheral
         → is_allowed_right Peripheral s.peripheral.phase (class_down s.central.knows_version) item ≡ true → PeripheralEnd step s (act step s).peripheral.control.ends
     peripheral_takes_end slot response None at on is allowed = lasts_end _ (ap (λ (t : Phased). t.control.ends) is ∙ peripheral_lasts)

@@ -29,10 +29,9 @@ use Rattle.control_model.specs.Control.{Control, Step, after, after_all, goes_ou
 use Rattle.control_model.specs.Control.{Answers as control_answers, Asks as control_asks, Disconnects as control_disconnects, Enters as control_enters, Owes, SeesAcknowledged as control_sees_acknowledged, Sends as control_sends, Takes as control_takes}
 use Rattle.control_model.proofs.Calls.{any_step, either_way}
 use Rattle.phased_control.specs.Phased.{Phased, first_phased, is_quiet_now}
-use Rattle.phased_control.specs.Taken.{PhasedStep, Answers, Asks, Disconnects, Enters, GivesKey, LacksKey, SeesAcknowledged, Sends, Takes, TakesData, answered_kept, ciphered, does_keep, keeps_class, phased_after, phased_after_all, role_now, seen_as, seen_if, took}
+use Rattle.phased_control.specs.Taken.{PhasedStep, Response, Answers, Asks, Disconnects, Enters, GivesKey, LacksKey, SeesAcknowledged, Sends, Takes, TakesData, answered_kept, ciphered, does_keep, keeps_class, phased_after, phased_after_all, role_now, seen_as, seen_if, took}
 use Rattle.phased_control.specs.Steps.{control_steps, end_by_phase, ended_if, owed_steps, read_answer, seen_by_procedures}
-use Rattle.phased_control.specs.Ends.{MayRespond}
-use Rattle.phased_control.proofs.Agreeing.{Agrees, Sound, agrees_after, agrees_first, agrees_taking, lasts_answered, responds, sound_after, sound_first}
+use Rattle.phased_control.proofs.Agreeing.{Agrees, Sound, agrees_after, agrees_first, agrees_taking, lasts_answered, sound_after, sound_first}
 use Rattle.phased_control.proofs.Answering.{answers}
 use Rattle.phased_control.proofs.Moving.{moves_by_steps, open_phased, same_after}
 use Rattle.phased_control.proofs.Tables.{following_table, same_role, takes_as}
@@ -113,7 +112,7 @@ takes_alone read slot quiet c lasts role may none = by (after (control_takes rea
     by None is = ap (λ (f : TableFacts). is_both f.progress) ((takes_as read slot quiet c lasts).goes is) ∙ takes_none c.table slot quiet read role may none
     by (Some code) is = ap (λ (f : TableFacts). is_both f.progress) ((takes_as read slot quiet c lasts).ends code is) ∙ none
 
-module _ (slot : ℕ) (response : Ctrl) (read : CtrlRead) (s : Phased) (sound : Sound Central s) (agrees : Agrees s) (lasts : s.control.ends ≡ None) (none : NoneNow s) where
+module _ (slot : ℕ) (response : Response) (read : CtrlRead) (s : Phased) (sound : Sound Central s) (agrees : Agrees s) (lasts : s.control.ends ≡ None) (none : NoneNow s) where
   role : role_now s ≡ Central
   role = sound.tied.is_role
 
@@ -142,7 +141,7 @@ module _ (slot : ℕ) (response : Ctrl) (read : CtrlRead) (s : Phased) (sound : 
       (λ goes. λ quiet. kept_none (ciphered response read (seen_by_procedures read slot s)).kept (ciphered response read (seen_by_procedures read slot s))
       (lasts_answered response read (seen_by_procedures read slot s) goes)
       (role_answered goes)
-      (not_true _ _ (agrees_taking slot response read Central s sound.tied (responds Central read slot response tt) lasts allowed agrees goes) quiet)
+      (not_true _ _ (agrees_taking slot response read Central s sound.tied lasts allowed agrees goes) quiet)
       (answered_none keeps)))
     where
       role_answered : (seen_by_procedures read slot s).control.ends ≡ None → role_now (ciphered response read (seen_by_procedures read slot s)) ≡ Central
@@ -198,12 +197,9 @@ all_known (step ∷ steps) s known =
     all_known steps (phased_after step s)
     (record {
       sound = sound_after Central step s known.sound;
-      agrees = agrees_after Central step s known.sound (may step) known.agrees;
+      agrees = agrees_after Central step s known.sound known.agrees;
       none = none_step step s known.sound known.agrees known.none;
     })
-  where
-    may : (step : PhasedStep) → MayRespond Central step
-    may step = tt
 
 module _ (max_rx : ℕ) (first : Params) (slot : ℕ) (steps : List PhasedStep) where
   abbrev s : Phased

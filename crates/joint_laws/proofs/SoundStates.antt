@@ -1,68 +1,25 @@
 -- Each state of a joint run in which that goes on is sound.
-use Rattle.std.proofs.Common.{◌≡◌, ℕ, Bool, true, false, not, List, [], ◌∷◌, ◌++◌, Option, Some, None, if◌then◌else◌, refl, sym, subst}
+use Rattle.std.proofs.Common.{◌≡◌, ℕ, true, not, List, refl, sym, subst}
 use Rattle.ble_base.specs.declared.roles.Role.{Role}
 use Rattle.ble_base.specs.declared.roles.Role.TheVariants.{Central, Peripheral}
-use Rattle.data_pdu.specs.declared.ctrl.Ctrl.{Ctrl}
 use Rattle.instants.specs.declared.indications.Params.{Params}
 use Rattle.table_laws.specs.Encrypting.{has_encryption}
 use Rattle.exchange_pairs.specs.Exchange.{ExchangeStage, Idle, Sent, Unsent}
-use Rattle.phased_control.specs.Ends.{AllMayRespond, IsResponse}
 use Rattle.phased_control.specs.Phased.{Phased, is_quiet_now}
-use Rattle.phased_control.specs.Taken.{PhasedStep}
 use Rattle.phased_control.proofs.Agreeing.{agrees_now}
-use Rattle.joint_controls.specs.Ends.{peripheral_does, steps_of_central, steps_of_peripheral, takes_if}
-use Rattle.joint_controls.specs.Joint.{Control, Data, Item, Joint, JointStep, PeripheralEnters, PeripheralFixes, PeripheralAcked, PeripheralHost, PeripheralTakes, AnswersRequest, AsksFor, Ends, HasKey, HasNoKey, HostStep, after, after_all, beginning, host_step, is_running, item_on_air, may}
+use Rattle.joint_controls.specs.Ends.{steps_of_central, steps_of_peripheral}
+use Rattle.joint_controls.specs.Joint.{Joint, JointStep, after_all, beginning, is_running}
 use Rattle.joint_controls.proofs.EndSteps.{central_runs, peripheral_runs}
 use Rattle.joint_collisions.proofs.Agreeing.{agrees}
 use Rattle.joint_exchanges.specs.Agreement.{Asked, end_at, stage_at, version_stage_at}
-use Rattle.joint_exchanges.specs.Runs.{AllRespond, GoesOn}
-use Rattle.joint_exchanges.specs.SentByRole.{Responds}
+use Rattle.joint_exchanges.specs.Runs.{GoesOn}
 use Rattle.joint_exchanges.proofs.States.{asked_idle, asked_sent, asked_unsent, version_known, version_once, version_sent, version_unsent}
 use Rattle.joint_phases.specs.Events.{events_of}
 use Rattle.joint_laws.specs.Runs.{IsRun}
 use Rattle.joint_laws.specs.Sound.{AreInPlace, ExchangeAgrees, IsSound, VersionAgrees, VersionIsInPlace}
-use Rattle.joint_laws.proofs.EachState.{Known, Now, all_respond}
+use Rattle.joint_laws.proofs.EachState.{Known, Now}
 use Rattle.joint_laws.proofs.FewWait.{few_control_pdus}
 use Rattle.joint_laws.proofs.PhaseLaws.{known_of, now_of, pairs_now, sealing_now}
-
--- ---- each end answers LL_ENC_REQ with LL_ENC_RSP
-
-both_respond : (role : Role) (xs ys : List PhasedStep) → AllMayRespond role xs → AllMayRespond role ys → AllMayRespond role (xs ++ ys)
-both_respond role [] ys one two = two
-both_respond role (x ∷ xs) ys one two = (one.0, both_respond role xs ys one.1 two)
-
-central_responds : (steps : List PhasedStep) → AllMayRespond Central steps
-central_responds [] = tt
-central_responds (step ∷ steps) = (tt, central_responds steps)
-
-takes_respond : (item : Option Item) (slot : ℕ) (response : Ctrl) → IsResponse response → AllMayRespond Peripheral (takes_if item slot response)
-takes_respond None slot response is = tt
-takes_respond (Some Data) slot response is = (tt, tt)
-takes_respond (Some (Control outgoing ctrl)) slot response is = (is, tt)
-
-host_responds : (step : HostStep) → AllMayRespond Peripheral (host_step step ∷ [])
-host_responds (AsksFor ask) = (tt, tt)
-host_responds (AnswersRequest answer) = (tt, tt)
-host_responds (Ends reason) = (tt, tt)
-host_responds HasKey = (tt, tt)
-host_responds HasNoKey = (tt, tt)
-
-does_respond : (step : JointStep) (s : Joint) → Responds step → AllMayRespond Peripheral (peripheral_does step s)
-does_respond (PeripheralEnters slot) s is = (tt, tt)
-does_respond (PeripheralHost step) s is = host_responds step
-does_respond (PeripheralFixes slot) s is = (tt, tt)
-does_respond PeripheralAcked s is = (tt, tt)
-does_respond (PeripheralTakes slot response) s is = takes_respond (item_on_air s.down) slot response is
-does_respond step s is = tt
-
-peripheral_responds : (steps : List JointStep) (s : Joint) → AllRespond steps → AllMayRespond Peripheral (steps_of_peripheral steps s)
-peripheral_responds [] s all = tt
-peripheral_responds (step ∷ steps) s all =
-    both_respond Peripheral (if may step s then peripheral_does step s else []) (steps_of_peripheral steps (after step s)) (by (may step s)) (peripheral_responds steps (after step s) all.1)
-  where
-    by : (b : Bool) → AllMayRespond Peripheral (if b then peripheral_does step s else [])
-    by true = does_respond step s all.0
-    by false = tt
 
 -- ---- in a joint run
 
@@ -81,7 +38,7 @@ module _ (central_rx peripheral_rx : ℕ) (first : Params) (slot : ℕ) (steps :
   now = now_of central_rx peripheral_rx first slot steps is running
 
   run_on : GoesOn steps start
-  run_on = record { responds = all_respond steps is.in_range; goes = running }
+  run_on = running
 
   exchange : (asked : Asked) (role : Role) → ExchangeAgrees asked role s
   exchange asked role = by (stage_at asked (end_at role s)) refl
@@ -107,10 +64,10 @@ module _ (central_rx peripheral_rx : ℕ) (first : Params) (slot : ℕ) (steps :
   encrypts : (role : Role) → is_quiet_now (end_at role s) ≡ not (has_encryption (end_at role s).control.table.progress)
   encrypts Central =
       subst (λ (t : Phased). is_quiet_now t ≡ not (has_encryption t.control.table.progress)) (sym (central_runs steps start))
-      (agrees_now Central central_rx first slot (steps_of_central steps start) (central_responds (steps_of_central steps start)))
+      (agrees_now Central central_rx first slot (steps_of_central steps start))
   encrypts Peripheral =
       subst (λ (t : Phased). is_quiet_now t ≡ not (has_encryption t.control.table.progress)) (sym (peripheral_runs steps start))
-      (agrees_now Peripheral peripheral_rx first slot (steps_of_peripheral steps start) (peripheral_responds steps start (all_respond steps is.in_range)))
+      (agrees_now Peripheral peripheral_rx first slot (steps_of_peripheral steps start))
 
   pub sound_now : IsSound s
   sound_now =

@@ -31,7 +31,7 @@ use Rattle.control_model.specs.Control.{Answers as control_answers, Asks as cont
 use Rattle.control_model.specs.Waits.{EndsByCollision}
 use Rattle.control_model.proofs.Calls.{any_step, either_way}
 use Rattle.phased_control.specs.Phased.{Phased, is_open_now, is_quiet_now}
-use Rattle.phased_control.specs.Taken.{PhasedStep, Answers, Asks, Disconnects, Enters, GivesKey, LacksKey, SeesAcknowledged, Sends, Takes, TakesData, answered_kept, ciphered, ended_with, is_allowed, is_answered, lacks_room_now, phased_after, role_now, seen_as, took}
+use Rattle.phased_control.specs.Taken.{PhasedStep, Response, Answers, Asks, Disconnects, Enters, GivesKey, LacksKey, SeesAcknowledged, Sends, Takes, TakesData, answered_kept, ciphered, ended_with, is_allowed, is_answered, lacks_room_now, phased_after, role_now, seen_as, took}
 use Rattle.phased_control.specs.Steps.{control_steps, end_by_phase, ended_if, owed_steps, read_answer, seen_by_procedures}
 use Rattle.phased_control.proofs.Agreeing.{lasts_answered}
 use Rattle.phased_control.proofs.Answering.{answers}
@@ -138,7 +138,7 @@ true_false : {A : Type 0} (b : Bool) → b ≡ true → b ≡ false → A
 true_false true is not_is = absurd (cc)
 true_false false is not_is = absurd (cc)
 
-module _ (slot : ℕ) (response : Ctrl) (read : CtrlRead) (s : Phased) (lasts : s.control.ends ≡ None) (few : waiting_in s.control.table.queue ≤ 10)
+module _ (slot : ℕ) (response : Response) (read : CtrlRead) (s : Phased) (lasts : s.control.ends ≡ None) (few : waiting_in s.control.table.queue ≤ 10)
     (allowed : is_allowed read s ≡ true) (none_kept : role_now s ≡ Peripheral → s.kept ≡ None) where
   abbrev P : Phased → Type 0
   P u = PhasedEnd read s u.control.ends

@@ -2,6 +2,7 @@
 use Rattle.std.proofs.Common.{◌≡◌, ℕ, ◌+◌, ◌<◌, Bool, true, false, Option, Some, None, List, [], ◌∷◌, refl, sym, ap, subst, ◌∙◌, arith}
 use Rattle.std.specs.Option.{option_map}
 use Rattle.std.proofs.lemmas.List.Sums.{fold-append}
+use Rattle.link_model.specs.declared.events.ConnectionEvent.{ConnectionEvent}
 use Rattle.link_model.specs.End.{facts_of as end_facts}
 use Rattle.link_model.specs.Events.{count_entry, entries_in}
 use Rattle.link_model.specs.Facts.{Facts as EndFacts}
@@ -78,7 +79,7 @@ fixed_goes false link going = going
 
 -- the same link, but for data that its host gave it or that was reported
 alike_goes : (place : Option OpenLink) (after : OpenLink) (alike : WasAlike place after) → IsGoing alike.link → IsGoing after
-alike_goes place after alike going = λ on. subst (λ n. 0 < n) (sym alike.entries) (going (sym alike.heard ∙ on))
+alike_goes place after alike going = λ on. subst (λ n. 0 < n) (sym alike.entries) (going (ap (λ (e : ConnectionEvent). e.heard) (sym alike.event) ∙ on))
 
 new_goes : (end : EndSetup) → IsGoing (new_link end)
 unfolding end_facts

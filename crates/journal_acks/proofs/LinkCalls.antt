@@ -11,7 +11,7 @@ use Rattle.link_model.specs.declared.setup.LinkSetup.{LinkSetup}
 use Rattle.link_model.specs.Acknowledgement.{Pdu}
 use Rattle.link_model.specs.End.{facts_of as end_facts, took_notes, took_notes_if}
 use Rattle.link_model.specs.Events.{entries_in}
-use Rattle.link_model.specs.Facts.{Facts as EndFacts}
+use Rattle.link_model.specs.Facts.{Facts as EndFacts, no_event}
 use Rattle.link_model.specs.Setup.{Setup as EndSetup}
 use Rattle.link_model.specs.Packets.{good_pdu, pdu_of}
 use Rattle.link_model.specs.Step.{EventEntered, PacketReceived, PduFixed}
@@ -303,7 +303,12 @@ passes_under setup facts received handle after listens is = passes_by setup fact
 pub record IsOpenedNow (slot : ℕ) (link : OpenLink) : Type 0 where
   pub opened : link.setup.opened ≡ slot
   pub entries : entries_in link.past ≡ 0
+  pub event : (facts_in link).event ≡ no_event
   pub good : (facts_in link).last_good ≡ None
+
+pub new_event : (end : EndSetup) (link : OpenLink) → link ≡ new_link end → (facts_in link).event ≡ no_event
+unfolding end_facts
+new_event end link is = ap (λ (l : OpenLink). (facts_in l).event) is
 
 pub new_good : (end : EndSetup) (link : OpenLink) → link ≡ new_link end → (facts_in link).last_good ≡ None
 unfolding end_facts
@@ -313,6 +318,7 @@ pub new_now : (slot : ℕ) (end : EndSetup) (link : OpenLink) → link ≡ new_l
 new_now slot end link is now = record {
   opened = ap (λ (l : OpenLink). l.setup.opened) is ∙ now;
   entries = ap (λ (l : OpenLink). entries_in l.past) is;
+  event = new_event end link is;
   good = new_good end link is;
 }
 

@@ -244,7 +244,7 @@ air_of_link number other station channel octets history hearings hearing are off
 in_form : (count : ℕ) → count ≤ 255 → (nat_le 2 (suc (suc count)) && nat_le (suc (suc count)) 257 && (suc (suc count) == 2 + count)) ≡ true
 in_form count short = grind (arith, nat_tests)
 
-sent_in_form : (facts : EndFacts) → IsInForm facts → IsPdu (octets_of (header_sent facts) ++ payload_sent facts)
+pub sent_in_form : (facts : EndFacts) → IsInForm facts → IsPdu (octets_of (header_sent facts) ++ payload_sent facts)
 sent_in_form facts form = in_form (length (payload_sent facts)) form.short
 
 pub sent_empty : IsHeardWhole → (setup : EndSetup) (facts : EndFacts) (link : LinkBegun) (channel : ℕ) (octets : List ℕ) → IsInForm facts

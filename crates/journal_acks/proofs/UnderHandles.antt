@@ -1,9 +1,10 @@
 -- What is open under a handle after each change of the links of a controller.
-use Rattle.std.proofs.Common.{◌≡◌, ℕ, ◌+◌, ◌==◌, Bool, true, false, Option, Some, None, List, [], ◌∷◌, map, refl, sym, ap, subst, ◌∙◌}
+use Rattle.std.proofs.Common.{◌≡◌, ℕ, ◌+◌, ◌==◌, Bool, true, false, Option, Some, None, List, [], ◌∷◌, ◌++◌, length, map, take, refl, sym, ap, subst, ◌∙◌, arith, length-append}
 use Rattle.std.specs.Prelude.{nat_lt, if◌then◌else◌}
 use Rattle.std.specs.Option.{option_map}
 use Rattle.std.proofs.lemmas.Bool.{eqb-true, eqb-false}
 use Rattle.std.proofs.lemmas.List.Sums.{fold-append}
+use Rattle.std.proofs.Math.Seq.{take-append_seam}
 use Rattle.h4_frames.specs.declared.packet.HostPacket.TheVariants.{Command as HostCommand, Acl}
 use Rattle.h4_frames.specs.declared.packet.Fed.{Fed}
 use Rattle.h4_frames.specs.declared.packet.Fed.TheVariants.{More, Packet, LostSync}
@@ -74,6 +75,18 @@ change_under handle other change links after is =
 
 abbrev pub sent_if : Bool → ℕ → OpenLink → OpenLink
 sent_if sends slot link = change_if sends (link_after (PacketSent slot)) link
+
+same_front : (one other : List EndStep) (last step : EndStep) → one ++ last ∷ [] ≡ other ++ step ∷ [] → one ≡ other
+same_front one other last step same =
+    let long = ap length same in
+    let count : length one ≡ length other = omega (arith, long, length-append one (last ∷ []), length-append other (step ∷ [])) in
+    sym (take-append_seam one (last ∷ [])) ∙ (λ i. take (count i) (same i)) ∙ take-append_seam other (step ∷ [])
+
+-- there is one link that it is after it sent
+pub same_base : (slot now : ℕ) (one other : OpenLink) → link_after (PacketSent slot) one ≡ link_after (PacketSent now) other → one ≡ other
+same_base slot now one other same =
+    let pasts = same_front one.past other.past (PacketSent slot) (PacketSent now) (ap (λ (l : OpenLink). l.past) same) in
+    λ i. record { setup = (same i).setup; past = pasts i; last_served = (same i).last_served }
 
 nothing_sent : (place : Option OpenLink) (after : OpenLink) (slot : ℕ) → place ≡ Some after → WasOpen (sent_if false slot) place after
 nothing_sent place after slot is = record { link = after; was = is; is = refl }
@@ -168,18 +181,18 @@ fixing_under handle doing links after is = nothing_fixed (link_at handle links) 
 
 -- ---- what the host gives, and what is reported to it
 
--- the link that was there before has sent, accepted, entered and heard the same
+-- the link that was there before has sent, accepted and entered the same, and is in the same event
 pub record WasAlike (place : Option OpenLink) (after : OpenLink) : Type 0 where
   pub link : OpenLink
   pub was : place ≡ Some link
   pub setup : after.setup ≡ link.setup
   pub ack : ack_of after ≡ ack_of link
   pub entries : entries_in after.past ≡ entries_in link.past
-  pub heard : (facts_in after).event.heard ≡ (facts_in link).event.heard
+  pub event : (facts_in after).event ≡ (facts_in link).event
   pub good : (facts_in after).last_good ≡ (facts_in link).last_good
 
 alike_same : (place : Option OpenLink) (after : OpenLink) → place ≡ Some after → WasAlike place after
-alike_same place after is = record { link = after; was = is; setup = refl; ack = refl; entries = refl; heard = refl; good = refl }
+alike_same place after is = record { link = after; was = is; setup = refl; ack = refl; entries = refl; event = refl; good = refl }
 
 entries_after : (link : OpenLink) (step : EndStep) → entries_in (link_after step link).past ≡ count_entry (entries_in link.past) step
 entries_after link step = fold-append count_entry 0 link.past (step ∷ [])
@@ -191,7 +204,7 @@ given_alike place start body link is = record {
   setup = refl;
   ack = ack_given start body link;
   entries = entries_after link (DataGiven start body);
-  heard = ap (λ (f : EndFacts). f.event.heard) (step_facts link (DataGiven start body));
+  event = ap (λ (f : EndFacts). f.event) (step_facts link (DataGiven start body));
   good = ap (λ (f : EndFacts). f.last_good) (step_facts link (DataGiven start body));
 }
 
@@ -202,7 +215,7 @@ reported_alike place link is = record {
   setup = refl;
   ack = ack_reported link;
   entries = entries_after link DataReported;
-  heard = ap (λ (f : EndFacts). f.event.heard) (step_facts link DataReported);
+  event = ap (λ (f : EndFacts). f.event) (step_facts link DataReported);
   good = ap (λ (f : EndFacts). f.last_good) (step_facts link DataReported);
 }
 

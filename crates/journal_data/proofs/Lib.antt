@@ -24,7 +24,7 @@ mod PieceLengths
 mod Reported
 pub mod HeldNotes
 pub mod LinesGrow
-mod FewComplete
+pub mod FewComplete
 mod Credits
 pub mod FedInRuns
 pub mod Ends

@@ -1,12 +1,11 @@
 -- Each packet of a link is of an end that fixed its PDU in this turn.
-use Rattle.std.proofs.Common.{◌≡◌, ℕ, suc, ◌+◌, Bool, true, false, Option, Some, None, List, [], ◌∷◌, ◌++◌, length, take, refl, sym, ap, subst, ◌∙◌, arith, length-append}
+use Rattle.std.proofs.Common.{◌≡◌, ℕ, suc, ◌+◌, Bool, true, false, Option, Some, None, List, refl, sym, ap, subst, ◌∙◌, arith}
 use Rattle.std.specs.Prelude.{⊤}
 use Rattle.std.specs.Option.{option_map}
-use Rattle.std.proofs.Math.Seq.{take-append_seam}
 use Rattle.std.proofs.lemmas.Bool.{eqb-true, false_from_ne_true}
 use Rattle.link_model.specs.Facts.{Facts as EndFacts}
 use Rattle.link_model.specs.Packets.{good_pdu, packet_sent}
-use Rattle.link_model.specs.Step.{Step as EndStep, PacketReceived, PacketSent, PduFixed}
+use Rattle.link_model.specs.Step.{PacketReceived, PacketSent, PduFixed}
 use Rattle.open_links.specs.OpenLinks.{Links, OpenLink, facts_in, link_after, link_at, with_change}
 use Rattle.open_links.proofs.Handles.{changed_is}
 use Rattle.controller_model.specs.declared.doing.Doing.{Doing}
@@ -30,6 +29,7 @@ use Rattle.journal_acks.proofs.LinkCalls.{off_sends}
 use Rattle.run_laws.proofs.LinkPhases.{IsInPhase}
 use Rattle.journal_acks.proofs.LinkPhases.{IsPhased, phased_first, phased_kept}
 use Rattle.journal_acks.proofs.LinkUses.{sends_under}
+use Rattle.journal_acks.proofs.UnderHandles.{same_base}
 use Rattle.journal_pdus.proofs.NextPieces.{IsFixedNow, fixed_now, received_now}
 
 -- the end under a handle fixed its PDU
@@ -241,18 +241,6 @@ pub fixed_first : (setup : Setup) → IsFixed setup Between 0 (first_facts setup
 fixed_first setup = with_phase setup Between 0 (first_facts setup) (phased_first setup) (off_fixed (first_facts setup) refl)
 
 -- ---- the link before it sent
-
-same_front : (one other : List EndStep) (last step : EndStep) → one ++ last ∷ [] ≡ other ++ step ∷ [] → one ≡ other
-same_front one other last step same =
-    let long = ap length same in
-    let count : length one ≡ length other = omega (arith, long, length-append one (last ∷ []), length-append other (step ∷ [])) in
-    sym (take-append_seam one (last ∷ [])) ∙ (λ i. take (count i) (same i)) ∙ take-append_seam other (step ∷ [])
-
--- there is one link that it is after it sent
-pub same_base : (slot now : ℕ) (one other : OpenLink) → link_after (PacketSent slot) one ≡ link_after (PacketSent now) other → one ≡ other
-same_base slot now one other same =
-    let pasts = same_front one.past other.past (PacketSent slot) (PacketSent now) (ap (λ (l : OpenLink). l.past) same) in
-    λ i. record { setup = (same i).setup; past = pasts i; last_served = (same i).last_served }
 
 pub sender_fixed : (given : Given) (history : List Event) (station channel : ℕ) (octets : List ℕ) (from : IsOfSendersLink given history station channel octets)
     → AllSendFixed (facts_at given station history) → sends_under from.handle (facts_at given station history).turn.doing ≡ true

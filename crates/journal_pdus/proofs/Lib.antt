@@ -4,6 +4,7 @@ mod NextPieces
 mod FixedNow
 mod SettledEnds
 mod SettledRuns
+mod SettledEarly
 mod EndingLater
 mod PendingLines
 mod TakenPdus

@@ -57,6 +57,7 @@ use Rattle.journal_acks.proofs.LinkUses.{sends_under}
 use Rattle.journal_acks.proofs.NewPdus.{between_turns, none_opened as none_opened_before}
 use Rattle.journal_acks.proofs.PhaseNotes.{IsOnLink, IsPhaseOf, IsPlainPhase, SendsFrom, SendsNothing, SendsOne, phase_of, sends_from, sent_same}
 use Rattle.journal_acks.proofs.TwoStations.{IsOfTwo, same_number}
+use Rattle.journal_acks.proofs.UnderHandles.{same_base}
 use Rattle.journal_data.specs.Lines.{Lines, PduLine, data_on, line_after, pdus_on}
 use Rattle.journal_data.proofs.Arriving.{data_nonempty, lines_data, lines_length, pdu_lines}
 use Rattle.journal_data.proofs.EachLine.{call_leaves, lines_at}
@@ -69,7 +70,7 @@ use Rattle.journal_data.proofs.SameGiven.{WasGiven, after_sent, given_in, turn_g
 use Rattle.journal_data.proofs.Submitting.{call_submits}
 use Rattle.journal_pdus.specs.Exchanged.{AllAreNext}
 use Rattle.journal_pdus.specs.Waiting.{IsNextPdu, data_of_lines, next_pdu, octets_sent}
-use Rattle.journal_pdus.proofs.FixedNow.{AllSendFixed, IsFixed, fixed_first, fixed_kept, same_base}
+use Rattle.journal_pdus.proofs.FixedNow.{AllSendFixed, IsFixed, fixed_first, fixed_kept}
 use Rattle.journal_pdus.proofs.NextPieces.{IsFixedNow, piece_is_next}
 
 -- ---- a new PDU is noted last in its call

@@ -29,13 +29,13 @@ use Rattle.journal_acks.proofs.Exchanging.{exchange_at, number_at}
 use Rattle.journal_acks.proofs.LinkUses.{sends_under}
 use Rattle.journal_acks.proofs.Standing.{other_sends, phased_at}
 use Rattle.journal_acks.proofs.TwoStations.{IsOfTwo}
+use Rattle.journal_acks.proofs.UnderHandles.{same_base}
 use Rattle.journal_data.specs.Lines.{PduLine}
 use Rattle.journal_data.proofs.Arriving.{lines_length}
 use Rattle.journal_data.proofs.FewLinks.{HaveFewLinks}
 use Rattle.journal_pdus.specs.Announced.{new_pdu_on, last_number_sent, new_pdu_of}
 use Rattle.journal_pdus.proofs.Together.{IsKnownAt}
 use Rattle.journal_pdus.proofs.ToldLines.{told_at}
-use Rattle.journal_pdus.proofs.FixedNow.{same_base}
 use Rattle.journal_pdus.proofs.SendingEnd.{acked_is, booked_is, carried_is, from, sends_on}
 use Rattle.journal_pdus.proofs.Told.{IsTold, Tells, TellsAt, TellsOn, brings_line, line_to_send, sent_under, tells_none}
 

@@ -14,9 +14,15 @@ use Rattle.journal_acks.specs.EventOrder.{AllAreInOrder}
 use Rattle.journal_acks.specs.Shut.{IsShutWithReason}
 use Rattle.journal_data.specs.Delivered.{AllDataArrives}
 use Rattle.journal_data.specs.Held.{LinesAreOfOpenLinks}
+use Rattle.journal_hearings.specs.Openings.{AllHeardLinksAreOpened, HeardLinksAreOpened, OpenedLinksWereToOpen}
+use Rattle.journal_hearings.specs.Requests.{AllRequestsAreHeard}
+use Rattle.journal_hosts.specs.Answered.{AllAreAnswered}
+use Rattle.journal_hosts.specs.Credits.{AllCreditsAreOfOne, AllCreditsAreOfSome, AllCreditsAscend, AllEarlyCreditsComeAtOnce, AllLateCreditsComeLast}
+use Rattle.journal_slots.specs.SecondSlot.{AllAreContinued}
 use Rattle.journal_turns.specs.Follows.{FollowsSchedule}
 use Rattle.journal_turns.specs.Scheduled.{AreAllTurns}
 use Rattle.journal_pdus.specs.Answered.{AllAnswersAreHeard}
+use Rattle.journal_pdus.specs.AtOnce.{AllAreCreditedAtOnce}
 use Rattle.journal_pdus.specs.Exchanged.{IsAtRest, PdusAreDue}
 use Rattle.journal_pdus.specs.InEvent.{AllAreInEvents}
 use Rattle.journal_pdus.specs.InTime.{AllEndInTime, NoneIsOverdue}
@@ -39,6 +45,17 @@ abbrev pub AllHaveReasons : List Entry → Type 0
 AllHaveReasons journal = (front rest : List Entry) (side : Side) (number : ℕ) (reason : ErrCode)
     → journal ≡ front ++ Shut side number reason ∷ rest → IsShutWithReason front side number reason.0
 
+-- when complete packets are reported to a host, and in which order
+pub record CreditsAreInOrder (journal : List Entry) : Type 0 where
+  pub of_some : AllCreditsAreOfSome journal
+  -- before the first packet of a turn they are those of packets without octets, each by itself, as it comes
+  pub of_one : AllCreditsAreOfOne journal
+  pub early : AllEarlyCreditsComeAtOnce journal
+  pub at_once : AllAreCreditedAtOnce journal
+  -- after it they come last, by ascending handle
+  pub ascend : AllCreditsAscend journal
+  pub late : AllLateCreditsComeLast journal
+
 -- a journal of a run of these streams by this script, up to its end or to some place in a turn
 pub record IsLawful (a b : List ℕ) (script : Script) (journal : List Entry) : Type 0 where
   -- its turns, what is fed in them, and the fates of packets are those of the script
@@ -46,12 +63,17 @@ pub record IsLawful (a b : List ℕ) (script : Script) (journal : List Entry) : 
   -- links and their events are those of their CONNECT_INDs, each of which has the next access address
   pub addresses : AllAddressesAreNext script journal
   pub opened : AllAreOpened journal
-  -- each CONNECT_IND opens its link at the side that sent it, before the next turn
+  -- each CONNECT_IND opens its link at the side that sent it, before the next turn, and at the other side exactly if that
+  -- heard it and is to open it
   pub begun : AllAreOpenedByThen journal
+  pub taken : AllHeardLinksAreOpened journal
+  pub to_open : OpenedLinksWereToOpen journal
   pub entered : AllAreEntered journal
   pub events : AllAreInOrder journal
   -- a packet of a link is in the turn of the event that its side entered last, or in the next one
   pub in_events : AllAreInEvents journal
+  -- in the next one only where a packet in the turn of the event says that more waits
+  pub continued : AllAreContinued journal
   -- lines name links that are open at their side, and a link is opened under the next free handle
   pub held : LinesAreOfOpenLinks journal
   -- each link that is shut has its reason, and one that is not shut has none: it ends later
@@ -61,18 +83,24 @@ pub record IsLawful (a b : List ℕ) (script : Script) (journal : List Entry) : 
   pub resets : ResetsLeaveNoLink journal
   -- no line is of a control procedure
   pub procedures : NoneNamesAProcedure journal
-  -- an answer on a link that passes is heard
+  -- an answer on a link that passes is heard, and so are requests and responses on the advertising channels
   pub answered : AllAnswersAreHeard journal
+  pub requested : AllRequestsAreHeard journal
+  -- each command of a host is answered once
+  pub commands : AllAreAnswered journal
+  -- complete packets are reported in their order
+  pub credits : CreditsAreInOrder journal
   -- what goes out on links and what is taken is what is due, line by line
   pub due : PdusAreDue journal
   -- data arrives in order, and is credited only as it is accepted
   pub arrives : AllDataArrives journal
 
 -- the journal of a whole run: all turns of the script begin, and at the end nothing is under way, nothing waits for a
--- host, no link was to end, and each CONNECT_IND has opened its link
+-- host, no link was to end, and each CONNECT_IND has opened its link at both sides
 pub record IsWhole (script : Script) (journal : List Entry) : Type 0 where
   pub turns : AreAllTurns script journal
   pub at_rest : IsAtRest journal
   pub settled : AreSettled journal
   pub in_time : NoneIsOverdue journal
   pub begun : AreOpened journal
+  pub taken : HeardLinksAreOpened journal

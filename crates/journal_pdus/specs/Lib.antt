@@ -1,6 +1,7 @@
 -- The definitions of this crate.
 pub mod Waiting
 pub mod Settled
+pub mod AtOnce
 pub mod InTime
 pub mod Announced
 pub mod Pending

@@ -9,6 +9,7 @@ ghost use Rattle.run_model.specs.Run.{GoesOn, Stop, Stops, history_of, run_of};
 ghost use Rattle.journal_pdus.specs.Lawful.{IsLawful, IsWhole};
 ghost use Rattle.journal_pdus.specs.Undelivered.{IsUndelivered};
 
+use crate::credits::each_complete_packet_is_reported_at_once;
 use crate::links::{
     a_reset_leaves_no_link, each_answer_on_a_link_is_heard, each_link_is_opened_at_its_central,
     each_packet_is_in_its_event,
@@ -18,13 +19,16 @@ use crate::links::{
 /// (`journal_turns::each_journal_follows_its_schedule`). Links and their events are those of their
 /// CONNECT_INDs, each of which has the next access address of its side and opens its link there
 /// before the next turn; each side enters the events of a link one after another, and sends on it
-/// only in the turn of the last one or in the next turn; lines name links that are open at their
-/// side; each link that is shut has its reason, none that is to end stays open after that turn, and
-/// a Reset leaves none; no line is of a control procedure, since none is built; an answer on a link
-/// that passes is heard; and data arrives in order
+/// only in the turn of the last one, or in the next turn where MD says that more waits; lines name
+/// links that are open at their side; each link that is shut has its reason, none that is to end
+/// stays open after that turn, and a Reset leaves none; no line is of a control procedure, since
+/// none is built; an answer on a link that passes is heard, and so are requests on the advertising
+/// channels; a side opens a link as its peripheral exactly where it heard the CONNECT_IND and is to
+/// open it (`journal_hearings`); each command is answered once, and complete packets are reported in
+/// their order (`journal_hosts`); and data arrives in order
 /// (`journal_data::data_arrives_in_order_in_every_journal`). The packet at which damage ends a run
-/// is due as those before it are. Line by line (Core 5.2, volume 6 part B, sections 4.5.6 and 4.5.9,
-/// and volume 4 part E, section 7.7.19):
+/// is due as those before it are. Line by line (Core 5.2, volume 6 part B, sections 4.5.6 and
+/// 4.5.9, and volume 4 part E, section 7.7.19):
 ///
 /// - each packet of a link has the channel, the access address, the CRCInit, SN and NESN that the
 ///   lines before it give, and carries the PDU that its side sent last, until that is acknowledged;
@@ -69,8 +73,18 @@ pub fn each_journal_is_lawful()
     journal_acks::each_shut_line_has_its_reason();
     journal_data::lines_are_of_open_links_in_every_journal();
     journal_data::data_arrives_in_order_in_every_journal();
+    journal_slots::each_second_slot_has_its_reason();
+    journal_hosts::each_command_is_answered();
+    journal_hosts::each_credit_is_of_some_packets();
+    journal_hosts::each_early_credit_is_of_one_packet();
+    journal_hosts::credits_of_a_turn_are_in_the_order_of_handles();
+    journal_hosts::each_late_credit_comes_as_its_turn_ends();
+    journal_hearings::each_request_is_heard();
+    journal_hearings::each_heard_link_is_opened();
+    journal_hearings::each_opened_link_was_to_open();
     each_answer_on_a_link_is_heard();
     each_link_is_opened_at_its_central();
     each_packet_is_in_its_event();
     a_reset_leaves_no_link();
+    each_complete_packet_is_reported_at_once();
 }

@@ -2,10 +2,12 @@
 //! run of a pair about that and about data. None of them names code.
 #![tactic(auto)]
 
+mod credits;
 mod lawful;
 mod links;
 mod rows;
 
+pub use crate::credits::each_complete_packet_is_reported_at_once;
 pub use crate::lawful::each_journal_is_lawful;
 pub use crate::links::{
     a_reset_leaves_no_link, each_answer_on_a_link_is_heard, each_link_is_opened_at_its_central,

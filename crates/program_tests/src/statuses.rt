@@ -45,7 +45,7 @@ fn nothing_is_run(rt: HostRuntime) -> Result<(), AllocError> {
     check(&rt, rt.alloc(), NOT_RUN)
 }
 
-/// The longest file and one octet more, and the most turns. Their lines have 9 octets without the
+/// The longest file and one octet more, as the first file and as the last, and the most turns. Their lines have 9 octets without the
 /// number, and the numbers 488,890 digits.
 const LIMITS: &str = "\
 turns t ++|
@@ -53,6 +53,8 @@ zeros 1048576
 pair a.bin b.bin schedule = 0 [turn 0 ++|] []
 zeros 1048577
 pair a.bin b.bin schedule = 7 [] [too long: a.bin|]
+pair a.bin y z = 7 [] [too long: a.bin|]
+pair b.bin schedule a.bin = 7 [] [too long: a.bin|]
 zeros 0
 turns run 50000|run 50000|
 only idle

@@ -19,4 +19,4 @@ pub use crate::links::{
     each_line_of_a_note_is_of_a_call, each_link_has_its_connect_ind, each_note_is_of_a_call,
     each_open_link_has_its_number,
 };
-pub use crate::rows::{worked_damage, worked_runs};
+pub use crate::rows::{worked_connection, worked_damage, worked_runs};

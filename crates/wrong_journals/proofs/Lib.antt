@@ -3,5 +3,8 @@ pub mod Differing
 pub mod Packets
 pub mod Turning
 pub mod Shutting
+pub mod Hearing
 pub mod InEvents
 pub mod Opening
+pub mod Unanswering
+pub mod Ordering

@@ -2,9 +2,13 @@
 pub mod Answers
 pub mod Events
 pub mod Exchanges
+pub mod Hearings
 pub mod Held
 pub mod Hosts
 pub mod InEvent
 pub mod Resetting
 pub mod Shuts
+pub mod Orders
+pub mod Right
 pub mod Turns
+pub mod Unanswered

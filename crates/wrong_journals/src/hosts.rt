@@ -1,7 +1,9 @@
 //! Data and credits that a host must not receive, or does not receive.
 ghost use Rattle.journal_data.specs.Delivered.{AllDataArrives};
+ghost use Rattle.journal_pdus.specs.AtOnce.{AllAreCreditedAtOnce};
 ghost use Rattle.journal_pdus.specs.Exchanged.{AllAreSettled, AllAreSettledAsShut};
-ghost use Rattle.wrong_journals.specs.Hosts.{credit_from_nothing, credit_too_early, credit_twice};
+ghost use Rattle.wrong_journals.specs.Hosts.{credit_after_packet, credit_from_nothing};
+ghost use Rattle.wrong_journals.specs.Hosts.{credit_too_early, credit_twice};
 ghost use Rattle.wrong_journals.specs.Hosts.{never_credited, never_up, shut_before_up};
 ghost use Rattle.wrong_journals.specs.Hosts.{up_as_continuation, up_from_nothing, up_twice};
 
@@ -15,10 +17,12 @@ pub fn wrong_data_is_refused()
     ensures shut { AllAreSettledAsShut shut_before_up → ⊥ }
 {}
 
-/// A packet is credited once, after its acknowledgement and before the next turn.
+/// A packet is credited once, after its acknowledgement and before the next turn; one without octets
+/// before the packets of its turn.
 pub fn wrong_credits_are_refused()
     ensures from_nothing { AllDataArrives credit_from_nothing → ⊥ }
     ensures twice { AllDataArrives credit_twice → ⊥ }
     ensures too_early { AllAreSettled credit_too_early → ⊥ }
     ensures never { AllAreSettled never_credited → ⊥ }
+    ensures after_packet { AllAreCreditedAtOnce credit_after_packet → ⊥ }
 {}

@@ -5,12 +5,16 @@
 mod answers;
 mod events;
 mod exchanges;
+mod hearings;
 mod held;
 mod hosts;
+mod orders;
 mod resets;
+mod right;
 mod shuts;
 mod slots;
 mod turns;
+mod unanswered;
 
 pub use crate::answers::{missed_answers_are_refused, unopened_links_are_refused};
 pub use crate::events::{wrong_links_are_refused, wrong_orders_of_events_are_refused};
@@ -18,12 +22,16 @@ pub use crate::exchanges::{
     wrong_packets_are_refused, wrong_sending_is_refused, wrong_taking_is_refused,
     wrong_turns_of_exchanges_are_refused,
 };
+pub use crate::hearings::wrong_hearings_are_refused;
 pub use crate::held::{lines_of_no_link_are_refused, packets_of_no_link_are_refused};
 pub use crate::hosts::{wrong_credits_are_refused, wrong_data_is_refused};
+pub use crate::orders::wrong_orders_of_turns_are_refused;
 pub use crate::resets::links_left_by_a_reset_are_refused;
+pub use crate::right::{right_journals_are_lawful, worked_link_runs};
 pub use crate::shuts::{links_that_stay_open_are_refused, wrong_reasons_are_refused};
 pub use crate::slots::packets_outside_events_are_refused;
 pub use crate::turns::{
     wrong_fates_are_refused, wrong_feeds_are_refused, wrong_radios_are_refused,
     wrong_stops_are_refused, wrong_turns_are_refused, wrong_verdicts_are_refused,
 };
+pub use crate::unanswered::wrong_answers_are_refused;

@@ -9,4 +9,4 @@ pub returns-clause-sealing : goal.returns-clause-sealing
 returns-clause-sealing c = λ central_rx peripheral_rx first slot steps is goes. sealing_now central_rx peripheral_rx first slot steps is goes
 
 pub returns-clause-taken : goal.returns-clause-taken
-returns-clause-taken c = λ central_rx peripheral_rx first slot steps step is in_range comes. taken_now central_rx peripheral_rx first slot steps step is in_range comes
+returns-clause-taken c = λ central_rx peripheral_rx first slot steps step is comes. taken_now central_rx peripheral_rx first slot steps step is comes

@@ -1,5 +1,8 @@
 -- Proof of `lawful::each_journal_is_lawful`.
-use Rattle.std.proofs.Common.{refl}
+use Rattle.std.proofs.Common.{◌≤◌, ℕ, zero, suc, List, refl, arith}
+use Rattle.host_view.specs.declared.view.TheConstants.{MOST_LINKS}
+use Rattle.radio_replay.specs.Script.{Script}
+use Rattle.run_model.specs.Run.{setup_at}
 use Rattle.run_model.specs.Pair.{given_of}
 use Rattle.run_model.proofs.LinkEnds.{pair_addresses}
 use Rattle.journal_data.proofs.FewLinks.{pair_links}
@@ -7,15 +10,26 @@ use Rattle.journal_data.proofs.Law.{eight_of}
 use Rattle.journal_pdus.proofs.Law.{journal_at_rest, journal_due, journal_ends_in_time, journal_in_time, journal_settled, journal_undelivered}
 use Rattle.journal_pdus.proofs.lawful.each_journal_is_lawful.Goals as goal
 
+few_of : (a b : List ℕ) (script : Script) (station : ℕ) → (setup_at (given_of a b script) station).links ≤ MOST_LINKS
+few_of a b script zero = omega arith
+few_of a b script (suc station) = omega arith
+
+buffers_of : (a b : List ℕ) (script : Script) (station : ℕ) → (setup_at (given_of a b script) station).host_buffers ≤ 65535
+buffers_of a b script zero = omega arith
+buffers_of a b script (suc station) = omega arith
+
 pub returns-clause-lawful : goal.returns-clause-lawful
 returns-clause-lawful c = λ a b script six six_too. record {
   follows = c.each_journal_follows_its_schedule.ensures.follows a b script;
   addresses = c.each_link_has_the_next_address.ensures a b script six six_too;
   opened = λ front rest side number handle role at. c.each_opened_line_names_its_link.ensures a b script front rest side number handle role six six_too at;
   begun = c.each_link_is_opened_at_its_central.ensures.before_a_turn (given_of a b script) refl (pair_addresses a b script six six_too);
+  taken = c.each_heard_link_is_opened.ensures.before_a_turn (given_of a b script) refl (pair_addresses a b script six six_too) (few_of a b script) (eight_of a b script);
+  to_open = c.each_opened_link_was_to_open.ensures (given_of a b script) refl (pair_addresses a b script six six_too) (pair_links a b script).links (eight_of a b script);
   entered = λ front rest side number event channel at. c.each_enter_line_is_at_its_anchor.ensures a b script front rest side number event channel six six_too at;
   events = λ front rest side number event channel at. c.each_side_enters_its_events_in_order.ensures a b script front rest side number event channel six six_too at;
   in_events = c.each_packet_is_in_its_event.ensures (given_of a b script) refl (pair_addresses a b script six six_too);
+  continued = c.each_second_slot_has_its_reason.ensures (given_of a b script) refl (pair_addresses a b script six six_too);
   held = c.lines_are_of_open_links_in_every_journal.ensures a b script six six_too;
   shut = λ front rest side number reason at. c.each_shut_line_has_its_reason.ensures a b script front rest side number reason six six_too at;
   in_time = journal_in_time c.packet_tells_its_pdu.ensures.heard c.a_pdu_is_understood.ensures.says c.connections_are_taken.ensures.taken
@@ -23,6 +37,17 @@ returns-clause-lawful c = λ a b script six six_too. record {
   resets = c.a_reset_leaves_no_link.ensures (given_of a b script) refl (pair_addresses a b script six six_too) (pair_links a b script).links (eight_of a b script);
   procedures = c.no_line_names_a_procedure.ensures a b script;
   answered = c.each_answer_on_a_link_is_heard.ensures (given_of a b script) refl (pair_addresses a b script six six_too);
+  requested = c.each_request_is_heard.ensures (given_of a b script) refl (pair_addresses a b script six six_too);
+  commands = c.each_command_is_answered.ensures a b script;
+  credits = record {
+    of_some = c.each_credit_is_of_some_packets.ensures (given_of a b script) refl (buffers_of a b script);
+    of_one = c.each_early_credit_is_of_one_packet.ensures.one (given_of a b script) refl;
+    early = c.each_early_credit_is_of_one_packet.ensures.at_once (given_of a b script) refl;
+    at_once = c.each_complete_packet_is_reported_at_once.ensures (given_of a b script) refl (pair_addresses a b script six six_too)
+        (pair_links a b script).links (eight_of a b script);
+    ascend = c.credits_of_a_turn_are_in_the_order_of_handles.ensures (given_of a b script) refl (pair_links a b script).links;
+    late = c.each_late_credit_comes_as_its_turn_ends.ensures (given_of a b script) refl;
+  };
   due = journal_due c.packet_tells_its_pdu.ensures.heard c.a_pdu_is_understood.ensures.says c.connections_are_taken.ensures.taken
       c.searches_give_each_valid_address.ensures.valid c.searches_give_each_valid_address.ensures.distinct a b script six six_too
       (λ front rest side link count llid body at. c.each_sent_line_is_of_a_new_pdu.ensures a b script front rest side link count llid body six six_too at)
@@ -40,6 +65,7 @@ returns-clause-whole c = λ a b script history six six_too whole. record {
   in_time = journal_ends_in_time c.packet_tells_its_pdu.ensures.heard c.a_pdu_is_understood.ensures.says c.connections_are_taken.ensures.taken
       c.searches_give_each_valid_address.ensures.valid c.searches_give_each_valid_address.ensures.distinct a b script six six_too history whole;
   begun = c.each_link_is_opened_at_its_central.ensures.at_the_end (given_of a b script) history refl (pair_addresses a b script six six_too) whole;
+  taken = c.each_heard_link_is_opened.ensures.at_the_end (given_of a b script) history refl (pair_addresses a b script six six_too) (few_of a b script) (eight_of a b script) whole;
 }
 
 pub returns-clause-stopped : goal.returns-clause-stopped

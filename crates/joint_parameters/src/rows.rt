@@ -1,0 +1,46 @@
+//! Worked joint runs.
+ghost use Rattle.std.specs.Prelude.{◌≡◌, [], ◌∷◌, ℕ, List, Some, None, length, true};
+ghost use Rattle.ble_base.specs.ErrorCodes.{instant_passed};
+ghost use Rattle.ble_base.specs.declared.channel_map.ChannelMap.{ChannelMap};
+ghost use Rattle.control_model.specs.Worked.{six_slots};
+ghost use Rattle.joint_controls.specs.Joint.{beginning, is_clear, is_running, is_same_event};
+ghost use Rattle.joint_controls.specs.Worked.{link_after};
+ghost use Rattle.joint_parameters.specs.Indications.{changes_taken};
+ghost use Rattle.joint_parameters.specs.Turns.{MayLinkAll, first_link};
+ghost use Rattle.joint_parameters.specs.Worked.{in_time, link_by_turns, too_late, update_by_turns};
+
+/// An update holds at both ends from the event of its Instant on.
+pub fn an_update_holds_at_both_ends()
+    ensures event { (map : ChannelMap) → is_same_event (link_after map in_time) ≡ true }
+    ensures central { (map : ChannelMap)
+        → (link_after map in_time).central.control.track.params.interval ≡ 8 }
+    ensures peripheral { (map : ChannelMap)
+        → (link_after map in_time).peripheral.control.track.params.interval ≡ 8 }
+    ensures runs { (map : ChannelMap) → is_running (link_after map in_time) ≡ true }
+{}
+
+/// An update that is taken in event 7 ends the link, and was not taken.
+pub fn a_late_update_ends_the_link()
+    ensures ends { (map : ChannelMap) → (link_after map too_late).peripheral.control.ends
+        ≡ Some (record { 0 = instant_passed }) }
+    ensures sent { (map : ChannelMap)
+        → length (link_after map too_late).central.control.sent ≡ 1 }
+    ensures taken { (map : ChannelMap)
+        → changes_taken too_late (beginning 27 27 (six_slots map) 3) ≡ [] }
+{}
+
+/// By turns, each of these steps may come: the central sends an update in event 0, the peripheral
+/// takes it, and the central sees that.
+pub fn an_update_comes_by_turns()
+    ensures comes { (map : ChannelMap)
+        → MayLinkAll update_by_turns (first_link 27 27 (six_slots map) 3 0) }
+    ensures event { (map : ChannelMap)
+        → is_same_event (link_by_turns map update_by_turns).joint ≡ true }
+    ensures sent { (map : ChannelMap)
+        → length (link_by_turns map update_by_turns).joint.central.control.sent ≡ 1 }
+    ensures waits { (map : ChannelMap)
+        → (link_by_turns map update_by_turns).joint.peripheral.control.track.waits
+        ≡ (link_by_turns map update_by_turns).joint.central.control.track.waits }
+    ensures clear { (map : ChannelMap)
+        → is_clear (link_by_turns map update_by_turns).joint.down ≡ true }
+{}

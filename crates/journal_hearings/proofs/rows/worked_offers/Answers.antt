@@ -1,0 +1,16 @@
+-- Proof of `rows::worked_offers`: the definitions compute.
+use Rattle.std.proofs.Common.{refl}
+use Rattle.adv_pdu.specs.Header.{kept_bits}
+use Rattle.adv_pdu.specs.Reading.{read_of}
+use Rattle.air_frame.specs.Hearing.{heard_in}
+use Rattle.frame_bits.specs.Crc.{crc, crc_octets, crc_of_bits, remainder}
+use Rattle.frame_bits.specs.Whitening.{mask_of, next_mask, whitening_bit, whitening_of}
+use Rattle.h4_frames.specs.Frames.{frames}
+use Rattle.hci_cmd.specs.Command.{command_of, layout_of, layouts}
+use Rattle.controller_model.specs.Packets.{pdu_heard}
+use Rattle.wire_fields.specs.Field.{little_endian}
+use Rattle.journal_hearings.proofs.rows.worked_offers.Goals as goal
+
+pub returns : goal.returns
+unfolding pdu_heard heard_in read_of kept_bits crc crc_octets crc_of_bits remainder mask_of next_mask whitening_bit whitening_of little_endian frames command_of layout_of layouts
+returns c = record { anyone = refl; other_address = refl; not_listed = refl; listed = refl; target = refl; other_target = refl; other_side = refl; next_turn = refl }

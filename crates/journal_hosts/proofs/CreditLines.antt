@@ -1,0 +1,361 @@
+-- The credits of a side in the turn that is under way, by the lines, and whether each note fits them.
+use Rattle.std.proofs.Common.{◌≡◌, ℕ, zero, suc, ◌+◌, ◌<◌, ◌≤◌, ◌&&◌, Bool, true, false, Option, Some, None, List, [], ◌∷◌, ◌++◌, length, map, refl, sym, ap, subst, ◌∙◌, append-nil, append_assoc, arith}
+use Rattle.std.specs.Prelude.{⊤, fold, if◌then◌else◌}
+use Rattle.std.specs.List.{AllByRecursion}
+use Rattle.std.specs.Option.{option_map}
+use Rattle.std.proofs.lemmas.List.Sums.{fold-append}
+use Rattle.ble_base.specs.declared.notes.Note.{Note}
+use Rattle.ble_base.specs.declared.notes.Note.TheVariants.{Shut as ShutNote, Up as UpNote}
+use Rattle.ble_base.specs.declared.roles.Side.{Side}
+use Rattle.hci_evt.specs.Event.{written}
+use Rattle.hci_evt.specs.declared.event.Event.TheVariants.{CompletedPackets}
+use Rattle.host_view.specs.View.{View}
+use Rattle.journal.specs.declared.entries.Entry.{Entry}
+use Rattle.journal.specs.declared.entries.Entry.TheVariants.{Turn, Air, Up}
+use Rattle.open_links.specs.Data.{complete_in, completed_by, completed_from}
+use Rattle.open_links.specs.OpenLinks.{Links}
+use Rattle.acl_banks.specs.declared.pieces.Piece.{Piece}
+use Rattle.controller_model.specs.Data.{acl_packet, event_completed, note_received}
+use Rattle.controller_model.specs.Events.{notes_of_events}
+use Rattle.controller_model.specs.Step.{Step}
+use Rattle.run_model.specs.Due.{Each}
+use Rattle.run_model.specs.History.{Event, TurnBegan, HostFed, Called, Noted, Transmitted}
+use Rattle.run_model.specs.Journal.{entries_of, entry_of, journal_from, journal_of, side_of}
+use Rattle.run_model.specs.Links.{Links as Numbers, links_after, links_of}
+use Rattle.run_model.proofs.Calls.{with_notes}
+use Rattle.run_model.proofs.Parts.{journal_event, journal_more}
+use Rattle.run_laws.proofs.OpenSteps.{EachOpen}
+use Rattle.journal_packets.specs.Belonging.{is_side}
+use Rattle.journal_data.proofs.EachLine.{own_side}
+use Rattle.wire_fields.specs.Field.{little_endian}
+use Rattle.journal_hosts.specs.Credits.{credit_count, credit_handle, fed_after, is_being_fed, is_credit}
+use Rattle.journal_hosts.proofs.CreditNotes.{AreNoCredits, IsNoCredit, IsOfOctet}
+
+-- ---- the handles of the credits after the first packet of a turn
+
+-- after an entry; there are none before that packet
+abbrev pub handles_after : Side → Option (List ℕ) → Entry → Option (List ℕ)
+handles_after side handles (Turn slot a_on b_on) = None
+handles_after side None (Air sender channel octets fate verdict) = Some []
+handles_after side (Some handles) (Air sender channel octets fate verdict) = Some handles
+handles_after side handles (Up other octets) =
+    if is_side other side && is_credit octets then option_map (λ some. some ++ credit_handle octets ∷ []) handles else handles
+handles_after side handles entry = handles
+
+abbrev pub handles_of : Side → List Entry → Option (List ℕ)
+handles_of side journal = fold (handles_after side) None journal
+
+abbrev pub handles_at : Side → List Event → Option (List ℕ)
+handles_at side history = handles_of side (journal_of history)
+
+-- the handles, and none where there are none yet
+abbrev pub some_handles : Option (List ℕ) → List ℕ
+some_handles None = []
+some_handles (Some handles) = handles
+
+-- ---- what an event adds
+
+pub handles_event : (side : Side) (history : List Event) (event : Event)
+    → handles_at side (history ++ event ∷ []) ≡ fold (handles_after side) (handles_at side history) (entries_of (links_of history) event)
+handles_event side history event =
+    ap (handles_of side) (journal_event history event) ∙ fold-append (handles_after side) None (journal_of history) (entries_of (links_of history) event)
+
+if_not : (own : Bool) (one other : Option (List ℕ)) (credit : Bool) → credit ≡ false → (if own && credit then one else other) ≡ other
+if_not true one other false is = refl
+if_not false one other false is = refl
+if_not own one other true is = absurd cc
+
+if_elsewhere : (own credit : Bool) (one other : Option (List ℕ)) → own ≡ false → (if own && credit then one else other) ≡ other
+if_elsewhere false credit one other is = refl
+if_elsewhere true credit one other is = absurd cc
+
+if_both : (own credit : Bool) (one other : Option (List ℕ)) → own ≡ true → credit ≡ true → (if own && credit then one else other) ≡ one
+if_both true true one other is also = refl
+if_both true false one other is also = absurd cc
+if_both false credit one other is also = absurd cc
+
+if_none : (test : Bool) (change : List ℕ → List ℕ) → (if test then option_map change None else None) ≡ None
+if_none true change = refl
+if_none false change = refl
+
+module _ (side : Side) where
+  -- a note that is no credit, of any side
+  quiet_entry : (own : Side) (link_of : ℕ → ℕ) (last : ℕ) (note : Note) (handles : Option (List ℕ)) → IsNoCredit note
+      → handles_after side handles (entry_of own link_of last note) ≡ handles
+  quiet_entry own link_of last (UpNote packet) handles none = if_not (is_side own side) _ handles (is_credit packet.items) none
+  quiet_entry own link_of last note handles none = refl
+
+  -- a note of the other side
+  other_entry : (own : Side) (link_of : ℕ → ℕ) (last : ℕ) (note : Note) (handles : Option (List ℕ)) → is_side own side ≡ false
+      → handles_after side handles (entry_of own link_of last note) ≡ handles
+  other_entry own link_of last (UpNote packet) handles apart = if_elsewhere (is_side own side) (is_credit packet.items) _ handles apart
+  other_entry own link_of last note handles apart = refl
+
+  -- a note before the first packet
+  early_entry : (own : Side) (link_of : ℕ → ℕ) (last : ℕ) (note : Note) → handles_after side None (entry_of own link_of last note) ≡ None
+  early_entry own link_of last (UpNote packet) = if_none (is_side own side && is_credit packet.items) (λ some. some ++ credit_handle packet.items ∷ [])
+  early_entry own link_of last note = refl
+
+  quiet_notes : (links : Numbers) (station : ℕ) (notes : List Note) (handles : Option (List ℕ)) → AreNoCredits notes
+      → fold (handles_after side) handles (journal_from links (map (Noted station) notes)) ≡ handles
+  quiet_notes links station [] handles none = refl
+  quiet_notes links station (note ∷ notes) handles none =
+      ap (λ some. fold (handles_after side) some (journal_from (links_after links (Noted station note)) (map (Noted station) notes)))
+      (quiet_entry (side_of station) (links.link_of station) (links.last_of station) note handles none.0)
+      ∙ quiet_notes (links_after links (Noted station note)) station notes handles none.1
+
+  other_notes : (links : Numbers) (station : ℕ) (notes : List Note) (handles : Option (List ℕ)) → is_side (side_of station) side ≡ false
+      → fold (handles_after side) handles (journal_from links (map (Noted station) notes)) ≡ handles
+  other_notes links station [] handles apart = refl
+  other_notes links station (note ∷ notes) handles apart =
+      ap (λ some. fold (handles_after side) some (journal_from (links_after links (Noted station note)) (map (Noted station) notes)))
+      (other_entry (side_of station) (links.link_of station) (links.last_of station) note handles apart)
+      ∙ other_notes (links_after links (Noted station note)) station notes handles apart
+
+  early_notes : (links : Numbers) (station : ℕ) (notes : List Note)
+      → fold (handles_after side) None (journal_from links (map (Noted station) notes)) ≡ None
+  early_notes links station [] = refl
+  early_notes links station (note ∷ notes) =
+      ap (λ some. fold (handles_after side) some (journal_from (links_after links (Noted station note)) (map (Noted station) notes)))
+      (early_entry (side_of station) (links.link_of station) (links.last_of station) note)
+      ∙ early_notes (links_after links (Noted station note)) station notes
+
+  called : (station : ℕ) (step : Step) (notes : List Note) (history : List Event)
+      → handles_at side (with_notes station step notes history)
+      ≡ fold (handles_after side) (handles_at side history) (journal_from (links_of history) (map (Noted station) notes))
+  called station step notes history =
+      ap (handles_of side) (journal_more history (Called station step ∷ map (Noted station) notes))
+      ∙ fold-append (handles_after side) None (journal_of history) (journal_from (links_of history) (map (Noted station) notes))
+
+  -- a call with no credit leaves them, and so does one on the other side; before the first packet there are none after it
+  pub quiet_called : (station : ℕ) (step : Step) (notes : List Note) (history : List Event) → AreNoCredits notes
+      → handles_at side (with_notes station step notes history) ≡ handles_at side history
+  quiet_called station step notes history none =
+      called station step notes history ∙ quiet_notes (links_of history) station notes (handles_at side history) none
+
+  pub other_called : (station : ℕ) (step : Step) (notes : List Note) (history : List Event) → is_side (side_of station) side ≡ false
+      → handles_at side (with_notes station step notes history) ≡ handles_at side history
+  other_called station step notes history apart =
+      called station step notes history ∙ other_notes (links_of history) station notes (handles_at side history) apart
+
+  pub early_called : (station : ℕ) (step : Step) (notes : List Note) (history : List Event) → handles_at side history ≡ None
+      → handles_at side (with_notes station step notes history) ≡ None
+  early_called station step notes history none =
+      called station step notes history
+      ∙ ap (λ some. fold (handles_after side) some (journal_from (links_of history) (map (Noted station) notes))) none
+      ∙ early_notes (links_of history) station notes
+
+  pub quiet_more : (station : ℕ) (notes : List Note) (history : List Event) → AreNoCredits notes
+      → handles_at side (history ++ map (Noted station) notes) ≡ handles_at side history
+  quiet_more station notes history none =
+      ap (handles_of side) (journal_more history (map (Noted station) notes))
+      ∙ fold-append (handles_after side) None (journal_of history) (journal_from (links_of history) (map (Noted station) notes))
+      ∙ quiet_notes (links_of history) station notes (handles_at side history) none
+
+-- ---- each credit fits
+
+noted_early : (side : Side) (station : ℕ) (history : List Event) (note : Note) → handles_at side history ≡ None → handles_at side (history ++ Noted station note ∷ []) ≡ None
+noted_early side station history note early =
+    let links = links_of history in
+    handles_event side history (Noted station note)
+    ∙ ap (λ handles. handles_after side handles (entry_of (side_of station) (links.link_of station) (links.last_of station) note)) early
+    ∙ early_entry side (side_of station) (links.link_of station) (links.last_of station) note
+
+noted_quiet : (side : Side) (station : ℕ) (history : List Event) (note : Note) → IsNoCredit note → handles_at side (history ++ Noted station note ∷ []) ≡ handles_at side history
+noted_quiet side station history note none =
+    let links = links_of history in
+    handles_event side history (Noted station note)
+    ∙ quiet_entry side (side_of station) (links.link_of station) (links.last_of station) note (handles_at side history) none
+
+-- what the octets of a host bring as its side is being fed
+fed_event : (side : Side) (history : List Event) (event : Event)
+    → is_being_fed side (journal_of (history ++ event ∷ [])) ≡ fold (fed_after side) (is_being_fed side (journal_of history)) (entries_of (links_of history) event)
+unfolding is_being_fed
+fed_event side history event =
+    ap (is_being_fed side) (journal_event history event) ∙ fold-append (fed_after side) false (journal_of history) (entries_of (links_of history) event)
+
+both_true : (one other : Bool) → one ≡ true → other ≡ true → (one && other) ≡ true
+both_true true true is also = refl
+both_true true false is also = also
+both_true false other is also = absurd cc
+
+fed_entry : (side : Side) (link_of : ℕ → ℕ) (last : ℕ) (note : Note) (fed : Bool) → fed ≡ true → is_side side side ≡ true → IsOfOctet note
+    → fed_after side fed (entry_of side link_of last note) ≡ true
+fed_entry side link_of last (UpNote packet) fed is own of = both_true fed (is_side side side) is own
+fed_entry side link_of last (ShutNote handle reason) fed is own of = both_true fed (is_side side side) is own
+fed_entry side link_of last note fed is own of = absurd of
+
+pub fed_noted : (station : ℕ) (history : List Event) (note : Note) → is_being_fed (side_of station) (journal_of history) ≡ true → IsOfOctet note
+    → is_being_fed (side_of station) (journal_of (history ++ Noted station note ∷ [])) ≡ true
+fed_noted station history note is of =
+    let links = links_of history in
+    fed_event (side_of station) history (Noted station note)
+    ∙ fed_entry (side_of station) (links.link_of station) (links.last_of station) note (is_being_fed (side_of station) (journal_of history)) is (own_side station) of
+
+pub fed_called : (station : ℕ) (history : List Event) (step : Step) → is_being_fed (side_of station) (journal_of history) ≡ true
+    → is_being_fed (side_of station) (journal_of (history ++ Called station step ∷ [])) ≡ true
+fed_called station history step is = fed_event (side_of station) history (Called station step) ∙ is
+
+pub fed_by_host : (station : ℕ) (history : List Event) (octets : List ℕ) → is_being_fed (side_of station) (journal_of (history ++ HostFed station octets ∷ [])) ≡ true
+fed_by_host station history octets = fed_event (side_of station) history (HostFed station octets) ∙ own_side station
+
+pub fed_notes : (station : ℕ) (notes : List Note) (history : List Event) → is_being_fed (side_of station) (journal_of history) ≡ true → AllByRecursion IsOfOctet notes
+    → is_being_fed (side_of station) (journal_of (history ++ map (Noted station) notes)) ≡ true
+fed_notes station [] history is of = ap (λ all. is_being_fed (side_of station) (journal_of all)) (append-nil history) ∙ is
+fed_notes station (note ∷ notes) history is of =
+    ap (λ all. is_being_fed (side_of station) (journal_of all)) (sym (append_assoc history (Noted station note ∷ []) (map (Noted station) notes)))
+    ∙ fed_notes station notes (history ++ Noted station note ∷ []) (fed_noted station history note is of.0) of.1
+
+handle_held : (handle count : ℕ) → handle < 65536 → credit_handle (written (CompletedPackets handle count)) ≡ handle
+unfolding little_endian
+handle_held handle count below = omega (arith, below)
+
+less_more : (first : ℕ) (handles : List ℕ) → AllByRecursion (λ handle. handle < first) handles → AllByRecursion (λ handle. handle < first + 1) handles
+less_more first [] less = tt
+less_more first (handle ∷ handles) less = (omega (arith, less.0), less_more first handles less.1)
+
+less_push : (first : ℕ) (handles : List ℕ) → AllByRecursion (λ handle. handle < first) handles → AllByRecursion (λ handle. handle < first + 1) (handles ++ first ∷ [])
+less_push first [] less = (omega arith, tt)
+less_push first (handle ∷ handles) less = (omega (arith, less.0), less_push first handles less.1)
+
+is_one : (handle count : ℕ) → is_credit (written (CompletedPackets handle count)) ≡ true
+unfolding little_endian
+is_one handle count = refl
+
+-- the note of a credit
+abbrev note_of : ℕ → ℕ → Note
+note_of handle count = UpNote (record { items = written (CompletedPackets handle count) })
+
+noted_credit : (station handle count : ℕ) (history : List Event) (handles : List ℕ) → handles_at (side_of station) history ≡ Some handles
+    → handles_at (side_of station) (history ++ Noted station (note_of handle count) ∷ []) ≡ Some (handles ++ credit_handle (written (CompletedPackets handle count)) ∷ [])
+noted_credit station handle count history handles are =
+    let octets = written (CompletedPackets handle count) in
+    handles_event (side_of station) history (Noted station (note_of handle count))
+    ∙ if_both (is_side (side_of station) (side_of station)) (is_credit octets) _ _ (own_side station) (is_one handle count)
+    ∙ ap (option_map (λ some. some ++ credit_handle octets ∷ [])) are
+
+count_held : (handle count : ℕ) → count ≤ 65535 → 0 < count → 0 < credit_count (written (CompletedPackets handle count))
+unfolding little_endian
+count_held handle count fits some = omega (arith, fits, some)
+
+-- no side has a credit after that packet yet
+abbrev pub HaveNone : List Event → Type 0
+HaveNone history = (side : Side) → some_handles (handles_at side history) ≡ []
+
+module _ (Few Fit : Type 0) where
+  -- before the first packet of the turn it is of one packet; after it, where handles fit into two octets, it is above all
+  -- handles before it
+  abbrev pub Fits : Option (List ℕ) → List ℕ → Type 0
+  Fits None octets = credit_count octets ≡ 1
+  Fits (Some handles) octets = Few → AllByRecursion (λ handle. handle < credit_handle octets) handles
+
+  pub record HasPlace (side : Side) (front : List Entry) (octets : List ℕ) : Type 0 where
+    pub fits : Fits (handles_of side front) octets
+    -- before that packet it comes as its side is fed
+    pub fed : handles_of side front ≡ None → is_being_fed side front ≡ true
+    -- where counts fit into two octets, it is of at least one packet
+    pub some : Fit → 0 < credit_count octets
+
+  -- a packet to the host that is no credit comes before all credits of its side after that packet
+  pub record IsFit (station : ℕ) (history : List Event) (octets : List ℕ) : Type 0 where
+    pub credit : is_credit octets ≡ true → HasPlace (side_of station) (journal_of history) octets
+    pub other : is_credit octets ≡ false → some_handles (handles_at (side_of station) history) ≡ []
+
+  -- and what is no packet to a host before those of both sides
+  abbrev pub FitsNote : ℕ → List Event → Note → Type 0
+  FitsNote station history (UpNote packet) = IsFit station history packet.items
+  FitsNote station history note = HaveNone history
+
+  abbrev pub CreditsFit : List Event → Event → Type 0
+  CreditsFit history (Noted station note) = FitsNote station history note
+  CreditsFit history (Called station step) = ⊤
+  CreditsFit history (TurnBegan slot radios) = ⊤
+  CreditsFit history (HostFed station octets) = HaveNone history
+  CreditsFit history (Transmitted station channel octets hearings) = HaveNone history
+
+  no_credit : (station : ℕ) (history : List Event) (octets : List ℕ) → is_credit octets ≡ false → some_handles (handles_at (side_of station) history) ≡ []
+      → IsFit station history octets
+  no_credit station history octets none first = record {
+    credit = λ is. absurd (let h : false ≡ true = sym none ∙ is in absurd cc);
+    other = λ is. first;
+  }
+
+  quiet_fits : (station : ℕ) (history : List Event) (note : Note) → IsNoCredit note → HaveNone history → FitsNote station history note
+  quiet_fits station history (UpNote packet) none first = no_credit station history packet.items none (first (side_of station))
+  quiet_fits station history note none first = first
+
+  pub quiet_each : (station : ℕ) (notes : List Note) (history : List Event) → AreNoCredits notes → HaveNone history → Each CreditsFit history (map (Noted station) notes)
+  quiet_each station [] history none first = tt
+  quiet_each station (note ∷ notes) history none first = (
+    quiet_fits station history note none.0 first,
+    quiet_each station notes (history ++ Noted station note ∷ []) none.1 (λ side. ap some_handles (noted_quiet side station history note none.0) ∙ first side),
+  )
+
+  early_fits : (station : ℕ) (history : List Event) (note : Note) → ((side : Side) → handles_at side history ≡ None)
+      → is_being_fed (side_of station) (journal_of history) ≡ true → IsOfOctet note → FitsNote station history note
+  early_fits station history (UpNote packet) early fed one = record {
+    credit = λ is. let count = one is in record {
+      fits = subst (λ handles. Fits handles packet.items) (sym (early (side_of station))) count;
+      fed = λ none. fed;
+      some = λ fit. omega (arith, count);
+    };
+    other = λ is. ap some_handles (early (side_of station));
+  }
+  early_fits station history note early fed one = λ side. ap some_handles (early side)
+
+  pub early_each : (station : ℕ) (notes : List Note) (history : List Event) → ((side : Side) → handles_at side history ≡ None)
+      → is_being_fed (side_of station) (journal_of history) ≡ true → AllByRecursion IsOfOctet notes → Each CreditsFit history (map (Noted station) notes)
+  early_each station [] history early fed ones = tt
+  early_each station (note ∷ notes) history early fed ones = (
+    early_fits station history note early fed ones.0,
+    early_each station notes (history ++ Noted station note ∷ []) (λ side. noted_early side station history note (early side))
+        (fed_noted station history note fed ones.0) ones.1,
+  )
+
+  -- ---- the credits as a turn ends
+
+  -- the data that its host receives first
+  pub pieces_each : (station : ℕ) (pieces : List (ℕ × Piece)) (history : List Event) → some_handles (handles_at (side_of station) history) ≡ []
+      → Each CreditsFit history (map (Noted station) (map note_received pieces))
+  pieces_each station [] history first = tt
+  pieces_each station (piece ∷ pieces) history first = (
+    no_credit station history (acl_packet piece) refl first,
+    pieces_each station pieces (history ++ Noted station (note_received piece) ∷ [])
+        (ap some_handles (noted_quiet (side_of station) station history (note_received piece) refl) ∙ first),
+  )
+
+  module _ (station : ℕ) (view : View) where
+    abbrev pub Ascend : List Event → ℕ → Links → Type 0
+    Ascend history first links = Each CreditsFit history (map (Noted station) (notes_of_events view (map event_completed (completed_from first links))))
+
+    pub ascend : (first : ℕ) (links : Links) (history : List Event) (handles : List ℕ) → handles_at (side_of station) history ≡ Some handles
+        → (Few → AllByRecursion (λ handle. handle < first) handles) → (Few → first + length links ≤ 65536)
+        → (Fit → EachOpen (λ link. complete_in link ≤ 65535) links) → Ascend history first links
+    ascend first [] history handles are less room fits = tt
+    ascend first (None ∷ links) history handles are less room fits =
+        ascend (first + 1) links history handles are (λ few. less_more first handles (less few)) (λ few. let below = room few in omega (arith, below)) (λ fit. (fits fit).1)
+    ascend first (Some link ∷ links) history handles are less room fits =
+        by (complete_in link) (λ fit. (fits fit).0)
+        (ascend (first + 1) links history handles are (λ few. less_more first handles (less few)) (λ few. let below = room few in omega (arith, below)) (λ fit. (fits fit).1))
+        (λ count. ascend (first + 1) links (history ++ Noted station (note_of first count) ∷ []) (handles ++ credit_handle (written (CompletedPackets first count)) ∷ [])
+        (noted_credit station first count history handles are)
+        (λ few. subst (λ n. AllByRecursion (λ handle. handle < first + 1) (handles ++ n ∷ []))
+        (sym (handle_held first count (let below = room few in omega (arith, below)))) (less_push first handles (less few)))
+        (λ few. let below = room few in omega (arith, below)) (λ fit. (fits fit).1))
+      where
+        by : (complete : ℕ) → (Fit → complete ≤ 65535) → Ascend history (first + 1) links → ((count : ℕ) → Ascend (history ++ Noted station (note_of first count) ∷ []) (first + 1) links)
+            → Each CreditsFit history (map (Noted station) (notes_of_events view (map event_completed (completed_by first complete ++ completed_from (first + 1) links))))
+        by zero most none one = none
+        by (suc count) most none one = (
+          record {
+            credit = λ is. record {
+              fits = subst (λ some. Fits some (written (CompletedPackets first (suc count)))) (sym are)
+                  (λ few. subst (λ n. AllByRecursion (λ handle. handle < n) handles)
+                  (sym (handle_held first (suc count) (let below = room few in omega (arith, below)))) (less few));
+              fed = λ none. absurd (let h : None ≡ Some handles = sym none ∙ are in absurd cc);
+              some = λ fit. count_held first (suc count) (most fit) (omega arith);
+            };
+            other = λ is. absurd (let h : false ≡ true = sym is ∙ is_one first (suc count) in absurd cc);
+          },
+          one (suc count),
+        )

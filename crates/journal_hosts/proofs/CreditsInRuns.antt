@@ -1,0 +1,461 @@
+-- In every run of two stations the credits of a host are in their order.
+use Rattle.std.proofs.Common.{◌≡◌, ℕ, ◌<◌, ◌≤◌, ◌==◌, ◌&&◌, Bool, true, false, Option, Some, None, List, [], ◌∷◌, ◌++◌, map, refl, sym, ap, subst, ◌∙◌, append_assoc, arith}
+use Rattle.std.specs.Prelude.{⊤, fold, take, if◌then◌else◌}
+use Rattle.std.specs.List.{AllByRecursion}
+use Rattle.std.specs.Option.{option_map}
+use Rattle.std.proofs.lemmas.List.Sums.{fold-append}
+use Rattle.arrayvec.specs.ArrayVec.{ArrayVec}
+use Rattle.ble_base.specs.declared.notes.Note.{Note}
+use Rattle.ble_base.specs.declared.notes.Note.TheVariants.{Up as UpNote}
+use Rattle.ble_base.specs.declared.roles.Side.{Side}
+use Rattle.ble_base.specs.declared.roles.Side.TheVariants.{A, B}
+use Rattle.journal.specs.declared.entries.Entry.{Entry}
+use Rattle.journal.specs.declared.entries.Entry.TheVariants.{Turn, Air, Up}
+use Rattle.open_links.specs.Data.{complete_in, completed_from}
+use Rattle.open_links.specs.OpenLinks.{Links}
+use Rattle.controller_model.specs.Data.{event_completed, note_received, notes_ended_turn}
+use Rattle.controller_model.specs.Events.{notes_of_events}
+use Rattle.controller_model.specs.Facts.{Facts}
+use Rattle.controller_model.specs.Side.{notes_after}
+use Rattle.controller_model.specs.Step.{Step, HostOctet, TurnBegins, TurnEnds}
+use Rattle.controller_model.proofs.Handles.{own_handles}
+use Rattle.run_model.specs.Due.{Each}
+use Rattle.run_model.specs.Feeding.{AreDistinct}
+use Rattle.run_model.specs.History.{Event, TurnBegan, HostFed, Called, Noted, Transmitted, Hearing, packet_received, past_of, turns_begun}
+use Rattle.run_model.specs.Journal.{air_entries, entries_of, entry_of, journal_of, radio_in, side_of}
+use Rattle.run_model.specs.Links.{Links as Numbers, links_of}
+use Rattle.run_model.specs.Readers.{turn_packets, turn_packets_after, turns_of}
+use Rattle.run_model.specs.Run.{Given, after_call, after_feed, after_octets, facts_at, hearings_of, history_of, octets_left, run_of, setup_at, step_of}
+use Rattle.run_model.proofs.EntryEvents.{is_of_event}
+use Rattle.run_model.proofs.NoteLines.{note_line}
+use Rattle.run_model.proofs.Places.{each_append, each_at, each_event}
+use Rattle.run_model.proofs.Stations.{among, in_more_other, in_more_same, is_in, not_before}
+use Rattle.run_model.proofs.Walk.{Place, NoTurn, AtFeeds, AtEnds, IsKept, IsStopped, IsWhole, ends_with, run_kept}
+use Rattle.run_laws.proofs.OpenSteps.{EachOpen, open_more}
+use Rattle.run_laws.proofs.TurnPlaces.{Standing, standing, stands_at}
+use Rattle.journal_packets.specs.Belonging.{is_side}
+use Rattle.journal_acks.proofs.TwoStations.{IsOfTwo, other_apart}
+use Rattle.journal_data.proofs.FedInRuns.{fed_standing}
+use Rattle.journal_data.proofs.FewComplete.{IsFew, few_always}
+use Rattle.journal_data.proofs.FewLinks.{HaveFewLinks}
+use Rattle.journal_hosts.specs.Credits.{AllCreditsAreOfOne, AllCreditsAreOfSome, AllCreditsAscend, AllEarlyCreditsComeAtOnce, AllLateCreditsComeLast, MayFollowCredit, credit_handle, is_being_fed, is_credit}
+use Rattle.journal_hosts.proofs.Calm.{nothing_ended}
+use Rattle.journal_hosts.proofs.CreditLines.{CreditsFit, Fits, FitsNote, HasPlace, HaveNone, pieces_each, fed_by_host, fed_called, fed_notes, ascend, early_called, early_each, handles_after, handles_at, handles_event, handles_of, other_called, quiet_called, quiet_each, quiet_more, some_handles}
+use Rattle.journal_hosts.proofs.CreditNotes.{IsBeforeEnd, octet_ones, pieces_none, turn_none}
+use Rattle.journal_hosts.proofs.QuietTurns.{AreQuiet, IsSilent, ends_calm, quiet_first, quiet_kept}
+
+-- ---- whether a packet was on the air in the turn
+
+abbrev Counts : ℕ → Option (List ℕ) → Type 0
+Counts count None = count ≡ 0
+Counts count (Some handles) = 0 < count
+
+counts_if : (test : Bool) (change : List ℕ → List ℕ) (count : ℕ) (handles : Option (List ℕ)) → Counts count handles
+    → Counts count (if test then option_map change handles else handles)
+counts_if true change count None counts = counts
+counts_if true change count (Some handles) counts = counts
+counts_if false change count handles counts = counts
+
+counts_after : (side : Side) (entry : Entry) (count : ℕ) (handles : Option (List ℕ)) → Counts count handles
+    → Counts (turn_packets_after count entry) (handles_after side handles entry)
+counts_after side (Turn slot a_on b_on) count handles counts = refl
+counts_after side (Air sender channel octets fate verdict) count None counts = omega arith
+counts_after side (Air sender channel octets fate verdict) count (Some handles) counts = omega arith
+counts_after side (Up other octets) count handles counts =
+    counts_if (is_side other side && is_credit octets) (λ some. some ++ credit_handle octets ∷ []) count handles counts
+counts_after side entry count handles counts = counts
+
+counts_from : (side : Side) (entries : List Entry) (count : ℕ) (handles : Option (List ℕ)) → Counts count handles
+    → Counts (fold turn_packets_after count entries) (fold (handles_after side) handles entries)
+counts_from side [] count handles counts = counts
+counts_from side (entry ∷ entries) count handles counts =
+    counts_from side entries (turn_packets_after count entry) (handles_after side handles entry) (counts_after side entry count handles counts)
+
+counts_of : (side : Side) (journal : List Entry) → Counts (turn_packets journal) (handles_of side journal)
+counts_of side journal = counts_from side journal 0 None refl
+
+none_yet : (count : ℕ) (handles : Option (List ℕ)) → Counts count handles → count ≡ 0 → handles ≡ None
+none_yet count None counts none = refl
+none_yet count (Some handles) counts none = absurd (omega (arith, counts, none))
+
+record IsSome (handles : Option (List ℕ)) : Type 0 where
+  some : List ℕ
+  is : handles ≡ Some some
+
+some_now : (count : ℕ) (handles : Option (List ℕ)) → Counts count handles → 0 < count → IsSome handles
+some_now count None counts more = absurd (omega (arith, counts, more))
+some_now count (Some handles) counts more = record { some = handles; is = refl }
+
+-- ---- a turn ends
+
+-- the counts of complete packets fit into two octets
+pub record HaveFewBuffers (given : Given) : Type 0 where
+  pub buffers : (station : ℕ) → (setup_at given station).host_buffers ≤ 65535
+
+-- each credit of a run fits
+abbrev AllFit : Given → List Event → Event → Type 0
+AllFit given history event = CreditsFit (HaveFewLinks given) (HaveFewBuffers given) history event
+
+load_few : (most : ℕ) (links : Links) → EachOpen (IsFew most) links → EachOpen (λ link. complete_in link ≤ most) links
+load_few most links few = open_more (IsFew most) (λ link. complete_in link ≤ most) links (λ link one. let load = one.0 in omega (arith, load)) few
+
+few_complete : (given : Given) (station : ℕ) (history : List Event) (at : Standing) → standing (past_of station history) ≡ Some at → HaveFewBuffers given
+    → EachOpen (λ link. complete_in link ≤ 65535) (facts_at given station history).links
+few_complete given station history at stands few =
+    load_few 65535 (facts_at given station history).links
+    (few_always (setup_at given station) 65535 (past_of station history) (few.buffers station) (fed_standing (past_of station history) at stands).fed)
+
+map_append : (station : ℕ) (xs ys : List Note) → map (Noted station) (xs ++ ys) ≡ map (Noted station) xs ++ map (Noted station) ys
+map_append station [] ys = refl
+map_append station (x ∷ xs) ys = ap (λ all. Noted station x ∷ all) (map_append station xs ys)
+
+module _ (given : Given) (station : ℕ) (history : List Event) where
+  abbrev facts : Facts
+  facts = facts_at given station history
+
+  abbrev called_first : List Event
+  called_first = history ++ Called station TurnEnds ∷ []
+
+  same_called : handles_at (side_of station) called_first ≡ handles_at (side_of station) history
+  same_called = handles_event (side_of station) history (Called station TurnEnds)
+
+  ends_first : (HaveFewBuffers given → EachOpen (λ link. complete_in link ≤ 65535) facts.links) → handles_at (side_of station) history ≡ Some [] → Each (AllFit given) called_first (map (Noted station) (notes_ended_turn facts))
+  ends_first fits none =
+      let pieces = map note_received facts.received in
+      let events = notes_of_events facts.view (map event_completed (completed_from 0 facts.links)) in
+      let many = (own_handles (setup_at given station) (past_of station history)).many in
+      subst (Each (AllFit given) called_first) (sym (map_append station pieces events))
+      (each_append (AllFit given) called_first (map (Noted station) pieces) (map (Noted station) events)
+      (pieces_each (HaveFewLinks given) (HaveFewBuffers given) station facts.received called_first (ap some_handles (same_called ∙ none)))
+      (ascend (HaveFewLinks given) (HaveFewBuffers given) station facts.view 0 facts.links (called_first ++ map (Noted station) pieces) []
+      (quiet_more (side_of station) station pieces called_first (pieces_none facts.received) ∙ same_called ∙ none) (λ few. tt) (λ few. let most = few.links station in omega (arith, many, most)) fits))
+
+  end_each : (HaveFewBuffers given → EachOpen (λ link. complete_in link ≤ 65535) facts.links) → (IsSilent history → notes_ended_turn facts ≡ []) → (handles : Option (List ℕ)) → handles_at (side_of station) history ≡ handles → some_handles handles ≡ []
+      → Each (AllFit given) called_first (map (Noted station) (notes_ended_turn facts))
+  end_each fits nothing None is none =
+      let silent : IsSilent history = subst (Counts (turn_packets (journal_of history))) is (counts_of (side_of station) (journal_of history)) in
+      subst (λ notes. Each (AllFit given) called_first (map (Noted station) notes)) (sym (nothing silent)) tt
+  end_each fits nothing (Some handles) is none = ends_first fits (is ∙ ap Some none)
+
+-- ---- what holds at each place
+
+abbrev HandlesAt : Given → Place → List Event → Type 0
+HandlesAt given NoTurn history = ⊤
+HandlesAt given (AtFeeds done left) history = (side : Side) → handles_at side history ≡ None
+HandlesAt given (AtEnds done left) history =
+    (station : ℕ) → is_in station given.stations ≡ true → is_in station done ≡ false → some_handles (handles_at (side_of station) history) ≡ []
+HandlesAt given place history = (side : Side) → some_handles (handles_at side history) ≡ []
+
+record AreInOrder (given : Given) (place : Place) (history : List Event) : Type 0 where
+  quiet : AreQuiet given place history
+  each : Each (AllFit given) [] history
+  within : HandlesAt given place history
+
+record AreEarly (given : Given) (history : List Event) : Type 0 where
+  each : Each (AllFit given) [] history
+  none : (side : Side) → handles_at side history ≡ None
+
+-- and the station takes octets of its host
+record AreFeeding (given : Given) (station : ℕ) (history : List Event) : Type 0 where
+  early : AreEarly given history
+  fed : is_being_fed (side_of station) (journal_of history) ≡ true
+
+octet_early : (given : Given) (station octet : ℕ) (history : List Event) → AreFeeding given station history
+    → AreFeeding given station (after_call given station (HostOctet octet) history)
+octet_early given station octet history feeding =
+    let setup = setup_at given station in
+    let step = HostOctet octet in
+    let notes = notes_after setup (facts_at given station history) step in
+    let ones = octet_ones setup (facts_at given station history) octet in
+    let called = history ++ Called station step ∷ [] in
+    let fed = fed_called station history step feeding.fed in record {
+      early = record {
+        each = each_append (AllFit given) [] history (Called station step ∷ map (Noted station) notes) feeding.early.each (
+          tt,
+          early_each (HaveFewLinks given) (HaveFewBuffers given) station notes called
+              (λ side. handles_event side history (Called station step) ∙ feeding.early.none side) fed ones,
+        );
+        none = λ side. early_called side station step notes history (feeding.early.none side);
+      };
+      fed = ap (λ all. is_being_fed (side_of station) (journal_of all)) (sym (append_assoc history (Called station step ∷ []) (map (Noted station) notes)))
+          ∙ fed_notes station notes called fed ones;
+    }
+
+octets_early : (given : Given) (station : ℕ) (octets : List ℕ) (history : List Event) → AreFeeding given station history
+    → AreEarly given (after_octets given station octets history)
+octets_early given station [] history feeding = feeding.early
+octets_early given station (octet ∷ octets) history feeding =
+    octets_early given station octets (after_call given station (HostOctet octet) history) (octet_early given station octet history feeding)
+
+feed_early : (given : Given) (station : ℕ) (octets : List ℕ) (history : List Event) → AreEarly given history → AreEarly given (after_feed given station octets history)
+feed_early given station [] history early = early
+feed_early given station (octet ∷ octets) history early =
+    let event = HostFed station (octet ∷ octets) in
+    octets_early given station (octet ∷ octets) (history ++ event ∷ []) (record {
+      early = record {
+        each = each_event (AllFit given) history event early.each (λ side. ap some_handles (early.none side));
+        none = λ side. handles_event side history event ∙ early.none side;
+      };
+      fed = fed_by_host station history (octet ∷ octets);
+    })
+
+-- a call before the end of the turn
+turn_each : (given : Given) (station : ℕ) (step : Step) (history : List Event) → IsBeforeEnd step → HaveNone history
+    → Each (AllFit given) [] history
+    → Each (AllFit given) [] (after_call given station step history)
+turn_each given station step history is none each =
+    let notes = notes_after (setup_at given station) (facts_at given station history) step in
+    each_append (AllFit given) [] history (Called station step ∷ map (Noted station) notes) each (
+      tt,
+      quiet_each (HaveFewLinks given) (HaveFewBuffers given) station notes (history ++ Called station step ∷ [])
+          (turn_none (setup_at given station) (facts_at given station history) step is)
+          (λ side. ap some_handles (handles_event side history (Called station step)) ∙ none side),
+    )
+
+turn_handles : (given : Given) (station : ℕ) (step : Step) (history : List Event) → IsBeforeEnd step → (side : Side)
+    → handles_at side (after_call given station step history) ≡ handles_at side history
+turn_handles given station step history is side =
+    let notes = notes_after (setup_at given station) (facts_at given station history) step in
+    quiet_called side station step notes history (turn_none (setup_at given station) (facts_at given station history) step is)
+
+heard_before : (received : Option (List ℕ)) → IsBeforeEnd (step_of received)
+heard_before None = tt
+heard_before (Some octets) = tt
+
+-- a packet on the air
+air_handles : (side sender : Side) (channel : ℕ) (octets : List ℕ) (hearings : List Hearing) (handles : Option (List ℕ))
+    → some_handles (fold (handles_after side) handles (air_entries sender channel octets hearings)) ≡ some_handles handles
+air_handles side sender channel octets [] handles = refl
+air_handles side sender channel octets (hearing ∷ hearings) None = refl
+air_handles side sender channel octets (hearing ∷ hearings) (Some handles) = refl
+
+-- the handles of a station that is to end its turn stay as another ends its own
+end_handles : (given : Given) → IsOfTwo given → (done : List ℕ) (station : ℕ) (history : List Event) → is_in station given.stations ≡ true
+    → ((other : ℕ) → is_in other given.stations ≡ true → is_in other done ≡ false → some_handles (handles_at (side_of other) history) ≡ [])
+    → (other : ℕ) → is_in other given.stations ≡ true → (same : Bool) → (other == station) ≡ same → is_in other (done ++ station ∷ []) ≡ false
+    → some_handles (handles_at (side_of other) (after_call given station TurnEnds history)) ≡ []
+end_handles given are_two done station history in_it within other in_too true is out =
+    absurd (let h : true ≡ false = sym (in_more_same other station done is) ∙ out in absurd cc)
+end_handles given are_two done station history in_it within other in_too false is out =
+    let notes = notes_after (setup_at given station) (facts_at given station history) TurnEnds in
+    ap some_handles (other_called (side_of other) station TurnEnds notes history
+    (turned (side_of station) (side_of other) ∙ other_apart given are_two station other in_it in_too is))
+    ∙ within other in_too (sym (in_more_other other station done is) ∙ out)
+  where
+    turned : (one two : Side) → is_side one two ≡ is_side two one
+    turned A A = refl
+    turned A B = refl
+    turned B A = refl
+    turned B B = refl
+
+order_kept : (given : Given) → IsOfTwo given → AreDistinct given.stations → IsKept given (AreInOrder given)
+order_kept given are_two distinct = let kept = quiet_kept given are_two distinct in record {
+  on_turn = λ slot plan history begun at is.
+      let event = TurnBegan slot (map plan.radio_of given.stations) in record {
+        quiet = kept.on_turn slot plan history begun at is.quiet;
+        each = each_event (AllFit given) history event is.each tt;
+        within = λ side. handles_event side history event;
+      };
+  on_feed = λ plan done left station history are some now is.
+      let early = feed_early given station (take (plan.feed_of station) (octets_left given station history)) history (record { each = is.each; none = is.within }) in record {
+        quiet = kept.on_feed plan done left station history are some now is.quiet;
+        each = early.each;
+        within = early.none;
+      };
+  on_fed = λ history is. record { quiet = kept.on_fed history is.quiet; each = is.each; within = λ side. ap some_handles (is.within side) };
+  on_begin = λ slot plan done left station history are due is.
+      let step = TurnBegins slot (plan.radio_of station) in record {
+        quiet = kept.on_begin slot plan done left station history are due is.quiet;
+        each = turn_each given station step history tt is.within is.each;
+        within = λ side. ap some_handles (turn_handles given station step history tt side) ∙ is.within side;
+      };
+  on_begun = λ history is. record { quiet = kept.on_begun history is.quiet; each = is.each; within = is.within };
+  on_phase = λ phases history many is. record { quiet = kept.on_phase phases history many is.quiet; each = is.each; within = is.within };
+  on_silence = λ phases done left station history are none is.
+      record { quiet = kept.on_silence phases done left station history are none is.quiet; each = is.each; within = is.within };
+  on_packet = λ phases plan done left station channel octets history are some due is.
+      let hearings = hearings_of given plan.fates station channel octets history in
+      let event = Transmitted station channel octets hearings in record {
+        quiet = kept.on_packet phases plan done left station channel octets history are some due is.quiet;
+        each = each_event (AllFit given) history event is.each is.within;
+        within = λ side. ap some_handles (handles_event side history event)
+            ∙ air_handles side (side_of station) channel octets hearings (handles_at side history) ∙ is.within side;
+      };
+  on_air = λ phases history is. record { quiet = kept.on_air phases history is.quiet; each = is.each; within = is.within };
+  on_hearing = λ phases done left station history are some is.
+      let received = packet_received station history in record {
+        quiet = kept.on_hearing phases done left station history are some is.quiet;
+        each = turn_each given station (step_of received) history (heard_before received) is.within is.each;
+        within = λ side. ap some_handles (turn_handles given station (step_of received) history (heard_before received) side) ∙ is.within side;
+      };
+  on_heard = λ phases history is. record { quiet = kept.on_heard phases history is.quiet; each = is.each; within = is.within };
+  on_phases = λ history is. record { quiet = kept.on_phases history is.quiet; each = is.each; within = λ station in_it out. is.within (side_of station) };
+  on_end = λ done left station history are some is.
+      let in_it = among given.stations done left station are in
+      let facts = facts_at given station history in record {
+        quiet = kept.on_end done left station history are some is.quiet;
+        each = each_append (AllFit given) [] history (Called station TurnEnds ∷ map (Noted station) (notes_ended_turn facts)) is.each (
+          tt,
+          end_each given station history (few_complete given station history (stands_at (AtEnds done (station ∷ left)) station (turns_begun history)) (is.quiet.stand station in_it))
+              (λ silent. nothing_ended facts (ends_calm given distinct done left station history are is.quiet silent))
+              (handles_at (side_of station) history) refl (is.within station in_it (not_before given.stations done left station distinct are)),
+        );
+        within = λ other in_too out. end_handles given are_two done station history in_it is.within other in_too (other == station) refl out;
+      };
+  on_ended = λ history is. record { quiet = kept.on_ended history is.quiet; each = is.each; within = tt };
+}
+
+run_in_order : (given : Given) → IsOfTwo given → AreDistinct given.stations → Each (AllFit given) [] (history_of (run_of given))
+run_in_order given are_two distinct =
+    ends_with (run_of given) (IsWhole given (AreInOrder given)) (IsStopped given (AreInOrder given)) (Each (AllFit given) [])
+    (run_kept given (AreInOrder given) (order_kept given are_two distinct) (record { quiet = quiet_first given; each = tt; within = tt }))
+    (λ history whole. whole.is.each) (λ history stop stopped. stopped.kept.each)
+
+-- ---- each line
+
+record IsNotedUp (side : Side) (octets : List ℕ) (station : ℕ) (note : Note) : Type 0 where
+  packet : ArrayVec ℕ
+  is : note ≡ UpNote packet
+  side_is : side_of station ≡ side
+  octets_are : packet.items ≡ octets
+
+noted_up : (station : ℕ) (link_of : ℕ → ℕ) (last : ℕ) (note : Note) (side : Side) (octets : List ℕ) → entry_of (side_of station) link_of last note ≡ Up side octets
+    → IsNotedUp side octets station note
+noted_up station link_of last (UpNote packet) side octets is = record { packet = packet; is = refl; side_is = cc; octets_are = cc }
+noted_up station link_of last note side octets is = absurd cc
+
+module _ (given : Given) (are_two : IsOfTwo given) (distinct : AreDistinct given.stations) where
+  abbrev journal : List Entry
+  journal = journal_of (history_of (run_of given))
+
+  abbrev HasOwnPlace : Side → List Entry → List ℕ → Type 0
+  HasOwnPlace side front octets = HasPlace (HaveFewLinks given) (HaveFewBuffers given) side front octets
+
+  each_placed : (front rest : List Entry) (side : Side) (octets : List ℕ) → journal ≡ front ++ Up side octets ∷ rest → is_credit octets ≡ true
+      → HasOwnPlace side front octets
+  each_placed front rest side octets is credit =
+      let one = note_line given front rest (Up side octets) is refl in
+      let up = noted_up one.station _ _ one.note side octets one.entry_is in
+      let placed = each_at (AllFit given) (history_of (run_of given)) one.before one.after (Noted one.station (UpNote up.packet))
+      (run_in_order given are_two distinct) (one.is_at ∙ ap (λ note. one.before ++ Noted one.station note ∷ one.after) up.is) in
+      subst (λ entries. HasOwnPlace side entries octets) (sym one.front_is)
+      (subst (λ s. HasOwnPlace s (journal_of one.before) octets) up.side_is
+      (subst (HasOwnPlace (side_of one.station) (journal_of one.before)) up.octets_are (placed.credit (ap is_credit up.octets_are ∙ credit))))
+
+  early_now : (front : List Entry) (side : Side) → turn_packets front ≡ 0 → handles_of side front ≡ None
+  early_now front side none = none_yet (turn_packets front) (handles_of side front) (counts_of side front) none
+
+  pub are_of_some : HaveFewBuffers given → AllCreditsAreOfSome journal
+  are_of_some few = λ front rest side octets is credit. (each_placed front rest side octets is credit).some few
+
+  pub are_of_one : AllCreditsAreOfOne journal
+  are_of_one = λ front rest side octets is credit none.
+      subst (λ handles. Fits (HaveFewLinks given) (HaveFewBuffers given) handles octets) (early_now front side none)
+      (each_placed front rest side octets is credit).fits
+
+  pub come_at_once : AllEarlyCreditsComeAtOnce journal
+  come_at_once = λ front rest side octets is credit none. (each_placed front rest side octets is credit).fed (early_now front side none)
+
+-- ---- two credits of a turn
+
+all_first : (P : ℕ → Type 0) (xs : List ℕ) (last : ℕ) → AllByRecursion P (xs ++ last ∷ []) → AllByRecursion P xs
+all_first P [] last all = tt
+all_first P (x ∷ xs) last all = (all.0, all_first P xs last all.1)
+
+all_last : (P : ℕ → Type 0) (xs : List ℕ) (last : ℕ) → AllByRecursion P (xs ++ last ∷ []) → P last
+all_last P [] last all = all.0
+all_last P (x ∷ xs) last all = all_last P xs last all.1
+
+-- what holds of all handles after these lines of one turn holds of each before them
+held_then : (side : Side) (P : ℕ → Type 0) (handle : ℕ) (between : List Entry) (handles : List ℕ) → turns_of between ≡ [] → (AllByRecursion P handles → P handle)
+    → AllByRecursion P (some_handles (fold (handles_after side) (Some handles) between)) → P handle
+held_then side P handle [] handles no_turn held all = held all
+held_then side P handle (Turn slot a_on b_on ∷ between) handles no_turn held all = absurd cc
+held_then side P handle (Air sender channel sent fate verdict ∷ between) handles no_turn held all = held_then side P handle between handles no_turn held all
+held_then side P handle (Up other packet ∷ between) handles no_turn held all =
+    by (is_side other side && is_credit packet) (held_then side P handle between handles no_turn held)
+    (held_then side P handle between (handles ++ credit_handle packet ∷ []) no_turn (λ more. held (all_first P handles (credit_handle packet) more))) all
+  where
+    by : (test : Bool) → (AllByRecursion P (some_handles (fold (handles_after side) (Some handles) between)) → P handle)
+        → (AllByRecursion P (some_handles (fold (handles_after side) (Some (handles ++ credit_handle packet ∷ [])) between)) → P handle)
+        → AllByRecursion P (some_handles (fold (handles_after side)
+        (if test then option_map (λ some. some ++ credit_handle packet ∷ []) (Some handles) else Some handles) between)) → P handle
+    by true without with_it all = with_it all
+    by false without with_it all = without all
+held_then side P handle (entry ∷ between) handles no_turn held all = held_then side P handle between handles no_turn held all
+
+own_is : (side : Side) → is_side side side ≡ true
+own_is A = refl
+own_is B = refl
+
+-- the handles after a credit that comes after the first packet of a turn, and these lines
+record HasHandle (side : Side) (front : List Entry) (octets : List ℕ) (between : List Entry) : Type 0 where
+  some : List ℕ
+  is : handles_of side (front ++ Up side octets ∷ between) ≡ fold (handles_after side) (Some (some ++ credit_handle octets ∷ [])) between
+
+has_handle : (side : Side) (front : List Entry) (octets : List ℕ) (between : List Entry) → is_credit octets ≡ true → 0 < turn_packets front
+    → HasHandle side front octets between
+has_handle side front octets between credit packets =
+    let handles = some_now (turn_packets front) (handles_of side front) (counts_of side front) packets in record {
+      some = handles.some;
+      is = fold-append (handles_after side) None front (Up side octets ∷ between)
+          ∙ ap (λ some. fold (handles_after side) some (Up side octets ∷ between)) handles.is
+          ∙ ap (λ b. fold (handles_after side)
+          (if b && is_credit octets then Some (handles.some ++ credit_handle octets ∷ []) else Some handles.some) between) (own_is side)
+          ∙ ap (λ b. fold (handles_after side)
+          (if b then Some (handles.some ++ credit_handle octets ∷ []) else Some handles.some) between) credit;
+    }
+
+-- the handle of the credit is among them
+held_by : (P : ℕ → Type 0) (side : Side) (front : List Entry) (octets : List ℕ) (between : List Entry) → is_credit octets ≡ true → 0 < turn_packets front → turns_of between ≡ []
+    → AllByRecursion P (some_handles (handles_of side (front ++ Up side octets ∷ between))) → P (credit_handle octets)
+held_by P side front octets between credit packets no_turn all =
+    let has = has_handle side front octets between credit packets in
+    held_then side P (credit_handle octets) between (has.some ++ credit_handle octets ∷ []) no_turn (all_last P has.some (credit_handle octets))
+    (subst (λ handles. AllByRecursion P (some_handles handles)) has.is all)
+
+fits_all : (Few Fit : Type 0) → Few → (handles : Option (List ℕ)) (octets : List ℕ) → Fits Few Fit handles octets
+    → AllByRecursion (λ handle. handle < credit_handle octets) (some_handles handles)
+fits_all Few Fit few None octets fits = tt
+fits_all Few Fit few (Some handles) octets fits = fits few
+
+-- ---- what comes after a credit in its turn
+
+module _ (Few Fit : Type 0) (side : Side) (before : List Event) (some : some_handles (handles_at side before) ≡ [] → ⊥) where
+  note_follows : (station : ℕ) (link_of : ℕ → ℕ) (last : ℕ) (note : Note) → FitsNote Few Fit station before note
+      → MayFollowCredit side (entry_of (side_of station) link_of last note)
+  note_follows station link_of last (UpNote packet) fit = λ own. by (is_credit packet.items) refl own
+    where
+      by : (credit : Bool) → is_credit packet.items ≡ credit → side_of station ≡ side → credit ≡ true
+      by true is own = refl
+      by false is own = absurd (some (ap (λ s. some_handles (handles_at s before)) (sym own) ∙ fit.other is))
+  note_follows station link_of last note fit = absurd (some (fit side))
+
+  event_follows : (links : Numbers) (event : Event) (entry : Entry) → CreditsFit Few Fit before event → entries_of links event ≡ entry ∷ [] → MayFollowCredit side entry
+  event_follows links (TurnBegan slot radios) entry fit is =
+      let same : Turn slot (radio_in 0 radios) (Some (radio_in 1 radios)) ≡ entry = cc in subst (MayFollowCredit side) same tt
+  event_follows links (HostFed station octets) entry fit is = absurd (some (fit side))
+  event_follows links (Called station step) entry fit is = absurd cc
+  event_follows links (Noted station note) entry fit is =
+      let same : entry_of (side_of station) (links.link_of station) (links.last_of station) note ≡ entry = cc in
+      subst (MayFollowCredit side) same (note_follows station (links.link_of station) (links.last_of station) note fit)
+  event_follows links (Transmitted station channel octets hearings) entry fit is = absurd (some (fit side))
+
+module _ (given : Given) (are_two : IsOfTwo given) (distinct : AreDistinct given.stations) where
+  pub come_last : AllLateCreditsComeLast (journal_of (history_of (run_of given)))
+  come_last = λ front between rest side octets entry is credit packets no_turn.
+      let before = front ++ Up side octets ∷ between in
+      let history = history_of (run_of given) in
+      let one = is_of_event history before rest entry (is ∙ sym (append_assoc front (Up side octets ∷ between) (entry ∷ rest))) in
+      let fit = each_at (AllFit given) history one.before one.after one.event (run_in_order given are_two distinct) one.is_at in
+      event_follows (HaveFewLinks given) (HaveFewBuffers given) side one.before
+      (λ none. held_by (λ handle. ⊥) side front octets between credit packets no_turn
+      (subst (λ handles. AllByRecursion (λ handle. ⊥) handles) (sym (ap (λ entries. some_handles (handles_of side entries)) one.front_is ∙ none)) tt))
+      (links_of one.before) one.event entry fit one.entry_is
+
+  pub ascends : HaveFewLinks given → AllCreditsAscend (journal_of (history_of (run_of given)))
+  ascends few = λ front between rest side one other is credit credit_too packets no_turn.
+      let before = front ++ Up side one ∷ between in
+      let fits = (each_placed given are_two distinct before rest side other (is ∙ sym (append_assoc front (Up side one ∷ between) (Up side other ∷ rest))) credit_too).fits in
+      held_by (λ handle. handle < credit_handle other) side front one between credit packets no_turn
+      (fits_all (HaveFewLinks given) (HaveFewBuffers given) few (handles_of side before) other fits)

@@ -1,0 +1,8 @@
+-- The lemmas of this crate.
+pub mod Opcodes
+pub mod AnswersInRuns
+pub mod Calm
+pub mod CreditNotes
+pub mod CreditLines
+pub mod QuietTurns
+pub mod CreditsInRuns

@@ -1,0 +1,67 @@
+-- When complete packets are reported to a host, and in which order (Core 5.2, volume 4 part E, section 7.7.19; when and
+-- in which order is our choice).
+use Rattle.std.specs.Prelude.{◌≡◌, ℕ, ◌<◌, ◌&&◌, Bool, true, false, List, [], ◌∷◌, ◌++◌, fold, ⊤}
+use Rattle.ble_base.specs.declared.roles.Side.{Side}
+use Rattle.host_view.specs.Noted.{two_octets}
+use Rattle.journal.specs.declared.entries.Entry.{Entry}
+use Rattle.journal.specs.declared.entries.Entry.TheVariants.{Fed, Shut, Turn, Up}
+use Rattle.controller_model.specs.Notes.{is_event}
+use Rattle.run_model.specs.Readers.{turn_packets, turns_of}
+use Rattle.journal_packets.specs.Belonging.{is_side}
+
+-- a credit is a Number Of Completed Packets event, 13. It is of one handle, which is at the place 4, and the number of
+-- its packets is after that
+abbrev pub is_credit : List ℕ → Bool
+is_credit octets = is_event 0x13 octets
+
+abbrev pub credit_handle : List ℕ → ℕ
+credit_handle octets = two_octets 4 octets
+
+abbrev pub credit_count : List ℕ → ℕ
+credit_count octets = two_octets 6 octets
+
+-- each credit is of at least one packet
+abbrev pub AllCreditsAreOfSome : List Entry → Type 0
+AllCreditsAreOfSome journal = (front rest : List Entry) (side : Side) (octets : List ℕ)
+    → journal ≡ front ++ Up side octets ∷ rest → is_credit octets ≡ true → 0 < credit_count octets
+
+-- before the first packet of a turn each credit is of one packet: that has no octets, and is complete as it comes
+abbrev pub AllCreditsAreOfOne : List Entry → Type 0
+AllCreditsAreOfOne journal = (front rest : List Entry) (side : Side) (octets : List ℕ)
+    → journal ≡ front ++ Up side octets ∷ rest → is_credit octets ≡ true → turn_packets front ≡ 0
+    → credit_count octets ≡ 1
+
+-- whether a side is being fed, after a line: since the octets that its host sent last there are only packets to that
+-- host, and lines of links that the side shuts
+abbrev pub fed_after : Side → Bool → Entry → Bool
+fed_after side fed (Fed other octets) = is_side other side
+fed_after side fed (Up other octets) = fed && is_side other side
+fed_after side fed (Shut other link reason) = fed && is_side other side
+fed_after side fed entry = false
+
+unfoldable pub is_being_fed : Side → List Entry → Bool
+is_being_fed side front = fold (fed_after side) false front
+
+-- and it comes as its side is being fed
+abbrev pub AllEarlyCreditsComeAtOnce : List Entry → Type 0
+AllEarlyCreditsComeAtOnce journal = (front rest : List Entry) (side : Side) (octets : List ℕ)
+    → journal ≡ front ++ Up side octets ∷ rest → is_credit octets ≡ true → turn_packets front ≡ 0
+    → is_being_fed side front ≡ true
+
+-- after the first packet of a turn the credits of a side, in that turn, are in the order of their handles, and no two
+-- have the same one
+abbrev pub AllCreditsAscend : List Entry → Type 0
+AllCreditsAscend journal = (front between rest : List Entry) (side : Side) (one other : List ℕ)
+    → journal ≡ front ++ Up side one ∷ (between ++ Up side other ∷ rest) → is_credit one ≡ true → is_credit other ≡ true
+    → 0 < turn_packets front → turns_of between ≡ [] → credit_handle one < credit_handle other
+
+-- and the lines that come after such a credit, in that turn, are packets to hosts; those to its own host are credits
+abbrev pub MayFollowCredit : Side → Entry → Type 0
+MayFollowCredit side (Turn slot a_on b_on) = ⊤
+MayFollowCredit side (Up other octets) = other ≡ side → is_credit octets ≡ true
+MayFollowCredit side entry = ⊥
+
+abbrev pub AllLateCreditsComeLast : List Entry → Type 0
+AllLateCreditsComeLast journal = (front between rest : List Entry) (side : Side) (octets : List ℕ) (entry : Entry)
+    → journal ≡ front ++ Up side octets ∷ (between ++ entry ∷ rest) → is_credit octets ≡ true
+    → 0 < turn_packets front → turns_of between ≡ [] → MayFollowCredit side entry

@@ -1,0 +1,9 @@
+-- Proof of `credits::each_complete_packet_is_reported_at_once`.
+use Rattle.journal_links.proofs.OfTwo.{are_distinct}
+use Rattle.journal_pdus.proofs.SettledEarly.{credited_at_once}
+use Rattle.journal_pdus.proofs.credits.each_complete_packet_is_reported_at_once.Goals as goal
+
+pub returns : goal.returns
+returns c = λ given stations six few eight.
+    credited_at_once c.packet_tells_its_pdu.ensures.heard c.a_pdu_is_understood.ensures.says c.connections_are_taken.ensures.taken c.searches_give_each_valid_address.ensures.valid
+    c.searches_give_each_valid_address.ensures.distinct given stations (record { links = few }) six (are_distinct given stations) eight

@@ -1,0 +1,266 @@
+-- What the event of an end holds of its packets was on the air.
+use Rattle.std.proofs.Common.{◌≡◌, ℕ, ◌==◌, ◌&&◌, ◌||◌, ◌⊎◌, inl, inr, Bool, true, false, Option, Some, None, List, ◌∷◌, ◌++◌, refl, sym, ap, subst, ◌∙◌, append_assoc}
+use Rattle.std.specs.Prelude.{take, if◌then◌else◌}
+use Rattle.std.specs.Str.{bytes_eq}
+use Rattle.std.proofs.lemmas.Bool.{eqb-true}
+use Rattle.ble_base.specs.Side.{other_side}
+use Rattle.ble_base.specs.declared.roles.Side.{Side}
+use Rattle.ble_base.specs.declared.verdicts.Verdict.TheVariants.{Good}
+use Rattle.air_frame.specs.declared.Heard.TheVariants.{NotOurs, Broken, Whole}
+use Rattle.air_frame.specs.Hearing.{heard_in}
+use Rattle.air_frame.specs.Packet.{access_octets, is_packet, on_air, pdu_in}
+use Rattle.data_pdu.specs.Header.{header_in}
+use Rattle.journal.specs.declared.entries.Entry.{Entry}
+use Rattle.journal.specs.declared.entries.Entry.TheVariants.{Air}
+use Rattle.link_model.specs.declared.events.ConnectionEvent.{ConnectionEvent}
+use Rattle.link_model.specs.End.{facts_received}
+use Rattle.link_model.specs.Facts.{Facts as EndFacts}
+use Rattle.link_model.specs.Packets.{good_in, good_pdu, has_room_for, more_sent, pdu_by}
+use Rattle.link_model.specs.Setup.{Setup as EndSetup}
+use Rattle.link_model.specs.Step.{EventEntered, PacketReceived, PacketSent, PduFixed}
+use Rattle.open_links.specs.OpenLinks.{OpenLink, facts_in, link_after}
+use Rattle.open_links.specs.Turns.{entered_if, is_anchor}
+use Rattle.open_links.proofs.Ends.{entered_setup}
+use Rattle.controller_model.specs.declared.doing.Doing.{Doing}
+use Rattle.controller_model.specs.declared.doing.Turn.{Turn}
+use Rattle.controller_model.specs.Facts.{Facts}
+use Rattle.run_laws.proofs.Agreed.{step_facts}
+use Rattle.journal_acks.proofs.Counting.{taking_if}
+use Rattle.journal_acks.proofs.LinkCalls.{HasBegun, fixed_if}
+use Rattle.journal_acks.proofs.LinkUses.{listens_under, sends_under}
+use Rattle.journal_acks.proofs.UnderHandles.{sent_if}
+use Rattle.journal_slots.specs.SecondSlot.{HasToContinue, PacketInSlot, has_more}
+
+-- ---- packets in the slot of an event
+
+-- a side judged a packet of the other side good
+pub record IsHeardIn (number slot : ℕ) (side : Side) (journal : List Entry) : Type 0 where
+  pub packet : PacketInSlot number slot (other_side side) journal
+  pub good : packet.verdict ≡ Good
+
+-- a packet that it sent or judged good says that more waits
+pub data SaysMore (number slot : ℕ) (side : Side) (journal : List Entry) : Type 0 where
+  InHeard : (heard : IsHeardIn number slot side journal) → has_more heard.packet.channel heard.packet.octets ≡ true → SaysMore number slot side journal
+  InSent : (packet : PacketInSlot number slot side journal) → has_more packet.channel packet.octets ≡ true → SaysMore number slot side journal
+
+pub continues : (number slot : ℕ) (side : Side) (journal : List Entry) → IsHeardIn number slot side journal → SaysMore number slot side journal → HasToContinue number slot side journal
+continues number slot side journal before (InHeard heard more) = record { heard = heard.packet; good = heard.good; more = inl more }
+continues number slot side journal heard (InSent sent more) = record { heard = heard.packet; good = heard.good; more = inr (sent, more) }
+
+-- the journal grows
+packet_stays : (number slot : ℕ) (sender : Side) (journal rest : List Entry) → PacketInSlot number slot sender journal → PacketInSlot number slot sender (journal ++ rest)
+packet_stays number slot sender journal rest packet =
+    let entry = Air sender packet.channel packet.octets packet.fate packet.verdict in record {
+      before = packet.before;
+      channel = packet.channel;
+      octets = packet.octets;
+      fate = packet.fate;
+      verdict = packet.verdict;
+      after = packet.after ++ rest;
+      is_at = ap (λ xs. xs ++ rest) packet.is_at ∙ append_assoc packet.before (entry ∷ packet.after) rest;
+      on_data_channel = packet.on_data_channel;
+      belongs = packet.belongs;
+      in_turn = packet.in_turn;
+    }
+
+heard_stays : (number slot : ℕ) (side : Side) (journal rest : List Entry) → IsHeardIn number slot side journal → IsHeardIn number slot side (journal ++ rest)
+unfolding packet_stays
+heard_stays number slot side journal rest heard = record { packet = packet_stays number slot (other_side side) journal rest heard.packet; good = heard.good }
+
+more_stays : (number slot : ℕ) (side : Side) (journal rest : List Entry) → SaysMore number slot side journal → SaysMore number slot side (journal ++ rest)
+unfolding packet_stays heard_stays
+more_stays number slot side journal rest (InHeard heard more) = InHeard (heard_stays number slot side journal rest heard) more
+more_stays number slot side journal rest (InSent sent more) = InSent (packet_stays number slot side journal rest sent) more
+
+-- ---- what an event holds of them
+
+pub record IsOnAir (number : ℕ) (side : Side) (journal : List Entry) (event : ConnectionEvent) : Type 0 where
+  pub heard : event.heard ≡ true → IsHeardIn number event.slot side journal
+  pub more : event.more ≡ true → SaysMore number event.slot side journal
+
+pub on_air_stays : (number : ℕ) (side : Side) (journal rest : List Entry) (event : ConnectionEvent) → IsOnAir number side journal event → IsOnAir number side (journal ++ rest) event
+on_air_stays number side journal rest event is = record {
+  heard = λ heard. heard_stays number event.slot side journal rest (is.heard heard);
+  more = λ more. more_stays number event.slot side journal rest (is.more more);
+}
+
+-- one in which nothing was sent or heard yet
+pub new_on_air : (number : ℕ) (side : Side) (journal : List Entry) (event : ConnectionEvent) → event.heard ≡ false → event.more ≡ false → IsOnAir number side journal event
+new_on_air number side journal event unheard quiet = record {
+  heard = λ heard. absurd (let h : true ≡ false = sym heard ∙ unheard in absurd cc);
+  more = λ more. absurd (let h : true ≡ false = sym more ∙ quiet in absurd cc);
+}
+
+-- ---- what changes nothing of that
+
+entered_on_air : (number : ℕ) (side : Side) (journal : List Entry) (anchor : Bool) (slot : ℕ) (link : OpenLink) → IsOnAir number side journal (facts_in link).event
+    → IsOnAir number side journal (facts_in (entered_if anchor slot link)).event
+entered_on_air number side journal true slot link is =
+    let now = step_facts link (EventEntered slot) in
+    new_on_air number side journal (facts_in (link_after (EventEntered slot) link)).event (ap (λ (f : EndFacts). f.event.heard) now) (ap (λ (f : EndFacts). f.event.more) now)
+entered_on_air number side journal false slot link is = is
+
+fixed_event : (fixes : Bool) (link : OpenLink) → (facts_in (fixed_if fixes link)).event ≡ (facts_in link).event
+fixed_event true link = ap (λ (f : EndFacts). f.event) (step_facts link PduFixed)
+fixed_event false link = refl
+
+pub event_on_air : (number : ℕ) (side : Side) (journal : List Entry) (one other : OpenLink) → (facts_in other).event ≡ (facts_in one).event → IsOnAir number side journal (facts_in one).event
+    → IsOnAir number side journal (facts_in other).event
+event_on_air number side journal one other same is = subst (IsOnAir number side journal) (sym same) is
+
+-- a link as a turn has begun
+pub base_on_air : (number : ℕ) (side : Side) (journal : List Entry) (facts : Facts) (slot : ℕ) (on : Bool) (handle : ℕ) (doing : Doing) (after : OpenLink)
+    (begun : HasBegun facts slot on handle doing after) → IsOnAir number side journal (facts_in begun.link).event → IsOnAir number side journal (facts_in begun.base).event
+base_on_air number side journal facts slot on handle doing after begun is =
+    event_on_air number side journal (entered_if (is_anchor slot begun.link) slot begun.link) begun.base
+    (ap (λ (l : OpenLink). (facts_in l).event) begun.base_is ∙ fixed_event begun.fixes begun.entered
+    ∙ (λ i. (facts_in (record { setup = (begun.setup_is ∙ sym (entered_setup (is_anchor slot begun.link) slot begun.link)) i; past = begun.past_is i; last_served = 0 })).event))
+    (entered_on_air number side journal (is_anchor slot begun.link) slot begun.link is)
+
+room_received : (slot : ℕ) (room other : Bool) (found : Option (List ℕ)) (facts : EndFacts) → (facts_received slot room found facts).event ≡ (facts_received slot other found facts).event
+room_received slot room other None facts = refl
+room_received slot room other (Some pdu) facts = refl
+
+-- whether there is room for data does not matter
+pub room_event : (slot : ℕ) (octets : List ℕ) (room other : Bool) (link : OpenLink)
+    → (facts_in (link_after (PacketReceived slot octets room) link)).event ≡ (facts_in (link_after (PacketReceived slot octets other) link)).event
+room_event slot octets room other link =
+    ap (λ (f : EndFacts). f.event) (step_facts link (PacketReceived slot octets room))
+    ∙ room_received slot room other (good_pdu link.setup (facts_in link) octets) (facts_in link)
+    ∙ sym (ap (λ (f : EndFacts). f.event) (step_facts link (PacketReceived slot octets other)))
+
+-- ---- it sends a packet, which is on the air
+
+first_of_both : (one other : Bool) → (one && other) ≡ true → one ≡ true
+first_of_both true other is = refl
+first_of_both false other is = absurd cc
+
+second_of_both : (one other : Bool) → (one && other) ≡ true → other ≡ true
+second_of_both true other is = is
+second_of_both false other is = absurd cc
+
+either : (one other : Bool) → (one || other) ≡ true → (one ≡ true) ⊎ (other ≡ true)
+either true other is = inl refl
+either false other is = inr is
+
+pub sent_on_air : (number : ℕ) (side : Side) (journal : List Entry) (slot : ℕ) (link : OpenLink) → IsOnAir number side journal (facts_in link).event
+    → (packet : PacketInSlot number slot side journal) → has_more packet.channel packet.octets ≡ more_sent (facts_in link)
+    → IsOnAir number side journal (facts_in (link_after (PacketSent slot) link)).event
+sent_on_air number side journal slot link is packet says =
+    let event = (facts_in link).event in
+    subst (IsOnAir number side journal) (sym (ap (λ (f : EndFacts). f.event) (step_facts link (PacketSent slot)))) (record {
+      heard = is.heard;
+      more = λ more. by (either event.more ((slot == event.slot) && more_sent (facts_in link)) more);
+    })
+  where
+    by : ((facts_in link).event.more ≡ true) ⊎ (((slot == (facts_in link).event.slot) && more_sent (facts_in link)) ≡ true) → SaysMore number (facts_in link).event.slot side journal
+    by (inl before) = is.more before
+    by (inr now) =
+        let event = (facts_in link).event in
+        subst (λ n. SaysMore number n side journal) (eqb-true slot event.slot (first_of_both (slot == event.slot) (more_sent (facts_in link)) now))
+        (InSent packet (says ∙ second_of_both (slot == event.slot) (more_sent (facts_in link)) now))
+
+-- ---- it receives one
+
+abbrev IsPduIn : Option (List ℕ) → ℕ → List ℕ → Type 0
+IsPduIn found channel octets = (pdu : List ℕ) → found ≡ Some pdu → pdu ≡ pdu_in channel octets
+
+good_octets : (setup : EndSetup) (facts : EndFacts) (octets : List ℕ) → IsPduIn (good_pdu setup facts octets) facts.event.channel octets
+unfolding good_pdu heard_in
+good_octets setup facts octets =
+    by (bytes_eq (take 4 octets) (access_octets setup.link.fields.access)) (is_packet facts.event.channel setup.link.fields.access setup.link.fields.crc_init octets)
+    (has_room_for setup.link.max_rx (pdu_in facts.event.channel octets)) refl
+  where
+    some : (fits : Bool) (found pdu : List ℕ) → pdu_by fits found ≡ Some pdu → pdu ≡ found
+    some true found pdu is = let same : found ≡ pdu = cc in sym same
+    some false found pdu is = absurd cc
+
+    by : (ours whole fits : Bool) → has_room_for setup.link.max_rx (pdu_in facts.event.channel octets) ≡ fits
+        → IsPduIn (good_in setup.link.max_rx (if ours then (if whole then Whole (record { items = pdu_in facts.event.channel octets }) else Broken) else NotOurs)) facts.event.channel octets
+    by true true fits is = λ pdu found. some (has_room_for setup.link.max_rx (pdu_in facts.event.channel octets)) (pdu_in facts.event.channel octets) pdu found
+    by true false fits is = λ pdu found. absurd cc
+    by false whole fits is = λ pdu found. absurd cc
+
+module _ (number : ℕ) (side : Side) (journal : List Entry) (slot : ℕ) (facts : EndFacts) (is : IsOnAir number side journal facts.event) (heard : IsHeardIn number slot side journal)
+    (channel : heard.packet.channel ≡ facts.event.channel) where
+  received_by : (room : Bool) (found : Option (List ℕ)) → IsPduIn found facts.event.channel heard.packet.octets → IsOnAir number side journal (facts_received slot room found facts).event
+  received_by room None pdu_is = is
+  received_by room (Some pdu) pdu_is = record {
+    heard = λ now. first (either facts.event.heard (slot == facts.event.slot) now);
+    more = λ now. by (either facts.event.more ((slot == facts.event.slot) && (header_in pdu).md) now);
+  }
+    where
+      first : (facts.event.heard ≡ true) ⊎ ((slot == facts.event.slot) ≡ true) → IsHeardIn number facts.event.slot side journal
+      first (inl before) = is.heard before
+      first (inr now) = subst (λ n. IsHeardIn number n side journal) (eqb-true slot facts.event.slot now) heard
+
+      by : (facts.event.more ≡ true) ⊎ (((slot == facts.event.slot) && (header_in pdu).md) ≡ true) → SaysMore number facts.event.slot side journal
+      by (inl before) = is.more before
+      by (inr now) =
+          subst (λ n. SaysMore number n side journal) (eqb-true slot facts.event.slot (first_of_both (slot == facts.event.slot) (header_in pdu).md now))
+          (InHeard heard (ap (λ n. has_more n heard.packet.octets) channel ∙ ap (λ xs. (header_in xs).md) (sym (pdu_is pdu refl))
+          ∙ second_of_both (slot == facts.event.slot) (header_in pdu).md now))
+
+pub received_on_air : (number : ℕ) (side : Side) (journal : List Entry) (slot : ℕ) (room : Bool) (link : OpenLink) → IsOnAir number side journal (facts_in link).event
+    → (heard : IsHeardIn number slot side journal) → heard.packet.channel ≡ (facts_in link).event.channel
+    → IsOnAir number side journal (facts_in (link_after (PacketReceived slot heard.packet.octets room) link)).event
+received_on_air number side journal slot room link is heard channel =
+    let octets = heard.packet.octets in
+    subst (IsOnAir number side journal) (sym (ap (λ (f : EndFacts). f.event) (step_facts link (PacketReceived slot octets room))))
+    (received_by number side journal slot (facts_in link) is heard channel room (good_pdu link.setup (facts_in link) octets) (good_octets link.setup (facts_in link) octets))
+
+-- ---- one end
+
+-- the link before it sends a packet that is not on the air yet, and after it received one that was on the air
+pub record WasOnAir (sends : Bool) (slot : ℕ) (taken : OpenLink) (number : ℕ) (side : Side) (journal : List Entry) : Type 0 where
+  pub base : OpenLink
+  pub is : taken ≡ sent_if sends slot base
+  pub on_air : IsOnAir number side journal (facts_in base).event
+
+abbrev pub IsEndOnAir : Bool → Option (List ℕ) → ℕ → Turn → OpenLink → ℕ → Side → List Entry → Type 0
+IsEndOnAir unsent received handle turn link number side journal =
+    WasOnAir (unsent && sends_under handle turn.doing) turn.slot (taking_if (listens_under handle turn.doing) received turn.slot link) number side journal
+
+was_stays : (sends : Bool) (slot : ℕ) (taken : OpenLink) (number : ℕ) (side : Side) (journal rest : List Entry) → WasOnAir sends slot taken number side journal
+    → WasOnAir sends slot taken number side (journal ++ rest)
+was_stays sends slot taken number side journal rest was =
+    record { base = was.base; is = was.is; on_air = on_air_stays number side journal rest (facts_in was.base).event was.on_air }
+
+pub not_sending : (sends : Bool) (slot : ℕ) (taken : OpenLink) (number : ℕ) (side : Side) (journal : List Entry) → sends ≡ false → WasOnAir sends slot taken number side journal
+    → IsOnAir number side journal (facts_in taken).event
+not_sending true slot taken number side journal none was = absurd cc
+not_sending false slot taken number side journal none was = subst (λ (l : OpenLink). IsOnAir number side journal (facts_in l).event) (sym was.is) was.on_air
+
+nothing_taken : (listens : Bool) (received : Option (List ℕ)) (slot : ℕ) (link : OpenLink) → (listens ≡ true → received ≡ None) → taking_if listens received slot link ≡ link
+nothing_taken true None slot link none = refl
+nothing_taken true (Some octets) slot link none = absurd (let h : Some octets ≡ None = none refl in absurd cc)
+nothing_taken false received slot link none = refl
+
+-- an end that neither is to send nor has a packet to take
+pub plain : (unsent : Bool) (received : Option (List ℕ)) (handle : ℕ) (turn : Turn) (link : OpenLink) (number : ℕ) (side : Side) (journal : List Entry)
+    → (unsent && sends_under handle turn.doing) ≡ false → (listens_under handle turn.doing ≡ true → received ≡ None)
+    → IsEndOnAir unsent received handle turn link number side journal → IsOnAir number side journal (facts_in link).event
+plain unsent received handle turn link number side journal none nothing was =
+    subst (λ (l : OpenLink). IsOnAir number side journal (facts_in l).event) (nothing_taken (listens_under handle turn.doing) received turn.slot link nothing)
+    (not_sending (unsent && sends_under handle turn.doing) turn.slot (taking_if (listens_under handle turn.doing) received turn.slot link) number side journal none was)
+
+-- one whose packet is still to come, or that was on the air, and that takes nothing
+pub from_base : (unsent sends : Bool) (received : Option (List ℕ)) (handle : ℕ) (turn : Turn) (link base : OpenLink) (number : ℕ) (side : Side) (journal : List Entry)
+    → (unsent && sends_under handle turn.doing) ≡ sends → (listens_under handle turn.doing ≡ true → received ≡ None) → link ≡ sent_if sends turn.slot base
+    → IsOnAir number side journal (facts_in base).event → IsEndOnAir unsent received handle turn link number side journal
+from_base unsent sends received handle turn link base number side journal does nothing is on_air = record {
+  base = base;
+  is = nothing_taken (listens_under handle turn.doing) received turn.slot link nothing ∙ is ∙ ap (λ b. sent_if b turn.slot base) (sym does);
+  on_air = on_air;
+}
+
+pub moved : (handle : ℕ) (link : OpenLink) (side : Side) (unsent unsent_too : Bool) (received received_too : Option (List ℕ)) (turn turn_too : Turn) (number number_too : ℕ)
+    (journal journal_too rest : List Entry) → unsent_too ≡ unsent → received_too ≡ received → turn_too ≡ turn → number_too ≡ number → journal_too ≡ journal ++ rest
+    → IsEndOnAir unsent received handle turn link number side journal → IsEndOnAir unsent_too received_too handle turn_too link number_too side journal_too
+moved handle link side unsent unsent_too received received_too turn turn_too number number_too journal journal_too rest u r t n j was =
+    subst (λ b. IsEndOnAir b received_too handle turn_too link number_too side journal_too) (sym u)
+    (subst (λ may. IsEndOnAir unsent may handle turn_too link number_too side journal_too) (sym r)
+    (subst (λ now. IsEndOnAir unsent received handle now link number_too side journal_too) (sym t)
+    (subst (λ m. IsEndOnAir unsent received handle turn link m side journal_too) (sym n)
+    (subst (IsEndOnAir unsent received handle turn link number side) (sym j)
+    (was_stays (unsent && sends_under handle turn.doing) turn.slot (taking_if (listens_under handle turn.doing) received turn.slot link) number side journal rest was)))))
