@@ -1,5 +1,5 @@
 -- What waits at a central, and what it sent last, in each state of a joint run in which that goes on.
-use Rattle.std.proofs.Common.{◌≡◌, ◌≤◌, ℕ, Bool, true, false, not, List, Option, Some, None, refl, ap, sym, ◌∙◌, arith}
+use Rattle.std.proofs.Common.{◌≡◌, ◌≤◌, ℕ, Bool, true, false, not, List, Option, Some, refl, ap, sym, ◌∙◌, arith}
 use Rattle.ble_base.specs.declared.roles.Role.TheVariants.{Central}
 use Rattle.data_pdu.specs.declared.ctrl.Ctrl.{Ctrl}
 use Rattle.data_pdu.specs.declared.ctrl.Ctrl.TheVariants.{PauseEncRsp, RejectExtInd, VersionInd as version_pdu}
@@ -44,6 +44,7 @@ use Rattle.joint_laws.proofs.CentralFirsts.{all_of_own}
 use Rattle.joint_laws.proofs.ExclusiveFirsts.{phy_unsent}
 use Rattle.joint_laws.proofs.VersionFacts.{used_if_running}
 use Rattle.joint_laws.proofs.VersionPdus.{count_some}
+use Rattle.joint_laws.proofs.Common.{some_ctrl}
 
 -- ---- the stages of a central
 
@@ -89,9 +90,6 @@ phy_first (central c) is_open rejections drafts role unsent waits = phy_own c.ow
 phy_first (peripheral p) is_open rejections drafts role unsent waits = absurd (cc)
 
 -- ---- what a central sent last
-
-some_ctrl : {A B : Ctrl} → Some A ≡ Some B → A ≡ B
-some_ctrl {A} {B} is = ap (λ (x : Option Ctrl). elim x as (λ y. Ctrl) [ Some c ↦ c | None ↦ A ]) is
 
 cipher_out : (knows : Bool) (ctrl : Ctrl) → is_pause_rsp (Other (Cipher ctrl)) ≡ is_pause_class (class_down knows ctrl)
 cipher_out true (version_pdu version company sub) = refl

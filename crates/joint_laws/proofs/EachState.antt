@@ -23,7 +23,7 @@ use Rattle.joint_laws.specs.Runs.{IsRun}
 -- ---- one more step
 
 module _ (step : JointStep) where
-  range_more : (steps : List JointStep) → AreStepsInRange steps → IsStepInRange step → AreStepsInRange (steps ++ step ∷ [])
+  pub range_more : (steps : List JointStep) → AreStepsInRange steps → IsStepInRange step → AreStepsInRange (steps ++ step ∷ [])
   range_more [] all one = (one, tt)
   range_more (first ∷ steps) all one = (all.0, range_more steps all.1 one)
 

@@ -43,6 +43,7 @@ use Rattle.joint_controls.proofs.LastPdus.{first_tied, tied}
 use Rattle.joint_controls.specs.Ends.{IsSentOn, outgoing_on}
 use Rattle.phased_control.specs.Phased.{is_pause_rsp}
 use Rattle.phase_pairs.specs.JointRun.{is_coming, is_pause_rsp as is_pause_class, is_pause_rsp_taken}
+use Rattle.joint_laws.proofs.Common.{not_true, implied}
 
 -- ---- what a central keeps
 
@@ -68,14 +69,6 @@ pausing_way knows (Fixed (Control outgoing ctrl) sealed) sent is =
 pausing_way knows (OnAir (Control outgoing ctrl) sealed) sent is =
     ap (λ b. b || false) (sym (outgoing_out knows outgoing ctrl sent.event sent.latency sent.is) ∙ is)
 pausing_way knows (Taken (Control outgoing ctrl)) sent is = sym (outgoing_out knows outgoing ctrl sent.event sent.latency sent.is) ∙ is
-
-not_true : (b : Bool) → not b ≡ true → b ≡ false
-not_true true is = absurd (cc)
-not_true false is = refl
-
-implied : (a b : Bool) → (not a || b) ≡ true → a ≡ true → b ≡ true
-implied true b is given = is
-implied false b is given = absurd (cc)
 
 -- ---- until it takes LL_TERMINATE_IND it is to end only by the Disconnect of its host
 

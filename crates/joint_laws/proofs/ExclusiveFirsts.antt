@@ -1,5 +1,5 @@
 -- Where the first PDUs of the procedures that exclude each other are in a joint run of both ends.
-use Rattle.std.proofs.Common.{◌≡◌, Bool, true, false, not, ◌&&◌, ◌||◌, is_none, refl, sym, subst, ◌∙◌}
+use Rattle.std.proofs.Common.{◌≡◌, true, false, not, ◌&&◌, is_none, sym, subst, ◌∙◌}
 use Rattle.std.proofs.lemmas.Bool.{and_parts}
 use Rattle.machines.specs.Machine.{run}
 use Rattle.collisions.specs.declared.joint.Link.{Link}
@@ -10,14 +10,7 @@ use Rattle.collisions.proofs.Gaps.{is_run}
 use Rattle.joint_collisions.specs.Views.{IsReached, View, numbered_of}
 use Rattle.joint_laws.specs.Firsts.{are_firsts_right, has, has_no_first, is_first, is_over, is_phy_unsent, over_has_no_first, phy_waits_unsent}
 use Rattle.joint_laws.proofs.FirstPlaces.{firsts_right}
-
-not_true : (b : Bool) → not b ≡ true → b ≡ false
-not_true true is = absurd (cc)
-not_true false is = refl
-
-implied : (a b : Bool) → (not a || b) ≡ true → a ≡ true → b ≡ true
-implied true b is given = is
-implied false b is given = absurd (cc)
+use Rattle.joint_laws.proofs.Common.{not_true, implied}
 
 pub record HasNoFirst (v : View) : Type 0 where
   pub queue : has is_first v.peripheral.queue.items ≡ false

@@ -72,6 +72,7 @@ use Rattle.procedures.specs.declared.outcome.Outcome.{Outcome}
 use Rattle.procedures.specs.Table.{TableFacts}
 use Rattle.procedures.specs.Taking.{facts_with, lacks_room, no_room, outcome_of, taken_by, took_step}
 use Rattle.joint_laws.proofs.TakenEnds.{has_room}
+use Rattle.joint_laws.proofs.Common.{settled_of}
 
 -- ---- which PDU is an indication
 
@@ -121,9 +122,6 @@ terminate_effect : (f : TableFacts) (x : ThePeripheral) → f.progress ≡ perip
 terminate_effect f x at quiet code indication is =
     let own : indicated_by (taken_by (peripheral x) f quiet (TerminateInd code)).step.effect ≡ Some indication =
     ap (λ (p : Progress). indicated_by (taken_by p f quiet (TerminateInd code)).step.effect) (sym at) ∙ is in absurd (cc)
-
-abbrev settled_of : Bool → Bool → TableFacts → TableFacts → the_step → the_step → the_step → TableFacts × the_step
-settled_of a b f k x y z = (if a then (f, x) else (if b then (f, y) else (k, z)))
 
 settled_goes : (a b : Bool) (f k : TableFacts) (x y z : the_step) → a ≡ false → b ≡ false → (settled_of a b f k x y z).0.progress ≡ k.progress
 settled_goes a b f k x y z ha hb = rw (ha, hb) refl

@@ -1,4 +1,5 @@
 -- The lemmas of this crate.
+pub mod Common
 pub mod VersionPdus
 pub mod VersionFacts
 pub mod FirstPlaces
@@ -23,3 +24,4 @@ pub mod LinkEnds
 pub mod Lateness
 pub mod SoundStates
 pub mod PausePlaces
+pub mod Rejected

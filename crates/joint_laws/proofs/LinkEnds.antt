@@ -1,5 +1,5 @@
 -- How a step of a joint run may end the link: an end of the run is that of an indication that came after its Instant.
-use Rattle.std.proofs.Common.{◌≡◌, ◌≤◌, inl, inr, arith, ℕ, Bool, true, false, not, ◌&&◌, ◌||◌, if◌then◌else◌, List, [], ◌∷◌, Option, Some, None, is_some, refl, ap, sym, subst, ◌∙◌}
+use Rattle.std.proofs.Common.{◌≡◌, ◌≤◌, inl, inr, arith, ℕ, Bool, true, not, ◌&&◌, ◌||◌, if◌then◌else◌, List, [], ◌∷◌, Option, Some, None, is_some, refl, ap, sym, subst, ◌∙◌}
 use Rattle.std.proofs.lemmas.Bool.{and_parts}
 use Rattle.ble_base.specs.ErrorCodes.{instant_passed}
 use Rattle.ble_base.specs.declared.error_codes.ErrCode.{ErrCode}
@@ -33,6 +33,7 @@ use Rattle.joint_laws.proofs.FewWait.{few_control_pdus}
 use Rattle.joint_laws.proofs.PhaseLaws.{known_of, now_of, taken_now}
 use Rattle.joint_laws.proofs.StepEnds.{PhasedEnd, collided, data_lasts, others_last, passed, takes_nothing, takes_phased}
 use Rattle.joint_laws.proofs.TakenEnds.{IsLate}
+use Rattle.joint_laws.proofs.Common.{not_true}
 
 host_takes_nothing : (step : HostStep) → takes_nothing (host_step step) ≡ true
 host_takes_nothing (AsksFor ask) = refl
@@ -223,10 +224,6 @@ module _ (central_rx peripheral_rx : ℕ) (first : Params) (slot : ℕ) (steps :
             let rest = and_parts (not (is_taken s.up)) ((is_same_event s || is_late s) && is_supervised s) parts.1 in
             let time = and_parts (is_same_event s || is_late s) (is_supervised s) rest.1 in
             is_late_now s here takes.outgoing takes.ctrl on.0 on.1 (let less = few Peripheral in omega (arith, less)) (not_true (is_taken s.up) rest.0) time.0 takes.late
-          where
-            not_true : (b : Bool) → not b ≡ true → b ≡ false
-            not_true true is = absurd (cc)
-            not_true false is = refl
 
     pub peripheral_ends_late : EndsLateAlone s (act step s).peripheral.control.ends
     peripheral_ends_late = late_end (act step s).peripheral.control.ends peripheral_end

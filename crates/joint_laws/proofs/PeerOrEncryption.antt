@@ -57,6 +57,7 @@ use Rattle.collisions.specs.declared.central.Central.{Central as TheCentral}
 use Rattle.collision_steps.specs.Answers.{stops_run}
 use Rattle.collision_steps.specs.CentralPart.{answer_to, central_of, refusal_if, step_of_read, view}
 use Rattle.collision_steps.proofs.CentralTaking.{no_room_left, took as took_exactly}
+use Rattle.joint_laws.proofs.Common.{settled_of}
 
 -- both at once
 abbrev pub is_both : Progress → Bool
@@ -206,9 +207,6 @@ abbrev pub is_exclusive_first : CtrlRead → Bool
 is_exclusive_first (Known (ConnectionParamReq min max latency timeout periodicity reference offsets)) = true
 is_exclusive_first (Known (phy_pdu tx rx)) = true
 is_exclusive_first read = false
-
-abbrev settled_of : Bool → Bool → TableFacts → TableFacts → the_step → the_step → the_step → TableFacts × the_step
-settled_of a b f k x y z = (if a then (f, x) else (if b then (f, y) else (k, z)))
 
 response_peer : (t : TheCentral) → (CentralTable.response_taken t).peer ≡ t.peer
 response_peer t = by (awaits_phy_rsp t.own) t.closed

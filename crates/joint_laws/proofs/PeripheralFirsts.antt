@@ -28,6 +28,7 @@ use Rattle.joint_phases.specs.Facts.{is_first_up, item_untaken}
 use Rattle.phased_control.specs.Ends.{IsFirst}
 use Rattle.joint_laws.specs.Firsts.{has, is_first}
 use Rattle.joint_laws.proofs.VersionPdus.{count_none}
+use Rattle.joint_laws.proofs.Common.{some_ctrl}
 
 -- ---- one draft
 
@@ -117,9 +118,6 @@ pub record IsNoFirstOn (knows : Bool) (way : Way) : Type 0 where
   pub lengths : untaken (is_question_of Lengths) way ≡ 0
   pub version : knows ≡ false → untaken is_version_ind way ≡ 0
   pub exclusive : is_pdu is_first (Agreement.untaken (way_part pdu_of_outgoing way)) ≡ false
-
-some_ctrl : {A B : Ctrl} → Some A ≡ Some B → A ≡ B
-some_ctrl {A} {B} is = ap (λ (x : Option Ctrl). elim x as (λ y. Ctrl) [ Some c ↦ c | None ↦ A ]) is
 
 outgoing_none : (knows : Bool) (outgoing : Outgoing) (ctrl : Ctrl) (event latency : ℕ) → is_outgoing_of true Peripheral outgoing ≡ true
     → ctrl_of_outgoing outgoing event latency ≡ Some ctrl

@@ -40,6 +40,7 @@ use Rattle.phased_control.proofs.Tables.{same_role, takes_as}
 use Rattle.phased_control.proofs.Taking.{handed_ways, took_ways}
 use Rattle.joint_laws.proofs.PeerInQuiet.{ArePlain, IsPlain, owed_plain}
 use Rattle.joint_laws.proofs.TakenEnds.{IsLate, TakenEnd, by_collision, no_end, takes_end, too_late}
+use Rattle.joint_laws.proofs.Common.{settled_of}
 
 -- ---- steps in which no PDU is taken
 
@@ -88,9 +89,6 @@ reply_grows closing (Reject rejection) queue = by (is_open closing)
     by true = let more = length-append queue.rejections (rejection ∷ []) in omega (arith, more)
     by false = omega arith
 reply_grows closing (Answer draft) queue = pushed_drafts (is_open closing) queue draft
-
-abbrev settled_of : Bool → Bool → TableFacts → TableFacts → the_step → the_step → the_step → TableFacts × the_step
-settled_of a b f k x y z = (if a then (f, x) else (if b then (f, y) else (k, z)))
 
 settled_grows : (a b : Bool) (f k : TableFacts) (x y z : the_step) → waiting_in k.queue ≤ waiting_in f.queue + 1 → waiting_in (settled_of a b f k x y z).0.queue ≤ waiting_in f.queue + 1
 settled_grows true b f k x y z less = omega arith

@@ -1,32 +1,21 @@
 -- What the machine of phases asks of the exchange of versions, in each state of a joint run in which that goes on.
-use Rattle.std.proofs.Common.{◌≡◌, ◌≤◌, ℕ, ◌+◌, Bool, true, false, not, ◌||◌, List, Option, Some, refl, ap, sym, subst, ◌∙◌, arith}
-use Rattle.std.proofs.lemmas.Bool.{and_parts}
+use Rattle.std.proofs.Common.{◌≡◌, ◌≤◌, ℕ, ◌+◌, Bool, true, false, not, ◌||◌, List, Option, Some, refl, ap, sym, ◌∙◌, arith}
 use Rattle.ble_base.specs.declared.roles.Role.{Role}
 use Rattle.ble_base.specs.declared.roles.Role.TheVariants.{Central, Peripheral}
 use Rattle.instants.specs.declared.indications.Params.{Params}
-use Rattle.machines.specs.Machine.{run}
 use Rattle.procedure_stages.specs.declared.stages.Exchange.{Exchange}
 use Rattle.procedure_stages.specs.declared.stages.Exchange.TheVariants.{VersionSent}
 use Rattle.procedure_stages.specs.Kinds.{own_exchange}
 use Rattle.table_laws.specs.Waiting.{count_if}
-use Rattle.exchange_pairs.specs.Exchange.{Sent, count_if as exchange_count, is_idle}
-use Rattle.exchange_pairs.specs.VersionRun
-use Rattle.exchange_pairs.specs.VersionRun.{versions}
+use Rattle.exchange_pairs.specs.Exchange.{Sent, is_idle}
 use Rattle.exchange_steps.specs.Ends.{version_stage}
-use Rattle.exchange_pairs.specs.VersionLaws.{implies, is_used_right}
-use Rattle.exchange_pairs.proofs.Versions.{parts as version_parts}
 use Rattle.joint_controls.specs.Joint.{Joint, JointStep, Way, Clear, Fixed, OnAir, Taken, after_all, beginning, is_fixed, is_item, item_on_air}
 use Rattle.joint_controls.proofs.LastPdus.{first_tied, tied}
 use Rattle.joint_exchanges.specs.Agreement.{coming_to, end_at, is_version_ind, kept_of, passes, sent_from, untaken, version_stage_at, waiting}
 use Rattle.joint_exchanges.specs.Agreement
-use Rattle.joint_exchanges.specs.Machines.{events_of, versions_event}
-use Rattle.joint_exchanges.specs.Moves.{is_some_version}
-use Rattle.joint_exchanges.specs.Parts.{pdu_kept}
-use Rattle.joint_exchanges.proofs.Counting.{version_kept}
-use Rattle.joint_exchanges.specs.Runs.{GoesOn, moves_in}
+use Rattle.joint_exchanges.specs.Runs.{GoesOn}
 use Rattle.joint_exchanges.specs.SentByRole.{AreOfRoles}
 use Rattle.joint_exchanges.proofs.Few.{all_roles}
-use Rattle.joint_exchanges.proofs.MachineRuns.{versions_now}
 use Rattle.joint_exchanges.proofs.States.{version_kept_unused, version_known_used, version_once, version_running, version_sent, version_used_for}
 use Rattle.joint_phases.specs.Classes.{has_version, is_version}
 use Rattle.joint_phases.specs.Facts.{drafts_of, is_version_coming, is_version_kept, is_version_sent}

@@ -17,6 +17,7 @@ use Rattle.joint_exchanges.specs.Agreement.{is_draft, is_version_ind, passes, un
 use Rattle.joint_exchanges.specs.SentByRole.{IsItemOf, IsWayOf, is_cipher_of, is_draft_of, is_outgoing_of}
 use Rattle.joint_phases.specs.Classes.{has_version, is_version, is_version_ctrl}
 use Rattle.joint_phases.specs.Facts.{is_version_coming, is_version_kept}
+use Rattle.joint_laws.proofs.Common.{some_ctrl}
 
 -- ---- a PDU
 
@@ -58,9 +59,6 @@ queue_some role [] all some = absurd (omega (arith, some))
 queue_some role (draft ∷ drafts) all some = some_by role draft drafts (is_version_ind draft) refl all.0 some (queue_some role drafts all.1)
 
 -- ---- what is on its way
-
-some_ctrl : {A B : Ctrl} → Some A ≡ Some B → A ≡ B
-some_ctrl {A} {B} is = ap (λ (x : Option Ctrl). elim x as (λ y. Ctrl) [ Some c ↦ c | None ↦ A ]) is
 
 outgoing_same : (role : Role) (outgoing : Outgoing) (ctrl : Ctrl) (event latency : ℕ) → is_outgoing_of true role outgoing ≡ true
     → ctrl_of_outgoing outgoing event latency ≡ Some ctrl → is_version_ctrl ctrl ≡ is_draft is_version_ind outgoing

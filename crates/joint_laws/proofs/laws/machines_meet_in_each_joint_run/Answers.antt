@@ -1,6 +1,6 @@
 -- The proof of the law `machines_meet_in_each_joint_run`.
-use Rattle.std.proofs.Common.{refl}
 use Rattle.joint_laws.proofs.EachState.{all_known, now}
+use Rattle.joint_laws.proofs.Rejected.{state_of}
 use Rattle.joint_laws.proofs.laws.machines_meet_in_each_joint_run.Goals as goal
 
 pub returns-clause-phases : goal.returns-clause-phases
@@ -18,18 +18,4 @@ pub returns-clause-meanings : goal.returns-clause-meanings
 returns-clause-meanings c = λ central_rx peripheral_rx first slot steps is. (all_known central_rx peripheral_rx first slot is.latency steps is).meant
 
 pub returns-clause-state : goal.returns-clause-state
-returns-clause-state c =
-    λ central_rx peripheral_rx first slot steps is goes.
-    let known = all_known central_rx peripheral_rx first slot is.latency steps is in
-    record {
-      central_rx = central_rx;
-      peripheral_rx = peripheral_rx;
-      first = first;
-      slot = slot;
-      steps = steps;
-      latency = is.latency;
-      in_range = is.in_range;
-      before = known.exclusive;
-      now = (now central_rx peripheral_rx first slot is.latency steps known goes).exclusive;
-      reaches = refl;
-    }
+returns-clause-state c = λ central_rx peripheral_rx first slot steps is goes. state_of central_rx peripheral_rx first slot steps is goes
