@@ -12,6 +12,7 @@ use Rattle.joint_controls.specs.Joint.{CentralTakes, Joint, JointStep, act, afte
 use Rattle.joint_collisions.specs.Arrivals.{Collides, RejectsNext, collided, is_silent}
 use Rattle.joint_collisions.specs.Facts.{CentralFacts, IsState}
 use Rattle.joint_collisions.proofs.CollisionLaws.{no_peer_then, own_stays, rejected_later, terminates_next}
+use Rattle.joint_laws.specs.Prevailing.{CentralPrevails}
 use Rattle.joint_laws.specs.Runs.{IsRun}
 use Rattle.joint_laws.proofs.EachState.{all_known, now, range_more}
 
@@ -62,15 +63,12 @@ module _ (central_rx peripheral_rx : ℕ) (first : Params) (slot : ℕ) where
         let here = ap (λ (t : Joint). is_running t) is_next ∙ goes in
         subst (λ (t : Joint). CentralFacts t.central) is_next (now central_rx peripheral_rx first slot is.latency next known here).exclusive.central
 
-    pub own_goes_on : (central_of (collided s p q outgoing ctrl c).central.control.table).own ≡ (central_of s.central.control.table).own
-    own_goes_on = own_stays s p q outgoing ctrl c (state_of steps is running) goes
-
-    pub peer_is_gone : (central_of (collided s p q outgoing ctrl c).central.control.table).peer ≡ Absent
-    peer_is_gone = no_peer_then s p q outgoing ctrl c (state_of steps is running) goes
-
-    pub rejects : (later : List JointStep) → is_open_now s.central ≡ true → is_silent later ≡ true → RejectsNext (after_all later (collided s p q outgoing ctrl c)) p q
-    rejects later opened silent = rejected_later s p q outgoing ctrl c (state_of steps is running) goes facts_next opened later silent
-
-    pub ends_next : is_open_now s.central ≡ false
-        → next_out (collided s p q outgoing ctrl c).central ≡ next_disconnect (collided s p q outgoing ctrl c).central.control.table.queue.disconnect
-    ends_next closing = terminates_next s p q outgoing ctrl c (state_of steps is running) goes facts_next closing
+    pub prevails : CentralPrevails s p q outgoing ctrl c
+    prevails =
+        let state = state_of steps is running in
+        record {
+          own = own_stays s p q outgoing ctrl c state goes;
+          peer = no_peer_then s p q outgoing ctrl c state goes;
+          rejected = λ later opened silent. rejected_later s p q outgoing ctrl c state goes facts_next opened later silent;
+          closing = λ closing. terminates_next s p q outgoing ctrl c state goes facts_next closing;
+        }

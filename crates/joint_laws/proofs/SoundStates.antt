@@ -14,6 +14,7 @@ use Rattle.joint_collisions.proofs.Agreeing.{agrees}
 use Rattle.joint_exchanges.specs.Agreement.{Asked, end_at, stage_at, version_stage_at}
 use Rattle.joint_exchanges.specs.Runs.{GoesOn}
 use Rattle.joint_exchanges.proofs.States.{asked_idle, asked_sent, asked_unsent, version_known, version_once, version_sent, version_unsent}
+use Rattle.joint_parameters.proofs.Equal.{equal_now}
 use Rattle.joint_phases.specs.Events.{events_of}
 use Rattle.joint_laws.specs.Runs.{IsRun}
 use Rattle.joint_laws.specs.Sound.{AreInPlace, ExchangeAgrees, IsSound, VersionAgrees, VersionIsInPlace}
@@ -78,5 +79,6 @@ module _ (central_rx peripheral_rx : ℕ) (first : Params) (slot : ℕ) (steps :
         encryption = encrypts;
         phases = pairs_now central_rx peripheral_rx first slot steps is running;
         sealing = sealing_now central_rx peripheral_rx first slot steps is running;
+        parameters = equal_now central_rx peripheral_rx first slot is.latency steps is.in_range;
         few = few_control_pdus central_rx peripheral_rx first slot steps run_on known.meant now.reached (events_of steps start) now.shown;
       }

@@ -4,3 +4,4 @@ pub mod Runs
 pub mod Ends
 pub mod Sound
 pub mod Pauses
+pub mod Prevailing

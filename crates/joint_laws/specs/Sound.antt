@@ -1,5 +1,5 @@
--- A state of a joint run is sound: the tables and the phases of both ends agree, and few control PDUs wait (Core 5.2,
--- volume 6 part B, section 5).
+-- A state of a joint run is sound: the tables, the phases and the parameters of both ends agree, and few control PDUs
+-- wait (Core 5.2, volume 6 part B, section 5).
 use Rattle.std.specs.Prelude.{◌≡◌, ◌≤◌, ◌⊎◌, ⊤, true, false, not}
 use Rattle.ble_base.specs.declared.procedure_kinds.Kind.TheVariants.{Version}
 use Rattle.ble_base.specs.declared.roles.Role.{Role}
@@ -10,9 +10,10 @@ use Rattle.table_laws.specs.Waiting.{count_if}
 use Rattle.exchange_pairs.specs.Exchange.{ExchangeStage, Idle, Sent, Unsent}
 use Rattle.exchange_pairs.specs.ExchangeRun.{other_role}
 use Rattle.phased_control.specs.Phased.{is_open_now, is_quiet_now}
-use Rattle.joint_controls.specs.Joint.{Joint}
+use Rattle.joint_controls.specs.Joint.{Joint, is_same_event}
 use Rattle.joint_collisions.specs.Views.{TablesAgree}
 use Rattle.joint_exchanges.specs.Agreement.{Asked, end_at, is_version_ind, places_of, questions_waiting, stage_at, version_coming, version_places, version_stage_at, waiting}
+use Rattle.joint_parameters.specs.Views.{HaveEqual}
 use Rattle.joint_phases.specs.Agreement.{is_sealing_agreed}
 use Rattle.joint_phases.specs.Pairs.{are_phases_paired}
 
@@ -63,4 +64,8 @@ pub record IsSound (s : Joint) : Type 0 where
       (role : Role) → is_quiet_now (end_at role s) ≡ not (has_encryption (end_at role s).control.table.progress)
   pub phases : are_phases_paired s ≡ true
   pub sealing : is_sealing_agreed s ≡ true
+  -- in events of one number in which the same number of indications hold
+  pub parameters :
+      is_same_event s ≡ true → s.central.control.track.applied ≡ s.peripheral.control.track.applied
+      → HaveEqual s.central.control.track s.peripheral.control.track
   pub few : (role : Role) → waiting_in (end_at role s).control.table.queue ≤ 10

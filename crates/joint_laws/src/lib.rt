@@ -5,8 +5,5 @@
 mod laws;
 mod rows;
 
-pub use crate::laws::{
-    a_collision_is_rejected_next, joint_runs_are_sound, machines_meet_in_each_joint_run,
-    phases_of_a_joint_run_agree,
-};
+pub use crate::laws::{joint_runs_are_sound, machines_meet_in_each_joint_run};
 pub use crate::rows::{a_crossing_meets_the_premises, a_start_of_encryption_meets_the_premises};

@@ -1,11 +1,21 @@
 -- The proof of the law `joint_runs_are_sound`.
 use Rattle.std.proofs.lemmas.Bool.{and_parts}
 use Rattle.joint_laws.proofs.LinkEnds.{central_end, peripheral_ends_late}
+use Rattle.joint_laws.proofs.PhaseLaws.{taken_now}
+use Rattle.joint_laws.proofs.Rejected.{prevails}
 use Rattle.joint_laws.proofs.SoundStates.{sound_now}
 use Rattle.joint_laws.proofs.laws.joint_runs_are_sound.Goals as goal
 
 pub returns-clause-state : goal.returns-clause-state
 returns-clause-state c = λ central_rx peripheral_rx first slot steps is running. sound_now central_rx peripheral_rx first slot steps is running
+
+pub returns-clause-taken : goal.returns-clause-taken
+returns-clause-taken c = λ central_rx peripheral_rx first slot steps step is comes. taken_now central_rx peripheral_rx first slot steps step is comes
+
+pub returns-clause-collision : goal.returns-clause-collision
+returns-clause-collision g =
+    λ central_rx peripheral_rx first slot steps p q outgoing ctrl is running c goes.
+    prevails central_rx peripheral_rx first slot steps p q outgoing ctrl c is running goes
 
 pub returns-clause-central : goal.returns-clause-central
 returns-clause-central c =
