@@ -9,6 +9,7 @@ pub mod begun;
 mod closing;
 pub mod collisions;
 mod exclusive;
+pub mod foreign;
 mod held;
 mod in_progress;
 pub mod kinds;
