@@ -37,7 +37,7 @@ use Rattle.procedures.specs.Phy.{phy_ind_taken}
 use Rattle.procedures.specs.Refusals.{refused_if}
 use Rattle.procedures.specs.Request.{after_grant, against_central, collided, outlived, request_judged}
 use Rattle.procedures.specs.Table.{TableFacts}
-use Rattle.procedures.specs.Taking.{outcome_of, taken_at, taken_by, taken_by_central, taken_by_either, taken_by_peripheral}
+use Rattle.procedures.specs.Taking.{outcome_of, taken_by_role, taken_by, taken_by_central, taken_by_either, taken_by_peripheral}
 use Rattle.procedures.specs.Update.{follow, update_taken}
 use Rattle.procedures.specs.Version.{version_reply, version_taken}
 use Rattle.control_model.specs.Control.{indicated_by}
@@ -228,7 +228,7 @@ module _ (f : TableFacts) where
   at_peripheral p quiet (PhyUpdateInd to_peripheral to_central instant) = phy_ind p
   at_peripheral p quiet other = either (peripheral p) other
 
-  by_progress : (p : Progress) (quiet : Bool) (ctrl : Ctrl) → Fits p (taken_at p (at f p) quiet ctrl)
+  by_progress : (p : Progress) (quiet : Bool) (ctrl : Ctrl) → Fits p (taken_by_role p (at f p) quiet ctrl)
   by_progress (central c) quiet ctrl = at_central c quiet ctrl
   by_progress (peripheral p) quiet ctrl = at_peripheral p quiet ctrl
 

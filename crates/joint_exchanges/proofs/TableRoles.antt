@@ -56,7 +56,7 @@ use Rattle.procedures.specs.Refusals.{refused}
 use Rattle.procedures.specs.Request.{collided, outlived, request_judged}
 use Rattle.procedures.specs.Sending.{acked_step, went_step}
 use Rattle.procedures.specs.Table.{TableFacts}
-use Rattle.procedures.specs.Taking.{facts_with, lacks_room, outcome_of, taken_at, taken_by, taken_by_central, taken_by_either, taken_by_peripheral, took_step}
+use Rattle.procedures.specs.Taking.{facts_with, lacks_room, outcome_of, taken_by_role, taken_by, taken_by_central, taken_by_either, taken_by_peripheral, took_step}
 use Rattle.procedures.specs.Update.{follow}
 use Rattle.procedures.specs.Version.{version_reply}
 use Rattle.table_laws.proofs.Begun.{begins_of}
@@ -277,12 +277,12 @@ module _ (unknowns : Bool) (f : TableFacts) where
   peripheral_known p quiet (ctrl_length_rsp rx rx_time tx tx_time) = either_known (ctrl_length_rsp rx rx_time tx tx_time)
   peripheral_known p quiet ctrl = tt
 
-  known_at : (p : Progress) (quiet : Bool) (ctrl : Ctrl) → K (taken_at p f quiet ctrl)
-  known_at (central c) quiet ctrl = central_known c quiet ctrl
-  known_at (peripheral p) quiet ctrl = peripheral_known p quiet ctrl
+  role_known : (p : Progress) (quiet : Bool) (ctrl : Ctrl) → K (taken_by_role p f quiet ctrl)
+  role_known (central c) quiet ctrl = central_known c quiet ctrl
+  role_known (peripheral p) quiet ctrl = peripheral_known p quiet ctrl
 
   by_progress : (p : Progress) (quiet : Bool) (ctrl : Ctrl) → IsKnownAt (role_of p) ctrl → K (taken_by p f quiet ctrl)
-  by_progress p quiet ctrl is = rw is (known_at p quiet ctrl)
+  by_progress p quiet ctrl is = rw is (role_known p quiet ctrl)
 
   read_known : (quiet : Bool) (read : CtrlRead) → IsKnownRead unknowns (role_of f.progress) read → K (outcome_of f quiet read)
   read_known quiet (Known ctrl) is = by_progress f.progress quiet ctrl is

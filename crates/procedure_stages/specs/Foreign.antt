@@ -1,5 +1,5 @@
--- The control PDUs that have no meaning at an end, by its role: only the other end sends such a PDU (Core 5.2, volume 6
--- part B, section 2.4.2).
+-- The control PDUs that have no meaning at an end, since only an end of its role sends them (Core 5.2, volume 6 part B,
+-- section 2.4.2).
 use Rattle.std.specs.Prelude.{ℕ, Bool, true, false, Option, Some, None, if◌then◌else◌}
 use Rattle.ble_base.specs.declared.roles.Role.{Role}
 use Rattle.ble_base.specs.declared.roles.Role.TheVariants.{Central, Peripheral}
@@ -7,8 +7,8 @@ use Rattle.data_pdu.specs.declared.ctrl.Ctrl.{Ctrl}
 use Rattle.data_pdu.specs.declared.ctrl.Ctrl.TheVariants.{ConnectionUpdateInd, ChannelMapInd, EncReq, EncRsp, StartEncReq, FeatureReq, PauseEncReq, PeripheralFeatureReq, ConnectionParamReq, ConnectionParamRsp, PhyUpdateInd}
 use Rattle.data_pdu.specs.Reading.{opcode_of}
 
--- no central makes a connection parameter request, and neither end answers one by LL_CONNECTION_PARAM_RSP (our choice);
--- an LL_PHY_RSP at a peripheral is an answer that nothing awaits (our choice)
+-- no central requests connection parameters, no end answers by LL_CONNECTION_PARAM_RSP, and an LL_PHY_RSP at a
+-- peripheral is an answer that no procedure awaits (our choice)
 abbrev pub is_foreign : Role → Ctrl → Bool
 is_foreign Central (ConnectionUpdateInd win_size win_offset interval latency timeout instant) = true
 is_foreign Central (ChannelMapInd map instant) = true

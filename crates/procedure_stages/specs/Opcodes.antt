@@ -20,6 +20,12 @@ use Rattle.procedure_stages.specs.declared.stages.Progress.TheVariants.{Central 
 
 -- those that several definitions name, each from the layout of its PDU
 
+abbrev pub connection_update_ind_opcode : ℕ
+connection_update_ind_opcode = opcode_of (ConnectionUpdateInd 0 0 0 0 0 0)
+
+abbrev pub channel_map_ind_opcode : ℕ
+channel_map_ind_opcode = opcode_of (ChannelMapInd 0 0)
+
 abbrev pub enc_req_opcode : ℕ
 enc_req_opcode = opcode_of (EncReq 0 0 0 0)
 
@@ -65,9 +71,9 @@ opcode_of_exchange role other = None
 
 -- the first PDU of a procedure that excludes others
 abbrev pub opcode_of_kind : Exclusive → ℕ
-opcode_of_kind Update = opcode_of (ConnectionUpdateInd 0 0 0 0 0 0)
+opcode_of_kind Update = connection_update_ind_opcode
 opcode_of_kind Request = connection_param_req_opcode
-opcode_of_kind Map = opcode_of (ChannelMapInd 0 0)
+opcode_of_kind Map = channel_map_ind_opcode
 opcode_of_kind Phy = phy_req_opcode
 
 abbrev pub opcode_at_central : OwnCentral → Option ℕ

@@ -6,13 +6,13 @@ use Rattle.procedure_stages.specs.Foreign.{foreign_opcode, is_foreign}
 use Rattle.procedure_stages.specs.Kinds.{role_of}
 use Rattle.procedures.specs.Outcomes.{unknown}
 use Rattle.procedures.specs.Table.{TableFacts}
-use Rattle.procedures.specs.Taking.{taken_at, taken_by}
+use Rattle.procedures.specs.Taking.{taken_by_role, taken_by}
 
 pub known : (f : TableFacts) (quiet : Bool) (ctrl : Ctrl) → foreign_opcode (role_of f.progress) ctrl ≡ None
-    → taken_at f.progress f quiet ctrl ≡ taken_by f.progress f quiet ctrl
+    → taken_by_role f.progress f quiet ctrl ≡ taken_by f.progress f quiet ctrl
 known f quiet ctrl none = by (is_foreign (role_of f.progress) ctrl) none
   where
     by : (b : Bool) → ◌≡◌ {A = Option ℕ} (if b then Some (opcode_of ctrl) else None) None
-        → taken_at f.progress f quiet ctrl ≡ (if b then unknown f (opcode_of ctrl) else taken_at f.progress f quiet ctrl)
+        → taken_by_role f.progress f quiet ctrl ≡ (if b then unknown f (opcode_of ctrl) else taken_by_role f.progress f quiet ctrl)
     by true h = absurd (cc)
     by false h = refl

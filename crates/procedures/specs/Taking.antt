@@ -77,14 +77,15 @@ taken_by_peripheral f p quiet (PhyReq tx rx) = phy_req_at_peripheral f p
 taken_by_peripheral f p quiet (PhyUpdateInd to_peripheral to_central instant) = phy_ind_taken f p
 taken_by_peripheral f p quiet other = taken_by_either f other
 
-abbrev pub taken_at : Progress → TableFacts → Bool → Ctrl → Outcome
-taken_at (central c) f quiet ctrl = taken_by_central f c quiet ctrl
-taken_at (peripheral p) f quiet ctrl = taken_by_peripheral f p quiet ctrl
+-- a PDU that has a meaning at the end, by the role of the end
+abbrev pub taken_by_role : Progress → TableFacts → Bool → Ctrl → Outcome
+taken_by_role (central c) f quiet ctrl = taken_by_central f c quiet ctrl
+taken_by_role (peripheral p) f quiet ctrl = taken_by_peripheral f p quiet ctrl
 
--- a PDU that has no meaning at the end is answered as an unknown one
+-- one that has none is answered as an unknown one
 abbrev pub taken_by : Progress → TableFacts → Bool → Ctrl → Outcome
 taken_by progress f quiet ctrl =
-    (if is_foreign (role_of progress) ctrl then unknown f (opcode_of ctrl) else taken_at progress f quiet ctrl)
+    (if is_foreign (role_of progress) ctrl then unknown f (opcode_of ctrl) else taken_by_role progress f quiet ctrl)
 
 -- what was read of the octets: an unknown PDU is answered by LL_UNKNOWN_RSP, one without an octet is ignored (section
 -- 2.4.2.8; the latter is our choice)

@@ -4,7 +4,7 @@ ghost use Rattle.ble_base.specs.ChannelMap.{IsMap};
 ghost use Rattle.data_pdu.specs.Ranges.{IsInRange};
 ghost use Rattle.data_pdu.specs.Reading.{IfKnown};
 ghost use Rattle.procedures.specs.Taking.{taken_by_either, taken_by_central, taken_by_peripheral};
-ghost use Rattle.procedures.specs.Taking.{taken_at, taken_by, outcome_of};
+ghost use Rattle.procedures.specs.Taking.{taken_by_role, taken_by, outcome_of};
 ghost use Rattle.procedures.specs.Taking.{since_after};
 ghost use Rattle.procedures.specs.Taking.{lacks_room, wanted_after, facts_with, settled, took_step};
 ghost use Rattle.procedures.specs.Map.{map_taken};
@@ -131,9 +131,9 @@ fn taken_by_peripheral(table: &ProcTable, p: Peripheral, quiet: bool, ctrl: &Ctr
 }
 
 /// A PDU that has a meaning at an end is taken there.
-fn taken_at(table: &ProcTable, quiet: bool, ctrl: &Ctrl) -> Outcome
+fn taken_by_role(table: &ProcTable, quiet: bool, ctrl: &Ctrl) -> Outcome
     requires { IsInRange ctrl.now }
-    ensures { result ≡ taken_at table.now.progress table.now quiet ctrl.now }
+    ensures { result ≡ taken_by_role table.now.progress table.now quiet ctrl.now }
 {
     match table.progress {
         Progress::Central(c) => taken_by_central(table, c, quiet, ctrl),
@@ -149,7 +149,7 @@ fn taken_by(table: &ProcTable, quiet: bool, ctrl: &Ctrl) -> Outcome
 {
     match foreign_opcode(table.progress.role(), ctrl) {
         Some(opcode) => unknown(table, opcode),
-        None => taken_at(table, quiet, ctrl),
+        None => taken_by_role(table, quiet, ctrl),
     }
 }
 
