@@ -42,7 +42,7 @@ use Rattle.procedure_stages.specs.Closing.{is_open}
 use Rattle.procedure_values.specs.Values.{are_valid}
 use Rattle.procedure_values.specs.Wants.{is_wanted}
 use Rattle.procedures.specs.Request.{request_judged, request_taken}
-use Rattle.procedures.specs.Taking.{facts_with, lacks_room, no_room, outcome_of, settled, taken_by_central, took_step}
+use Rattle.procedures.specs.Taking.{facts_with, lacks_room, no_room, outcome_of, settled, taken_by, took_step}
 use Rattle.procedure_stages.specs.Opcodes.{is_opcode, later_opcode_at_central, opcode_at_central}
 use Rattle.procedures.specs.Refusals.{refused_if, refused_with}
 use Rattle.exclusive_stages.specs.Awaited.{peer_answered}
@@ -318,7 +318,7 @@ module _ (f : TableFacts) (peer : PeerAtCentral) (last : Option EventNo) (slot :
       record { part = is ∙ other_ctrl own d none; ends = ends; refused = refused; done = done; host = host }
 
   taken : (own : OwnCentral) (quiet : Bool) (ctrl : Ctrl) → stops_run (Known ctrl) ≡ false
-      → Does own (taken_by_central (at f own peer last) (c_of own peer last) quiet ctrl)
+      → Does own (taken_by (central (c_of own peer last)) (at f own peer last) quiet ctrl)
       (answer_to (step_of_ctrl (central (c_of own peer last)) ctrl) (table own))
       (refusal_with (refused_kind (step_of_ctrl (central (c_of own peer last)) ctrl) (central_stage own)) (code_of_refusal (Known ctrl)))
       (asks_host_by (step_of_ctrl (central (c_of own peer last)) ctrl) (central_stage own))

@@ -32,7 +32,7 @@ use Rattle.procedure_stages.specs.Queue.{QueueFacts, with_draft}
 use Rattle.procedure_stages.specs.Steps.{asks_host}
 use Rattle.procedures.specs.Table.{TableFacts}
 use Rattle.procedure_stages.specs.Closing.{is_open}
-use Rattle.procedures.specs.Taking.{facts_with, lacks_room, outcome_of, settled, taken_by_peripheral, took_step}
+use Rattle.procedures.specs.Taking.{facts_with, lacks_room, outcome_of, settled, taken_by, took_step}
 use Rattle.procedure_stages.specs.Opcodes.{is_opcode, opcode_at_peripheral}
 use Rattle.procedures.specs.Refusals.{refused_if, refused_with, reject_ext_taken}
 use Rattle.procedures.specs.Update.{update_taken}
@@ -286,7 +286,7 @@ module _ (f : TableFacts) (encrypting : Bool) (slot : ℕ) where
       Does own peer ahead o (answer_to step (table own peer ahead)) (refusal_with (refused_kind step (peripheral_stage own)) code) (done_by step (table own peer ahead))
 
   taken : (own : OwnPeripheral) (peer : PeerAtPeripheral) (ahead : Ahead) (quiet : Bool) (ctrl : Ctrl) → stops_run (Known ctrl) ≡ false
-      → DoesAs own peer ahead (taken_by_peripheral (at f own peer ahead encrypting) (p_of own peer ahead encrypting) quiet ctrl)
+      → DoesAs own peer ahead (taken_by (peripheral (p_of own peer ahead encrypting)) (at f own peer ahead encrypting) quiet ctrl)
       (step_of_ctrl (peripheral (p_of own peer ahead encrypting)) ctrl) (code_of_refusal (Known ctrl))
   taken own peer ahead quiet (ConnectionUpdateInd win_size win_offset interval latency timeout instant) h =
       update_by own peer ahead _ (reads_as_answer (peripheral_stage own)) refl

@@ -12,13 +12,14 @@ use Rattle.exclusive_stages.specs.declared.pdus.Reason.TheVariants.{SameKind, Ot
 use Rattle.exclusive_stages.specs.declared.pdus.Pdu.{Pdu}
 use Rattle.exclusive_stages.specs.declared.pdus.Pdu.TheVariants.{RejectParam, RejectPhy}
 use Rattle.procedure_stages.specs.Exclusive.{pdu_of_draft}
+use Rattle.procedure_stages.specs.Opcodes.{connection_param_req_opcode, phy_req_opcode}
 
--- the opcodes of the two first PDUs of a peripheral's procedures (sections 2.4.2.16 and 2.4.2.22)
+-- the opcodes of the two first PDUs of a peripheral's procedures
 abbrev pub param_request_opcode : ℕ
-param_request_opcode = 0x0F
+param_request_opcode = connection_param_req_opcode
 
 abbrev pub phy_request_opcode : ℕ
-phy_request_opcode = 0x16
+phy_request_opcode = phy_req_opcode
 
 -- the reason of a rejection, by its error
 abbrev pub reason_part : ErrCode → Reason

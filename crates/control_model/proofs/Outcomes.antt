@@ -6,7 +6,7 @@ use Rattle.ble_base.specs.declared.procedure_kinds.Kind.{Kind}
 use Rattle.ble_base.specs.declared.procedure_kinds.Kind.TheVariants.{Map as map_kind, Phy, Request}
 use Rattle.ble_base.specs.declared.roles.Role.TheVariants.{Peripheral as peripheral_role}
 use Rattle.data_pdu.specs.declared.ctrl.Ctrl.{Ctrl}
-use Rattle.data_pdu.specs.declared.ctrl.Ctrl.TheVariants.{TerminateInd, UnknownRsp, FeatureRsp, VersionInd, RejectInd, ConnectionParamRsp, RejectExtInd, LengthReq, LengthRsp, ConnectionUpdateInd, ChannelMapInd, EncReq, EncRsp, StartEncReq, StartEncRsp, FeatureReq, PauseEncReq, PauseEncRsp, PeripheralFeatureReq, ConnectionParamReq, PhyReq, PhyRsp, PhyUpdateInd}
+use Rattle.data_pdu.specs.declared.ctrl.Ctrl.TheVariants.{TerminateInd, UnknownRsp, FeatureRsp, VersionInd, RejectInd, RejectExtInd, LengthReq, LengthRsp, ConnectionUpdateInd, ChannelMapInd, EncReq, EncRsp, StartEncReq, StartEncRsp, FeatureReq, PauseEncReq, PauseEncRsp, PeripheralFeatureReq, ConnectionParamReq, PhyReq, PhyRsp, PhyUpdateInd}
 use Rattle.data_pdu.specs.declared.ctrl.CtrlRead.{CtrlRead}
 use Rattle.data_pdu.specs.declared.ctrl.CtrlRead.TheVariants.{Known, Unknown, Bare}
 use Rattle.instants.specs.declared.indications.Indication.{Indication}
@@ -24,6 +24,7 @@ use Rattle.exclusive_stages.specs.Awaited.{awaits_phy_ind, awaits_phy_rsp, centr
 use Rattle.procedure_stages.specs.Exclusive.{central_stage, peripheral_stage}
 use Rattle.procedure_stages.specs.Awaited.{awaits_features, awaits_lengths, is_own_encryption, is_version}
 use Rattle.procedure_stages.specs.Collisions.{collision}
+use Rattle.procedure_stages.specs.Foreign.{is_foreign}
 use Rattle.procedure_stages.specs.Kinds.{kind_at_central, kind_at_peripheral, own_exchange, role_of, without_own}
 use Rattle.procedure_stages.specs.Opcodes.{connection_param_req_opcode, first_opcode, later_opcode, is_opcode, phy_req_opcode}
 use Rattle.procedure_values.specs.Values.{are_valid}
@@ -36,7 +37,7 @@ use Rattle.procedures.specs.Phy.{phy_ind_taken}
 use Rattle.procedures.specs.Refusals.{refused_if}
 use Rattle.procedures.specs.Request.{after_grant, against_central, collided, outlived, request_judged}
 use Rattle.procedures.specs.Table.{TableFacts}
-use Rattle.procedures.specs.Taking.{outcome_of, taken_by, taken_by_central, taken_by_either, taken_by_peripheral}
+use Rattle.procedures.specs.Taking.{outcome_of, taken_by_role, taken_by, taken_by_central, taken_by_either, taken_by_peripheral}
 use Rattle.procedures.specs.Update.{follow, update_taken}
 use Rattle.procedures.specs.Version.{version_reply, version_taken}
 use Rattle.control_model.specs.Control.{indicated_by}
@@ -125,7 +126,6 @@ module _ (f : TableFacts) where
   either p (FeatureRsp value) = features p value
   either p (VersionInd number company sub) = version p number company sub
   either p (RejectInd code) = refusal p (is_some (first_opcode p)) _
-  either p (ConnectionParamRsp min max latency timeout periodicity reference offsets) = plain p _ (same p) refl refl
   either p (RejectExtInd opcode code) = refusal p (is_opcode (first_opcode p) opcode || is_opcode (later_opcode p) opcode) _
   either p (LengthReq rx rx_time tx tx_time) = plain p _ (same p) refl refl
   either p (LengthRsp rx rx_time tx tx_time) = lengths p rx tx
@@ -159,12 +159,6 @@ module _ (f : TableFacts) where
       (plain (central c) _ (record { role = refl; last = refl; awaited = refl }) refl tt)
 
   at_central : (c : Central) (quiet : Bool) (ctrl : Ctrl) → Fits (central c) (taken_by_central (at f (central c)) c quiet ctrl)
-  at_central c quiet (ConnectionUpdateInd win_size win_offset interval latency timeout instant) = plain (central c) _ (same (central c)) refl refl
-  at_central c quiet (ChannelMapInd map instant) = plain (central c) _ (same (central c)) refl refl
-  at_central c quiet (EncReq rand ediv skd_m iv_m) = plain (central c) _ (same (central c)) refl refl
-  at_central c quiet (FeatureReq value) = plain (central c) _ (same (central c)) refl refl
-  at_central c quiet PauseEncReq = plain (central c) _ (same (central c)) refl refl
-  at_central c quiet (PhyUpdateInd to_peripheral to_central instant) = plain (central c) _ (same (central c)) refl refl
   at_central c quiet (EncRsp skd_s iv_s) = cipher c quiet (EncRsp skd_s iv_s)
   at_central c quiet StartEncReq = cipher c quiet StartEncReq
   at_central c quiet PauseEncRsp = cipher c quiet PauseEncRsp
@@ -228,22 +222,20 @@ module _ (f : TableFacts) where
   at_peripheral p quiet StartEncRsp =
       choice (peripheral p) quiet _ _ (nothing (peripheral p))
       (plain (peripheral p) _ (record { role = refl; last = refl; awaited = refl }) refl tt)
-  at_peripheral p quiet (EncRsp skd_s iv_s) = plain (peripheral p) _ (same (peripheral p)) refl refl
-  at_peripheral p quiet StartEncReq = plain (peripheral p) _ (same (peripheral p)) refl refl
-  at_peripheral p quiet (PeripheralFeatureReq value) = plain (peripheral p) _ (same (peripheral p)) refl refl
-  at_peripheral p quiet (ConnectionParamReq min max latency timeout periodicity reference offsets) =
-      plain (peripheral p) _ (same (peripheral p)) refl refl
   at_peripheral p quiet (FeatureReq value) = plain (peripheral p) _ (same (peripheral p)) refl refl
   at_peripheral p quiet (PhyReq tx rx) =
       granting p Phy _ (plain (peripheral p) _ (record { role = refl; last = refl; awaited = refl }) refl refl)
   at_peripheral p quiet (PhyUpdateInd to_peripheral to_central instant) = phy_ind p
   at_peripheral p quiet other = either (peripheral p) other
 
-  by_progress : (p : Progress) (quiet : Bool) (ctrl : Ctrl) → Fits p (taken_by p (at f p) quiet ctrl)
+  by_progress : (p : Progress) (quiet : Bool) (ctrl : Ctrl) → Fits p (taken_by_role p (at f p) quiet ctrl)
   by_progress (central c) quiet ctrl = at_central c quiet ctrl
   by_progress (peripheral p) quiet ctrl = at_peripheral p quiet ctrl
 
+  known_or_foreign : (p : Progress) (quiet : Bool) (ctrl : Ctrl) → Fits p (taken_by p (at f p) quiet ctrl)
+  known_or_foreign p quiet ctrl = choice p (is_foreign (role_of p) ctrl) _ _ (plain p _ (same p) refl refl) (by_progress p quiet ctrl)
+
   pub fits : (quiet : Bool) (read : CtrlRead) → Fits f.progress (outcome_of f quiet read)
-  fits quiet (Known ctrl) = by_progress f.progress quiet ctrl
+  fits quiet (Known ctrl) = known_or_foreign f.progress quiet ctrl
   fits quiet (Unknown opcode) = plain f.progress _ (same f.progress) refl refl
   fits quiet Bare = nothing f.progress

@@ -32,7 +32,7 @@ use Rattle.procedures.specs.Length.{length_asked, length_taken}
 use Rattle.procedures.specs.Outcomes.{unchanged}
 use Rattle.procedures.specs.Refusals.{refused_if, refused_with}
 use Rattle.procedures.specs.Table.{TableFacts}
-use Rattle.procedures.specs.Taking.{lacks_room, outcome_of, settled, taken_by, taken_by_central, taken_by_peripheral}
+use Rattle.procedures.specs.Taking.{lacks_room, outcome_of, settled, taken_by}
 use Rattle.procedures.specs.Termination.{terminate_taken}
 use Rattle.procedures.specs.Version.{version_taken}
 use Rattle.exchange_pairs.specs.Exchange.{Answer, Question, is_idle}
@@ -213,7 +213,7 @@ module _ (f : TableFacts) where
       (either_sent f.progress opcode (is_opcode (first_opcode f.progress) opcode) (is_opcode (later_opcode f.progress) opcode) refl refl))
 
   taken_central : (c : Central) → f.progress ≡ central c → (quiet : Bool) (ctrl : Ctrl)
-      → IsAnswer f (step_of_ctrl (central c) ctrl) (Known ctrl) (taken_by_central f c quiet ctrl)
+      → IsAnswer f (step_of_ctrl (central c) ctrl) (Known ctrl) (taken_by (central c) f quiet ctrl)
   taken_central c is quiet (ConnectionUpdateInd win_size win_offset interval latency timeout instant) = plain f _ _ (unknown_same f _)
   taken_central c is quiet (ChannelMapInd map instant) = plain f _ _ (unknown_same f _)
   taken_central c is quiet (TerminateInd code) = ended code
@@ -239,7 +239,7 @@ module _ (f : TableFacts) where
   taken_central c is quiet (PhyUpdateInd to_peripheral to_central instant) = plain f _ _ (unknown_same f _)
 
   taken_peripheral : (p : Peripheral) → f.progress ≡ peripheral p → (quiet : Bool) (ctrl : Ctrl)
-      → IsAnswer f (step_of_ctrl (peripheral p) ctrl) (Known ctrl) (taken_by_peripheral f p quiet ctrl)
+      → IsAnswer f (step_of_ctrl (peripheral p) ctrl) (Known ctrl) (taken_by (peripheral p) f quiet ctrl)
   taken_peripheral p is quiet (ConnectionUpdateInd win_size win_offset interval latency timeout instant) = plain f _ _ (Same.update_same f p is _)
   taken_peripheral p is quiet (ChannelMapInd map instant) = plain f _ _ (Same.map_same f p is _)
   taken_peripheral p is quiet (TerminateInd code) = ended code

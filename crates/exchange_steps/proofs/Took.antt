@@ -19,7 +19,7 @@ use Rattle.procedure_stages.specs.Opcodes.{first_opcode, is_opcode, later_opcode
 use Rattle.procedures.specs.declared.outcome.Outcome.{Outcome}
 use Rattle.procedures.specs.Refusals.{refused_if}
 use Rattle.procedures.specs.Table.{TableFacts}
-use Rattle.procedures.specs.Taking.{facts_with, lacks_room, outcome_of, settled, taken_by, taken_by_central, taken_by_peripheral, took_step}
+use Rattle.procedures.specs.Taking.{facts_with, lacks_room, outcome_of, settled, taken_by, took_step}
 use Rattle.exchange_steps.specs.Ends.{ends_of}
 use Rattle.exchange_steps.specs.Steps.{EndStep, after_steps, refusal_if, step_of_ctrl, step_of_read, unless_ended}
 use Rattle.exchange_steps.proofs.Same
@@ -90,7 +90,7 @@ module _ (f : TableFacts) (slot : ℕ) where
       (either_sent f.progress opcode (is_opcode (first_opcode f.progress) opcode) (is_opcode (later_opcode f.progress) opcode) refl refl)
 
   taken_central : (c : Central) → f.progress ≡ central c → (quiet : Bool) (ctrl : Ctrl)
-      → ends_of (facts_with f slot (taken_by_central f c quiet ctrl)) ≡ after_steps (step_of_ctrl (central c) ctrl) (ends_of f)
+      → ends_of (facts_with f slot (taken_by (central c) f quiet ctrl)) ≡ after_steps (step_of_ctrl (central c) ctrl) (ends_of f)
   taken_central c is quiet (ConnectionUpdateInd win_size win_offset interval latency timeout instant) = same_ends f slot _ (unknown_same f _)
   taken_central c is quiet (ChannelMapInd map instant) = same_ends f slot _ (unknown_same f _)
   taken_central c is quiet (TerminateInd code) = terminated f slot code f.closing refl
@@ -120,7 +120,7 @@ module _ (f : TableFacts) (slot : ℕ) where
   taken_central c is quiet (PhyUpdateInd to_peripheral to_central instant) = same_ends f slot _ (unknown_same f _)
 
   taken_peripheral : (p : Peripheral) → f.progress ≡ peripheral p → (quiet : Bool) (ctrl : Ctrl)
-      → ends_of (facts_with f slot (taken_by_peripheral f p quiet ctrl)) ≡ after_steps (step_of_ctrl (peripheral p) ctrl) (ends_of f)
+      → ends_of (facts_with f slot (taken_by (peripheral p) f quiet ctrl)) ≡ after_steps (step_of_ctrl (peripheral p) ctrl) (ends_of f)
   taken_peripheral p is quiet (ConnectionUpdateInd win_size win_offset interval latency timeout instant) = same_ends f slot _ (Same.update_same f p is _)
   taken_peripheral p is quiet (ChannelMapInd map instant) = same_ends f slot _ (Same.map_same f p is _)
   taken_peripheral p is quiet (TerminateInd code) = terminated f slot code f.closing refl

@@ -12,6 +12,7 @@ use Rattle.data_pdu.specs.declared.ctrl.Ctrl.{Ctrl}
 use Rattle.data_pdu.specs.declared.ctrl.Ctrl.TheVariants.{ConnectionParamReq, EncReq, EncRsp, LengthReq, PauseEncReq, PeripheralFeatureReq, PhyReq, RejectExtInd, StartEncReq, TerminateInd, VersionInd}
 use Rattle.data_pdu.specs.declared.ctrl.CtrlRead.{CtrlRead}
 use Rattle.data_pdu.specs.declared.ctrl.CtrlRead.TheVariants.{Bare, Known, Unknown}
+use Rattle.data_pdu.specs.Reading.{IfKnown, opcode_of}
 use Rattle.enc_phase.specs.declared.classes.PduClass.{PduClass}
 use Rattle.enc_phase.specs.declared.classes.PduClass.TheVariants.{Data, Request}
 use Rattle.enc_phase.specs.declared.facts.PhaseFacts.{PhaseFacts}
@@ -35,7 +36,8 @@ use Rattle.table_laws.proofs.Begun.{begins_of}
 use Rattle.control_model.specs.Control.{Control, Step, Answers as control_answers, Asks as control_asks, Disconnects as control_disconnects, Enters as control_enters, Owes, SeesAcknowledged as control_acked, Sends as control_sends, Takes as control_takes, after, following, goes_out, indicated_by, is_to_come, moved, taken, went}
 use Rattle.control_model.proofs.Calls.{any_step, either_way}
 use Rattle.phased_control.specs.Phased.{Phased, acknowledged, ask_begun, asking_if, asks_again, encrypting, encrypting_if, entered, if_key_asked, is_encrypt, is_open_now, is_quiet_now, key_given, key_lacking, refused_if, request_of, table_entered, with_owed_if, with_step}
-use Rattle.phased_control.specs.Taken.{PhasedStep, Response, Answers, Asks, Disconnects, Enters, GivesKey, LacksKey, SeesAcknowledged, Sends, Takes, TakesData, answered_kept, ciphered, class_of_read, ctrl_in, ended_with, keeps_class, knowing, opcode_of, phased_after, phased_moved, role_now, seen_as, seen_if, took, took_data}
+use Rattle.phased_control.specs.Taken.{PhasedStep, Response, Answers, Asks, Disconnects, Enters, GivesKey, LacksKey, SeesAcknowledged, Sends, Takes, TakesData, answered_kept, ciphered, class_of_read, ctrl_in, ended_with, keeps_class, knowing, phased_after, phased_moved, role_now, seen_as, seen_if, took, took_data}
+use Rattle.phased_control.proofs.Unknown.{MayBeUnknown, unknown_is}
 use Rattle.joint_exchanges.specs.SentByRole.{AsksAt, IsEndOf, IsKeptBy, IsRequestBy, IsTableOf, is_cipher_of, is_cipher_opcode}
 use Rattle.joint_exchanges.proofs.Ciphered.{Steady, choice, ciphered_keeps}
 use Rattle.joint_exchanges.proofs.EndSteps.{IsRequest, is_request_of}
@@ -194,29 +196,30 @@ if_asked_keeps unknowns role s t e next = by (s.asks_key && is_open_now s) refl
 
 -- ---- a PDU is taken
 
--- a PDU that may have no meaning is seen as one of the encryption
-seen_known : (unknowns : Bool) (role : Role) (b : Bool) (read : CtrlRead) → (b ≡ true → unknowns ≡ true) → IsKnownRead unknowns role read
+-- a PDU that has no meaning is one of the encryption
+unknown_cipher : (ctrl : Ctrl) → MayBeUnknown ctrl → is_cipher_opcode (opcode_of ctrl) ≡ true
+unknown_cipher (EncReq rand ediv skd_m iv_m) is = refl
+unknown_cipher (EncRsp skd_s iv_s) is = refl
+unknown_cipher StartEncReq is = refl
+unknown_cipher PauseEncReq is = refl
+unknown_cipher ctrl is = absurd is
+
+seen_known : (unknowns : Bool) (role : Role) (b : Bool) (read : CtrlRead) → (b ≡ true → unknowns ≡ true) → (b ≡ true → IfKnown read MayBeUnknown) → IsKnownRead unknowns role read
     → IsKnownRead unknowns role (seen_if b read)
-seen_known unknowns role true (Known ctrl) lets is = ap (λ x. x && is_cipher_opcode (opcode_of ctrl)) (lets refl) ∙ by ctrl
-  where
-    by : (ctrl : Ctrl) → is_cipher_opcode (opcode_of ctrl) ≡ true
-    by (EncReq rand ediv skd_m iv_m) = refl
-    by (EncRsp skd_s iv_s) = refl
-    by StartEncReq = refl
-    by ctrl = refl
-seen_known unknowns role true (Unknown opcode) lets is = is
-seen_known unknowns role true Bare lets is = is
-seen_known unknowns role false (Known ctrl) lets is = is
-seen_known unknowns role false (Unknown opcode) lets is = is
-seen_known unknowns role false Bare lets is = is
+seen_known unknowns role true (Known ctrl) lets of is = ap (λ x. x && is_cipher_opcode (opcode_of ctrl)) (lets refl) ∙ unknown_cipher ctrl (of refl)
+seen_known unknowns role true (Unknown opcode) lets of is = is
+seen_known unknowns role true Bare lets of is = is
+seen_known unknowns role false (Known ctrl) lets of is = is
+seen_known unknowns role false (Unknown opcode) lets of is = is
+seen_known unknowns role false Bare lets of is = is
 
 first_known : (ctrl : Ctrl) → ctrl_class ctrl ≡ Request → IsKnownAt Central ctrl
-first_known (VersionInd version company sub) is = tt
-first_known (PeripheralFeatureReq features) is = tt
-first_known (ConnectionParamReq min max latency timeout periodicity reference offsets) is = tt
-first_known (LengthReq rx rx_time tx tx_time) is = tt
-first_known (PhyReq tx rx) is = tt
-first_known (RejectExtInd opcode code) is = tt
+first_known (VersionInd version company sub) is = refl
+first_known (PeripheralFeatureReq features) is = refl
+first_known (ConnectionParamReq min max latency timeout periodicity reference offsets) is = refl
+first_known (LengthReq rx rx_time tx tx_time) is = refl
+first_known (PhyReq tx rx) is = refl
+first_known (RejectExtInd opcode code) is = refl
 first_known ctrl is = absurd (cc)
 
 answered_keeps : (unknowns : Bool) (role : Role) (slot : ℕ) (kept : Option Ctrl) (s : Phased) → IsKeptBy role kept → IsEndOf unknowns role s → IsEndOf unknowns role (answered_kept slot kept s)
@@ -246,7 +249,7 @@ module _ (unknowns : Bool) (role : Role) (slot : ℕ) (response : Response) (rea
   pub handed_end : IsEndOf unknowns role (handed slot read s)
   handed_end =
       with_phase unknowns role (phase_taking (class_of_read read) s.phase) (with_step (control_takes (seen_as read s) slot (is_quiet_now s)) (knowing read s))
-      (step_keeps unknowns role (control_takes (seen_as read s) slot (is_quiet_now s)) (knowing read s) (seen_known unknowns role _ read means is)
+      (step_keeps unknowns role (control_takes (seen_as read s) slot (is_quiet_now s)) (knowing read s) (seen_known unknowns role _ read means (unknown_is s.phase (role_now s) read) is)
       (record { table = e.table; request = e.request; kept = e.kept; asks = e.asks }))
 
   pub ciphered_end : IsEndOf unknowns role (ciphered response read (handed slot read s))

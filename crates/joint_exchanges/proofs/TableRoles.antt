@@ -8,7 +8,7 @@ use Rattle.ble_base.specs.declared.procedure_kinds.Kind.TheVariants.{Phy}
 use Rattle.ble_base.specs.declared.roles.Role.{Role}
 use Rattle.ble_base.specs.declared.roles.Role.TheVariants.{Central as central_role, Peripheral as peripheral_role}
 use Rattle.data_pdu.specs.declared.ctrl.Ctrl.{Ctrl}
-use Rattle.data_pdu.specs.declared.ctrl.Ctrl.TheVariants.{ChannelMapInd, ConnectionParamReq, ConnectionParamRsp, ConnectionUpdateInd, EncReq, EncRsp, FeatureReq as ctrl_feature_req, FeatureRsp as ctrl_feature_rsp, LengthReq as ctrl_length_req, LengthRsp as ctrl_length_rsp, PauseEncReq, PauseEncRsp, PeripheralFeatureReq as ctrl_feature_req_up, PhyReq as ctrl_phy_req, PhyRsp as ctrl_phy_rsp, PhyUpdateInd, RejectExtInd, RejectInd, StartEncReq, StartEncRsp, TerminateInd, UnknownRsp as ctrl_unknown_rsp, VersionInd as ctrl_version_ind}
+use Rattle.data_pdu.specs.declared.ctrl.Ctrl.TheVariants.{ChannelMapInd, ConnectionParamReq, ConnectionUpdateInd, EncRsp, FeatureRsp as ctrl_feature_rsp, LengthReq as ctrl_length_req, LengthRsp as ctrl_length_rsp, PauseEncRsp, PhyReq as ctrl_phy_req, PhyRsp as ctrl_phy_rsp, PhyUpdateInd, RejectExtInd, RejectInd, StartEncReq, StartEncRsp, TerminateInd, UnknownRsp as ctrl_unknown_rsp, VersionInd as ctrl_version_ind}
 use Rattle.data_pdu.specs.declared.ctrl.CtrlRead.{CtrlRead}
 use Rattle.data_pdu.specs.declared.ctrl.CtrlRead.TheVariants.{Bare, Known, Unknown}
 use Rattle.procedure_values.specs.declared.asks.Ask.{Ask}
@@ -43,6 +43,7 @@ use Rattle.procedure_stages.specs.Closing.{is_disconnecting, is_open}
 use Rattle.procedure_stages.specs.Exclusive.{central_stage, peripheral_stage}
 use Rattle.procedure_stages.specs.Collisions.{collision}
 use Rattle.procedure_stages.specs.Kinds.{begins, kind_at_central, kind_at_peripheral, own_exchange, role_of}
+use Rattle.procedure_stages.specs.Foreign.{is_foreign}
 use Rattle.procedure_stages.specs.Opcodes.{connection_param_req_opcode, phy_req_opcode}
 use Rattle.procedure_stages.specs.Queue.{QueueFacts, is_past_instant, next_by, next_disconnect, next_draft, with_draft, with_rejection, with_reply, without_next}
 use Rattle.procedures.specs.declared.outcome.Outcome.{Outcome}
@@ -55,7 +56,7 @@ use Rattle.procedures.specs.Refusals.{refused}
 use Rattle.procedures.specs.Request.{collided, outlived, request_judged}
 use Rattle.procedures.specs.Sending.{acked_step, went_step}
 use Rattle.procedures.specs.Table.{TableFacts}
-use Rattle.procedures.specs.Taking.{facts_with, lacks_room, outcome_of, taken_by, taken_by_central, taken_by_either, taken_by_peripheral, took_step}
+use Rattle.procedures.specs.Taking.{facts_with, lacks_room, outcome_of, taken_by_role, taken_by, taken_by_central, taken_by_either, taken_by_peripheral, took_step}
 use Rattle.procedures.specs.Update.{follow}
 use Rattle.procedures.specs.Version.{version_reply}
 use Rattle.table_laws.proofs.Begun.{begins_of}
@@ -182,20 +183,9 @@ abbrev IsKnownReply : Bool → Reply → Type 0
 IsKnownReply unknowns (Answer (UnknownRsp opcode)) = (unknowns && is_cipher_opcode opcode) ≡ true
 IsKnownReply unknowns reply = ⊤
 
--- a PDU that the other end may send
+-- a PDU that has a meaning here
 abbrev pub IsKnownAt : Role → Ctrl → Type 0
-IsKnownAt central_role (ConnectionUpdateInd win_size win_offset interval latency timeout instant) = ⊥
-IsKnownAt central_role (ChannelMapInd map instant) = ⊥
-IsKnownAt central_role (ctrl_feature_req features) = ⊥
-IsKnownAt central_role (PhyUpdateInd to_peripheral to_central instant) = ⊥
-IsKnownAt peripheral_role (ctrl_feature_req_up features) = ⊥
-IsKnownAt peripheral_role (ConnectionParamReq min max latency timeout periodicity reference offsets) = ⊥
-IsKnownAt central_role (EncReq rand ediv skd_m iv_m) = ⊥
-IsKnownAt central_role PauseEncReq = ⊥
-IsKnownAt peripheral_role (EncRsp skd_s iv_s) = ⊥
-IsKnownAt peripheral_role StartEncReq = ⊥
-IsKnownAt role (ConnectionParamRsp min max latency timeout periodicity reference offsets) = ⊥
-IsKnownAt role ctrl = ⊤
+IsKnownAt role ctrl = is_foreign role ctrl ≡ false
 
 -- what is read comes from the other end, or has no meaning here
 abbrev pub IsKnownRead : Bool → Role → CtrlRead → Type 0
@@ -211,21 +201,20 @@ module _ (unknowns : Bool) (f : TableFacts) where
   abbrev K : Outcome → Type 0
   K o = IsKnownReply unknowns o.reply
 
-  either_known : (ctrl : Ctrl) → IsKnownAt central_role ctrl → K (taken_by_either f ctrl)
-  either_known (TerminateInd code) is = tt
-  either_known (ctrl_unknown_rsp opcode) is = choice K _ (refused f _) (unchanged f) tt tt
-  either_known (ctrl_feature_rsp features) is = choice K (awaits_features (own_exchange f.progress)) _ (unchanged f) tt tt
-  either_known (ctrl_version_ind version company sub) is = by f.version_used
+  either_known : (ctrl : Ctrl) → K (taken_by_either f ctrl)
+  either_known (TerminateInd code) = tt
+  either_known (ctrl_unknown_rsp opcode) = choice K _ (refused f _) (unchanged f) tt tt
+  either_known (ctrl_feature_rsp features) = choice K (awaits_features (own_exchange f.progress)) _ (unchanged f) tt tt
+  either_known (ctrl_version_ind version company sub) = by f.version_used
     where
       by : (used : Bool) → IsKnownReply unknowns (version_reply used)
       by true = tt
       by false = tt
-  either_known (RejectInd code) is = choice K _ (refused f _) (unchanged f) tt tt
-  either_known (RejectExtInd opcode code) is = choice K _ (refused f _) (unchanged f) tt tt
-  either_known (ctrl_length_req rx rx_time tx tx_time) is = tt
-  either_known (ctrl_length_rsp rx rx_time tx tx_time) is = choice K (awaits_lengths (own_exchange f.progress)) _ (unchanged f) tt tt
-  either_known (ConnectionParamRsp min max latency timeout periodicity reference offsets) is = absurd is
-  either_known ctrl is = tt
+  either_known (RejectInd code) = choice K _ (refused f _) (unchanged f) tt tt
+  either_known (RejectExtInd opcode code) = choice K _ (refused f _) (unchanged f) tt tt
+  either_known (ctrl_length_req rx rx_time tx tx_time) = tt
+  either_known (ctrl_length_rsp rx rx_time tx tx_time) = choice K (awaits_lengths (own_exchange f.progress)) _ (unchanged f) tt tt
+  either_known ctrl = tt
 
   collided_known : (answered : Bool) (opcode : ℕ) (code : Option ErrCode) (other : Outcome) → K other → K (collided f answered opcode code other)
   collided_known answered opcode None other h = h
@@ -248,66 +237,52 @@ module _ (unknowns : Bool) (f : TableFacts) where
       by true = tt
       by false = tt
 
-  central_known : (c : Central) (quiet : Bool) (ctrl : Ctrl) → IsKnownAt central_role ctrl → K (taken_by_central f c quiet ctrl)
-  central_known c quiet (ConnectionUpdateInd win_size win_offset interval latency timeout instant) is = absurd is
-  central_known c quiet (ChannelMapInd map instant) is = absurd is
-  central_known c quiet (EncReq rand ediv skd_m iv_m) is = absurd is
-  central_known c quiet (ctrl_feature_req features) is = absurd is
-  central_known c quiet PauseEncReq is = absurd is
-  central_known c quiet (PhyUpdateInd to_peripheral to_central instant) is = absurd is
-  central_known c quiet (EncRsp skd_s iv_s) is = choice K quiet (unchanged f) _ tt tt
-  central_known c quiet StartEncReq is = choice K quiet (unchanged f) _ tt tt
-  central_known c quiet PauseEncRsp is = choice K quiet (unchanged f) _ tt tt
-  central_known c quiet StartEncRsp is = choice K quiet (unchanged f) _ tt (choice K (is_own_encryption c.own) _ (unchanged f) tt tt)
-  central_known c quiet (ctrl_feature_req_up features) is = tt
-  central_known c quiet (ConnectionParamReq min max latency timeout periodicity reference offsets) is =
+  central_known : (c : Central) (quiet : Bool) (ctrl : Ctrl) → K (taken_by_central f c quiet ctrl)
+  central_known c quiet (EncRsp skd_s iv_s) = choice K quiet (unchanged f) _ tt tt
+  central_known c quiet StartEncReq = choice K quiet (unchanged f) _ tt tt
+  central_known c quiet PauseEncRsp = choice K quiet (unchanged f) _ tt tt
+  central_known c quiet StartEncRsp = choice K quiet (unchanged f) _ tt (choice K (is_own_encryption c.own) _ (unchanged f) tt tt)
+  central_known c quiet (ConnectionParamReq min max latency timeout periodicity reference offsets) =
       collided_known _ _ _ _ (judged_known c min max latency timeout)
-  central_known c quiet (ctrl_phy_req tx rx) is =
+  central_known c quiet (ctrl_phy_req tx rx) =
       collided_known (peer_answered (central_stage c.own)) phy_req_opcode (collision (kind_at_central c.own) Phy)
       (moved_and_answered f (central (record c { peer = PhyIndUnsent })) PhyInd) tt
-  central_known c quiet (ctrl_phy_rsp tx rx) is = choice K (awaits_phy_rsp (central_stage c.own)) _ (unchanged f) tt tt
-  central_known c quiet (TerminateInd code) is = either_known (TerminateInd code) is
-  central_known c quiet (ctrl_unknown_rsp opcode) is = either_known (ctrl_unknown_rsp opcode) is
-  central_known c quiet (ctrl_feature_rsp features) is = either_known (ctrl_feature_rsp features) is
-  central_known c quiet (ctrl_version_ind version company sub) is = either_known (ctrl_version_ind version company sub) is
-  central_known c quiet (RejectInd code) is = either_known (RejectInd code) is
-  central_known c quiet (ConnectionParamRsp min max latency timeout periodicity reference offsets) is = absurd is
-  central_known c quiet (RejectExtInd opcode code) is = either_known (RejectExtInd opcode code) is
-  central_known c quiet (ctrl_length_req rx rx_time tx tx_time) is = tt
-  central_known c quiet (ctrl_length_rsp rx rx_time tx tx_time) is = either_known (ctrl_length_rsp rx rx_time tx tx_time) is
+  central_known c quiet (ctrl_phy_rsp tx rx) = choice K (awaits_phy_rsp (central_stage c.own)) _ (unchanged f) tt tt
+  central_known c quiet (TerminateInd code) = either_known (TerminateInd code)
+  central_known c quiet (ctrl_unknown_rsp opcode) = either_known (ctrl_unknown_rsp opcode)
+  central_known c quiet (ctrl_feature_rsp features) = either_known (ctrl_feature_rsp features)
+  central_known c quiet (ctrl_version_ind version company sub) = either_known (ctrl_version_ind version company sub)
+  central_known c quiet (RejectInd code) = either_known (RejectInd code)
+  central_known c quiet (RejectExtInd opcode code) = either_known (RejectExtInd opcode code)
+  central_known c quiet (ctrl_length_rsp rx rx_time tx tx_time) = either_known (ctrl_length_rsp rx rx_time tx tx_time)
+  central_known c quiet ctrl = tt
 
-  peripheral_known : (p : Peripheral) (quiet : Bool) (ctrl : Ctrl) → IsKnownAt peripheral_role ctrl → K (taken_by_peripheral f p quiet ctrl)
-  peripheral_known p quiet (ConnectionUpdateInd win_size win_offset interval latency timeout instant) is =
+  peripheral_known : (p : Peripheral) (quiet : Bool) (ctrl : Ctrl) → K (taken_by_peripheral f p quiet ctrl)
+  peripheral_known p quiet (ConnectionUpdateInd win_size win_offset interval latency timeout instant) =
       follow_known p.ahead _ _ (choice K (reads_as_answer (peripheral_stage p.own)) _ _ tt tt)
-  peripheral_known p quiet (ChannelMapInd map instant) is = choice K (central_answered (peripheral_stage p.own)) _ _ (outlived_known _ _ (follow_known p.ahead _ _ tt)) (follow_known p.ahead _ _ tt)
-  peripheral_known p quiet (EncReq rand ediv skd_m iv_m) is = tt
-  peripheral_known p quiet PauseEncReq is = tt
-  peripheral_known p quiet PauseEncRsp is = choice K quiet (unchanged f) _ tt tt
-  peripheral_known p quiet StartEncRsp is = choice K quiet (unchanged f) _ tt tt
-  peripheral_known p quiet (EncRsp skd_s iv_s) is = absurd is
-  peripheral_known p quiet StartEncReq is = absurd is
-  peripheral_known p quiet (ctrl_feature_req_up features) is = absurd is
-  peripheral_known p quiet (ConnectionParamReq min max latency timeout periodicity reference offsets) is = absurd is
-  peripheral_known p quiet (ctrl_feature_req features) is = tt
-  peripheral_known p quiet (ctrl_phy_req tx rx) is =
+  peripheral_known p quiet (ChannelMapInd map instant) = choice K (central_answered (peripheral_stage p.own)) _ _ (outlived_known _ _ (follow_known p.ahead _ _ tt)) (follow_known p.ahead _ _ tt)
+  peripheral_known p quiet PauseEncRsp = choice K quiet (unchanged f) _ tt tt
+  peripheral_known p quiet StartEncRsp = choice K quiet (unchanged f) _ tt tt
+  peripheral_known p quiet (ctrl_phy_req tx rx) =
       choice K (central_answered (peripheral_stage p.own)) _ _
       (outlived_known (collision (kind_at_peripheral p.own) Phy) (moved_and_answered f (peripheral (record p { peer = PhyRspUnsent })) PhyRsp) tt) tt
-  peripheral_known p quiet (PhyUpdateInd to_peripheral to_central instant) is =
+  peripheral_known p quiet (PhyUpdateInd to_peripheral to_central instant) =
       choice K (has_phy_of_central p.peer) _ _ tt (choice K (awaits_phy_ind (peripheral_stage p.own)) _ (unchanged f) tt tt)
-  peripheral_known p quiet (ctrl_phy_rsp tx rx) is = tt
-  peripheral_known p quiet (TerminateInd code) is = either_known (TerminateInd code) tt
-  peripheral_known p quiet (ctrl_unknown_rsp opcode) is = either_known (ctrl_unknown_rsp opcode) tt
-  peripheral_known p quiet (ctrl_feature_rsp features) is = either_known (ctrl_feature_rsp features) tt
-  peripheral_known p quiet (ctrl_version_ind version company sub) is = either_known (ctrl_version_ind version company sub) tt
-  peripheral_known p quiet (RejectInd code) is = either_known (RejectInd code) tt
-  peripheral_known p quiet (ConnectionParamRsp min max latency timeout periodicity reference offsets) is = absurd is
-  peripheral_known p quiet (RejectExtInd opcode code) is = either_known (RejectExtInd opcode code) tt
-  peripheral_known p quiet (ctrl_length_req rx rx_time tx tx_time) is = tt
-  peripheral_known p quiet (ctrl_length_rsp rx rx_time tx tx_time) is = either_known (ctrl_length_rsp rx rx_time tx tx_time) tt
+  peripheral_known p quiet (TerminateInd code) = either_known (TerminateInd code)
+  peripheral_known p quiet (ctrl_unknown_rsp opcode) = either_known (ctrl_unknown_rsp opcode)
+  peripheral_known p quiet (ctrl_feature_rsp features) = either_known (ctrl_feature_rsp features)
+  peripheral_known p quiet (ctrl_version_ind version company sub) = either_known (ctrl_version_ind version company sub)
+  peripheral_known p quiet (RejectInd code) = either_known (RejectInd code)
+  peripheral_known p quiet (RejectExtInd opcode code) = either_known (RejectExtInd opcode code)
+  peripheral_known p quiet (ctrl_length_rsp rx rx_time tx tx_time) = either_known (ctrl_length_rsp rx rx_time tx tx_time)
+  peripheral_known p quiet ctrl = tt
+
+  role_known : (p : Progress) (quiet : Bool) (ctrl : Ctrl) → K (taken_by_role p f quiet ctrl)
+  role_known (central c) quiet ctrl = central_known c quiet ctrl
+  role_known (peripheral p) quiet ctrl = peripheral_known p quiet ctrl
 
   by_progress : (p : Progress) (quiet : Bool) (ctrl : Ctrl) → IsKnownAt (role_of p) ctrl → K (taken_by p f quiet ctrl)
-  by_progress (central c) quiet ctrl is = central_known c quiet ctrl is
-  by_progress (peripheral p) quiet ctrl is = peripheral_known p quiet ctrl is
+  by_progress p quiet ctrl is = rw is (role_known p quiet ctrl)
 
   read_known : (quiet : Bool) (read : CtrlRead) → IsKnownRead unknowns (role_of f.progress) read → K (outcome_of f quiet read)
   read_known quiet (Known ctrl) is = by_progress f.progress quiet ctrl is

@@ -40,7 +40,7 @@ use Rattle.procedures.specs.Phy.{phy_ind_taken}
 use Rattle.procedures.specs.Refusals.{refused_if}
 use Rattle.procedures.specs.Request.{after_grant, against_central, collided, outlived, request_judged}
 use Rattle.procedures.specs.Table.{TableFacts}
-use Rattle.procedures.specs.Taking.{outcome_of, taken_by, taken_by_central, taken_by_either, taken_by_peripheral}
+use Rattle.procedures.specs.Taking.{outcome_of, taken_by, taken_by_either}
 use Rattle.procedures.specs.Update.{follow, update_taken}
 use Rattle.procedures.specs.Version.{version_reply, version_taken}
 use Rattle.procedure_stages.specs.Queue.{has_reply}
@@ -156,7 +156,6 @@ module _ (f : TableFacts) where
   either p (FeatureRsp value) = features p value
   either p (VersionInd number company sub) = version p number company sub
   either p (RejectInd code) = refusal p (is_some (first_opcode p)) _
-  either p (ConnectionParamRsp min max latency timeout periodicity reference offsets) = plain _ refl refl refl
   either p (RejectExtInd opcode code) = refusal p (is_opcode (first_opcode p) opcode || is_opcode (later_opcode p) opcode) _
   either p (LengthReq rx rx_time tx tx_time) = plain _ refl refl refl
   either p (LengthRsp rx rx_time tx tx_time) = lengths p rx tx
@@ -179,13 +178,14 @@ module _ (f : TableFacts) where
   judged c min max latency timeout =
       choice None (are_valid min max latency timeout) _ _ (plain _ refl refl tt) (plain _ refl refl tt)
 
-  at_central : (c : Central) (quiet : Bool) (ctrl : Ctrl) → Reads None (taken_by_central (at f (central c)) c quiet ctrl)
+  at_central : (c : Central) (quiet : Bool) (ctrl : Ctrl) → Reads None (taken_by (central c) (at f (central c)) quiet ctrl)
   at_central c quiet (ConnectionUpdateInd win_size win_offset interval latency timeout instant) = plain _ refl refl refl
   at_central c quiet (ChannelMapInd map instant) = plain _ refl refl refl
   at_central c quiet (EncReq rand ediv skd_m iv_m) = plain _ refl refl refl
   at_central c quiet (FeatureReq value) = plain _ refl refl refl
   at_central c quiet PauseEncReq = plain _ refl refl refl
   at_central c quiet (PhyUpdateInd to_peripheral to_central instant) = plain _ refl refl refl
+  at_central c quiet (ConnectionParamRsp min max latency timeout periodicity reference offsets) = plain _ refl refl refl
   at_central c quiet (EncRsp skd_s iv_s) = cipher c quiet (EncRsp skd_s iv_s)
   at_central c quiet StartEncReq = cipher c quiet StartEncReq
   at_central c quiet PauseEncRsp = cipher c quiet PauseEncRsp
@@ -224,7 +224,7 @@ module _ (f : TableFacts) where
       choice None (has_phy_of_central p.peer) _ _ (plain _ refl refl tt)
       (choice None (awaits_phy_ind (peripheral_stage p.own)) _ _ (plain _ refl refl tt) (nothing (peripheral p)))
 
-  at_peripheral : (p : Peripheral) (quiet : Bool) (ctrl : Ctrl) → Reads (indication_in ctrl) (taken_by_peripheral (at f (peripheral p)) p quiet ctrl)
+  at_peripheral : (p : Peripheral) (quiet : Bool) (ctrl : Ctrl) → Reads (indication_in ctrl) (taken_by (peripheral p) (at f (peripheral p)) quiet ctrl)
   at_peripheral p quiet (ConnectionUpdateInd win_size win_offset interval latency timeout instant) =
       update p win_offset interval latency timeout instant
   at_peripheral p quiet (ChannelMapInd map instant) =
@@ -237,6 +237,7 @@ module _ (f : TableFacts) where
   at_peripheral p quiet StartEncReq = plain _ refl refl refl
   at_peripheral p quiet (PeripheralFeatureReq value) = plain _ refl refl refl
   at_peripheral p quiet (ConnectionParamReq min max latency timeout periodicity reference offsets) = plain _ refl refl refl
+  at_peripheral p quiet (ConnectionParamRsp min max latency timeout periodicity reference offsets) = plain _ refl refl refl
   at_peripheral p quiet (FeatureReq value) = plain _ refl refl refl
   at_peripheral p quiet (PhyReq tx rx) = granting None p Phy _ (plain _ refl refl refl)
   at_peripheral p quiet (PhyUpdateInd to_peripheral to_central instant) = phy_ind p
@@ -299,7 +300,7 @@ module _ (f : TableFacts) where
       by (Some code) is = ended_direct (peripheral p) code is
 
   peripheral_direct : (p : Peripheral) (quiet : Bool) (ctrl : Ctrl) → is_some (indication_in ctrl) ≡ true
-      → IsDirect (taken_by_peripheral (at f (peripheral p)) p quiet ctrl)
+      → IsDirect (taken_by (peripheral p) (at f (peripheral p)) quiet ctrl)
   peripheral_direct p quiet (ConnectionUpdateInd win_size win_offset interval latency timeout instant) is =
       follow_direct p p.ahead update_ahead _
       (either_direct (reads_as_answer (peripheral_stage p.own)) _ _ (record { ends = tt; room = refl }) (record { ends = tt; room = refl }))

@@ -18,5 +18,6 @@ pub mod Requests
 pub mod Rooms
 pub mod Tables
 pub mod Taking
+pub mod Unknown
 pub mod Unpaused
 pub mod Waiting

@@ -9,6 +9,7 @@ use Rattle.data_pdu.specs.declared.ctrl.Ctrl.{Ctrl}
 use Rattle.data_pdu.specs.declared.ctrl.Ctrl.TheVariants.{EncReq, EncRsp, PauseEncReq, PauseEncRsp, StartEncReq, StartEncRsp, VersionInd}
 use Rattle.data_pdu.specs.declared.ctrl.CtrlRead.{CtrlRead}
 use Rattle.data_pdu.specs.declared.ctrl.CtrlRead.TheVariants.{Bare, Known, Unknown}
+use Rattle.data_pdu.specs.Reading.{opcode_of}
 use Rattle.enc_phase.specs.declared.classes.PduClass.{PduClass}
 use Rattle.enc_phase.specs.declared.classes.PduClass.TheVariants.{Data, Empty, Other, Refusal, Request}
 use Rattle.enc_phase.specs.declared.facts.PhaseFacts.{PhaseFacts}
@@ -17,7 +18,6 @@ use Rattle.enc_phase.specs.declared.facts.Transition.TheVariants.{Ask as AskTran
 use Rattle.enc_phase.specs.Phases.{is_asked, may_follow, phase_after, phase_starting}
 use Rattle.enc_phase.specs.Taking.{allows, ctrl_class, is_unknown, phase_taking}
 use Rattle.procedure_stages.specs.Kinds.{role_of}
-use Rattle.procedure_stages.specs.Opcodes.{enc_req_opcode, enc_rsp_opcode, pause_enc_req_opcode, start_enc_req_opcode}
 use Rattle.procedure_stages.specs.Queue.{waiting_in}
 use Rattle.procedure_values.specs.declared.asks.Ask.{Ask}
 use Rattle.table_laws.specs.Encrypting.{has_encryption}
@@ -60,14 +60,8 @@ with_phase_taking read s = record s { phase = phase_taking (class_of_read read) 
 abbrev pub keeping : CtrlRead → Phased → Phased
 keeping read s = record (with_phase_taking read s) { kept = ctrl_in read }
 
--- the opcode of a PDU of the encryption that has no meaning at an end
-abbrev pub opcode_of : Ctrl → ℕ
-opcode_of (EncReq rand ediv skd_m iv_m) = enc_req_opcode
-opcode_of (EncRsp skd_s iv_s) = enc_rsp_opcode
-opcode_of StartEncReq = start_enc_req_opcode
-opcode_of ctrl = pause_enc_req_opcode
-
--- the procedures see such a PDU as one that is not supported: it is answered with LL_UNKNOWN_RSP
+-- the procedures see a PDU of the encryption that has no meaning at an end as one that is not supported: it is answered
+-- with LL_UNKNOWN_RSP
 abbrev pub seen_if : Bool → CtrlRead → CtrlRead
 seen_if true (Known ctrl) = Unknown (opcode_of ctrl)
 seen_if unknown read = read

@@ -1,5 +1,6 @@
 -- The definitions of this crate.
 pub mod Opcodes
+pub mod Foreign
 pub mod Exclusive
 pub mod Kinds
 pub mod InProgress

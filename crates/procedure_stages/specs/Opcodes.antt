@@ -1,8 +1,10 @@
 -- The opcodes of control PDUs that are named in an answer, and those of the PDUs that were sent of a procedure (Core
 -- 5.2, volume 6 part B, section 2.4.2).
-use Rattle.std.specs.Prelude.{ℕ, Option, Some, None, ◌==◌, Bool, false, option_map}
+use Rattle.std.specs.Prelude.{ℕ, [], Option, Some, None, ◌==◌, Bool, false, option_map}
 use Rattle.ble_base.specs.declared.roles.Role.{Role}
 use Rattle.ble_base.specs.declared.roles.Role.TheVariants.{Central, Peripheral}
+use Rattle.data_pdu.specs.declared.ctrl.Ctrl.TheVariants.{ConnectionUpdateInd, ChannelMapInd, EncReq, EncRsp, StartEncReq, FeatureReq, PauseEncReq, VersionInd, PeripheralFeatureReq, ConnectionParamReq, LengthReq, PhyReq, PhyUpdateInd}
+use Rattle.data_pdu.specs.Reading.{opcode_of}
 use Rattle.procedure_stages.specs.declared.stages.Exchange.{Exchange}
 use Rattle.procedure_stages.specs.declared.stages.Exchange.TheVariants.{FeaturesSent, VersionSent, LengthSent}
 use Rattle.procedure_stages.specs.declared.stages.OwnCentral.{OwnCentral}
@@ -16,47 +18,43 @@ use Rattle.exclusive_stages.specs.Kinds.{kind_sent_by_central, kind_sent_by_peri
 use Rattle.procedure_stages.specs.declared.stages.Progress.{Progress}
 use Rattle.procedure_stages.specs.declared.stages.Progress.TheVariants.{Central as central, Peripheral as peripheral}
 
+-- those that several definitions name, each from the layout of its PDU
+
 abbrev pub connection_update_ind_opcode : ℕ
-connection_update_ind_opcode = 0x00
+connection_update_ind_opcode = opcode_of (ConnectionUpdateInd 0 0 0 0 0 0)
 
 abbrev pub channel_map_ind_opcode : ℕ
-channel_map_ind_opcode = 0x01
+channel_map_ind_opcode = opcode_of (ChannelMapInd 0 0)
 
 abbrev pub enc_req_opcode : ℕ
-enc_req_opcode = 0x03
+enc_req_opcode = opcode_of (EncReq 0 0 0 0)
 
 abbrev pub enc_rsp_opcode : ℕ
-enc_rsp_opcode = 0x04
+enc_rsp_opcode = opcode_of (EncRsp 0 0)
 
 abbrev pub start_enc_req_opcode : ℕ
-start_enc_req_opcode = 0x05
+start_enc_req_opcode = opcode_of StartEncReq
 
 abbrev pub feature_req_opcode : ℕ
-feature_req_opcode = 0x08
+feature_req_opcode = opcode_of (FeatureReq 0)
 
 abbrev pub pause_enc_req_opcode : ℕ
-pause_enc_req_opcode = 0x0A
+pause_enc_req_opcode = opcode_of PauseEncReq
 
 abbrev pub version_ind_opcode : ℕ
-version_ind_opcode = 0x0C
+version_ind_opcode = opcode_of (VersionInd 0 0 0)
 
 abbrev pub peripheral_feature_req_opcode : ℕ
-peripheral_feature_req_opcode = 0x0E
+peripheral_feature_req_opcode = opcode_of (PeripheralFeatureReq 0)
 
 abbrev pub connection_param_req_opcode : ℕ
-connection_param_req_opcode = 0x0F
-
-abbrev pub connection_param_rsp_opcode : ℕ
-connection_param_rsp_opcode = 0x10
+connection_param_req_opcode = opcode_of (ConnectionParamReq 0 0 0 0 0 0 [])
 
 abbrev pub length_req_opcode : ℕ
-length_req_opcode = 0x14
+length_req_opcode = opcode_of (LengthReq 0 0 0 0)
 
 abbrev pub phy_req_opcode : ℕ
-phy_req_opcode = 0x16
-
-abbrev pub phy_update_ind_opcode : ℕ
-phy_update_ind_opcode = 0x18
+phy_req_opcode = opcode_of (PhyReq 0 0)
 
 -- ---- the own procedure
 
@@ -96,7 +94,7 @@ first_opcode (peripheral p) = opcode_at_peripheral p.own
 
 -- the opcode of a later PDU of the own procedure that was sent: a central's PHY update has two
 abbrev pub later_opcode_at_central : OwnCentral → Option ℕ
-later_opcode_at_central (exclusive PhyIndicated) = Some phy_update_ind_opcode
+later_opcode_at_central (exclusive PhyIndicated) = Some (opcode_of (PhyUpdateInd 0 0 0))
 later_opcode_at_central other = None
 
 abbrev pub later_opcode : Progress → Option ℕ

@@ -1,6 +1,7 @@
 //! The kinds of control procedures, and how far each is at an end of a link; how stages change as a
-//! procedure begins, as a PDU is sent or acknowledged, and as an indication holds; and the control
-//! PDUs that wait, in their order (Core 5.2, volume 6 part B, section 5).
+//! procedure begins, as a PDU is sent or acknowledged, and as an indication holds; the control PDUs
+//! that have no meaning at an end; and those that wait, in their order (Core 5.2, volume 6 part B,
+//! section 5).
 #![tactic(auto)]
 
 mod acked;
@@ -9,6 +10,7 @@ pub mod begun;
 mod closing;
 pub mod collisions;
 mod exclusive;
+pub mod foreign;
 mod held;
 mod in_progress;
 pub mod kinds;

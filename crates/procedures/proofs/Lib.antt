@@ -1,4 +1,5 @@
 -- The lemmas of this crate.
 pub mod Beginnings
+pub mod Meanings
 pub mod Unawaited
 pub mod Versions

@@ -56,7 +56,7 @@ use Rattle.procedures.specs.Length.{with_lengths}
 use Rattle.procedure_stages.specs.Opcodes.{is_opcode, first_opcode, later_opcode}
 use Rattle.procedures.specs.Refusals.{refused_if}
 use Rattle.procedures.specs.Version.{version_reply}
-use Rattle.procedures.specs.Taking.{taken_by_either, taken_by_central, taken_by_peripheral, taken_by, outcome_of, lacks_room, facts_with}
+use Rattle.procedures.specs.Taking.{taken_by_either, taken_by, outcome_of, lacks_room, facts_with}
 use Rattle.procedures.specs.Beginning.{facts_begun, begin_at, place_to_begin, ask_at, with_first_draft}
 use Rattle.procedure_stages.specs.Begun.{version_draft, feature_draft}
 use Rattle.procedures.specs.Calls.{Call, asks, begins_one, takes, sends, is_acked, enters, host_answers, disconnects, is_given, after_call, sent_by, version_count, versions_sent}
@@ -107,7 +107,7 @@ single_either f (LengthRsp rx rx_time tx tx_time) =
     (with_done Length (with_lengths (with_peer f.lengths rx tx) (moved f (without_own f.progress)))) (unchanged f) refl refl
 single_either f other = refl
 
-single_central : (f : TableFacts) (c : Central) (quiet : Bool) (ctrl : Ctrl) → IsSingle f.version_used (taken_by_central f c quiet ctrl)
+single_central : (f : TableFacts) (c : Central) (quiet : Bool) (ctrl : Ctrl) → IsSingle f.version_used (taken_by (central c) f quiet ctrl)
 single_central f c true (EncRsp skd_s iv_s) = refl
 single_central f c false (EncRsp skd_s iv_s) = refl
 single_central f c true StartEncReq = refl
@@ -142,7 +142,7 @@ single_after_grant : (used answered : Bool) (f : TableFacts) (code : Option ErrC
 single_after_grant used true f code other h = single_outlived used f code other h
 single_after_grant used false f code other h = h
 
-single_peripheral : (f : TableFacts) (p : Peripheral) (quiet : Bool) (ctrl : Ctrl) → IsSingle f.version_used (taken_by_peripheral f p quiet ctrl)
+single_peripheral : (f : TableFacts) (p : Peripheral) (quiet : Bool) (ctrl : Ctrl) → IsSingle f.version_used (taken_by (peripheral p) f quiet ctrl)
 single_peripheral f p quiet (ConnectionUpdateInd win_size win_offset interval latency timeout instant) =
     single_follow f.version_used f p.ahead update_ahead
     (if reads_as_answer (peripheral_stage p.own) then granted f p (update_indication win_offset interval latency timeout instant) else update_begun f p (update_indication win_offset interval latency timeout instant))

@@ -4,22 +4,24 @@ use Rattle.ble_base.specs.declared.procedure_kinds.Kind.TheVariants.{Version}
 use Rattle.ble_base.specs.declared.counters.SlotNo.{SlotNo}
 use Rattle.ble_base.specs.ErrorCodes.{memory_capacity_exceeded}
 use Rattle.data_pdu.specs.declared.ctrl.Ctrl.{Ctrl}
-use Rattle.data_pdu.specs.declared.ctrl.Ctrl.TheVariants.{TerminateInd, UnknownRsp, FeatureRsp, VersionInd, RejectInd, ConnectionParamRsp, RejectExtInd, LengthReq, LengthRsp, ConnectionUpdateInd, ChannelMapInd, EncReq, EncRsp, StartEncReq, StartEncRsp, FeatureReq, PauseEncReq, PauseEncRsp, PeripheralFeatureReq, ConnectionParamReq, PhyReq, PhyRsp, PhyUpdateInd}
+use Rattle.data_pdu.specs.declared.ctrl.Ctrl.TheVariants.{TerminateInd, UnknownRsp, FeatureRsp, VersionInd, RejectInd, RejectExtInd, LengthReq, LengthRsp, ConnectionUpdateInd, ChannelMapInd, EncReq, EncRsp, StartEncReq, StartEncRsp, FeatureReq, PauseEncReq, PauseEncRsp, PeripheralFeatureReq, ConnectionParamReq, PhyReq, PhyRsp, PhyUpdateInd}
 use Rattle.data_pdu.specs.declared.ctrl.CtrlRead.{CtrlRead}
 use Rattle.data_pdu.specs.declared.ctrl.CtrlRead.TheVariants.{Known, Unknown, Bare}
+use Rattle.data_pdu.specs.Reading.{opcode_of}
 use Rattle.instants.specs.declared.indications.Indication.TheVariants.{Update as update_indication, Map as map_indication}
 use Rattle.procedure_stages.specs.declared.stages.Central.{Central}
 use Rattle.procedure_stages.specs.declared.stages.Peripheral.{Peripheral}
 use Rattle.procedure_stages.specs.declared.stages.Progress.{Progress}
 use Rattle.procedure_stages.specs.declared.stages.Progress.TheVariants.{Central as central, Peripheral as peripheral}
 use Rattle.procedure_values.specs.declared.asks.Ask.{Ask}
-use Rattle.procedure_stages.specs.Opcodes.{connection_param_rsp_opcode, connection_update_ind_opcode, channel_map_ind_opcode, enc_req_opcode, feature_req_opcode, pause_enc_req_opcode, phy_update_ind_opcode, enc_rsp_opcode, start_enc_req_opcode, peripheral_feature_req_opcode, connection_param_req_opcode}
 use Rattle.procedure_values.specs.Wants.{place_of, without_place}
 use Rattle.procedures.specs.declared.outcome.Outcome.{Outcome}
 use Rattle.procedure_stages.specs.declared.steps.Effect.{Effect}
 use Rattle.procedure_stages.specs.declared.steps.Step.{Step}
 use Rattle.procedures.specs.Table.{TableFacts}
 use Rattle.procedure_stages.specs.Closing.{is_open}
+use Rattle.procedure_stages.specs.Foreign.{is_foreign}
+use Rattle.procedure_stages.specs.Kinds.{role_of}
 use Rattle.procedure_stages.specs.Steps.{asks_host, closing_after, is_version_effect}
 use Rattle.procedures.specs.Outcomes.{unchanged, unknown, empty_step}
 use Rattle.procedures.specs.Termination.{terminate_taken}
@@ -36,29 +38,20 @@ use Rattle.procedure_stages.specs.Queue.{waiting_in, with_reply, has_reply, is_v
 
 -- ---- by PDU
 
--- the PDUs that mean the same at either end; LL_CONNECTION_PARAM_RSP is known at neither (our choice)
+-- the PDUs that mean the same at either end; any other changes nothing
 abbrev pub taken_by_either : TableFacts → Ctrl → Outcome
 taken_by_either f (TerminateInd code) = terminate_taken f code
 taken_by_either f (UnknownRsp opcode) = unknown_rsp_taken f opcode
 taken_by_either f (FeatureRsp features) = features_taken f features
 taken_by_either f (VersionInd version company sub) = version_taken f version company sub
 taken_by_either f (RejectInd code) = reject_taken f code
-taken_by_either f (ConnectionParamRsp min max latency timeout periodicity reference offsets) =
-    unknown f connection_param_rsp_opcode
 taken_by_either f (RejectExtInd opcode code) = reject_ext_taken f opcode code
 taken_by_either f (LengthReq rx rx_time tx tx_time) = length_asked f rx tx
 taken_by_either f (LengthRsp rx rx_time tx tx_time) = length_taken f rx tx
 taken_by_either f other = unchanged f
 
--- at a central; the PDUs that only a central sends are not known there
+-- at a central
 abbrev pub taken_by_central : TableFacts → Central → Bool → Ctrl → Outcome
-taken_by_central f c quiet (ConnectionUpdateInd win_size win_offset interval latency timeout instant) =
-    unknown f connection_update_ind_opcode
-taken_by_central f c quiet (ChannelMapInd map instant) = unknown f channel_map_ind_opcode
-taken_by_central f c quiet (EncReq rand ediv skd_m iv_m) = unknown f enc_req_opcode
-taken_by_central f c quiet (FeatureReq features) = unknown f feature_req_opcode
-taken_by_central f c quiet PauseEncReq = unknown f pause_enc_req_opcode
-taken_by_central f c quiet (PhyUpdateInd to_peripheral to_central instant) = unknown f phy_update_ind_opcode
 taken_by_central f c quiet (EncRsp skd_s iv_s) = cipher_at_central f c quiet (EncRsp skd_s iv_s)
 taken_by_central f c quiet StartEncReq = cipher_at_central f c quiet StartEncReq
 taken_by_central f c quiet PauseEncRsp = cipher_at_central f c quiet PauseEncRsp
@@ -70,7 +63,7 @@ taken_by_central f c quiet (PhyReq tx rx) = phy_req_at_central f c
 taken_by_central f c quiet (PhyRsp tx rx) = phy_rsp_taken f c
 taken_by_central f c quiet other = taken_by_either f other
 
--- at a peripheral; the PDUs that only a peripheral sends are not known there
+-- at a peripheral
 abbrev pub taken_by_peripheral : TableFacts → Peripheral → Bool → Ctrl → Outcome
 taken_by_peripheral f p quiet (ConnectionUpdateInd win_size win_offset interval latency timeout instant) =
     update_taken f p (update_indication win_offset interval latency timeout instant)
@@ -79,19 +72,20 @@ taken_by_peripheral f p quiet (EncReq rand ediv skd_m iv_m) = encryption_begun f
 taken_by_peripheral f p quiet PauseEncReq = encryption_begun f p PauseEncReq
 taken_by_peripheral f p quiet PauseEncRsp = pause_rsp_at_peripheral f quiet PauseEncRsp
 taken_by_peripheral f p quiet StartEncRsp = start_rsp_at_peripheral f p quiet StartEncRsp
-taken_by_peripheral f p quiet (EncRsp skd_s iv_s) = unknown f enc_rsp_opcode
-taken_by_peripheral f p quiet StartEncReq = unknown f start_enc_req_opcode
-taken_by_peripheral f p quiet (PeripheralFeatureReq features) = unknown f peripheral_feature_req_opcode
-taken_by_peripheral f p quiet (ConnectionParamReq min max latency timeout periodicity reference offsets) =
-    unknown f connection_param_req_opcode
 taken_by_peripheral f p quiet (FeatureReq features) = features_asked f features
 taken_by_peripheral f p quiet (PhyReq tx rx) = phy_req_at_peripheral f p
 taken_by_peripheral f p quiet (PhyUpdateInd to_peripheral to_central instant) = phy_ind_taken f p
 taken_by_peripheral f p quiet other = taken_by_either f other
 
+-- a PDU that has a meaning at the end, by the role of the end
+abbrev pub taken_by_role : Progress → TableFacts → Bool → Ctrl → Outcome
+taken_by_role (central c) f quiet ctrl = taken_by_central f c quiet ctrl
+taken_by_role (peripheral p) f quiet ctrl = taken_by_peripheral f p quiet ctrl
+
+-- one that has none is answered as an unknown one
 abbrev pub taken_by : Progress → TableFacts → Bool → Ctrl → Outcome
-taken_by (central c) f quiet ctrl = taken_by_central f c quiet ctrl
-taken_by (peripheral p) f quiet ctrl = taken_by_peripheral f p quiet ctrl
+taken_by progress f quiet ctrl =
+    (if is_foreign (role_of progress) ctrl then unknown f (opcode_of ctrl) else taken_by_role progress f quiet ctrl)
 
 -- what was read of the octets: an unknown PDU is answered by LL_UNKNOWN_RSP, one without an octet is ignored (section
 -- 2.4.2.8; the latter is our choice)

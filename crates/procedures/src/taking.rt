@@ -4,7 +4,7 @@ ghost use Rattle.ble_base.specs.ChannelMap.{IsMap};
 ghost use Rattle.data_pdu.specs.Ranges.{IsInRange};
 ghost use Rattle.data_pdu.specs.Reading.{IfKnown};
 ghost use Rattle.procedures.specs.Taking.{taken_by_either, taken_by_central, taken_by_peripheral};
-ghost use Rattle.procedures.specs.Taking.{taken_by, outcome_of};
+ghost use Rattle.procedures.specs.Taking.{taken_by_role, taken_by, outcome_of};
 ghost use Rattle.procedures.specs.Taking.{since_after};
 ghost use Rattle.procedures.specs.Taking.{lacks_room, wanted_after, facts_with, settled, took_step};
 ghost use Rattle.procedures.specs.Map.{map_taken};
@@ -27,10 +27,7 @@ use crate::version::version_taken;
 use ble_base::{ChannelMap, ErrCode, Kind, SlotNo};
 use data_pdu::{Ctrl, CtrlRead};
 use instants::Indication;
-use procedure_stages::opcodes::{
-    CHANNEL_MAP_IND, CONNECTION_PARAM_REQ, CONNECTION_PARAM_RSP, CONNECTION_UPDATE_IND, ENC_REQ,
-    ENC_RSP, FEATURE_REQ, PAUSE_ENC_REQ, PERIPHERAL_FEATURE_REQ, PHY_UPDATE_IND, START_ENC_REQ,
-};
+use procedure_stages::foreign::foreign_opcode;
 use procedure_stages::{Central, Effect, Peripheral, Progress, Step};
 
 /// From this number of control PDUs on that wait, none is answered.
@@ -50,7 +47,6 @@ fn taken_by_either(table: &ProcTable, ctrl: &Ctrl) -> Outcome
             sub,
         } => version_taken(table, version, company, sub),
         Ctrl::RejectInd { code } => reject_taken(table, code),
-        Ctrl::ConnectionParamRsp { .. } => unknown(table, CONNECTION_PARAM_RSP),
         Ctrl::RejectExtInd { opcode, code } => reject_ext_taken(table, opcode, code),
         Ctrl::LengthReq {
             max_rx_octets,
@@ -71,12 +67,6 @@ fn taken_by_central(table: &ProcTable, c: Central, quiet: bool, ctrl: &Ctrl) -> 
     ensures { result ≡ taken_by_central table.now c quiet ctrl.now }
 {
     match *ctrl {
-        Ctrl::ConnectionUpdateInd { .. } => unknown(table, CONNECTION_UPDATE_IND),
-        Ctrl::ChannelMapInd { .. } => unknown(table, CHANNEL_MAP_IND),
-        Ctrl::EncReq { .. } => unknown(table, ENC_REQ),
-        Ctrl::FeatureReq { .. } => unknown(table, FEATURE_REQ),
-        Ctrl::PauseEncReq => unknown(table, PAUSE_ENC_REQ),
-        Ctrl::PhyUpdateInd { .. } => unknown(table, PHY_UPDATE_IND),
         Ctrl::EncRsp { .. } | Ctrl::StartEncReq | Ctrl::PauseEncRsp => {
             cipher_at_central(table, c, quiet, ctrl)
         }
@@ -133,10 +123,6 @@ fn taken_by_peripheral(table: &ProcTable, p: Peripheral, quiet: bool, ctrl: &Ctr
         Ctrl::EncReq { .. } | Ctrl::PauseEncReq => encryption_begun(table, p, ctrl),
         Ctrl::PauseEncRsp => pause_rsp_at_peripheral(table, quiet, ctrl),
         Ctrl::StartEncRsp => start_rsp_at_peripheral(table, p, quiet, ctrl),
-        Ctrl::EncRsp { .. } => unknown(table, ENC_RSP),
-        Ctrl::StartEncReq => unknown(table, START_ENC_REQ),
-        Ctrl::PeripheralFeatureReq { .. } => unknown(table, PERIPHERAL_FEATURE_REQ),
-        Ctrl::ConnectionParamReq { .. } => unknown(table, CONNECTION_PARAM_REQ),
         Ctrl::FeatureReq { features } => features_asked(table, features),
         Ctrl::PhyReq { .. } => phy_req_at_peripheral(table, p),
         Ctrl::PhyUpdateInd { .. } => phy_ind_taken(table, p),
@@ -144,14 +130,26 @@ fn taken_by_peripheral(table: &ProcTable, p: Peripheral, quiet: bool, ctrl: &Ctr
     }
 }
 
-/// A PDU is taken.
-fn taken_by(table: &ProcTable, quiet: bool, ctrl: &Ctrl) -> Outcome
+/// A PDU that has a meaning at an end is taken there.
+fn taken_by_role(table: &ProcTable, quiet: bool, ctrl: &Ctrl) -> Outcome
     requires { IsInRange ctrl.now }
-    ensures { result ≡ taken_by table.now.progress table.now quiet ctrl.now }
+    ensures { result ≡ taken_by_role table.now.progress table.now quiet ctrl.now }
 {
     match table.progress {
         Progress::Central(c) => taken_by_central(table, c, quiet, ctrl),
         Progress::Peripheral(p) => taken_by_peripheral(table, p, quiet, ctrl),
+    }
+}
+
+/// A PDU is taken; one that has no meaning at this end is answered as an unknown one.
+#[tactic(auto, using(crate::proofs::Meanings::known))]
+fn taken_by(table: &ProcTable, quiet: bool, ctrl: &Ctrl) -> Outcome
+    requires { IsInRange ctrl.now }
+    ensures { result ≡ taken_by table.now.progress table.now quiet ctrl.now }
+{
+    match foreign_opcode(table.progress.role(), ctrl) {
+        Some(opcode) => unknown(table, opcode),
+        None => taken_by_role(table, quiet, ctrl),
     }
 }
 

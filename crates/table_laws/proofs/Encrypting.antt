@@ -54,7 +54,7 @@ use Rattle.procedures.specs.Length.{with_lengths}
 use Rattle.procedure_stages.specs.Opcodes.{first_opcode, is_opcode, later_opcode, opcode_at_central, enc_req_opcode, connection_param_req_opcode, phy_req_opcode}
 use Rattle.procedures.specs.Refusals.{refused_if}
 use Rattle.procedures.specs.Version.{version_taken}
-use Rattle.procedures.specs.Taking.{facts_with, lacks_room, no_room, outcome_of, settled, taken_by_central, taken_by_peripheral}
+use Rattle.procedures.specs.Taking.{facts_with, lacks_room, no_room, outcome_of, settled, taken_by}
 use Rattle.procedures.specs.Beginning.{ask_at, begin_at, begin_step, place_to_begin}
 use Rattle.procedure_stages.specs.Begun.{progress_begun}
 use Rattle.procedure_stages.specs.Sent.{own_draft_sent_by_central, progress_after_sending}
@@ -138,7 +138,7 @@ module _ (f : TableFacts) (c : Central) where
   collided_c E true opcode (Some code) other h = same _ _ _ _ refl
   collided_c E false opcode (Some code) other h = same _ _ _ _ refl
 
-  at_central : (quiet : Bool) (ctrl : Ctrl) → OfCtrl c.own (EndsAtCentral ctrl quiet) (taken_by_central at_c c quiet ctrl)
+  at_central : (quiet : Bool) (ctrl : Ctrl) → OfCtrl c.own (EndsAtCentral ctrl quiet) (taken_by (central c) at_c quiet ctrl)
   at_central true (EncRsp skd_s iv_s) = same _ _ _ _ refl
   at_central false (EncRsp skd_s iv_s) = same _ _ _ _ refl
   at_central true StartEncReq = same _ _ _ _ refl
@@ -216,7 +216,7 @@ module _ (f : TableFacts) (p : Peripheral) where
   ind_p B E false true = same _ _ _ _ refl
   ind_p B E false false = same _ _ _ _ refl
 
-  at_peripheral : (quiet : Bool) (ctrl : Ctrl) → OfCtrlHere (BeginsAtPeripheral ctrl) (EndsAtPeripheral ctrl quiet) (taken_by_peripheral at_p p quiet ctrl)
+  at_peripheral : (quiet : Bool) (ctrl : Ctrl) → OfCtrlHere (BeginsAtPeripheral ctrl) (EndsAtPeripheral ctrl quiet) (taken_by (peripheral p) at_p quiet ctrl)
   at_peripheral quiet (ConnectionUpdateInd win_size win_offset interval latency timeout instant) =
       follow_p _ _ p.ahead update_ahead
       (if reads_as_answer (peripheral_stage p.own) then granted at_p p (update_indication win_offset interval latency timeout instant) else update_begun at_p p (update_indication win_offset interval latency timeout instant))

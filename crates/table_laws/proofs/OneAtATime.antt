@@ -34,6 +34,7 @@ use Rattle.procedure_stages.specs.declared.closing.Closing.{Closing}
 use Rattle.procedure_stages.specs.Kinds.{begins, kind_at_central, own_kind, role_of}
 use Rattle.procedure_values.specs.Asks.{kind_of_ask}
 use Rattle.procedure_stages.specs.Collisions.{is_exclusive, is_encrypt, peer_lets}
+use Rattle.procedure_stages.specs.Opcodes.{connection_param_req_opcode}
 use Rattle.procedure_stages.specs.Queue.{QueueFacts, is_past_instant, next_by, next_disconnect, next_draft, with_draft, with_reply, without_next}
 use Rattle.procedures.specs.Table.{TableFacts, first_facts}
 use Rattle.procedure_stages.specs.Closing.{is_disconnecting, is_open}
@@ -531,7 +532,7 @@ answers_at f (central c) (Ok (ask_update interval latency timeout)) one asked =
     }
 answers_at f (central c) (Err code) one asked =
     let fit : exclusive_waiting f ≤ room_of_own c.own + room_of_peer c.peer = one.fits in
-    let more = rejections_more (is_open f.closing) f.queue (record { opcode = 0x0F; code = code }) in
+    let more = rejections_more (is_open f.closing) f.queue (record { opcode = connection_param_req_opcode; code = code }) in
     let none = no_room_asked c.peer asked in
     record { alone = λ excluded. refl; fits = omega (arith, fit, more, none) }
 answers_at f (central c) (Ok (ask_request min max latency timeout)) one asked = one

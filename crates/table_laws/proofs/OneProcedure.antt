@@ -47,7 +47,7 @@ use Rattle.procedures.specs.Length.{with_lengths}
 use Rattle.procedure_stages.specs.Opcodes.{first_opcode, is_opcode, later_opcode, opcode_at_central, connection_param_req_opcode}
 use Rattle.procedures.specs.Refusals.{refused_if}
 use Rattle.procedures.specs.Version.{version_reply}
-use Rattle.procedures.specs.Taking.{outcome_of, taken_by, taken_by_central, taken_by_peripheral}
+use Rattle.procedures.specs.Taking.{outcome_of, taken_by}
 use Rattle.table_laws.specs.Waiting.{count_if}
 use Rattle.table_laws.specs.Exclusive.{PeerMayBegin, MayComeTo, MayComeToCentral, MayComeToPeripheral, has_indication, is_of_exclusive}
 use Rattle.table_laws.proofs.Outcomes.{named, named_either}
@@ -250,7 +250,7 @@ module _ (f : TableFacts) (c : Central) where
   phy_c (exclusive PhyAnswered) may = same_c f (with_own (exclusive PhyAnswered)) _ refl refl
   phy_c (exclusive PhyIndicated) may = same_c f (with_own (exclusive PhyIndicated)) _ refl refl
 
-  at_central : (quiet : Bool) (ctrl : Ctrl) → MayComeToCentral c ctrl → TookOne (central c) (taken_by_central (at_c f c) c quiet ctrl)
+  at_central : (quiet : Bool) (ctrl : Ctrl) → MayComeToCentral c ctrl → TookOne (central c) (taken_by (central c) (at_c f c) quiet ctrl)
   at_central true (EncRsp skd_s iv_s) may = same_c f c _ refl refl
   at_central false (EncRsp skd_s iv_s) may = same_c f c _ refl refl
   at_central true StartEncReq may = same_c f c _ refl refl
@@ -339,7 +339,7 @@ module _ (f : TableFacts) (p : Peripheral) where
   ind_p false true = same_p _ (exclusive_p idle) refl
   ind_p false false = same_p _ p.own refl
 
-  at_peripheral : (quiet : Bool) (ctrl : Ctrl) → MayComeToPeripheral p ctrl → IsTookHere (taken_by_peripheral at_p p quiet ctrl)
+  at_peripheral : (quiet : Bool) (ctrl : Ctrl) → MayComeToPeripheral p ctrl → IsTookHere (taken_by (peripheral p) at_p quiet ctrl)
   at_peripheral quiet (ConnectionUpdateInd win_size win_offset interval latency timeout instant) may =
       update_p (update_indication win_offset interval latency timeout instant)
   at_peripheral quiet (ChannelMapInd map instant) may =

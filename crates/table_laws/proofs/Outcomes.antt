@@ -49,7 +49,7 @@ use Rattle.procedure_stages.specs.Opcodes.{first_opcode, is_opcode, later_opcode
 use Rattle.procedures.specs.Refusals.{refused_if}
 use Rattle.procedures.specs.Version.{version_reply}
 use Rattle.procedure_stages.specs.Steps.{asks_host}
-use Rattle.procedures.specs.Taking.{outcome_of, taken_by, taken_by_central, taken_by_either, taken_by_peripheral}
+use Rattle.procedures.specs.Taking.{outcome_of, taken_by, taken_by_either}
 use Rattle.table_laws.specs.Waiting.{is_asked, count_if}
 use Rattle.procedure_stages.specs.Exclusive.{central_stage, peripheral_stage}
 
@@ -317,7 +317,7 @@ module _ (f : TableFacts) (c : Central) where
       (λ h. record { reply = refl; asks = λ key. omega arith; keeps = omega arith; role = refl })
       (record { reply = refl; asks = λ key. omega arith; keeps = omega arith; role = refl })
 
-  at_central : (quiet : Bool) (ctrl : Ctrl) → IsTook (taken_by_central at_c c quiet ctrl)
+  at_central : (quiet : Bool) (ctrl : Ctrl) → IsTook (taken_by (central c) at_c quiet ctrl)
   at_central true (EncRsp skd_s iv_s) = same_c _ refl refl
   at_central false (EncRsp skd_s iv_s) = same_c _ refl refl
   at_central true StartEncReq = same_c _ refl refl
@@ -395,7 +395,7 @@ module _ (f : TableFacts) (p : Peripheral) where
   ind_p false true over = let less = over refl in record { reply = refl; asks = λ key. omega arith; keeps = omega (arith, less); role = refl }
   ind_p false false over = same_p _ refl refl
 
-  at_peripheral : (quiet : Bool) (ctrl : Ctrl) → IsTookHere (taken_by_peripheral at_p p quiet ctrl)
+  at_peripheral : (quiet : Bool) (ctrl : Ctrl) → IsTookHere (taken_by (peripheral p) at_p quiet ctrl)
   at_peripheral quiet (ConnectionUpdateInd win_size win_offset interval latency timeout instant) =
       update_p (update_indication win_offset interval latency timeout instant)
   at_peripheral quiet (ChannelMapInd map instant) =

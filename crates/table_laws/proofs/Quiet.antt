@@ -55,7 +55,7 @@ use Rattle.procedure_stages.specs.InProgress.{has_peer, is_host_asked}
 use Rattle.exclusive_stages.specs.Kinds.{has_peer_at_central, is_host_asked_at_central}
 use Rattle.procedure_stages.specs.Sent.{peer_draft_sent_by_central, progress_after_sending}
 use Rattle.procedures.specs.Encryption.{progress_given}
-use Rattle.procedures.specs.Taking.{facts_with, lacks_room, outcome_of, taken_by, taken_by_central, took_step}
+use Rattle.procedures.specs.Taking.{facts_with, lacks_room, outcome_of, taken_by, took_step}
 use Rattle.table_laws.specs.Exclusive.{AllKeepRules}
 use Rattle.table_laws.specs.Quiet.{AllMeanwhile, IsMeanwhile, IsTakenMeanwhile, MayKeep, PassesPhase, first_pdus_waiting, is_answer_pdu, is_encryption_pdu, is_first_pdu, is_other_pdu, is_unquiet, others_waiting}
 use Rattle.table_laws.specs.Encrypting.{MayBeginBy, has_encryption}
@@ -567,7 +567,7 @@ module _ (f : TableFacts) (c : Central) (is : f.progress ≡ central c) (absent 
   start_none true ctrl = unchanged_none
   start_none false ctrl = secured_none ctrl (is_own_encryption c.own)
 
-  ctrl_none : (quiet : Bool) (ctrl : Ctrl) → IsTakenMeanwhile (Known ctrl) → IsUnanswered (taken_by_central f c quiet ctrl)
+  ctrl_none : (quiet : Bool) (ctrl : Ctrl) → IsTakenMeanwhile (Known ctrl) → IsUnanswered (taken_by (central c) f quiet ctrl)
   ctrl_none quiet (EncRsp skd_s iv_s) may = cipher_none quiet (EncRsp skd_s iv_s)
   ctrl_none quiet StartEncReq may = cipher_none quiet StartEncReq
   ctrl_none quiet StartEncRsp may = start_none quiet StartEncRsp
