@@ -1,8 +1,10 @@
-//! Tests of the control procedures of one end of a link.
+//! Tests of the control procedures of one end of a link, and of its control part.
 #![tactic(auto)]
 
 #[cfg(test)]
 mod calls;
+#[cfg(test)]
+mod control_ends;
 #[cfg(test)]
 mod plain;
 #[cfg(test)]

@@ -1,0 +1,5 @@
+-- The lemmas of this crate.
+pub mod Depending
+pub mod Grants
+pub mod Handing
+pub mod Kept

@@ -1,0 +1,4 @@
+-- The definitions of this crate.
+pub mod Held
+pub mod Answers
+pub mod Following
