@@ -1,7 +1,7 @@
 -- The counts of an end as it begins, sends and receives are those that a journal has for it.
 use Rattle.std.proofs.Common.{◌≡◌, ◌⊎◌, inl, inr, ℕ, ◌+◌, ◌<◌, ◌≤◌, ◌==◌, ◌&&◌, ◌||◌, not, Bool, true, false, List, [], ◌∷◌, ◌++◌, length, refl, sym, ap, subst, ◌∙◌, arith}
 use Rattle.std.specs.Prelude.{if◌then◌else◌}
-use Rattle.std.proofs.lemmas.Bool.{eqb-true, eqb-false}
+use Rattle.std.proofs.lemmas.Bool.{eqb-true, eqb-false, and_left}
 use Rattle.std.proofs.lemmas.List.{length_push}
 use Rattle.ack_bit.specs.AckBits.{is_new}
 use Rattle.ack_bit.proofs.Links.{acked_count, says}
@@ -42,11 +42,8 @@ link_sends slot link end is =
 -- ---- an end that receives what the other one sent
 
 -- an empty PDU is no data, and what an end sends is one or the other
-none_of : (one other : Bool) → one ≡ false → (one && other) ≡ false
-none_of one other is = ap (λ b. b && other) is
-
 is_none : (zero none one two : Bool) → (zero ≡ true → (one || two) ≡ false) → (zero || none) ≡ true → ((one || two) && not none) ≡ false
-is_none true none one two differs is = none_of (one || two) (not none) (differs refl)
+is_none true none one two differs is = and_left (one || two) (not none) (differs refl)
 is_none false true true two differs is = refl
 is_none false true false true differs is = refl
 is_none false true false false differs is = refl
@@ -71,9 +68,9 @@ full_is_data pdu short is =
     is_some (pdu.llid == 0) (length pdu.body == 0) (pdu.llid == 1) (pdu.llid == 2) (data_llid pdu.llid short.llid) is
 
 -- while a PDU is not acknowledged, the same one is sent again
-again : (ack : Acknowledgement) (next : Pdu) (acked : Bool) → is_acked ack ≡ acked → ack.acked < length ack.sent → (next_sent acked next ack).sent ≡ ack.sent
-again ack next true is out = absurd (let same = eqb-true ack.acked (length ack.sent) is in omega (arith, same, out))
-again ack next false is out = refl
+pub sent_again : (ack : Acknowledgement) (next : Pdu) (acked : Bool) → is_acked ack ≡ acked → ack.acked < length ack.sent → (next_sent acked next ack).sent ≡ ack.sent
+sent_again ack next true is out = absurd (let same = eqb-true ack.acked (length ack.sent) is in omega (arith, same, out))
+sent_again ack next false is out = refl
 
 counted : (fresh : Bool) (accepted : List Pdu) (pdu : Pdu) (count : ℕ) → fresh ≡ (count == length accepted + 1)
     → length accepted ≤ count → count ≤ length accepted + 1
@@ -106,7 +103,7 @@ module _ (sender : Facts) (one : Acknowledgement) (short : IsShort (pdu_sent sen
       ∙ counted fresh one.accepted (pdu_sent sender) (length (sent_ack sender).sent)
       ((says (end_of (sent_ack sender)) (end_of one) (packet_of sender true) agreed).fresh
       ∙ ap (λ pdus. length pdus == length one.accepted + 1)
-      (again (sent_ack sender) sender.outgoing.fixed (is_acked (sent_ack sender)) refl (out_after sender one agreed)))
+      (sent_again (sent_ack sender) sender.outgoing.fixed (is_acked (sent_ack sender)) refl (out_after sender one agreed)))
       ahead.sent_only ahead.at_most_one_ahead
 
   heard_told : IsTold (sent_ack sender) one (pdu_sent sender) (heard_by sender true one) (heard_by sender false one)

@@ -35,6 +35,7 @@ use Rattle.journal_acks.specs.Exchange.{Exchanged, with_sent}
 use Rattle.journal_acks.proofs.Exchanging.{exchange_at, exchange_other, exchange_same, number_at, number_other}
 use Rattle.journal_acks.proofs.LinkUses.{listens_under, sends_under}
 use Rattle.journal_acks.proofs.TwoStations.{IsOfTwo, other_apart}
+use Rattle.std.proofs.Math.Bool.{and-false}
 use Rattle.std.proofs.lemmas.Bool.{eqb-true, eqb-false, false_from_ne_true}
 use Rattle.controller_model.specs.Side.{facts_of}
 
@@ -134,11 +135,7 @@ moved handle link unsent unsent_too received received_too turn turn_too end end_
     (subst (λ now. IsEndCounted unsent received handle now link end_too) (sym t)
     (subst (λ one. IsEndCounted unsent received handle turn link one) (sym e) is)))
 
-not_yet : (unsent : Bool) → (unsent && false) ≡ false
-not_yet true = refl
-not_yet false = refl
-
-nothing_taken : (listens : Bool) (received : Option (List ℕ)) (slot : ℕ) (link : OpenLink) → (listens ≡ true → received ≡ None) → taking_if listens received slot link ≡ link
+pub nothing_taken : (listens : Bool) (received : Option (List ℕ)) (slot : ℕ) (link : OpenLink) → (listens ≡ true → received ≡ None) → taking_if listens received slot link ≡ link
 nothing_taken true None slot link none = refl
 nothing_taken true (Some octets) slot link none = absurd (let h : Some octets ≡ None = none refl in absurd cc)
 nothing_taken false received slot link none = refl
@@ -149,13 +146,13 @@ pub plain : (unsent : Bool) (received : Option (List ℕ)) (handle : ℕ) (turn 
 plain unsent received handle turn link end none nothing is =
     subst (λ l. IsCounted end (ack_of l)) (nothing_taken (listens_under handle turn.doing) received turn.slot link nothing)
     (subst (λ b. IsCounted (ahead_if b end) (ack_of (taking_if (listens_under handle turn.doing) received turn.slot link)))
-    (ap (λ b. unsent && b) none ∙ not_yet unsent) is)
+    (ap (λ b. unsent && b) none ∙ and-false unsent) is)
 
 pub from_plain : (unsent : Bool) (received : Option (List ℕ)) (handle : ℕ) (turn : Turn) (link : OpenLink) (end : Exchanged) → sends_under handle turn.doing ≡ false
     → (listens_under handle turn.doing ≡ true → received ≡ None) → IsCounted end (ack_of link) → IsEndCounted unsent received handle turn link end
 from_plain unsent received handle turn link end none nothing is =
     subst (λ b. IsCounted (ahead_if b end) (ack_of (taking_if (listens_under handle turn.doing) received turn.slot link)))
-    (sym (ap (λ b. unsent && b) none ∙ not_yet unsent))
+    (sym (ap (λ b. unsent && b) none ∙ and-false unsent))
     (subst (λ l. IsCounted end (ack_of l)) (sym (nothing_taken (listens_under handle turn.doing) received turn.slot link nothing)) is)
 
 -- an end that received nothing

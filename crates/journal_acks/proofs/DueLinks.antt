@@ -132,11 +132,11 @@ pub record AreLater (setup : Setup) (stage : Stage) (begun : ℕ) (facts : Facts
   pub ranged : EachOpen IsRanged facts.links
   pub later : (handle : ℕ) (link : OpenLink) → link_at handle facts.links ≡ Some link → begun ≤ end_of link
 
-sent_setup : (sends : Bool) (slot : ℕ) (link : OpenLink) → (sent_if sends slot link).setup ≡ link.setup
+pub sent_setup : (sends : Bool) (slot : ℕ) (link : OpenLink) → (sent_if sends slot link).setup ≡ link.setup
 sent_setup true slot link = refl
 sent_setup false slot link = refl
 
-fixed_setup : (fixes : Bool) (link : OpenLink) → (fixed_if fixes link).setup ≡ link.setup
+pub fixed_setup : (fixes : Bool) (link : OpenLink) → (fixed_if fixes link).setup ≡ link.setup
 fixed_setup true link = refl
 fixed_setup false link = refl
 

@@ -1,10 +1,9 @@
 -- A controller sends and listens only on a link that has entered an event.
-use Rattle.std.proofs.Common.{◌≡◌, ℕ, ◌+◌, ◌<◌, Bool, true, false, Option, Some, None, List, [], ◌∷◌, refl, sym, ap, subst, ◌∙◌, arith}
+use Rattle.std.proofs.Common.{◌≡◌, ℕ, ◌+◌, ◌<◌, Bool, true, false, Option, Some, None, List, refl, sym, ap, subst, ◌∙◌, arith}
 use Rattle.std.specs.Option.{option_map}
-use Rattle.std.proofs.lemmas.List.Sums.{fold-append}
 use Rattle.link_model.specs.declared.events.ConnectionEvent.{ConnectionEvent}
 use Rattle.link_model.specs.End.{facts_of as end_facts}
-use Rattle.link_model.specs.Events.{count_entry, entries_in}
+use Rattle.link_model.specs.Events.{entries_in}
 use Rattle.link_model.specs.Facts.{Facts as EndFacts}
 use Rattle.link_model.specs.Setup.{Setup as EndSetup}
 use Rattle.link_model.specs.Step.{Step as EndStep, EventEntered, PduFixed, PacketSent, PacketReceived}
@@ -30,7 +29,7 @@ use Rattle.journal_acks.proofs.LinkCalls.{HasPassed, IsNew, Stays, Takes, begins
 use Rattle.journal_acks.proofs.LinkPhases.{IsPhased, phased_first, phased_kept}
 use Rattle.journal_acks.proofs.LinkUses.{listens_under, sends_under}
 use Rattle.journal_acks.proofs.RadioUses.{Listening, Sending, Uses, advertises_off, exchange_uses, first_of_both, initiates_off, no_link, off_uses, rests_uses, scans_off, winner_wants}
-use Rattle.journal_acks.proofs.UnderHandles.{WasAlike, end_under, map_under, octet_under, sent_if}
+use Rattle.journal_acks.proofs.UnderHandles.{WasAlike, end_under, map_under, octet_under, sent_if, entries_after}
 
 -- it has entered an event
 abbrev pub HasEntered : OpenLink → Type 0
@@ -38,14 +37,11 @@ HasEntered link = 0 < entries_in link.past
 
 -- ---- a link that enters its event
 
-entries_more : (link : OpenLink) (step : EndStep) → entries_in (link_after step link).past ≡ count_entry (entries_in link.past) step
-entries_more link step = fold-append count_entry 0 link.past (step ∷ [])
-
 one_more : (n m : ℕ) → m ≡ n + 1 → 0 < m
 one_more n m is = omega (arith, is)
 
 entered_at : (anchor : Bool) (slot : ℕ) (link : OpenLink) → wants_if anchor slot link ≡ true → HasEntered (entered_if anchor slot link)
-entered_at true slot link wants = one_more (entries_in link.past) _ (entries_more link (EventEntered slot))
+entered_at true slot link wants = one_more (entries_in link.past) _ (entries_after link (EventEntered slot))
 entered_at false slot link wants = absurd cc
 
 -- one that has heard a packet in an event has entered it
@@ -53,18 +49,18 @@ abbrev pub IsGoing : OpenLink → Type 0
 IsGoing link = (facts_in link).event.heard ≡ true → HasEntered link
 
 entered_goes : (anchor : Bool) (slot : ℕ) (link : OpenLink) → IsGoing link → IsGoing (entered_if anchor slot link)
-entered_goes true slot link going = λ on. one_more (entries_in link.past) _ (entries_more link (EventEntered slot))
+entered_goes true slot link going = λ on. one_more (entries_in link.past) _ (entries_after link (EventEntered slot))
 entered_goes false slot link going = going
 
 pub entries_sent : (sends : Bool) (slot : ℕ) (link : OpenLink) → entries_in (sent_if sends slot link).past ≡ entries_in link.past
-entries_sent true slot link = entries_more link (PacketSent slot)
+entries_sent true slot link = entries_after link (PacketSent slot)
 entries_sent false slot link = refl
 
 pub entries_received : (slot : ℕ) (octets : List ℕ) (room : Bool) (link : OpenLink) → entries_in (link_after (PacketReceived slot octets room) link).past ≡ entries_in link.past
-entries_received slot octets room link = entries_more link (PacketReceived slot octets room)
+entries_received slot octets room link = entries_after link (PacketReceived slot octets room)
 
 pub entries_fixed : (fixes : Bool) (link : OpenLink) → entries_in (fixed_if fixes link).past ≡ entries_in link.past
-entries_fixed true link = entries_more link PduFixed
+entries_fixed true link = entries_after link PduFixed
 entries_fixed false link = refl
 
 sent_goes : (sends : Bool) (slot : ℕ) (link : OpenLink) → IsGoing link → IsGoing (sent_if sends slot link)

@@ -1,8 +1,8 @@
 -- Each line of an event that a side enters has the number of events that it entered before.
-use Rattle.std.proofs.Common.{◌≡◌, ℕ, ◌==◌, ◌||◌, Bool, true, false, Option, Some, None, List, [], ◌∷◌, ◌++◌, cond, refl, sym, ap, subst, ◌∙◌, append-nil, append_assoc}
+use Rattle.std.proofs.Common.{◌≡◌, ℕ, ◌==◌, Bool, true, false, Option, Some, None, List, [], ◌∷◌, ◌++◌, cond, refl, sym, ap, subst, ◌∙◌, append-nil, append_assoc}
 use Rattle.std.specs.Prelude.{fold}
 use Rattle.std.specs.List.{Contains}
-use Rattle.std.proofs.lemmas.Bool.{eq-eqb, eqb-true, eqb-false, false_from_ne_true}
+use Rattle.std.proofs.lemmas.Bool.{eq-eqb, eqb-true, eqb-false, false_from_ne_true, or_parts, or_left}
 use Rattle.std.proofs.lemmas.List.Folds.{list_any-append}
 use Rattle.std.proofs.lemmas.List.Sums.{fold-append}
 use Rattle.ble_base.specs.declared.notes.Note.{Note}
@@ -66,14 +66,10 @@ opens_too handle (Opened other role own peer) none =
 opens_too handle (Up packet) none = refl
 opens_too handle note none = refl
 
-either_false : (one other : Bool) → (one || other) ≡ false → (one ≡ false) × (other ≡ false)
-either_false true other is = absurd cc
-either_false false other is = (refl, is)
-
 grows : (handle : ℕ) (before more : List Note) → is_opened handle more ≡ false → Grows handle before more
 grows handle before [] none = record { rest = []; is = sym (append-nil before) }
 grows handle before (note ∷ more) none =
-    let parts = either_false (opens handle note) (is_opened handle more) none in
+    let parts = or_parts (opens handle note) (is_opened handle more) none in
     by (is_under handle note) refl (opens_too handle note parts.0) (λ xs. grows handle xs more parts.1)
   where
     by : (under : Bool) → is_under handle note ≡ under → opens_under handle note ≡ false → ((xs : List Note) → Grows handle xs more) → Grows handle before (note ∷ more)
@@ -100,10 +96,6 @@ number_at handle event channel before later none order =
     (fold-append (note_under handle) [] before (note ∷ later)
     ∙ ap (λ b. fold (note_under handle) (cond b (known ++ note ∷ []) known) later) (eq-eqb handle handle refl)
     ∙ more.is ∙ append_assoc known (note ∷ []) more.rest) order)
-
-true_first : (one other : Bool) → one ≡ true → (one || other) ≡ true
-true_first true other is = refl
-true_first false other is = absurd cc
 
 -- ---- a line
 
@@ -137,15 +129,15 @@ module _ (understood : IsUnderstood) (taken : AreTaken) (given : Given) (are_two
       ∙ sym (notes_more setup past call.step) in
       let was : was_opened handle (noted_by station call.before) ≡ true =
       ap (was_opened handle) before ∙ list_any-append (opens_under handle) (noted_by station base) call.earlier
-      ∙ true_first (was_opened handle (noted_by station base)) (was_opened handle call.earlier) opened in
+      ∙ or_left (was_opened handle (noted_by station base)) (was_opened handle call.earlier) opened in
       let quiet = outside_open handle setup (facts_at given station base) call.step (ap ends_phase turn.is) in
-      let none = (either_false (opens handle note) (is_opened handle call.later)
-      (either_false (is_opened handle call.earlier) (is_opened handle (note ∷ call.later))
+      let none = (or_parts (opens handle note) (is_opened handle call.later)
+      (or_parts (is_opened handle call.earlier) (is_opened handle (note ∷ call.later))
       (sym (list_any-append (opens handle) call.earlier (note ∷ call.later)) ∙ ap (is_opened handle) (sym call.notes_are) ∙ quiet)).1).1 in
       let order = subst (λ xs. AreInOrder 0 (notes_under handle xs)) (sym all)
       (in_order handle setup (past ++ call.step ∷ []) (subst (λ xs. was_opened handle xs ≡ true) all
       (list_any-append (opens_under handle) (noted_by station call.before) (note ∷ call.later)
-      ∙ true_first (was_opened handle (noted_by station call.before)) (was_opened handle (note ∷ call.later)) was))) in
+      ∙ or_left (was_opened handle (noted_by station call.before)) (was_opened handle (note ∷ call.later)) was))) in
       to_line given front line call (λ link entries one. event ≡ entered_on one link entries)
       (number_at handle event channel (noted_by station call.before) call.later none order
       ∙ sym (count_read (journal_of call.before) station _ (notes_under handle (noted_by station call.before))

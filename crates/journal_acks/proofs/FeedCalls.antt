@@ -2,7 +2,6 @@
 use Rattle.std.proofs.Common.{◌≡◌, ℕ, ◌==◌, Bool, true, false, Option, Some, None, List, [], ◌∷◌, ◌++◌, refl, sym, ap, subst, ◌∙◌, append-nil, append_assoc}
 use Rattle.std.specs.Prelude.{⊤, map, take}
 use Rattle.std.proofs.lemmas.Bool.{eqb-true}
-use Rattle.ble_base.specs.declared.roles.Side.{Side}
 use Rattle.journal.specs.declared.entries.Entry.{Entry}
 use Rattle.journal.specs.declared.entries.Entry.TheVariants.{Fed}
 use Rattle.controller_model.specs.Facts.{Facts}
@@ -17,7 +16,7 @@ use Rattle.run_model.specs.Order.{AreNotes}
 use Rattle.run_model.specs.Run.{Given, after_call, after_feed, after_octets, facts_at, hearings_of, history_of, octets_left, run_of, setup_at, step_of}
 use Rattle.run_model.proofs.Calls.{flat_nothing, same_station}
 use Rattle.run_model.proofs.Dues.{fed_called, fed_own}
-use Rattle.run_model.proofs.Parts.{call_adds, journal_event}
+use Rattle.run_model.proofs.Parts.{call_adds, journal_event, notes_more}
 use Rattle.run_model.proofs.Places.{each_called, each_event}
 use Rattle.run_model.proofs.Walk.{Place, IsKept, IsStopped, IsWhole, ends_with, run_kept}
 use Rattle.run_laws.proofs.Hearings.{other_facts, own_facts}
@@ -37,10 +36,6 @@ pub record IsFedNow (given : Given) (history : List Event) (station octet : ℕ)
   pub journal_is : journal_of history ≡ journal_of start ++ Fed (side_of station) octets ∷ entries
   pub are_notes : AreNotes (side_of station) entries
   pub held : (facts_at given station history).octets ≡ fed_to station start ++ first
-
-pub both_notes : (side : Side) (xs ys : List Entry) → AreNotes side xs → AreNotes side ys → AreNotes side (xs ++ ys)
-both_notes side [] ys are more = more
-both_notes side (entry ∷ xs) ys are more = (are.0, both_notes side xs ys are.1 more)
 
 module _ (given : Given) where
   abbrev OfStep : List Event → ℕ → Step → Type 0
@@ -105,7 +100,7 @@ module _ (given : Given) where
           entries = is.entries ++ added.entries;
           journal_is = added.journal_is ∙ ap (λ xs. xs ++ added.entries) is.journal_is
               ∙ append_assoc (journal_of start) (Fed (side_of station) octets ∷ is.entries) added.entries;
-          are_notes = both_notes (side_of station) is.entries added.entries is.are_notes added.are_notes;
+          are_notes = notes_more (side_of station) is.entries added.entries is.are_notes added.are_notes;
           held = ap (λ (f : Facts). f.octets) (own_facts given station step history) ∙ more_octets (setup_at given station) facts octet
               ∙ ap (λ xs. xs ++ octet ∷ []) is.held ∙ append_assoc (fed_to station start) first (octet ∷ []);
           own = fed_called station station step notes history ∙ is.own;

@@ -1,7 +1,7 @@
 -- The counts of a link are the first ones, and no new PDU is sent on it, until a turn after that of its CONNECT_IND.
-use Rattle.std.proofs.Common.{◌≡◌, ℕ, ◌+◌, ◌<◌, ◌≤◌, ◌==◌, ◌&&◌, Bool, true, false, List, [], ◌∷◌, ◌++◌, refl, sym, ap, subst, ◌∙◌, append-nil, append_assoc, arith}
+use Rattle.std.proofs.Common.{◌≡◌, ℕ, ◌+◌, ◌<◌, ◌≤◌, ◌==◌, Bool, true, false, List, [], ◌∷◌, ◌++◌, refl, sym, ap, subst, ◌∙◌, append-nil, append_assoc, arith}
 use Rattle.std.specs.Prelude.{All, ⊤, map, Some, None, if◌then◌else◌}
-use Rattle.std.proofs.lemmas.Bool.{eqb-true}
+use Rattle.std.proofs.lemmas.Bool.{eqb-true, and_right}
 use Rattle.std.proofs.lemmas.List.Elements.{All-head, All-tail}
 use Rattle.ble_base.specs.declared.roles.Side.{Side}
 use Rattle.ble_base.specs.declared.notes.Note.{Note}
@@ -75,10 +75,6 @@ IsOnly handle (Sent other number llid body) = other ≡ handle
 IsOnly handle (Took other number llid body) = other ≡ handle
 IsOnly handle note = ⊤
 
-not_both : (one other : Bool) → other ≡ false → (one && other) ≡ false
-not_both true other is = is
-not_both false other is = refl
-
 -- the notes of one link change nothing of another
 module _ (number station handle : ℕ) where
   one_quiet : (note : Note) (history : List Event) → IsOnly handle note → (number_at station handle history == number) ≡ false
@@ -95,7 +91,7 @@ module _ (number station handle : ℕ) where
         ∙ ap (λ (b : Bool). if b
         then Some (record { pdu = record { llid = llid; body = body.items }; acked = (exchange_of number (journal_of history) side).acked })
         else sent_line_at number history side)
-        (not_both (is_side (side_of station) side) (number_at station other history == number) (ap (λ n. number_at station n history == number) same ∙ differs));
+        (and_right (is_side (side_of station) side) (number_at station other history == number) (ap (λ n. number_at station n history == number) same ∙ differs));
   }
   one_quiet (Up packet) history same differs = record {
     exchange = note_quiet number history station (Up packet) refl;

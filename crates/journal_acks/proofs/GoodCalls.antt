@@ -20,7 +20,7 @@ use Rattle.run_model.proofs.Walk.{Place, AtListening}
 use Rattle.run_laws.proofs.Hearings.{other_facts}
 use Rattle.run_laws.proofs.TurnPlaces.{Within, at_stage}
 use Rattle.journal_acks.proofs.CallNotes.{octet_noted}
-use Rattle.journal_acks.proofs.Counting.{AreKnown, facts_event, taking_if}
+use Rattle.journal_acks.proofs.Counting.{AreKnown, facts_event, taking_if, nothing_taken}
 use Rattle.journal_acks.proofs.Exchanging.{OpensNone, number_at, number_called, number_other, number_quiet, opening_none}
 use Rattle.journal_acks.proofs.GoodLinks.{good_alike, good_of, good_room, good_sent, slot_of}
 use Rattle.journal_acks.proofs.HeardLines.{AreUnheard, feed_heard, heard_at, heard_called, unheard_called, unheard_event_at, unheard_now}
@@ -44,11 +44,6 @@ moved handle link received received_too turn turn_too may may_too r t m is =
     subst (λ one. IsGoodAt one handle turn_too link may_too) (sym r)
     (subst (λ now. IsGoodAt received handle now link may_too) (sym t)
     (subst (λ one. IsGoodAt received handle turn link one) (sym m) is))
-
-nothing_taken : (listens : Bool) (received : Option (List ℕ)) (slot : ℕ) (link : OpenLink) → (listens ≡ true → received ≡ None) → taking_if listens received slot link ≡ link
-nothing_taken true None slot link none = refl
-nothing_taken true (Some octets) slot link none = absurd (let h : Some octets ≡ None = none refl in absurd cc)
-nothing_taken false received slot link none = refl
 
 -- an end that has no packet to take
 pub plain : (received : Option (List ℕ)) (handle : ℕ) (turn : Turn) (link : OpenLink) (may : Option ℕ) → (listens_under handle turn.doing ≡ true → received ≡ None)

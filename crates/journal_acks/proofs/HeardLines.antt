@@ -1,7 +1,7 @@
 -- What an event or a call adds to what a journal says was heard last on a link.
 use Rattle.std.proofs.Common.{◌≡◌, ℕ, zero, suc, ◌+◌, ◌-◌, ◌<◌, ◌≤◌, ◌==◌, ◌&&◌, not, Bool, true, false, Option, Some, None, List, [], ◌∷◌, ◌++◌, length, refl, sym, ap, ◌∙◌, append-nil, append_assoc, arith}
 use Rattle.std.specs.Prelude.{map, if◌then◌else◌}
-use Rattle.std.proofs.lemmas.Bool.{eqb-true}
+use Rattle.std.proofs.lemmas.Bool.{eqb-true, and_left, and_right}
 use Rattle.ble_base.specs.Side.{other_side}
 use Rattle.ble_base.specs.declared.roles.Side.{Side}
 use Rattle.ble_base.specs.declared.notes.Note.{Note}
@@ -25,7 +25,7 @@ use Rattle.journal_acks.specs.Exchange.{is_number}
 use Rattle.journal_acks.specs.Shut.{heard_after, heard_from, is_of_link, last_heard}
 use Rattle.journal_acks.proofs.Counting.{IsBegun}
 use Rattle.journal_acks.proofs.Exchanging.{any_note, call_keeps, notes_keep}
-use Rattle.journal_acks.proofs.FirstCounts.{turns_grow}
+use Rattle.journal_acks.proofs.FirstCounts.{turns_grow, same_turns, too_late}
 use Rattle.journal_acks.proofs.TwoStations.{other_of}
 
 abbrev pub heard_at : ℕ → Side → List Event → Option ℕ
@@ -105,14 +105,6 @@ air_heard number side station channel octets history hearings hearing are =
     ∙ ap (λ xs. journal_of history ++ air_entries (side_of station) channel octets xs) are)
     ∙ heard_more number side (journal_of history) (Air (side_of station) channel octets (mark_of hearing.fate) hearing.verdict)
 
-both_none : (one other : Bool) → other ≡ false → (one && other) ≡ false
-both_none true other is = is
-both_none false other is = refl
-
-first_none : (one other : Bool) → one ≡ false → (one && other) ≡ false
-first_none true other is = absurd cc
-first_none false other is = refl
-
 -- on an advertising channel
 pub advertised_heard : (number : ℕ) (side : Side) (station channel : ℕ) (octets : List ℕ) (history : List Event) (hearings : List Hearing) (hearing : Hearing) → hearings ≡ hearing ∷ []
     → is_advertising channel ≡ true → heard_at number side (history ++ Transmitted station channel octets hearings ∷ []) ≡ heard_at number side history
@@ -128,7 +120,7 @@ pub unheard_packet : (number : ℕ) (side : Side) (station channel : ℕ) (octet
 unheard_packet number side station channel octets history hearings hearing are none =
     air_heard number side station channel octets history hearings hearing are
     ∙ ap (λ b. heard_if b (length (turns_of (journal_of history))) (heard_at number side history))
-    (both_none (is_of_link number (journal_of history) (side_of station) channel octets) (is_side (side_of station) (other_side side) && is_good hearing.verdict) none)
+    (and_right (is_of_link number (journal_of history) (side_of station) channel octets) (is_side (side_of station) (other_side side) && is_good hearing.verdict) none)
 
 -- a packet of a link
 pub link_heard : (number other : ℕ) (side : Side) (station channel : ℕ) (octets : List ℕ) (history : List Event) (hearings : List Hearing) (hearing : Hearing) → hearings ≡ hearing ∷ []
@@ -149,7 +141,7 @@ pub apart_heard : (number other : ℕ) (side : Side) (station channel : ℕ) (oc
 apart_heard number other side station channel octets history hearings hearing are off belongs apart =
     link_heard number other side station channel octets history hearings hearing are off belongs
     ∙ ap (λ b. heard_if b (length (turns_of (journal_of history))) (heard_at number side history))
-    (first_none (other == number) (is_side (side_of station) (other_side side) && is_good hearing.verdict) apart)
+    (and_left (other == number) (is_side (side_of station) (other_side side) && is_good hearing.verdict) apart)
 
 -- a side does not hear itself, and hears the other one
 pub own_side : (station : ℕ) → is_side (side_of station) (other_side (side_of station)) ≡ false
@@ -181,9 +173,6 @@ pub unheard_event_at : (number : ℕ) (history : List Event) (event : Event) →
 unheard_event_at number history event same is =
     unheard_grown number history (history ++ event ∷ []) (entries_of (links_of history) event) (journal_event history event) (turns_grow history event) same is
 
-same_turns : (one other : ℕ) → other ≡ one → one ≤ other
-same_turns one other is = omega (arith, is)
-
 pub unheard_called : (given : Given) (station : ℕ) (step : Step) (history : List Event) → AreUnheard history → AreUnheard (after_call given station step history)
 unheard_called given station step history are = λ number.
     let notes = notes_after (setup_at given station) (facts_at given station history) step in
@@ -211,9 +200,6 @@ unheard_packet_of number other station channel octets history hearings hearing l
 pub none_unheard : AreUnheard []
 unfolding last_heard journal_of
 none_unheard = λ number. NoneHeard (λ side. refl)
-
-too_late : (slot turns : ℕ) (X : Type 0) → slot + 1 < turns → slot + 1 ≡ turns → X
-too_late slot turns X before now = absurd (omega (arith, before, now))
 
 -- a link of this turn
 pub unheard_now : (history : List Event) (number station : ℕ) (end : EndSetup) (side : Side) → IsUnheard number history → IsBegun history number station end

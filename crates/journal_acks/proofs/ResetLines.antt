@@ -1,10 +1,9 @@
 -- Each line of a link that is shut with 00 comes of a Reset.
-use Rattle.std.proofs.Common.{◌≡◌, ℕ, ◌⊎◌, inl, inr, Some, List, [], ◌∷◌, ◌++◌, refl, sym, ap, subst, ◌∙◌, append_assoc, arith, ◌==◌, true, append-nil}
+use Rattle.std.proofs.Common.{◌≡◌, ℕ, ◌⊎◌, inl, inr, List, [], ◌∷◌, ◌++◌, refl, sym, ap, subst, ◌∙◌, append_assoc, arith, ◌==◌, true, append-nil}
 use Rattle.std.specs.Prelude.{flat_map, map, if◌then◌else◌}
 use Rattle.std.proofs.lemmas.Grind.{flat_map-append}
 use Rattle.ble_base.specs.declared.error_codes.ErrCode.{ErrCode}
 use Rattle.ble_base.specs.declared.notes.Note.{Note}
-use Rattle.ble_base.specs.declared.notes.Note.TheVariants.{Up as UpNote}
 use Rattle.ble_base.specs.declared.roles.Side.{Side}
 use Rattle.hci_cmd.specs.declared.command.Command.TheVariants.{Reset}
 use Rattle.journal.specs.declared.entries.Entry.{Entry}
@@ -17,31 +16,21 @@ use Rattle.controller_model.proofs.Resets.{resets}
 use Rattle.open_links.specs.OpenLinks.{OpenLink}
 use Rattle.run_model.specs.Due.{Each}
 use Rattle.run_model.specs.History.{Event, TurnBegan, HostFed, Called, Noted, Transmitted, fed_to, octets_in, past_of}
-use Rattle.run_model.specs.Journal.{entries_of, entry_of, journal_from, journal_of, side_of}
+use Rattle.run_model.specs.Journal.{entries_of, journal_from, journal_of, side_of}
 use Rattle.run_model.specs.Links.{Links, first_links, links_after, links_of}
 use Rattle.run_model.specs.NoteLines.{IsLineInCall, shut_line}
-use Rattle.run_model.specs.Order.{AreNotes, side_of_note}
 use Rattle.run_model.specs.Readers.{IsOfStations, fed_in, fed_to_side, of_side}
 use Rattle.run_model.specs.Run.{Given, facts_at, history_of, run_of, setup_at}
-use Rattle.run_model.proofs.Journals.{each_front, two}
+use Rattle.run_model.proofs.Journals.{each_front, two, note_fed}
 use Rattle.run_model.proofs.NoteLines.{line_in_call}
 use Rattle.run_model.proofs.OfStations.{OfStations, run_of_stations}
-use Rattle.run_model.proofs.Parts.{journal_more}
+use Rattle.run_model.proofs.Parts.{journal_more, notes_noted, notes_more}
 use Rattle.run_model.proofs.Places.{each_at}
 use Rattle.run_model.proofs.Stations.{is_in}
 use Rattle.journal_acks.specs.Shut.{CompletesReset}
-use Rattle.journal_acks.proofs.FeedCalls.{IsFedNow, OfFeed, both_notes, run_feeds}
+use Rattle.journal_acks.proofs.FeedCalls.{IsFedNow, OfFeed, run_feeds}
 use Rattle.journal_acks.proofs.TwoStations.{IsOfTwo}
 use Rattle.journal_acks.proofs.ShutLines.{shut_in}
-
-note_side : (side : Side) (link_of : ℕ → ℕ) (last : ℕ) (note : Note) → side_of_note (entry_of side link_of last note) ≡ Some side
-note_side side link_of last (UpNote packet) = refl
-note_side side link_of last note = refl
-
-notes_noted : (links : Links) (station : ℕ) (notes : List Note) → AreNotes (side_of station) (journal_from links (map (Noted station) notes))
-notes_noted links station [] = tt
-notes_noted links station (note ∷ notes) =
-    (note_side (side_of station) (links.link_of station) (links.last_of station) note, notes_noted (links_after links (Noted station note)) station notes)
 
 -- ---- what a side was fed, of two
 
@@ -53,10 +42,6 @@ own_octets station other octets (inl a) (inl b) = (λ i. of_side (side_of (a i))
 own_octets station other octets (inl a) (inr b) = (λ i. of_side (side_of (a i)) (side_of (b i)) octets) ∙ sym (λ i. if a i == b i then octets else [])
 own_octets station other octets (inr a) (inl b) = (λ i. of_side (side_of (a i)) (side_of (b i)) octets) ∙ sym (λ i. if a i == b i then octets else [])
 own_octets station other octets (inr a) (inr b) = (λ i. of_side (side_of (a i)) (side_of (b i)) octets) ∙ sym (λ i. if a i == b i then octets else [])
-
-note_fed : (side other : Side) (link_of : ℕ → ℕ) (last : ℕ) (note : Note) → fed_in side (entry_of other link_of last note) ≡ []
-note_fed side other link_of last (UpNote packet) = refl
-note_fed side other link_of last note = refl
 
 event_fed : (station : ℕ) → IsOne station → (links : Links) (event : Event) → IsOfStations (0 ∷ 1 ∷ []) event → flat_map (fed_in (side_of station)) (entries_of links event) ≡ octets_in station event
 event_fed station one links (TurnBegan slot radios) is = refl
@@ -107,7 +92,7 @@ module _ (given : Given) (are_two : IsOfTwo given) where
         notes = fed.entries ++ added;
         front_is = journal_more base (called ∷ map (Noted station) earlier) ∙ ap (λ xs. xs ++ added) fed.journal_is
             ∙ append_assoc (journal_of fed.start) (Fed (side_of station) fed.octets ∷ fed.entries) added;
-        are_notes = both_notes (side_of station) fed.entries added fed.are_notes (notes_noted (links_of base) station earlier);
+        are_notes = notes_more (side_of station) fed.entries added fed.are_notes (notes_noted (links_of base) station earlier);
         first = fed.first;
         last = octet;
         more = fed.more;

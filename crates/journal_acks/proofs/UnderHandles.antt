@@ -194,7 +194,7 @@ pub record WasAlike (place : Option OpenLink) (after : OpenLink) : Type 0 where
 alike_same : (place : Option OpenLink) (after : OpenLink) → place ≡ Some after → WasAlike place after
 alike_same place after is = record { link = after; was = is; setup = refl; ack = refl; entries = refl; event = refl; good = refl }
 
-entries_after : (link : OpenLink) (step : EndStep) → entries_in (link_after step link).past ≡ count_entry (entries_in link.past) step
+pub entries_after : (link : OpenLink) (step : EndStep) → entries_in (link_after step link).past ≡ count_entry (entries_in link.past) step
 entries_after link step = fold-append count_entry 0 link.past (step ∷ [])
 
 given_alike : (place : Option OpenLink) (start : Bool) (body : List ℕ) (link : OpenLink) → place ≡ Some link → WasAlike place (link_after (DataGiven start body) link)

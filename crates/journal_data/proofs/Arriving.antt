@@ -2,6 +2,7 @@
 use Rattle.std.proofs.Common.{◌≡◌, ℕ, zero, suc, ◌+◌, ◌-◌, ◌≤◌, ◌==◌, ◌&&◌, ◌||◌, not, nat_lt, Bool, true, false, List, [], ◌∷◌, ◌++◌, cond, length, take, drop, refl, sym, ap, subst, ◌∙◌, arith, if◌then◌else◌}
 use Rattle.std.specs.List.{flat_map}
 use Rattle.std.proofs.Math.Seq.{take-append_seam}
+use Rattle.std.proofs.Math.Bool.{and-false}
 use Rattle.std.proofs.lemmas.Bool.{eqb-true}
 use Rattle.std.proofs.lemmas.Bool.Decides.{nat_tests}
 use Rattle.std.proofs.lemmas.List.Concat.{flat_map-append}
@@ -57,14 +58,10 @@ lines_data link number [] = refl
 lines_data link number (pdu ∷ pdus) = ap (λ rest. data_in pdu ++ rest) (lines_data link (number + 1) pdus)
 
 -- an empty PDU has no data
-and_false : (one : Bool) → (one && false) ≡ false
-and_false true = refl
-and_false false = refl
-
 no_data : (llid : ℕ) (reserved none : Bool) → (llid == 0) ≡ reserved → (reserved || none) ≡ true
     → (((llid == 1) || (llid == 2)) && not none) ≡ false
 no_data llid true none reserved is = ap (λ n. ((n == 1) || (n == 2)) && not none) (eqb-true llid 0 reserved)
-no_data llid false true free is = and_false ((llid == 1) || (llid == 2))
+no_data llid false true free is = and-false ((llid == 1) || (llid == 2))
 no_data llid false false free is = absurd (let h : false ≡ true = is in absurd cc)
 
 kept_data : (empty : Bool) (pdu : Pdu) (rest more : List Pdu) → is_empty pdu ≡ empty → data_of rest ≡ data_of more

@@ -2,6 +2,7 @@
 use Rattle.std.proofs.Common.{◌≡◌, ℕ, ◌+◌, ◌==◌, ◌&&◌, Bool, true, false, Option, Some, None, List, [], ◌∷◌, ◌++◌, map, cond, refl, sym, ap, ◌∙◌, append-nil, arith}
 use Rattle.std.specs.Prelude.{drop, filter, fold, not}
 use Rattle.std.specs.List.{AllByRecursion}
+use Rattle.std.proofs.Math.Bool.{and-false}
 use Rattle.std.proofs.lemmas.List.Elements.{filter-append}
 use Rattle.ble_base.specs.declared.addresses.Address.{Address}
 use Rattle.ble_base.specs.declared.notes.Note.{Note}
@@ -87,10 +88,6 @@ module _ (number : ℕ) where
 
   -- ---- a line
 
-  and_false : (one : Bool) → (one && false) ≡ false
-  and_false true = refl
-  and_false false = refl
-
   pdu_apart : (all : List PduLine) (one : PduLine) → (one.link == number) ≡ false → pdus_on number (all ++ one ∷ []) ≡ pdus_on number all
   pdu_apart all one differs =
       filter-append (λ (pdu : PduLine). pdu.link == number) all (one ∷ [])
@@ -108,11 +105,11 @@ module _ (number : ℕ) where
   up_clear lines octets so = (
     (λ i. so.clear.unused.received i
         ++ (data_by (is_acl_data octets) false number (link_under (acl_handle octets) lines.links) octets (λ acl. none_under (acl_handle octets) lines.links so.none)
-        ∙ ap (λ (b : Bool). cond b (marked_octets (starts_message octets) (drop 5 octets)) []) (and_false (is_acl_data octets))) i),
+        ∙ ap (λ (b : Bool). cond b (marked_octets (starts_message octets) (drop 5 octets)) []) (and-false (is_acl_data octets))) i),
     (let before = so.clear.unused.credited in
         let more : counts_on number (credited_in lines.links octets) ≡ 0 =
         credit_by (is_event 0x13 octets) false number (link_under (two_octets 4 octets) lines.links) octets (λ event. none_under (two_octets 4 octets) lines.links so.none)
-        ∙ ap (λ (b : Bool). cond b (two_octets 6 octets) 0) (and_false (is_event 0x13 octets)) in omega (arith, before, more)),
+        ∙ ap (λ (b : Bool). cond b (two_octets 6 octets) 0) (and-false (is_event 0x13 octets)) in omega (arith, before, more)),
   )
 
   line_clear : (side : Side) (lines : Lines) (line : Entry) → where_named side number (link_named line) line ≡ [] → is_of_side side line ≡ true → IsClearSo lines

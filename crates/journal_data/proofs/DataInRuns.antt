@@ -22,10 +22,11 @@ use Rattle.journal_data.proofs.FedInRuns.{between_standing}
 use Rattle.journal_data.proofs.FeedSide.{feed_step}
 use Rattle.journal_data.proofs.Feeds.{feed_front}
 use Rattle.journal_data.proofs.Fronts.{AreAlways, HasMore, always_event, always_more, feed_more, mid_same}
-use Rattle.journal_data.proofs.KeptData.{AreWell, own_numbers, IsBetween, IsDataAt, data_kept, far_side, other_in, pass_in_turn}
+use Rattle.journal_data.proofs.KeptData.{AreWell, own_numbers, IsBetween, IsDataAt, data_kept, other_in, pass_in_turn}
 use Rattle.journal_data.proofs.Middle.{from_fed, from_middle, to_fed, to_middle}
 use Rattle.journal_data.proofs.Mine.{other_back}
 use Rattle.journal_data.proofs.FewLinks.{HaveFewLinks}
+use Rattle.journal_data.proofs.OneCall.{far_side}
 use Rattle.journal_data.proofs.Submitting.{AreInStep}
 
 -- on each link, of what each side sends

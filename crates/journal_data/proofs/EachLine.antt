@@ -1,5 +1,5 @@
 -- What an event adds to the lines of a side.
-use Rattle.std.proofs.Common.{◌≡◌, ℕ, zero, suc, Bool, true, false, List, [], ◌∷◌, ◌++◌, refl, ap, sym, ◌∙◌, append-nil, append_assoc}
+use Rattle.std.proofs.Common.{◌≡◌, ℕ, Bool, true, false, List, [], ◌∷◌, ◌++◌, refl, ap, sym, ◌∙◌, append-nil, append_assoc}
 use Rattle.std.specs.Prelude.{fold, map, ⊤, if◌then◌else◌}
 use Rattle.std.specs.List.{AllByRecursion}
 use Rattle.std.proofs.lemmas.List.Sums.{fold-append}
@@ -14,6 +14,7 @@ use Rattle.run_model.specs.Links.{links_of}
 use Rattle.run_model.proofs.Calls.{with_notes}
 use Rattle.run_model.proofs.Parts.{journal_event}
 use Rattle.journal_packets.specs.Belonging.{is_side}
+use Rattle.journal_acks.proofs.TwoStations.{side_same}
 use Rattle.journal_data.specs.Lines.{Lines, line_after, lines_after, lines_of, no_lines}
 
 -- the numbers of the links that a station opened last, by handle
@@ -55,10 +56,6 @@ air_lines station history sender channel octets hearings =
 
 -- ---- events of the station
 
-pub own_side : (station : ℕ) → is_side (side_of station) (side_of station) ≡ true
-own_side zero = refl
-own_side (suc station) = refl
-
 if_own : (own : Bool) (one other : Lines) → own ≡ true → (if own then one else other) ≡ one
 if_own true one other is = refl
 if_own false one other is = absurd cc
@@ -68,7 +65,7 @@ pub fed_lines : (station : ℕ) (history : List Event) (octets : List ℕ)
     ≡ line_after 8 (lines_at station history) (Fed (side_of station) octets)
 fed_lines station history octets =
     event_lines station history (HostFed station octets)
-    ∙ if_own (is_side (side_of station) (side_of station)) _ (lines_at station history) (own_side station)
+    ∙ if_own (is_side (side_of station) (side_of station)) _ (lines_at station history) (side_same station)
 
 noted_own : (side : Side) (lines : Lines) (link_of : ℕ → ℕ) (last : ℕ) (note : Note) → is_side side side ≡ true
     → lines_after 8 side lines (entry_of side link_of last note) ≡ line_after 8 lines (entry_of side link_of last note)
@@ -86,7 +83,7 @@ pub note_lines : (station : ℕ) (history : List Event) (note : Note)
 note_lines station history note =
     event_lines station history (Noted station note)
     ∙ noted_own (side_of station) (lines_at station history) ((links_of history).link_of station)
-    ((links_of history).last_of station) note (own_side station)
+    ((links_of history).last_of station) note (side_same station)
 
 -- ---- events of the other station
 

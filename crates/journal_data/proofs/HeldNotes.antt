@@ -22,7 +22,9 @@ use Rattle.run_model.specs.History.{Event, TurnBegan, HostFed, Called, Noted, Tr
 use Rattle.run_model.specs.Journal.{side_of}
 use Rattle.run_model.specs.Links.{Links, links_of}
 use Rattle.run_model.specs.Run.{Given, after_call, facts_at, setup_at}
+use Rattle.run_model.proofs.CallNotes.{map_push}
 use Rattle.run_model.proofs.LinksKnown.{links_event}
+use Rattle.run_laws.proofs.Hearings.{own_facts}
 use Rattle.journal_acks.proofs.Counting.{HaveOwnNumbers}
 use Rattle.journal_acks.proofs.Exchanging.{number_at}
 use Rattle.journal_data.specs.Held.{IsNextOpened, is_open_link, IsOfOneLink, IsDataOfLink}
@@ -36,7 +38,7 @@ use Rattle.journal_data.proofs.LeastHandles.{OpenLeast}
 use Rattle.journal_data.proofs.NotedLines.{AreApart, IsOfBase, note_links, number_opened, numbers_noted, numbers_quiet, one_on, still_open, swapped, with_noted, completed_data, received_data}
 use Rattle.journal_data.proofs.Openness.{AreNot, IsNotedAs, stays, shuts, opens_first, is_open, is_shutting, note_open, past_noted}
 use Rattle.journal_data.proofs.OpenLines.{IsOfStaying, middle, of_staying, open_mid, opened_mid, parts, shut_mid}
-use Rattle.journal_data.proofs.StationLines.{called_then, each_in, names_few, of_after, of_before, own_apart, own_facts}
+use Rattle.journal_data.proofs.StationLines.{called_then, each_in, names_few, of_after, of_before, own_apart}
 
 -- ---- notes that open no link
 
@@ -92,10 +94,6 @@ IsHeld history (Called station step) = ⊤
 IsHeld history (TurnBegan slot radios) = ⊤
 IsHeld history (HostFed station octets) = ⊤
 IsHeld history (Transmitted station channel octets hearings) = ⊤
-
-noted_push : (station : ℕ) (notes : List Note) (note : Note) → map (Noted station) (notes ++ note ∷ []) ≡ map (Noted station) notes ++ Noted station note ∷ []
-noted_push station [] note = refl
-noted_push station (first ∷ notes) note = ap (λ (all : List Event). Noted station first ∷ all) (noted_push station notes note)
 
 -- no link has a number that no handle has
 none_any : (link : ℕ) (links : List OpenUnder) → sum_by (λ (one : OpenUnder). cond (one.link == link) 1 0) links ≡ 0 → is_open_link link links ≡ false
@@ -320,7 +318,7 @@ module _ (given : Given) (station : ℕ) (step : Step) (history : List Event) (f
   each_left earlier (note ∷ left) are = (
     note_is earlier left note are,
     subst (λ (all : List Event). Each IsHeld all (map (Noted station) left))
-        (ap (λ (all : List Event). called ++ all) (noted_push station earlier note) ∙ sym (append_assoc called (map (Noted station) earlier) (Noted station note ∷ [])))
+        (ap (λ (all : List Event). called ++ all) (map_push station earlier note) ∙ sym (append_assoc called (map (Noted station) earlier) (Noted station note ∷ [])))
         (each_left (earlier ++ note ∷ []) left (are ∙ sym (append_assoc earlier (note ∷ []) left))),
   )
 

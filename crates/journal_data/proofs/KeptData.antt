@@ -1,5 +1,5 @@
 -- Each step of a run of a pair keeps that the data of both sides arrives in order.
-use Rattle.std.proofs.Common.{◌≡◌, ℕ, zero, suc, ◌-◌, ◌==◌, ◌⊎◌, inl, inr, Bool, true, false, Option, Some, None, List, [], ◌∷◌, ◌++◌, refl, sym, ap, subst, ◌∙◌, append-nil, append_assoc}
+use Rattle.std.proofs.Common.{◌≡◌, ℕ, suc, ◌-◌, ◌==◌, ◌⊎◌, inl, inr, Bool, true, false, Option, Some, None, List, [], ◌∷◌, ◌++◌, refl, sym, ap, subst, ◌∙◌, append-nil, append_assoc}
 use Rattle.std.specs.Prelude.{map, take, if◌then◌else◌}
 use Rattle.std.proofs.lemmas.Bool.{eqb-true}
 use Rattle.ble_base.specs.declared.notes.Note.TheVariants.{Opened}
@@ -37,7 +37,7 @@ use Rattle.journal_data.proofs.FeedSide.{feed_arrives, feed_well}
 use Rattle.journal_data.proofs.Mine.{AreMine, other_back, packet_mine}
 use Rattle.journal_data.proofs.MineKept.{heard_none_mine, hearing_mine}
 use Rattle.journal_data.proofs.Moves.{begin_moves, end_moves, phase_moves}
-use Rattle.journal_data.proofs.OneCall.{EachAt, HasMoved, IsCallMade, arriving_after, well_after}
+use Rattle.journal_data.proofs.OneCall.{EachAt, HasMoved, IsCallMade, arriving_after, well_after, far_side}
 use Rattle.journal_data.proofs.Openness.{past_noted}
 use Rattle.journal_data.proofs.FewLinks.{HaveFewLinks}
 use Rattle.journal_data.proofs.SameView.{SeesSame, same_end, same_well, sees_other_call, sees_other_feed, sees_packet, sees_turn}
@@ -74,10 +74,6 @@ all_same given history after sees are = record {
 }
 
 -- ---- a change of one station
-
-pub far_side : (station : ℕ) → is_side (side_of station) (side_of (other_of station)) ≡ false
-far_side zero = refl
-far_side (suc station) = refl
 
 abbrev pub IsBetween : Given → ℕ → List Event → Type 0
 IsBetween given station history = is_between_turns (past_of station history) ≡ true

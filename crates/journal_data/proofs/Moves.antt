@@ -7,12 +7,12 @@ use Rattle.open_links.specs.OpenLinks.{OpenLink, facts_in, link_at}
 use Rattle.controller_model.specs.Facts.{Facts}
 use Rattle.controller_model.specs.Heard.{has_room}
 use Rattle.controller_model.specs.Side.{facts_after}
-use Rattle.controller_model.specs.Step.{Step, TurnBegins, TurnEnds}
+use Rattle.controller_model.specs.Step.{TurnBegins, TurnEnds}
 use Rattle.run_model.specs.History.{Event, packet_received}
 use Rattle.run_model.specs.Run.{Given, after_call, facts_at, setup_at, step_of}
 use Rattle.run_laws.proofs.Agreed.{ack_of, ack_sent, first_ack}
-use Rattle.run_laws.proofs.Hearings.{own_facts}
 use Rattle.run_laws.proofs.TurnSteps.{IsListening}
+use Rattle.journal_acks.proofs.KeptCounts.{own_at}
 use Rattle.journal_acks.proofs.LinkCalls.{HasPassed, IsNew, Stays, Takes, base_ack, begins_under, passes_under}
 use Rattle.journal_acks.proofs.LinkUses.{sends_under}
 use Rattle.journal_acks.proofs.UnderHandles.{end_under, sent_if}
@@ -36,11 +36,6 @@ sent_on true slot base =
       accepted = refl;
       acked = sent_more (ack.acked == length ack.sent) ack (facts_in base).outgoing.fixed (past_counted base.setup base.past).0;
     })
-
-module _ (given : Given) (station : ℕ) (step : Step) (history : List Event) (handle : ℕ) (link : OpenLink)
-    (at : link_at handle (facts_at given station (after_call given station step history)).links ≡ Some link) where
-  own_at : link_at handle (facts_after (setup_at given station) (facts_at given station history) step).links ≡ Some link
-  own_at = ap (λ (f : Facts). link_at handle f.links) (sym (own_facts given station step history)) ∙ at
 
 -- ---- as a turn begins
 

@@ -3,7 +3,8 @@
 use Rattle.std.proofs.Common.{length, if◌then◌else◌, ◌≡◌, ℕ, suc, ◌+◌, ◌<◌, ◌==◌, Bool, true, false, Option, Some, None, List, [], ◌∷◌, ◌++◌, map, cond, refl, ap, sym, subst, ◌∙◌, append-nil, append_assoc, arith}
 use Rattle.std.specs.Prelude.{◌&&◌, ◌||◌, drop, fold, is_some, ⊤}
 use Rattle.std.specs.List.{AllByRecursion}
-use Rattle.std.proofs.lemmas.Bool.{eq-eqb, eqb-true, false_from_ne_true}
+use Rattle.std.proofs.Math.Bool.{and-false}
+use Rattle.std.proofs.lemmas.Bool.{eq-eqb, eqb-true, false_from_ne_true, or_left, or_right, and_from}
 use Rattle.std.proofs.lemmas.List.Elements.{filter-append}
 use Rattle.std.proofs.lemmas.List.Sums.{fold-append}
 use Rattle.arrayvec.specs.ArrayVec.{ArrayVec}
@@ -17,11 +18,12 @@ use Rattle.host_view.specs.Noted.{acl_handle, is_acl_data, two_octets}
 use Rattle.open_links.specs.OpenLinks.{Links as OpenLinks, OpenLink, link_from}
 use Rattle.controller_model.specs.Notes.{is_event, is_opening}
 use Rattle.controller_model.specs.Since.{is_data_note, note_since, since_opened, starts_message}
-use Rattle.run_model.specs.History.{Event, Noted, noted_by, one_if, notes_in}
+use Rattle.run_model.specs.History.{Event, Noted, noted_by}
 use Rattle.run_model.specs.Journal.{entry_of, side_of}
 use Rattle.run_model.specs.Links.{Links, links_after, links_of}
-use Rattle.run_model.proofs.Calls.{flat_event, same_station}
+use Rattle.run_model.proofs.Calls.{same_station}
 use Rattle.run_model.proofs.LinksKnown.{links_event}
+use Rattle.journal_links.proofs.LineNotes.{note_added}
 use Rattle.journal_acks.specs.Exchange.{is_number}
 use Rattle.journal_acks.proofs.Exchanging.{number_at}
 use Rattle.journal_data.specs.HostLines.{link_under}
@@ -113,18 +115,6 @@ same_number number base one other apart is is_too = by (one == other) refl
     by true same = eq-eqb (number one) (number other) (ap number (eqb-true one other same))
     by false differs = apart one other is is_too differs
 
-or_one : (one other : Bool) → one ≡ true → (one || other) ≡ true
-or_one true other is = refl
-or_one false other is = absurd cc
-
-or_other : (one other : Bool) → other ≡ true → (one || other) ≡ true
-or_other true other is = refl
-or_other false other is = is
-
-and_both : (one other : Bool) → one ≡ true → other ≡ true → (one && other) ≡ true
-and_both true other is also = also
-and_both false other is also = absurd cc
-
 pub sent_data : (handle counted llid : ℕ) (body : ArrayVec ℕ) → is_data_note handle (Sent handle counted llid body) ≡ true
 sent_data handle counted llid body = ap (λ (b : Bool). (b || false) || (false || false)) (eq-eqb handle handle refl)
 
@@ -134,14 +124,14 @@ took_data handle counted llid body = ap (λ (b : Bool). (false || b) || (false |
 pub received_data : (packet : ArrayVec ℕ) → is_acl_data packet.items ≡ true → is_data_note (acl_handle packet.items) (Up packet) ≡ true
 received_data packet acl =
     let octets = packet.items in
-    or_one (is_acl_data octets && (acl_handle octets == acl_handle octets)) (is_event 0x13 octets && (two_octets 4 octets == acl_handle octets))
-    (and_both (is_acl_data octets) (acl_handle octets == acl_handle octets) acl (eq-eqb (acl_handle octets) (acl_handle octets) refl))
+    or_left (is_acl_data octets && (acl_handle octets == acl_handle octets)) (is_event 0x13 octets && (two_octets 4 octets == acl_handle octets))
+    (and_from (is_acl_data octets) (acl_handle octets == acl_handle octets) acl (eq-eqb (acl_handle octets) (acl_handle octets) refl))
 
 pub completed_data : (packet : ArrayVec ℕ) → is_event 0x13 packet.items ≡ true → is_data_note (two_octets 4 packet.items) (Up packet) ≡ true
 completed_data packet event =
     let octets = packet.items in
-    or_other (is_acl_data octets && (acl_handle octets == two_octets 4 octets)) (is_event 0x13 octets && (two_octets 4 octets == two_octets 4 octets))
-    (and_both (is_event 0x13 octets) (two_octets 4 octets == two_octets 4 octets) event (eq-eqb (two_octets 4 octets) (two_octets 4 octets) refl))
+    or_right (is_acl_data octets && (acl_handle octets == two_octets 4 octets)) (is_event 0x13 octets && (two_octets 4 octets == two_octets 4 octets))
+    (and_from (is_event 0x13 octets) (two_octets 4 octets == two_octets 4 octets) event (eq-eqb (two_octets 4 octets) (two_octets 4 octets) refl))
 
 module _ (many : ℕ) (number : ℕ → ℕ) (lines : Lines) (opened : ℕ → Bool) (holds : HoldsLinks many lines.links number opened) where
   -- what is under a handle has the number of its link
@@ -178,10 +168,6 @@ module _ (many : ℕ) (number : ℕ → ℕ) (lines : Lines) (opened : ℕ → B
   note_links base side last (Up packet) apart within none of = holds
   note_links base side last note apart within none of = holds
 
-  and_false : (one : Bool) → (one && false) ≡ false
-  and_false true = refl
-  and_false false = refl
-
   pdu_apart : (other : ℕ) (all : List PduLine) (one : PduLine) → (one.link == other) ≡ false → pdus_on other (all ++ one ∷ []) ≡ pdus_on other all
   pdu_apart other all one differs =
       filter-append (λ (pdu : PduLine). pdu.link == other) all (one ∷ [])
@@ -211,7 +197,7 @@ module _ (many : ℕ) (number : ℕ → ℕ) (lines : Lines) (opened : ℕ → B
       let counts : counts_on other (credited_in lines.links octets) ≡ 0 =
       credit_by (is_event 0x13 octets) false other (link_under (two_octets 4 octets) lines.links) octets
       (λ event. none_under other (two_octets 4 octets) (apart (two_octets 4 octets) (completed_data packet event)))
-      ∙ ap (λ (b : Bool). cond b (two_octets 6 octets) 0) (and_false (is_event 0x13 octets)) in
+      ∙ ap (λ (b : Bool). cond b (two_octets 6 octets) 0) (and-false (is_event 0x13 octets)) in
       record {
         sent = refl;
         taken = refl;
@@ -220,7 +206,7 @@ module _ (many : ℕ) (number : ℕ → ℕ) (lines : Lines) (opened : ℕ → B
             ∙ ap (λ (all : List Marked). received_on other lines ++ all)
             (data_by (is_acl_data octets) false other (link_under (acl_handle octets) lines.links) octets
             (λ acl. none_under other (acl_handle octets) (apart (acl_handle octets) (received_data packet acl)))
-            ∙ ap (λ (b : Bool). cond b (marked_octets (starts_message octets) (drop 5 octets)) []) (and_false (is_acl_data octets)))
+            ∙ ap (λ (b : Bool). cond b (marked_octets (starts_message octets) (drop 5 octets)) []) (and-false (is_acl_data octets)))
             ∙ append-nil (received_on other lines);
         credited = omega (arith, parts, counts);
       }
@@ -277,15 +263,10 @@ booked_where many number lines since opened after same booked = record {
   links = holds_same many lines.links number number opened after (λ handle. refl) same booked.links;
 }
 
-noted_more : (station : ℕ) (history : List Event) (note : Note) → noted_by station (history ++ Noted station note ∷ []) ≡ noted_by station history ++ note ∷ []
-noted_more station history note =
-    flat_event (notes_in station) history (Noted station note)
-    ∙ ap (λ (same : Bool). noted_by station history ++ one_if same note) (same_station station)
-
 since_more : (station : ℕ) (history : List Event) (note : Note) (handle : ℕ)
     → since_opened handle (noted_by station (history ++ Noted station note ∷ [])) ≡ note_since handle (since_opened handle (noted_by station history)) note
 since_more station history note handle =
-    ap (since_opened handle) (noted_more station history note) ∙ fold-append (note_since handle) [] (noted_by station history) (note ∷ [])
+    ap (since_opened handle) (note_added station history note) ∙ fold-append (note_since handle) [] (noted_by station history) (note ∷ [])
 
 pub numbers_noted : (station : ℕ) (history : List Event) (note : Note) → is_opening note ≡ false
     → numbers_at station (history ++ Noted station note ∷ []) ≡ numbers_at station history

@@ -1,27 +1,18 @@
 -- What a station noted is what its calls give, after each event of a run.
-use Rattle.std.proofs.Common.{◌≡◌, ℕ, true, List, [], ◌∷◌, ◌++◌, refl, sym, ap, ◌∙◌}
-use Rattle.controller_model.specs.Side.{notes_after, notes_of}
-use Rattle.controller_model.specs.Step.{Step, HostOctet}
-use Rattle.controller_model.proofs.Pasts.{notes_more}
+use Rattle.std.proofs.Common.{◌≡◌, ℕ, List, [], ◌∷◌, ◌++◌, refl, sym, ap, ◌∙◌}
+use Rattle.controller_model.specs.Side.{notes_of}
+use Rattle.controller_model.specs.Step.{HostOctet}
 use Rattle.run_model.specs.Feeding.{HasNoted}
-use Rattle.run_model.specs.History.{Event, HostFed, notes_in, past_of, steps_in}
-use Rattle.run_model.specs.Run.{Given, after_call, after_feed, after_octets, facts_at, setup_at}
-use Rattle.run_model.proofs.Calls.{same_station, flat_nothing, past_own, noted_called}
+use Rattle.run_model.specs.History.{Event, HostFed, notes_in, steps_in}
+use Rattle.run_model.specs.Run.{Given, after_call, after_feed, after_octets, setup_at}
+use Rattle.run_model.proofs.Calls.{flat_nothing}
+use Rattle.run_model.proofs.Notes.{noted_own}
 
 pub noted_event : (given : Given) (station : ℕ) (history : List Event) (event : Event) → notes_in station event ≡ [] → steps_in station event ≡ []
     → HasNoted given station history → HasNoted given station (history ++ event ∷ [])
 noted_event given station history event notes steps noted =
     flat_nothing (notes_in station) history event notes ∙ noted
     ∙ ap (notes_of (setup_at given station)) (sym (flat_nothing (steps_in station) history event steps))
-
-pub noted_own : (given : Given) (station : ℕ) (step : Step) (history : List Event) → HasNoted given station history
-    → HasNoted given station (after_call given station step history)
-noted_own given station step history noted =
-    let notes = notes_after (setup_at given station) (facts_at given station history) step in
-    noted_called station station step notes history true (same_station station)
-    ∙ ap (λ before. before ++ notes) noted
-    ∙ sym (notes_more (setup_at given station) (past_of station history) step)
-    ∙ ap (notes_of (setup_at given station)) (sym (past_own station step notes history))
 
 -- ---- a feed
 

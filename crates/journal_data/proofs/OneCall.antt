@@ -15,6 +15,7 @@ use Rattle.controller_model.specs.Since.{data_waiting}
 use Rattle.controller_model.specs.Step.{Step}
 use Rattle.controller_model.proofs.Always.{IsInTurn}
 use Rattle.run_model.proofs.LinksKnown.{link_by_other, link_by_own}
+use Rattle.run_model.proofs.Notes.{noted_own}
 use Rattle.run_model.proofs.OpenedNotes.{is_opened}
 use Rattle.run_model.specs.History.{Event, past_of}
 use Rattle.run_model.specs.Journal.{side_of}
@@ -34,7 +35,6 @@ use Rattle.journal_data.proofs.ClearLines.{IsClearOn}
 use Rattle.journal_data.proofs.Credits.{AreFew}
 use Rattle.journal_data.proofs.EachLine.{lines_at, other_lines}
 use Rattle.journal_data.proofs.Ends.{IsEndOf, IsWell, end_at, end_of, found_at, from_end, same_fed, sound}
-use Rattle.journal_data.proofs.NotedStays.{noted_own}
 use Rattle.journal_data.proofs.Mine.{HasFarEnd, IsTaking}
 use Rattle.journal_data.proofs.Openness.{opens_where_free}
 use Rattle.journal_data.proofs.Sides.{AreArriving, End, IsBusy, IsFound, IsSound, call_arrives}
@@ -88,7 +88,7 @@ other_not : (station : ℕ) → (other_of station == station) ≡ false
 other_not zero = refl
 other_not (suc station) = false_from_ne_true (0 == suc station) (λ same. let is = eqb-true 0 (suc station) same in omega (arith, is))
 
-far_side : (station : ℕ) → is_side (side_of station) (side_of (other_of station)) ≡ false
+pub far_side : (station : ℕ) → is_side (side_of station) (side_of (other_of station)) ≡ false
 far_side zero = refl
 far_side (suc station) = refl
 

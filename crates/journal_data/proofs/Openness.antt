@@ -129,7 +129,7 @@ pub record IsQuiet (note : Note) : Type 0 where
 abbrev pub AreQuiet : List Note → Type 0
 AreQuiet notes = AllByRecursion IsQuiet notes
 
-all_of : (P Q : Note → Type 0) → ((note : Note) → P note → Q note) → (notes : List Note) → AllByRecursion P notes → AllByRecursion Q notes
+pub all_of : (P Q : Note → Type 0) → ((note : Note) → P note → Q note) → (notes : List Note) → AllByRecursion P notes → AllByRecursion Q notes
 all_of P Q to [] all = tt
 all_of P Q to (note ∷ notes) all = (to note all.0, all_of P Q to notes all.1)
 
@@ -142,15 +142,15 @@ none_shut notes quiet = all_of IsQuiet _ (λ note is. is.no_shutting) notes quie
 none_report : (notes : List Note) → AreQuiet notes → AreNot is_report notes
 none_report notes quiet = all_of IsQuiet _ (λ note is. is.no_report) notes quiet
 
-both : (P : Note → Type 0) (xs ys : List Note) → AllByRecursion P xs → AllByRecursion P ys → AllByRecursion P (xs ++ ys)
-both P [] ys all more = more
-both P (x ∷ xs) ys all more = (all.0, both P xs ys all.1 more)
+pub all_append : (P : Note → Type 0) (xs ys : List Note) → AllByRecursion P xs → AllByRecursion P ys → AllByRecursion P (xs ++ ys)
+all_append P [] ys all more = more
+all_append P (x ∷ xs) ys all more = (all.0, all_append P xs ys all.1 more)
 
 pub both_quiet : (xs ys : List Note) → AreQuiet xs → AreQuiet ys → AreQuiet (xs ++ ys)
-both_quiet xs ys all more = both IsQuiet xs ys all more
+both_quiet xs ys all more = all_append IsQuiet xs ys all more
 
 both_not : (kind : Note → Bool) (xs ys : List Note) → AreNot kind xs → AreNot kind ys → AreNot kind (xs ++ ys)
-both_not kind xs ys all more = both (λ note. kind note ≡ false) xs ys all more
+both_not kind xs ys all more = all_append (λ note. kind note ≡ false) xs ys all more
 
 quiet_fold : (handle : ℕ) (linked : Bool) (notes : List Note) → AreQuiet notes → fold (note_open handle) linked notes ≡ linked
 quiet_fold handle linked notes quiet = open_still handle linked notes (none_open notes quiet) (none_shut notes quiet)

@@ -46,7 +46,7 @@ after_step : (link : OpenLink) (step : EndStep) (facts : EndFacts) → facts_in 
     → given_in (link_after step link) ≡ given_in link
 after_step link step facts is same = ap (λ (f : EndFacts). f.outgoing.given) is ∙ same
 
-sent_same : (new : Bool) (outgoing : Data) → (data_sent_if new outgoing).given ≡ outgoing.given
+pub sent_same : (new : Bool) (outgoing : Data) → (data_sent_if new outgoing).given ≡ outgoing.given
 sent_same true outgoing = refl
 sent_same false outgoing = refl
 

@@ -19,26 +19,28 @@ use Rattle.controller_model.specs.Side.{facts_after, facts_of, notes_after}
 use Rattle.controller_model.specs.Since.{since_opened}
 use Rattle.controller_model.proofs.NotedLinks.{step_names_links}
 use Rattle.controller_model.proofs.OpenNotes.{open_after, open_before}
-use Rattle.controller_model.proofs.Pasts.{facts_more}
 use Rattle.controller_model.proofs.Shuts.{shuts_with_reason}
 use Rattle.run_model.specs.History.{Event, TurnBegan, HostFed, Called, Noted, Transmitted, Hearing, noted_by, notes_in, past_of, steps_in}
 use Rattle.run_model.specs.Journal.{journal_of, side_of}
 use Rattle.run_model.specs.Links.{Links, begins_link, links_after, links_of, with_link}
 use Rattle.run_model.specs.Run.{Given, setup_at, facts_at, after_call, after_octets, after_feed}
-use Rattle.run_model.proofs.Calls.{flat_nothing, past_own, with_notes}
+use Rattle.run_model.proofs.Calls.{flat_nothing, with_notes}
 use Rattle.run_model.proofs.LinksKnown.{link_by_own, links_event}
+use Rattle.run_model.proofs.Notes.{no_steps, no_notes}
 use Rattle.run_model.proofs.OpenedNotes.{is_opened, outside_open}
 use Rattle.run_model.proofs.Walk.{is_outside}
+use Rattle.run_laws.proofs.Hearings.{own_facts}
 use Rattle.journal_packets.specs.Belonging.{is_side}
 use Rattle.journal_acks.proofs.Counting.{HaveOwnNumbers}
 use Rattle.journal_acks.proofs.Exchanging.{number_at}
+use Rattle.journal_acks.proofs.TwoStations.{side_same}
 use Rattle.journal_acks.proofs.UnderHandles.{octet_under}
 use Rattle.journal_data.specs.HostLines.{OpenUnder}
 use Rattle.journal_data.specs.Lines.{Lines, line_after, lines_of, pdus_on}
 use Rattle.journal_data.proofs.Booked.{IsBook, counts_on, octets_on}
-use Rattle.journal_data.proofs.EachLine.{event_lines, call_lines, lines_at, note_lines, numbers_at, own_side, air_lines, turn_lines}
+use Rattle.journal_data.proofs.EachLine.{event_lines, call_lines, lines_at, note_lines, numbers_at, air_lines, turn_lines}
 use Rattle.journal_data.proofs.HeldLinks.{HoldsLinks, holds_none}
-use Rattle.journal_data.proofs.Openness.{AreNot, IsNotedAs, stays, shuts, opens_first, is_open, is_shutting, note_open, open_still, past_noted}
+use Rattle.journal_data.proofs.Openness.{AreNot, IsNotedAs, stays, shuts, opens_first, is_open, is_shutting, note_open, open_still, past_noted, all_of}
 use Rattle.journal_data.proofs.NotedLines.{IsUnused, IsSameOn, same_itself, same_then, IsLink, is_link, AreApart, IsOfBase, IsNotOf, sent_data, took_data, IsBookedSo, booked_along, booked_where, opening_kept, with_noted, one_on, numbers_quiet, notes_kept}
 
 -- ---- what the lines of a station are to say
@@ -51,19 +53,8 @@ pub record IsStationBooked (given : Given) (station : ℕ) (history : List Event
 
 -- ---- what a call notes
 
-pub all_to : (P Q : Note → Type 0) → ((note : Note) → P note → Q note) → (notes : List Note) → AllByRecursion P notes → AllByRecursion Q notes
-all_to P Q to [] all = tt
-all_to P Q to (note ∷ notes) all = (to note all.0, all_to P Q to notes all.1)
-
 pub each_in : (P : Note → Type 0) (notes : List Note) → ((note : Note) → Contains notes note → P note) → AllByRecursion P notes
-each_in P notes is = all_to (Contains notes) P is notes (recursion_from_All (Contains notes) notes (All-contains_itself notes))
-
-pub own_facts : (given : Given) (station : ℕ) (step : Step) (history : List Event)
-    → facts_at given station (after_call given station step history) ≡ facts_after (setup_at given station) (facts_at given station history) step
-own_facts given station step history =
-    let setup = setup_at given station in
-    ap (facts_of setup) (past_own station step (notes_after setup (facts_at given station history) step) history)
-    ∙ facts_more setup (past_of station history) step
+each_in P notes is = all_of (Contains notes) P is notes (recursion_from_All (Contains notes) notes (All-contains_itself notes))
 
 module _ (setup : Setup) (past : List Step) (step : Step) (few : setup.links ≤ 4096) where
   abbrev notes_then : List Note
@@ -380,20 +371,6 @@ numbers_event station history event outside = ap (λ (links : Links). links.link
     by (Called other step) outside = absurd cc
     by (Noted other note) outside = absurd cc
 
-no_steps : (station : ℕ) (event : Event) → is_outside event ≡ true → steps_in station event ≡ []
-no_steps station (TurnBegan slot radios) outside = refl
-no_steps station (HostFed other octets) outside = refl
-no_steps station (Transmitted other channel octets hearings) outside = refl
-no_steps station (Called other step) outside = absurd cc
-no_steps station (Noted other note) outside = absurd cc
-
-no_notes : (station : ℕ) (event : Event) → is_outside event ≡ true → notes_in station event ≡ []
-no_notes station (TurnBegan slot radios) outside = refl
-no_notes station (HostFed other octets) outside = refl
-no_notes station (Transmitted other channel octets hearings) outside = refl
-no_notes station (Called other step) outside = absurd cc
-no_notes station (Noted other note) outside = absurd cc
-
 -- octets of a host, of the station or of another one
 fed_says : (station other : ℕ) (history : List Event) (octets : List ℕ)
     → SaysSame (lines_at station history) (lines_at station (history ++ HostFed other octets ∷ []))
@@ -482,7 +459,7 @@ not_one station other differs = by (station == other) refl
     by false is = refl
     by true is =
         absurd (let h : true ≡ false =
-        sym (own_side station) ∙ ap (λ n. is_side (side_of n) (side_of station)) (eqb-true station other is) ∙ differs in absurd cc)
+        sym (side_same station) ∙ ap (λ n. is_side (side_of n) (side_of station)) (eqb-true station other is) ∙ differs in absurd cc)
 
 -- ---- at first
 

@@ -1,7 +1,6 @@
 -- What a controller sends and listens for on the advertising channels, phase by phase of a turn.
 use Rattle.std.proofs.Common.{◌≡◌, ℕ, suc, ◌<◌, ◌≤◌, Bool, true, false, Option, Some, None, List, refl, sym, ap, subst, ◌∙◌, arith}
 use Rattle.std.specs.Prelude.{⊤, ◌&&◌, if◌then◌else◌}
-use Rattle.std.proofs.lemmas.Bool.{le-leb, lt-ltb}
 use Rattle.adv_pdu.specs.declared.pdu.AdvPdu.{AdvPdu}
 use Rattle.adv_pdu.specs.declared.pdu.AdvPdu.TheVariants.{ScanReq, Connect}
 use Rattle.advertise.specs.declared.answers.AdvAnswer.TheVariants.{Ignore, Respond, Connect as Takes}
@@ -23,10 +22,9 @@ use Rattle.controller_model.specs.Outcome.{facts_passed}
 use Rattle.controller_model.specs.Packets.{advertisement_sent, connect_sent, request_sent, response_sent, facts_doing, listens_on, pdu_heard, sends_on, sends_pdu, use_for, verdict_advertising, verdict_of}
 use Rattle.controller_model.specs.Radio.{outcome_begun}
 use Rattle.controller_model.specs.Side.{facts_after, facts_of}
-use Rattle.controller_model.proofs.Always.{IsAdvertisingChannel, MayBegin, left_doing}
+use Rattle.controller_model.proofs.Always.{MayBegin, left_doing}
 use Rattle.controller_model.proofs.DataChannels.{link_channel}
 use Rattle.controller_model.proofs.Phases.{EachOutcome, heard_is, unheard_is}
-use Rattle.run_model.specs.Links.{is_advertising}
 use Rattle.run_model.specs.Run.{step_of}
 use Rattle.run_laws.proofs.TurnPlaces.{Between, IsTurned, Stage, Within, at_stage, standing, turned}
 
@@ -149,9 +147,6 @@ pub at_phase : (setup : Setup) (past : List Step) (phases turns : ℕ) → stand
 at_phase setup past phases turns stands = turned setup AtStage (at_phase_kept setup) past (at_stage (Within phases) turns) tt stands
 
 -- ---- what is sent on an advertising channel
-
-pub of_advertising : (channel : ℕ) → IsAdvertisingChannel channel → is_advertising channel ≡ true
-of_advertising channel is = rw (le-leb 37 channel is.0, lt-ltb channel 40 (omega (arith, is.1))) refl
 
 abbrev pub IsSentOn : ℕ → Doing → Type 0
 IsSentOn channel (Advertises on) = on ≡ channel

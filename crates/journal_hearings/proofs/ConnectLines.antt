@@ -4,7 +4,7 @@ use Rattle.std.specs.Prelude.{fold, slice_get, if◌then◌else◌}
 use Rattle.std.proofs.lemmas.Grind.{flat_map-append}
 use Rattle.std.proofs.lemmas.List.{length-append}
 use Rattle.ble_base.specs.declared.notes.Note.{Note}
-use Rattle.ble_base.specs.declared.notes.Note.TheVariants.{Up as UpNote, Opened as OpenedNote}
+use Rattle.ble_base.specs.declared.notes.Note.TheVariants.{Up as UpNote}
 use Rattle.ble_base.specs.declared.roles.Side.{Side}
 use Rattle.adv_pdu.specs.declared.pdu.AdvPdu.{AdvPdu}
 use Rattle.adv_pdu.specs.declared.pdu.AdvPdu.TheVariants.{Connect}
@@ -22,6 +22,7 @@ use Rattle.run_model.proofs.Journals.{each_front, two}
 use Rattle.run_model.proofs.Parts.{journal_more}
 use Rattle.run_model.proofs.Places.{each_at}
 use Rattle.run_model.proofs.Stations.{is_in}
+use Rattle.journal_links.proofs.LinksBegun.{note_counts, add_by, begun_if}
 use Rattle.journal_acks.proofs.TwoStations.{IsOfTwo}
 use Rattle.journal_hearings.specs.Connects.{ConnectLine, pdu_connects, connect_numbered, entry_connects, all_connects, nth_connect}
 
@@ -30,10 +31,6 @@ use Rattle.journal_hearings.specs.Connects.{ConnectLine, pdu_connects, connect_n
 note_none : (side : Side) (link : ℕ → ℕ) (last : ℕ) (note : Note) → entry_connects (entry_of side link last note) ≡ []
 note_none side link last (UpNote packet) = refl
 note_none side link last note = refl
-
-note_count : (station : ℕ) (note : Note) (links : Links) → (links_noted station note links).begun ≡ links.begun
-note_count station (OpenedNote handle role own peer) links = refl
-note_count station note links = refl
 
 pdu_count : (on : Bool) (side : Side) (found : Option AdvPdu)
     → length (if on then pdu_connects side found else []) ≡ (if on && is_connect_ind found then 1 else 0)
@@ -46,14 +43,6 @@ packet_count : (side : Side) (channel : ℕ) (octets : List ℕ)
     → length (if is_advertising channel then pdu_connects side (pdu_heard channel octets) else []) ≡ (if begins_link channel octets then 1 else 0)
 unfolding begins_link
 packet_count side channel octets = pdu_count (is_advertising channel) side (pdu_heard channel octets)
-
-add_by : (begins : Bool) (n begun : ℕ) → (if begins then 1 else 0) + n + begun ≡ n + (if begins then begun + 1 else begun)
-add_by true n begun = omega arith
-add_by false n begun = omega arith
-
-begun_if : (begins : Bool) (links more : Links) → (if begins then more else links).begun ≡ (if begins then more.begun else links.begun)
-begun_if true links more = refl
-begun_if false links more = refl
 
 zero_add : (n : ℕ) → 0 + n ≡ n
 zero_add n = omega arith
@@ -72,7 +61,7 @@ module _ (given : Given) (one : HasOneOther given) where
       let next = links_noted station note links in
       let rest = all_connects (journal_from next history) in
       ap (λ xs. length (xs ++ rest) + links.begun) (note_none (side_of station) (links.link_of station) (links.last_of station) note)
-      ∙ ap (λ n. length rest + n) (sym (note_count station note links)) ∙ count_from next _ history each.1
+      ∙ ap (λ n. length rest + n) (sym (note_counts station note links)) ∙ count_from next _ history each.1
   count_from links before (Transmitted station channel octets [] ∷ history) each = absurd (let h : 0 ≡ 1 = (each.0 one).1 in omega (arith, h))
   count_from links before (Transmitted station channel octets (hearing ∷ hearings) ∷ history) each =
       let next = links_after links (Transmitted station channel octets (hearing ∷ hearings)) in

@@ -4,12 +4,13 @@ use Rattle.std.proofs.lemmas.Bool.{or_right}
 use Rattle.std.proofs.lemmas.List.Sums.{fold-append}
 use Rattle.ble_base.specs.Side.{other_side}
 use Rattle.ble_base.specs.declared.roles.Side.{Side}
-use Rattle.ble_base.specs.declared.roles.Side.TheVariants.{A, B}
+use Rattle.ble_base.specs.declared.roles.Side.TheVariants.{A}
 use Rattle.ble_base.specs.declared.verdicts.Verdict.TheVariants.{Good}
 use Rattle.journal.specs.declared.entries.Entry.{Entry}
 use Rattle.journal.specs.declared.entries.Entry.TheVariants.{Turn, Air}
 use Rattle.run_model.specs.Readers.{turns_of}
 use Rattle.journal_packets.specs.Belonging.{is_side}
+use Rattle.journal_packets.proofs.SendersLink.{same_side}
 use Rattle.journal_hearings.specs.Taken.{HasHeardConnect}
 
 abbrev pub heard_after : Side → Bool → Entry → Bool
@@ -26,10 +27,6 @@ stays_heard side (Turn slot a_on b_on ∷ entries) none = absurd cc
 stays_heard side (Air sender channel octets fate Good ∷ entries) none = stays_heard side entries none
 stays_heard side (Air sender channel octets fate verdict ∷ entries) none = stays_heard side entries none
 stays_heard side (entry ∷ entries) none = stays_heard side entries none
-
-same_side : (side : Side) → is_side side side ≡ true
-same_side A = refl
-same_side B = refl
 
 pub heard_in_turn : (side : Side) (number : ℕ) (front : List Entry) → HasHeardConnect side number front → has_heard side front ≡ true
 heard_in_turn side number front has =

@@ -1,6 +1,6 @@
 -- In every run of two stations, a station that heard a CONNECT_IND which it takes notes that the link is open, before the phase
 -- is over.
-use Rattle.std.proofs.Common.{◌≡◌, ℕ, ◌+◌, ◌==◌, ◌⊎◌, inl, inr, ◌&&◌, Bool, true, false, Option, Some, None, List, [], ◌∷◌, ◌++◌, refl, sym, ap, subst, ◌∙◌, append-nil, append_assoc}
+use Rattle.std.proofs.Common.{◌≡◌, ℕ, ◌+◌, ◌==◌, ◌⊎◌, inl, inr, ◌&&◌, Bool, true, false, Option, Some, None, List, [], ◌∷◌, ◌++◌, refl, sym, ap, subst, ◌∙◌, append-nil}
 use Rattle.std.specs.Prelude.{⊤, map, take, if◌then◌else◌}
 use Rattle.std.proofs.lemmas.Bool.{eqb-true, or_left, or_right}
 use Rattle.std.proofs.lemmas.List.Folds.{list_any-append}
@@ -10,15 +10,15 @@ use Rattle.journal.specs.declared.entries.Entry.TheVariants.{Opened as OpenedEnt
 use Rattle.radio_replay.specs.declared.fates.Fate.{Fate}
 use Rattle.controller_model.specs.Facts.{Facts, Sends}
 use Rattle.controller_model.specs.Side.{facts_of, notes_after}
-use Rattle.controller_model.specs.Step.{Step, HostOctet, TurnBegins, TurnEnds}
+use Rattle.controller_model.specs.Step.{Step, TurnBegins, TurnEnds}
 use Rattle.run_model.specs.Due.{Each}
 use Rattle.run_model.specs.Feeding.{AreDistinct}
 use Rattle.run_model.specs.History.{Event, TurnBegan, HostFed, Called, Noted, Transmitted, Hearing, has_received, packet_received}
 use Rattle.run_model.specs.Journal.{journal_from, journal_of, side_of}
 use Rattle.run_model.specs.LinkEnds.{HaveAddresses}
 use Rattle.run_model.specs.Links.{Links, begins_link, links_after, links_of, with_link}
-use Rattle.run_model.specs.Run.{Given, after_call, after_feed, after_octets, facts_at, hearings_of, octets_left, setup_at, step_of, use_at}
-use Rattle.run_model.proofs.Fronts.{More}
+use Rattle.run_model.specs.Run.{Given, after_call, after_feed, facts_at, hearings_of, octets_left, setup_at, step_of, use_at}
+use Rattle.run_model.proofs.Fronts.{More, feed_more}
 use Rattle.run_model.proofs.LinkEnds.{is_listener, received_by, received_event}
 use Rattle.run_model.proofs.LinksKnown.{last_by_call, links_event}
 use Rattle.run_model.proofs.Parts.{journal_more}
@@ -42,20 +42,6 @@ each_map F G to before [] each = tt
 each_map F G to before (event ∷ events) each = (to before event each.0, each_map F G to (before ++ event ∷ []) events each.1)
 
 -- ---- a history that grows
-
-octets_more : (given : Given) (station : ℕ) (octets : List ℕ) (history : List Event) → More history (after_octets given station octets history)
-octets_more given station [] history = record { rest = []; is = sym (append-nil history) }
-octets_more given station (octet ∷ octets) history =
-    let notes = notes_after (setup_at given station) (facts_at given station history) (HostOctet octet) in
-    let more = octets_more given station octets (after_call given station (HostOctet octet) history) in
-    record { rest = (Called station (HostOctet octet) ∷ map (Noted station) notes) ++ more.rest; is = more.is ∙ append_assoc history (Called station (HostOctet octet) ∷ map (Noted station) notes) more.rest }
-
-feed_more : (given : Given) (station : ℕ) (octets : List ℕ) (history : List Event) → More history (after_feed given station octets history)
-feed_more given station [] history = record { rest = []; is = sym (append-nil history) }
-feed_more given station (octet ∷ octets) history =
-    let event = HostFed station (octet ∷ octets) in
-    let more = octets_more given station (octet ∷ octets) (history ++ event ∷ []) in
-    record { rest = event ∷ more.rest; is = more.is ∙ append_assoc history (event ∷ []) more.rest }
 
 -- ---- a link that is taken
 

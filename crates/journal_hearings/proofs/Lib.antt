@@ -1,7 +1,7 @@
 -- The lemmas of this crate.
 mod AirDoings
 mod OnePhase
-mod RequestsHeard
+pub mod RequestsHeard
 mod ConnectLines
 mod CommandCodes
 mod AnswerStatuses
@@ -14,7 +14,7 @@ mod PeripheralNotes
 mod ConnectsTaken
 mod ConnectsAwaited
 mod HeardTaken
-mod LinksOpened
+pub mod LinksOpened
 mod LastHeard
 mod OpenedHeard
 mod HeardInTurn

@@ -1,30 +1,28 @@
 -- In every run of two stations, each link whose CONNECT_IND was heard, and which is to be opened by the lines, is opened by the
 -- side that heard it before the next turn.
-use Rattle.std.proofs.Common.{◌≡◌, ℕ, ◌+◌, ◌≤◌, Bool, true, Option, Some, List, [], ◌∷◌, ◌++◌, length, refl, sym, ap, subst, ◌∙◌, append-nil, append_assoc, arith}
+use Rattle.std.proofs.Common.{◌≡◌, ℕ, ◌+◌, ◌≤◌, Bool, true, Option, List, [], ◌∷◌, ◌++◌, length, refl, sym, ap, subst, ◌∙◌, append-nil, append_assoc, arith}
 use Rattle.ble_base.specs.Side.{other_side}
-use Rattle.ble_base.specs.declared.notes.Note.{Note}
-use Rattle.ble_base.specs.declared.notes.Note.TheVariants.{Up as UpNote}
 use Rattle.ble_base.specs.declared.roles.Side.{Side}
-use Rattle.ble_base.specs.declared.verdicts.Verdict.{Verdict}
 use Rattle.ble_base.specs.declared.verdicts.Verdict.TheVariants.{Good}
 use Rattle.journal.specs.declared.entries.Entry.TheVariants.{Turn, Air}
 use Rattle.journal.specs.declared.entries.Mark.{Mark}
 use Rattle.link_model.proofs.Received.{IsHeardWhole}
 use Rattle.run_model.specs.Due.{Each}
 use Rattle.run_model.specs.History.{Event, TurnBegan, HostFed, Called, Noted, Transmitted, Hearing, has_received, is_good}
-use Rattle.run_model.specs.Journal.{entries_of, entry_of, journal_of, radio_in, side_of}
+use Rattle.run_model.specs.Journal.{entries_of, journal_of, side_of}
 use Rattle.run_model.specs.LinkEnds.{HaveAddresses}
 use Rattle.run_model.specs.Links.{Links, is_connect_ind, links_of}
 use Rattle.run_model.specs.Run.{Given, GoesOn, history_of, run_of, setup_at}
 use Rattle.run_model.proofs.Dues.{run_due}
 use Rattle.run_model.specs.Due.{IsDue}
-use Rattle.run_model.proofs.EntryEvents.{is_of_event}
+use Rattle.run_model.proofs.EntryEvents.{is_of_event, turn_not_air, note_not_air}
 use Rattle.run_model.proofs.Fates.{FatesBefore, run_fated}
 use Rattle.run_model.proofs.Journals.{each_front, two}
 use Rattle.run_model.proofs.LinkEnds.{AreTaken, IsUnderstood}
 use Rattle.run_model.proofs.OfStations.{OfStations, run_of_stations}
 use Rattle.run_model.proofs.Places.{each_at}
 use Rattle.run_model.proofs.Stations.{is_in}
+use Rattle.run_model.proofs.UpToDate.{note_not_turn}
 use Rattle.run_laws.proofs.DistinctAccess.{AreApart}
 use Rattle.journal_links.specs.Begun.{links_begun}
 use Rattle.journal_links.proofs.OfTwo.{are_distinct}
@@ -41,22 +39,17 @@ use Rattle.journal_hearings.proofs.HeardTaken.{AreOpening, HasOpened, WillTake, 
 
 -- ---- the event of a line
 
-record IsTurnEvent (event : Event) : Type 0 where
-  slot : ℕ
-  radios : List Bool
-  is : event ≡ TurnBegan slot radios
+pub record IsTurnEvent (event : Event) : Type 0 where
+  pub slot : ℕ
+  pub radios : List Bool
+  pub is : event ≡ TurnBegan slot radios
 
-no_note : (own : Side) (link : ℕ → ℕ) (last : ℕ) (note : Note) (slot : ℕ) (a_on : Bool) (b_on : Option Bool) (X : Type 0)
-    → entry_of own link last note ∷ [] ≡ Turn slot a_on b_on ∷ [] → X
-no_note own link last (UpNote packet) slot a_on b_on X is = absurd cc
-no_note own link last note slot a_on b_on X is = absurd cc
-
-turn_event : (links : Links) (event : Event) (slot : ℕ) (a_on : Bool) (b_on : Option Bool) → entries_of links event ≡ Turn slot a_on b_on ∷ [] → IsTurnEvent event
+pub turn_event : (links : Links) (event : Event) (slot : ℕ) (a_on : Bool) (b_on : Option Bool) → entries_of links event ≡ Turn slot a_on b_on ∷ [] → IsTurnEvent event
 turn_event links (TurnBegan now radios) slot a_on b_on is = record { slot = now; radios = radios; is = refl }
 turn_event links (HostFed station octets) slot a_on b_on is = absurd cc
 turn_event links (Called station step) slot a_on b_on is = absurd cc
 turn_event links (Noted station note) slot a_on b_on is =
-    no_note (side_of station) (links.link_of station) (links.last_of station) note slot a_on b_on (IsTurnEvent (Noted station note)) is
+    note_not_turn (side_of station) (links.link_of station) (links.last_of station) note slot a_on b_on (IsTurnEvent (Noted station note)) is
 turn_event links (Transmitted station channel octets []) slot a_on b_on is = absurd cc
 turn_event links (Transmitted station channel octets (hearing ∷ hearings)) slot a_on b_on is = absurd cc
 
@@ -68,22 +61,13 @@ record IsGoodPacket (event : Event) (side : Side) (channel : ℕ) (octets : List
   side_is : side_of sender ≡ side
   good : is_good hearing.verdict ≡ true
 
-no_air : (own : Side) (link : ℕ → ℕ) (last : ℕ) (note : Note) (side : Side) (channel : ℕ) (octets : List ℕ) (fate : Mark) (verdict : Verdict) (X : Type 0)
-    → entry_of own link last note ∷ [] ≡ Air side channel octets fate verdict ∷ [] → X
-no_air own link last (UpNote packet) side channel octets fate verdict X is = absurd cc
-no_air own link last note side channel octets fate verdict X is = absurd cc
-
-no_turn : (slot : ℕ) (radios : List Bool) (side : Side) (channel : ℕ) (octets : List ℕ) (fate : Mark) (verdict : Verdict) (X : Type 0)
-    → Turn slot (radio_in 0 radios) (Some (radio_in 1 radios)) ∷ [] ≡ Air side channel octets fate verdict ∷ [] → X
-no_turn slot radios side channel octets fate verdict X is = absurd cc
-
 good_packet : (links : Links) (event : Event) (side : Side) (channel : ℕ) (octets : List ℕ) (fate : Mark) → entries_of links event ≡ Air side channel octets fate Good ∷ []
     → IsGoodPacket event side channel octets
-good_packet links (TurnBegan slot radios) side channel octets fate is = no_turn slot radios side channel octets fate Good _ is
+good_packet links (TurnBegan slot radios) side channel octets fate is = turn_not_air slot radios side channel octets fate Good _ is
 good_packet links (HostFed station fed) side channel octets fate is = absurd cc
 good_packet links (Called station step) side channel octets fate is = absurd cc
 good_packet links (Noted station note) side channel octets fate is =
-    no_air (side_of station) (links.link_of station) (links.last_of station) note side channel octets fate Good _ is
+    note_not_air (side_of station) (links.link_of station) (links.last_of station) note side channel octets fate Good _ is
 good_packet links (Transmitted station on sent []) side channel octets fate is = absurd cc
 good_packet links (Transmitted station on sent (hearing ∷ others)) side channel octets fate is =
     let same_side : side_of station ≡ side = cc in

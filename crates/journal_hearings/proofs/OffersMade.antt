@@ -32,7 +32,7 @@ use Rattle.run_model.specs.LinkEnds.{HaveAddresses}
 use Rattle.run_model.specs.Links.{Links, first_links, is_advertising, links_after}
 use Rattle.run_model.specs.Run.{Given, after_call, after_feed, after_octets, facts_at, hearings_of, octets_left, setup_at, step_of, use_at}
 use Rattle.run_model.proofs.Calls.{fold_called, fold_event}
-use Rattle.run_model.proofs.LinkEnds.{IsUnderstood}
+use Rattle.run_model.proofs.LinkEnds.{IsUnderstood, of_advertising}
 use Rattle.run_model.proofs.Stations.{is_in, among, in_more_other, in_more_same, not_before}
 use Rattle.run_model.proofs.Walk.{Place, NoTurn, AtFeeds, AtBegins, AfterPhases, AtPackets, AtListening, AtEnds, IsKept}
 use Rattle.run_laws.proofs.ByCalls.{first_hears}
@@ -42,7 +42,7 @@ use Rattle.run_laws.proofs.TurnPlaces.{Within, at_stage, event_past, stands_firs
 use Rattle.journal_packets.specs.Belonging.{is_side}
 use Rattle.journal_acks.proofs.TwoStations.{IsOfTwo, hearing_of, one_hearing, other_apart, side_same}
 use Rattle.journal_hearings.specs.Openings.{offer_after, offer_in, newer_offer}
-use Rattle.journal_hearings.proofs.AirDoings.{FitsPhase, UsesIt, at_phase, of_advertising, pdu_on}
+use Rattle.journal_hearings.proofs.AirDoings.{FitsPhase, UsesIt, at_phase, pdu_on}
 
 -- ---- the offer of a side in a history
 

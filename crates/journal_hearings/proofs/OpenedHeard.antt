@@ -6,14 +6,9 @@ use Rattle.std.proofs.lemmas.Bool.{eqb-false}
 use Rattle.std.proofs.lemmas.Grind.{flat_map-append}
 use Rattle.std.proofs.lemmas.List.{length-append, nil_from_length}
 use Rattle.ble_base.specs.Side.{other_side}
-use Rattle.ble_base.specs.declared.addresses.Address.{Address}
-use Rattle.ble_base.specs.declared.notes.Note.{Note}
-use Rattle.ble_base.specs.declared.notes.Note.TheVariants.{Up as UpNote, Opened as OpenedNote}
-use Rattle.ble_base.specs.declared.roles.Role.{Role}
 use Rattle.ble_base.specs.declared.roles.Role.TheVariants.{Peripheral}
 use Rattle.ble_base.specs.declared.roles.Side.{Side}
-use Rattle.ble_base.specs.declared.verdicts.Verdict.{Verdict}
-use Rattle.ble_base.specs.declared.verdicts.Verdict.TheVariants.{Missed, Broken, Forged, Good}
+use Rattle.ble_base.specs.declared.verdicts.Verdict.TheVariants.{Good}
 use Rattle.adv_pdu.specs.declared.pdu.AdvPdu.TheVariants.{Connect}
 use Rattle.journal.specs.declared.entries.Entry.{Entry}
 use Rattle.journal.specs.declared.entries.Entry.TheVariants.{Air, Opened}
@@ -26,34 +21,35 @@ use Rattle.controller_model.specs.Side.{facts_of}
 use Rattle.controller_model.proofs.Sent.{DoingFits, can_be_done}
 use Rattle.run_model.specs.Due.{IsDue}
 use Rattle.run_model.specs.Feeding.{AreDistinct}
-use Rattle.run_model.specs.History.{Event, Called, Noted, Transmitted, Hearing, has_received, is_good, packet_received, past_of}
-use Rattle.run_model.specs.Journal.{air_entries, entry_of, journal_from, journal_of, mark_of, side_of}
+use Rattle.run_model.specs.History.{Event, Called, Noted, Transmitted, Hearing, has_received, packet_received, past_of}
+use Rattle.run_model.specs.Journal.{air_entries, journal_from, journal_of, mark_of, side_of}
 use Rattle.run_model.specs.LinkEnds.{HaveAddresses}
-use Rattle.run_model.specs.Links.{Links, is_advertising, is_connect_ind, links_after, links_of}
+use Rattle.run_model.specs.Links.{is_advertising, is_connect_ind, links_after, links_of}
 use Rattle.run_model.specs.Readers.{pair_openings_in, turns_of}
 use Rattle.run_model.specs.Run.{Given, facts_at, history_of, run_of, setup_at, use_at}
 use Rattle.run_model.proofs.Calls.{turns_called}
 use Rattle.run_model.proofs.Doings.{IsWanted, always_wanted}
 use Rattle.run_model.proofs.Dues.{run_due}
 use Rattle.run_model.proofs.Fates.{turns_are}
-use Rattle.run_model.proofs.LinkEnds.{AreTaken, IsUnderstood}
+use Rattle.run_model.proofs.LinkEnds.{AreTaken, IsUnderstood, of_advertising}
 use Rattle.run_model.proofs.LinksKnown.{last_by_call}
 use Rattle.run_model.proofs.NoteLines.{note_line}
 use Rattle.run_model.proofs.OfStations.{OfStations, run_of_stations}
 use Rattle.run_model.proofs.Parts.{journal_more}
 use Rattle.run_model.proofs.Places.{each_at}
 use Rattle.run_model.proofs.Stations.{is_in}
+use Rattle.run_model.proofs.Unseen.{good_is}
 use Rattle.run_laws.proofs.ChSel.{one_channel}
 use Rattle.run_laws.proofs.DistinctAccess.{AreApart}
 use Rattle.run_laws.proofs.Hearings.{wanted_is}
 use Rattle.journal_links.specs.Begun.{links_begun}
 use Rattle.journal_links.proofs.OfTwo.{are_distinct, of_two_stations, other_of as other_by}
+use Rattle.journal_links.proofs.OpenedLines.{opened_note}
 use Rattle.journal_packets.proofs.AccessOrder.{AreNth}
 use Rattle.journal_acks.proofs.TwoStations.{IsOfTwo, hearing_of, one_hearing, other_is, other_of, other_received, same_number}
 use Rattle.journal_data.proofs.FewLinks.{HaveFewLinks}
 use Rattle.journal_hearings.specs.Openings.{IsToOpen, OpenedLinksWereToOpen}
 use Rattle.journal_hearings.specs.Taken.{AllTakenLinksAreHeard, HasHeardConnect}
-use Rattle.journal_hearings.proofs.AirDoings.{of_advertising}
 use Rattle.journal_hearings.proofs.ConnectLines.{begins_one}
 use Rattle.journal_hearings.proofs.ConnectsAwaited.{to_open_at}
 use Rattle.journal_hearings.proofs.LastHeard.{IsHeardLast, heard_last}
@@ -61,30 +57,6 @@ use Rattle.journal_hearings.proofs.LinksOpened.{begun_is}
 use Rattle.journal_hearings.proofs.PeripheralNotes.{IsTaking, peripheral_noted}
 
 -- ---- the line of a link that is opened
-
-record IsOpenedNote (links : Links) (station : ℕ) (note : Note) (side : Side) (number handle : ℕ) (role : Role) : Type 0 where
-  own : Address
-  peer : Address
-  is : note ≡ OpenedNote handle role own peer
-  side_is : side_of station ≡ side
-  number_is : number ≡ links.last_of station
-
-opened_note : (links : Links) (station : ℕ) (note : Note) (side : Side) (number handle : ℕ) (role : Role)
-    → entry_of (side_of station) (links.link_of station) (links.last_of station) note ≡ Opened side number handle role → IsOpenedNote links station note side number handle role
-opened_note links station (OpenedNote under part own peer) side number handle role is =
-    let sides : side_of station ≡ side = cc in
-    let numbers : links.last_of station ≡ number = cc in
-    let handles : under ≡ handle = cc in
-    let roles : part ≡ role = cc in
-    record { own = own; peer = peer; is = λ i. OpenedNote (handles i) (roles i) own peer; side_is = sides; number_is = sym numbers }
-opened_note links station (UpNote packet) side number handle role is = absurd cc
-opened_note links station note side number handle role is = absurd cc
-
-good_is : (verdict : Verdict) → is_good verdict ≡ true → verdict ≡ Good
-good_is Good is = refl
-good_is Missed is = absurd cc
-good_is Broken is = absurd cc
-good_is Forged is = absurd cc
 
 -- ---- the lines from a packet on
 
@@ -173,7 +145,7 @@ module _ (given : Given) (pair : IsOfTwo given) (six : HaveAddresses given) wher
             (each_at (IsDue given) (history_of (run_of given)) base _ (Called station call.step) (run_due given).each at);
         taking = hearing.taking;
         in_it = each_at (OfStations given) (history_of (run_of given)) base _ (Called station call.step) (run_of_stations given) at;
-        side_is = opened.side_is;
+        side_is = sym opened.side_is;
         front_is = front_is;
         turns_are = ap (λ xs. length (turns_of xs)) front_is ∙ turns_are (base ++ later) ∙ turns_called station call.step call.earlier base ∙ sym (turns_are base);
         number_is = opened.number_is ∙ ap (λ xs. (links_of xs).last_of station) call.before_is ∙ last_by_call station call.step call.earlier base station;

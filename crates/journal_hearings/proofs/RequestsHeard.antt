@@ -154,7 +154,7 @@ judged_whole : (channel : ℕ) (octets : List ℕ) (pdu : AdvPdu) → pdu_heard 
 unfolding pdu_heard
 judged_whole channel octets pdu is = whole_by (heard_on_channel channel octets) pdu is
 
-judged_where : (same : Bool) (facts : Facts) (octets : List ℕ) → same ≡ true → verdict_where (not false && same) facts octets ≡ verdict_of facts octets
+pub judged_where : (same : Bool) (facts : Facts) (octets : List ℕ) → same ≡ true → verdict_where (not false && same) facts octets ≡ verdict_of facts octets
 judged_where true facts octets is = refl
 judged_where false facts octets is = absurd cc
 
@@ -166,12 +166,12 @@ judges_awaited given channel octets history listener awaits =
     (sym (wanted_is given listener history) ∙ awaits.wants)
     ∙ judged_where (channel == channel) facts octets (same_number channel) ∙ awaits.judges octets
 
-pass_mark : (fate : Fate) → Passed ≡ mark_of fate → fate ≡ Pass
+pub pass_mark : (fate : Fate) → Passed ≡ mark_of fate → fate ≡ Pass
 pass_mark Pass is = refl
 pass_mark Lost is = absurd cc
 pass_mark (Damage at pattern) is = absurd cc
 
-one_of_list : (hearing one : Hearing) (others : List Hearing) → hearing ∷ others ≡ one ∷ [] → hearing ≡ one
+pub one_of_list : (hearing one : Hearing) (others : List Hearing) → hearing ∷ others ≡ one ∷ [] → hearing ≡ one
 one_of_list hearing one others is = cc
 
 module _ (understood : IsUnderstood) (given : Given) (pair : IsOfTwo given) (six : HaveAddresses given) where

@@ -13,12 +13,12 @@ use Rattle.journal.specs.declared.entries.Entry.TheVariants.{Turn, Fed}
 use Rattle.controller_model.specs.Side.{notes_of}
 use Rattle.run_model.specs.Due.{Each}
 use Rattle.run_model.specs.Feeding.{HasNoted}
-use Rattle.run_model.specs.History.{Event, TurnBegan, HostFed, Called, Noted, Transmitted, Hearing, noted_by, notes_in, one_if, past_of}
-use Rattle.run_model.specs.Journal.{air_entries, entries_of, entry_of, journal_from, journal_of, side_of}
+use Rattle.run_model.specs.History.{Event, TurnBegan, HostFed, Called, Noted, Transmitted, noted_by, notes_in, one_if, past_of}
+use Rattle.run_model.specs.Journal.{entries_of, entry_of, journal_from, journal_of, side_of}
 use Rattle.run_model.specs.Links.{Links, first_links, links_after}
 use Rattle.run_model.specs.Readers.{fed_in, fed_to_side, of_side, packets_in, packets_of, packets_of_note, packets_to_host}
 use Rattle.run_model.specs.Run.{Given, facts_at, history_of, run_of, setup_at}
-use Rattle.run_model.proofs.Journals.{each_front}
+use Rattle.run_model.proofs.Journals.{each_front, air_packets}
 use Rattle.run_model.proofs.OfStations.{OfStations, run_of_stations}
 use Rattle.run_model.proofs.Stations.{is_in}
 use Rattle.journal_links.proofs.LinkLines.{IsApart, other_side_none, own_side}
@@ -74,10 +74,6 @@ own_packets side link last note = refl
 other_packets : (side other : Side) (link : ℕ → ℕ) (last : ℕ) (note : Note) → side ≢ other → packets_in side (entry_of other link last note) ≡ []
 other_packets side other link last (UpNote packet) differs = other_side_none side other (packet.items ∷ []) differs
 other_packets side other link last note differs = refl
-
-air_packets : (side other : Side) (channel : ℕ) (octets : List ℕ) (hearings : List Hearing) → flat_map (packets_in side) (air_entries other channel octets hearings) ≡ []
-air_packets side other channel octets [] = refl
-air_packets side other channel octets (hearing ∷ hearings) = refl
 
 module _ (given : Given) (station : ℕ) (apart : IsApart given station) where
   note_packets : (links : Links) (other : ℕ) (note : Note) → is_in other given.stations ≡ true → (same : Bool) → (station == other) ≡ same

@@ -88,14 +88,14 @@ new_reported setup = refl
 
 -- ---- a turn begins
 
-abbrev HasNoneReceived : Facts → Type 0
+abbrev pub HasNoneReceived : Facts → Type 0
 HasNoneReceived facts = facts.received ≡ []
 
 shut_none : (ended : List LinkEnded) → received_shut [] ended ≡ []
 shut_none [] = refl
 shut_none (one ∷ ended) = shut_none ended
 
-received_none : IsKeptAtStarts HasNoneReceived HasNoneReceived
+pub received_none : IsKeptAtStarts HasNoneReceived HasNoneReceived
 received_none = record {
   weakens = λ facts none. none;
   ends = λ slot facts none. ap (λ (pieces : List (ℕ × Piece)). received_shut pieces (ends_in slot facts)) none ∙ shut_none (ends_in slot facts);

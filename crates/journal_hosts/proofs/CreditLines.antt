@@ -3,6 +3,7 @@ use Rattle.std.proofs.Common.{◌≡◌, ℕ, zero, suc, ◌+◌, ◌<◌, ◌�
 use Rattle.std.specs.Prelude.{⊤, fold, if◌then◌else◌}
 use Rattle.std.specs.List.{AllByRecursion}
 use Rattle.std.specs.Option.{option_map}
+use Rattle.std.proofs.lemmas.Bool.{and_from}
 use Rattle.std.proofs.lemmas.List.Sums.{fold-append}
 use Rattle.ble_base.specs.declared.notes.Note.{Note}
 use Rattle.ble_base.specs.declared.notes.Note.TheVariants.{Shut as ShutNote, Up as UpNote}
@@ -26,8 +27,8 @@ use Rattle.run_model.proofs.Calls.{with_notes}
 use Rattle.run_model.proofs.Parts.{journal_event, journal_more}
 use Rattle.run_laws.proofs.OpenSteps.{EachOpen}
 use Rattle.journal_packets.specs.Belonging.{is_side}
-use Rattle.journal_data.proofs.EachLine.{own_side}
 use Rattle.wire_fields.specs.Field.{little_endian}
+use Rattle.journal_acks.proofs.TwoStations.{side_same}
 use Rattle.journal_hosts.specs.Credits.{credit_count, credit_handle, fed_after, is_being_fed, is_credit}
 use Rattle.journal_hosts.proofs.CreditNotes.{AreNoCredits, IsNoCredit, IsOfOctet}
 
@@ -174,15 +175,10 @@ unfolding is_being_fed
 fed_event side history event =
     ap (is_being_fed side) (journal_event history event) ∙ fold-append (fed_after side) false (journal_of history) (entries_of (links_of history) event)
 
-both_true : (one other : Bool) → one ≡ true → other ≡ true → (one && other) ≡ true
-both_true true true is also = refl
-both_true true false is also = also
-both_true false other is also = absurd cc
-
 fed_entry : (side : Side) (link_of : ℕ → ℕ) (last : ℕ) (note : Note) (fed : Bool) → fed ≡ true → is_side side side ≡ true → IsOfOctet note
     → fed_after side fed (entry_of side link_of last note) ≡ true
-fed_entry side link_of last (UpNote packet) fed is own of = both_true fed (is_side side side) is own
-fed_entry side link_of last (ShutNote handle reason) fed is own of = both_true fed (is_side side side) is own
+fed_entry side link_of last (UpNote packet) fed is own of = and_from fed (is_side side side) is own
+fed_entry side link_of last (ShutNote handle reason) fed is own of = and_from fed (is_side side side) is own
 fed_entry side link_of last note fed is own of = absurd of
 
 pub fed_noted : (station : ℕ) (history : List Event) (note : Note) → is_being_fed (side_of station) (journal_of history) ≡ true → IsOfOctet note
@@ -190,14 +186,14 @@ pub fed_noted : (station : ℕ) (history : List Event) (note : Note) → is_bein
 fed_noted station history note is of =
     let links = links_of history in
     fed_event (side_of station) history (Noted station note)
-    ∙ fed_entry (side_of station) (links.link_of station) (links.last_of station) note (is_being_fed (side_of station) (journal_of history)) is (own_side station) of
+    ∙ fed_entry (side_of station) (links.link_of station) (links.last_of station) note (is_being_fed (side_of station) (journal_of history)) is (side_same station) of
 
 pub fed_called : (station : ℕ) (history : List Event) (step : Step) → is_being_fed (side_of station) (journal_of history) ≡ true
     → is_being_fed (side_of station) (journal_of (history ++ Called station step ∷ [])) ≡ true
 fed_called station history step is = fed_event (side_of station) history (Called station step) ∙ is
 
 pub fed_by_host : (station : ℕ) (history : List Event) (octets : List ℕ) → is_being_fed (side_of station) (journal_of (history ++ HostFed station octets ∷ [])) ≡ true
-fed_by_host station history octets = fed_event (side_of station) history (HostFed station octets) ∙ own_side station
+fed_by_host station history octets = fed_event (side_of station) history (HostFed station octets) ∙ side_same station
 
 pub fed_notes : (station : ℕ) (notes : List Note) (history : List Event) → is_being_fed (side_of station) (journal_of history) ≡ true → AllByRecursion IsOfOctet notes
     → is_being_fed (side_of station) (journal_of (history ++ map (Noted station) notes)) ≡ true
@@ -231,7 +227,7 @@ noted_credit : (station handle count : ℕ) (history : List Event) (handles : Li
 noted_credit station handle count history handles are =
     let octets = written (CompletedPackets handle count) in
     handles_event (side_of station) history (Noted station (note_of handle count))
-    ∙ if_both (is_side (side_of station) (side_of station)) (is_credit octets) _ _ (own_side station) (is_one handle count)
+    ∙ if_both (is_side (side_of station) (side_of station)) (is_credit octets) _ _ (side_same station) (is_one handle count)
     ∙ ap (option_map (λ some. some ++ credit_handle octets ∷ [])) are
 
 count_held : (handle count : ℕ) → count ≤ 65535 → 0 < count → 0 < credit_count (written (CompletedPackets handle count))

@@ -51,6 +51,7 @@ use Rattle.controller_model.specs.Step.{Step, HostOctet, TurnBegins, PacketHeard
 use Rattle.controller_model.proofs.AnsweredOnce.{answered_once}
 use Rattle.controller_model.proofs.Phases.{EachOutcome, heard_is, unheard_is}
 use Rattle.wire_fields.specs.Field.{little_endian}
+use Rattle.journal_data.proofs.Openness.{all_append}
 use Rattle.journal_hosts.specs.Credits.{credit_count, is_credit}
 
 abbrev pub IsNoCredit : Note → Type 0
@@ -65,10 +66,6 @@ IsOfOctet other = ⊥
 
 abbrev pub AreNoCredits : List Note → Type 0
 AreNoCredits notes = AllByRecursion IsNoCredit notes
-
-all_append : (P : Note → Type 0) (xs ys : List Note) → AllByRecursion P xs → AllByRecursion P ys → AllByRecursion P (xs ++ ys)
-all_append P [] ys all also = also
-all_append P (x ∷ xs) ys all also = (all.0, all_append P xs ys all.1 also)
 
 both : (xs ys : List Note) → AreNoCredits xs → AreNoCredits ys → AreNoCredits (xs ++ ys)
 both xs ys all also = all_append IsNoCredit xs ys all also

@@ -34,6 +34,8 @@ use Rattle.run_model.proofs.Walk.{Place, NoTurn, AtFeeds, AtEnds, IsKept, IsStop
 use Rattle.run_laws.proofs.OpenSteps.{EachOpen, open_more}
 use Rattle.run_laws.proofs.TurnPlaces.{Standing, standing, stands_at}
 use Rattle.journal_packets.specs.Belonging.{is_side}
+use Rattle.journal_packets.proofs.SendersLink.{same_side}
+use Rattle.journal_acks.proofs.Exchanging.{map_both}
 use Rattle.journal_acks.proofs.TwoStations.{IsOfTwo, other_apart}
 use Rattle.journal_data.proofs.FedInRuns.{fed_standing}
 use Rattle.journal_data.proofs.FewComplete.{IsFew, few_always}
@@ -105,10 +107,6 @@ few_complete given station history at stands few =
     load_few 65535 (facts_at given station history).links
     (few_always (setup_at given station) 65535 (past_of station history) (few.buffers station) (fed_standing (past_of station history) at stands).fed)
 
-map_append : (station : ℕ) (xs ys : List Note) → map (Noted station) (xs ++ ys) ≡ map (Noted station) xs ++ map (Noted station) ys
-map_append station [] ys = refl
-map_append station (x ∷ xs) ys = ap (λ all. Noted station x ∷ all) (map_append station xs ys)
-
 module _ (given : Given) (station : ℕ) (history : List Event) where
   abbrev facts : Facts
   facts = facts_at given station history
@@ -124,7 +122,7 @@ module _ (given : Given) (station : ℕ) (history : List Event) where
       let pieces = map note_received facts.received in
       let events = notes_of_events facts.view (map event_completed (completed_from 0 facts.links)) in
       let many = (own_handles (setup_at given station) (past_of station history)).many in
-      subst (Each (AllFit given) called_first) (sym (map_append station pieces events))
+      subst (Each (AllFit given) called_first) (sym (map_both station pieces events))
       (each_append (AllFit given) called_first (map (Noted station) pieces) (map (Noted station) events)
       (pieces_each (HaveFewLinks given) (HaveFewBuffers given) station facts.received called_first (ap some_handles (same_called ∙ none)))
       (ascend (HaveFewLinks given) (HaveFewBuffers given) station facts.view 0 facts.links (called_first ++ map (Noted station) pieces) []
@@ -384,10 +382,6 @@ held_then side P handle (Up other packet ∷ between) handles no_turn held all =
     by false without with_it all = without all
 held_then side P handle (entry ∷ between) handles no_turn held all = held_then side P handle between handles no_turn held all
 
-own_is : (side : Side) → is_side side side ≡ true
-own_is A = refl
-own_is B = refl
-
 -- the handles after a credit that comes after the first packet of a turn, and these lines
 record HasHandle (side : Side) (front : List Entry) (octets : List ℕ) (between : List Entry) : Type 0 where
   some : List ℕ
@@ -401,7 +395,7 @@ has_handle side front octets between credit packets =
       is = fold-append (handles_after side) None front (Up side octets ∷ between)
           ∙ ap (λ some. fold (handles_after side) some (Up side octets ∷ between)) handles.is
           ∙ ap (λ b. fold (handles_after side)
-          (if b && is_credit octets then Some (handles.some ++ credit_handle octets ∷ []) else Some handles.some) between) (own_is side)
+          (if b && is_credit octets then Some (handles.some ++ credit_handle octets ∷ []) else Some handles.some) between) (same_side side)
           ∙ ap (λ b. fold (handles_after side)
           (if b then Some (handles.some ++ credit_handle octets ∷ []) else Some handles.some) between) credit;
     }

@@ -29,6 +29,7 @@ use Rattle.run_model.proofs.Numbers.{opening_at}
 use Rattle.run_model.proofs.OfStations.{OfStations, run_of_stations}
 use Rattle.run_model.proofs.Parts.{journal_event}
 use Rattle.run_model.proofs.Places.{each_at}
+use Rattle.run_laws.proofs.InAgreement.{differs_back}
 use Rattle.journal_links.specs.LinkLines.{AreLinesOf, IsOfItsNotes, line_of, lines_of, link_named, where_named}
 use Rattle.journal_links.proofs.LinkLines.{IsApart, across, fresh, line_more, lines_append, named_elsewhere, named_here}
 
@@ -114,7 +115,7 @@ other_number links other station handle note differs = refl
 
 -- ---- a note of the station
 
-note_added : (station : ℕ) (history : List Event) (note : Note) → noted_by station (history ++ Noted station note ∷ []) ≡ noted_by station history ++ note ∷ []
+pub note_added : (station : ℕ) (history : List Event) (note : Note) → noted_by station (history ++ Noted station note ∷ []) ≡ noted_by station history ++ note ∷ []
 note_added station history note =
     flat_event (notes_in station) history (Noted station note) ∙ ap (λ b. noted_by station history ++ one_if b note) (same_station station)
 
@@ -125,9 +126,6 @@ journal_noted : (station : ℕ) (history : List Event) (note : Note) (number : �
 journal_noted station history note number lines is =
     ap (lines_of (side_of station) number) (journal_event history (Noted station note))
     ∙ line_more (side_of station) number (journal_of history) _ lines is
-
-not_same : (one other : ℕ) → (one == other) ≡ false → (other == one) ≡ false
-not_same one other differs = false_from_ne_true (other == one) (λ same. eqb-false one other differs (sym (eqb-true other one same)))
 
 more_than_none : (n : ℕ) → 1 ≤ n → (0 == n) ≡ false
 more_than_none n more = false_from_ne_true (0 == n) (λ same. let is = eqb-true 0 n same in absurd (omega (arith, more, is)))
@@ -242,7 +240,7 @@ module _ (station : ℕ) (history : List Event) (are : AreSorted station history
       where
         flipped : (handle : ℕ) (here : Bool) → (under == handle) ≡ here → (handle == under) ≡ here
         flipped handle true is = eq-eqb handle under (sym (eqb-true under handle is))
-        flipped handle false is = not_same under handle is
+        flipped handle false is = differs_back under handle is
 
     notes_by : (handle : ℕ) (here : Bool) → (under == handle) ≡ here → notes_under handle (noted_by station opened_then) ≡ (if here then opening ∷ [] else notes_under handle notes)
     notes_by handle here is = ap (notes_under handle) (note_added station history opening) ∙ under_more handle notes opening ∙ by here is
@@ -311,7 +309,7 @@ module _ (station : ℕ) (history : List Event) (are : AreSorted station history
             (λ i. number_then one true is i == number_then other false is_too i) ∙ other_than other (sym (or_none (was_opened other notes)) ∙ was_too)
         apart_by one other false true is is_too was was_too differs =
             (λ i. number_then one false is i == number_then other true is_too i)
-            ∙ not_same last (number one) (other_than one (sym (or_none (was_opened one notes)) ∙ was))
+            ∙ differs_back last (number one) (other_than one (sym (or_none (was_opened one notes)) ∙ was))
         apart_by one other false false is is_too was was_too differs =
             (λ i. number_then one false is i == number_then other false is_too i)
             ∙ are.apart one other (sym (or_none (was_opened one notes)) ∙ was) (sym (or_none (was_opened other notes)) ∙ was_too) differs

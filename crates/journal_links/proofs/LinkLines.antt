@@ -14,6 +14,7 @@ use Rattle.run_model.specs.Journal.{entries_of, entry_of, journal_from, journal_
 use Rattle.run_model.specs.Links.{Links, begins_link, first_links, links_after, links_noted, links_of, with_handle, with_link}
 use Rattle.run_model.specs.Readers.{of_side}
 use Rattle.run_model.specs.Run.{Given, history_of, run_of}
+use Rattle.run_model.proofs.Journals.{side_none}
 use Rattle.run_model.proofs.OfStations.{OfStations, run_of_stations}
 use Rattle.run_model.proofs.Parts.{journal_more}
 use Rattle.run_model.proofs.Places.{each_at}
@@ -31,12 +32,6 @@ other_side_none A A values differs = absurd (differs refl)
 other_side_none A B values differs = refl
 other_side_none B A values differs = refl
 other_side_none B B values differs = absurd (differs refl)
-
-nothing_of : {X : Type 0} (side other : Side) → of_side {X = X} side other [] ≡ []
-nothing_of A A = refl
-nothing_of A B = refl
-nothing_of B A = refl
-nothing_of B B = refl
 
 -- ---- a line more
 
@@ -57,7 +52,7 @@ named_or_not side number (Some named) line = by side named.0 (named.1 == number)
     by B B true = inr refl
     by A B true = inl refl
     by B A true = inl refl
-    by one other false = inl (nothing_of one other)
+    by one other false = inl (side_none one other)
 
 -- what is read of these lines alone is read of the whole journal
 pub fold_lines : {X : Type 0} (side : Side) (number : ℕ) (after : X → Entry → X)
@@ -82,7 +77,7 @@ named_here side link number line same =
 
 pub named_elsewhere : (side own : Side) (link number : ℕ) (line : Entry) → (link == number) ≡ false → where_named side number (Some (own, link)) line ++ [] ≡ []
 named_elsewhere side own link number line differs =
-    append-nil (where_named side number (Some (own, link)) line) ∙ ap (λ b. of_side side own (if b then line ∷ [] else [])) differs ∙ nothing_of side own
+    append-nil (where_named side number (Some (own, link)) line) ∙ ap (λ b. of_side side own (if b then line ∷ [] else [])) differs ∙ side_none side own
 
 named_across : (side other : Side) (link number : ℕ) (line : Entry) → side ≢ other → where_named side number (Some (other, link)) line ++ [] ≡ []
 named_across side other link number line differs =

@@ -92,15 +92,15 @@ pub note_begins : (front : List Entry) (side : Side) (link : ℕ → ℕ) (last 
 note_begins front side link last (Up packet) = refl
 note_begins front side link last note = refl
 
-note_counts : (station : ℕ) (note : Note) (links : Links) → (links_noted station note links).begun ≡ links.begun
+pub note_counts : (station : ℕ) (note : Note) (links : Links) → (links_noted station note links).begun ≡ links.begun
 note_counts station (Opened handle role own peer) links = refl
 note_counts station note links = refl
 
-add_by : (begins : Bool) (n begun : ℕ) → (if begins then 1 else 0) + n + begun ≡ n + (if begins then begun + 1 else begun)
+pub add_by : (begins : Bool) (n begun : ℕ) → (if begins then 1 else 0) + n + begun ≡ n + (if begins then begun + 1 else begun)
 add_by true n begun = omega arith
 add_by false n begun = omega arith
 
-begun_if : (begins : Bool) (links more : Links) → (if begins then more else links).begun ≡ (if begins then more.begun else links.begun)
+pub begun_if : (begins : Bool) (links more : Links) → (if begins then more else links).begun ≡ (if begins then more.begun else links.begun)
 begun_if true links more = refl
 begun_if false links more = refl
 

@@ -1,6 +1,7 @@
 -- The end of a link with a number is an end of the link of the journal with that number.
-use Rattle.std.proofs.Common.{◌≡◌, ℕ, ◌+◌, ◌-◌, Bool, true, List, [], ◌∷◌, ◌++◌, length, Some, refl, sym, ap, ◌∙◌, append_assoc, arith}
+use Rattle.std.proofs.Common.{◌≡◌, ℕ, ◌+◌, ◌-◌, true, List, [], ◌∷◌, ◌++◌, length, Some, refl, sym, ap, ◌∙◌, append_assoc, arith}
 use Rattle.std.specs.Prelude.{◌&&◌, ◌⊎◌, if◌then◌else◌}
+use Rattle.std.proofs.lemmas.Bool.{and_from}
 use Rattle.ble_base.specs.Side.{other_side}
 use Rattle.ble_base.specs.declared.roles.Role.{Role}
 use Rattle.ble_base.specs.declared.roles.Role.TheVariants.{Central, Peripheral}
@@ -29,6 +30,7 @@ use Rattle.run_model.proofs.Ordered.{pair_distinct}
 use Rattle.run_model.proofs.Parts.{journal_more}
 use Rattle.run_model.proofs.Places.{each_at}
 use Rattle.run_model.proofs.Stations.{is_in}
+use Rattle.run_laws.proofs.ByCalls.{last_turn}
 use Rattle.journal_links.specs.Begun.{LinkBegun, begun_by, begun_in, is_offered, link_numbered, links_begun, links_from, offers_in, with_number}
 use Rattle.journal_links.specs.Opened.{central_side}
 use Rattle.journal_links.proofs.LinksBegun.{fated_before, links_counted, links_more, number_next}
@@ -82,12 +84,6 @@ air_begins front side channel octets (hearing ∷ hearings) sent more one on say
       (begun_one front channel octets side sent on says (mark_of hearing.fate) hearing.verdict);
 }
 
-less_one : (n m : ℕ) → n ≡ m + 1 → n - 1 ≡ m
-less_one n m is = omega (arith, is)
-
-both_true : (one other : Bool) → one ≡ true → other ≡ true → (one && other) ≡ true
-both_true one other is is_too = rw (is, is_too) refl
-
 -- at any time of a run of a pair
 pub link_of_number : IsUnderstood → (a b : List ℕ) (script : Script) → length script.a.public ≡ 6 → length script.b.public ≡ 6 → (before rest : List Event)
     (number station : ℕ) (end : Setup) → history_of (run_of (given_of a b script)) ≡ before ++ rest → is_in station (given_of a b script).stations ≡ true
@@ -116,7 +112,7 @@ link_of_number understood a b script six six_too before rest number station end 
       is_link = ap (with_number number) links
           ∙ number_next first begins.rest begun number (numbered.number_is ∙ ap (λ n. n + 1) (sym counted));
       fields_are = has.fields_are;
-      slot_is = less_one (length (turns_of front)) end.opened (turns_are has.before ∙ has.in_turn);
+      slot_is = last_turn (length (turns_of front)) end.opened (turns_are has.before ∙ has.in_turn);
       central_is = central_by end.link.role station end sent (two station in_it) (two sent.sender sender) has.is_at_end;
-      offers_two = both_true sent.ch_sel (is_offered (offers_in (other_side (side_of sent.sender)) front)) offers.own offers.other;
+      offers_two = and_from sent.ch_sel (is_offered (offers_in (other_side (side_of sent.sender)) front)) offers.own offers.other;
     }

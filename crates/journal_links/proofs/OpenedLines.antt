@@ -27,14 +27,14 @@ use Rattle.journal_links.proofs.Numbered.{link_of_number}
 
 -- ---- the note of a line
 
-record IsOpenedNote (links : Links) (station : ℕ) (note : Note) (side : Side) (number handle : ℕ) (role : Role) : Type 0 where
-  own : Address
-  peer : Address
-  is : note ≡ OpenedNote handle role own peer
-  side_is : side ≡ side_of station
-  number_is : number ≡ links.last_of station
+pub record IsOpenedNote (links : Links) (station : ℕ) (note : Note) (side : Side) (number handle : ℕ) (role : Role) : Type 0 where
+  pub own : Address
+  pub peer : Address
+  pub is : note ≡ OpenedNote handle role own peer
+  pub side_is : side ≡ side_of station
+  pub number_is : number ≡ links.last_of station
 
-opened_note : (links : Links) (station : ℕ) (note : Note) (side : Side) (number handle : ℕ) (role : Role)
+pub opened_note : (links : Links) (station : ℕ) (note : Note) (side : Side) (number handle : ℕ) (role : Role)
     → entry_of (side_of station) (links.link_of station) (links.last_of station) note ≡ Opened side number handle role
     → IsOpenedNote links station note side number handle role
 opened_note links station (OpenedNote under part own peer) side number handle role is =

@@ -1,6 +1,7 @@
 -- Whether a packet of a side answers one that it heard in the same turn, in a journal that grows.
 use Rattle.std.proofs.Common.{◌≡◌, ℕ, zero, suc, ◌==◌, ◌⊎◌, inl, inr, ◌&&◌, ◌||◌, not, Bool, true, false, List, [], ◌∷◌, ◌++◌, refl, sym, ap, subst, ◌∙◌, append-nil, append_assoc}
 use Rattle.std.specs.Prelude.{fold, map}
+use Rattle.std.proofs.Math.Bool.{or-false}
 use Rattle.std.proofs.lemmas.List.Sums.{fold-append}
 use Rattle.ble_base.specs.Side.{other_side}
 use Rattle.ble_base.specs.declared.notes.Note.{Note}
@@ -10,23 +11,13 @@ use Rattle.radio_replay.specs.declared.fates.Fate.{Fate}
 use Rattle.controller_model.specs.Step.{Step, HostOctet}
 use Rattle.controller_model.specs.Side.{notes_after}
 use Rattle.run_model.specs.History.{Event, TurnBegan, HostFed, Called, Noted, Transmitted, Hearing, fates_used, has_received, is_good}
-use Rattle.run_model.specs.Journal.{air_entries, entries_of, entry_of, journal_from, journal_of, side_of}
-use Rattle.run_model.specs.Links.{Links, first_links, is_advertising, links_after, links_of}
+use Rattle.run_model.specs.Journal.{air_entries, entries_of, entry_of, journal_of, side_of}
+use Rattle.run_model.specs.Links.{is_advertising, links_of}
 use Rattle.run_model.specs.Run.{Given, setup_at, facts_at, after_call, after_octets, after_feed, fate_at, hearing_at, hearings_from, hearings_of, others_than}
+use Rattle.run_model.proofs.Parts.{journal_event}
 use Rattle.journal_packets.specs.Belonging.{asked_after, have_one_access, is_answer, is_side}
 
 -- ---- an event more
-
-journal_push : (links : Links) (history : List Event) (event : Event)
-    → journal_from links (history ++ event ∷ []) ≡ journal_from links history ++ entries_of (fold links_after links history) event
-journal_push links [] event = append-nil (entries_of links event)
-journal_push links (first ∷ history) event =
-    ap (λ xs. entries_of links first ++ xs) (journal_push (links_after links first) history event)
-    ∙ sym (append_assoc (entries_of links first) (journal_from (links_after links first) history) (entries_of (fold links_after (links_after links first) history) event))
-
-pub journal_event : (history : List Event) (event : Event) → journal_of (history ++ event ∷ []) ≡ journal_of history ++ entries_of (links_of history) event
-unfolding journal_of links_of
-journal_event history event = journal_push first_links history event
 
 -- a packet of the other station with the access address of these octets was heard in the turn
 abbrev pub is_asked : List Event → ℕ → List ℕ → Bool
@@ -39,14 +30,10 @@ asked_event history event station octets =
     ap (fold (asked_after (side_of station) octets) false) (journal_event history event)
     ∙ fold-append (asked_after (side_of station) octets) false (journal_of history) (entries_of (links_of history) event)
 
-or_false : (b : Bool) → (b || false) ≡ b
-or_false true = refl
-or_false false = refl
-
 note_asked : (side other : Side) (octets : List ℕ) (asked : Bool) (link_of : ℕ → ℕ) (last : ℕ) (note : Note)
     → asked_after side octets asked (entry_of other link_of last note) ≡ asked
-note_asked side other octets asked link_of last (Up packet) = or_false asked
-note_asked side other octets asked link_of last note = or_false asked
+note_asked side other octets asked link_of last (Up packet) = or-false asked
+note_asked side other octets asked link_of last note = or-false asked
 
 pub asked_turn : (history : List Event) (slot : ℕ) (radios : List Bool) (station : ℕ) (octets : List ℕ) → is_asked (history ++ TurnBegan slot radios ∷ []) station octets ≡ false
 asked_turn history slot radios station octets = asked_event history (TurnBegan slot radios) station octets
@@ -54,7 +41,7 @@ asked_turn history slot radios station octets = asked_event history (TurnBegan s
 -- ---- what is no packet
 
 pub asked_fed : (history : List Event) (other : ℕ) (fed : List ℕ) (station : ℕ) (octets : List ℕ) → is_asked (history ++ HostFed other fed ∷ []) station octets ≡ is_asked history station octets
-asked_fed history other fed station octets = asked_event history (HostFed other fed) station octets ∙ or_false (is_asked history station octets)
+asked_fed history other fed station octets = asked_event history (HostFed other fed) station octets ∙ or-false (is_asked history station octets)
 
 asked_noted : (history : List Event) (other : ℕ) (note : Note) (station : ℕ) (octets : List ℕ) → is_asked (history ++ Noted other note ∷ []) station octets ≡ is_asked history station octets
 asked_noted history other note station octets =

@@ -3,7 +3,7 @@
 use Rattle.std.proofs.Common.{◌≡◌, ℕ, zero, suc, ◌==◌, ◌⊎◌, ◌&&◌, ◌||◌, not, Bool, true, false, Some, None, List, [], ◌∷◌, ◌++◌, length, take, refl, sym, ap, subst, ◌∙◌}
 use Rattle.std.specs.Prelude.{⊤, map, if◌then◌else◌}
 use Rattle.std.specs.List.{IsDistinct}
-use Rattle.std.proofs.lemmas.Bool.{eqb-true}
+use Rattle.std.proofs.lemmas.Bool.{eqb-true, or_left, or_right}
 use Rattle.std.proofs.lemmas.Slice.Eq.{bytes_eq-Decides}
 use Rattle.open_links.specs.OpenLinks.{facts_in}
 use Rattle.controller_model.specs.declared.doing.Doing.{Doing}
@@ -27,6 +27,7 @@ use Rattle.run_model.proofs.Places.{each_event}
 use Rattle.run_model.proofs.Stations.{is_in, among, in_more_other, in_more_same, not_before}
 use Rattle.run_model.proofs.Walk.{Place, NoTurn, AtFeeds, AtBegins, AfterPhases, AtPackets, AtListening, AtEnds, IsKept}
 use Rattle.run_laws.proofs.ByCalls.{at_turn, first_hears}
+use Rattle.run_laws.proofs.ChSel.{one_channel}
 use Rattle.run_laws.proofs.ConnectInds.{AreCounted, counted_kept, first_counts, no_advertising}
 use Rattle.run_laws.proofs.Hearings.{AreHearing, hearing_kept, own_facts, use_same, wanted_is}
 use Rattle.run_laws.proofs.TurnPlaces.{event_past, stands_first}
@@ -97,13 +98,6 @@ doing_same : (given : Given) (station : ℕ) (history after : List Event) → pa
     → (facts_at given station after).turn.doing ≡ (facts_at given station history).turn.doing
 doing_same given station history after same = ap (λ past. (facts_of (setup_at given station) past).turn.doing) same
 
-left_true : (a b : Bool) → a ≡ true → (a || b) ≡ true
-left_true a b is = ap (λ x. x || b) is
-
-right_true : (a b : Bool) → b ≡ true → (a || b) ≡ true
-right_true true b is = refl
-right_true false b is = is
-
 -- more is asked, and what a station wants stays
 more_answering : (given : Given) (history after : List Event) (station : ℕ) → past_of station after ≡ past_of station history
     → ((octets : List ℕ) → is_asked history station octets ≡ true → is_asked after station octets ≡ true)
@@ -118,9 +112,6 @@ more_asked_by : (given : Given) (history after : List Event) (station : ℕ) →
 more_asked_by given history after station same received more asked = λ heard channel is listens on octets begins.
     more octets (asked heard channel (sym received ∙ is) (sym (use_same given station history after same) ∙ listens) on octets begins)
 
-listens_one : (one other : ℕ) → Listens one ≡ Listens other → one ≡ other
-listens_one one other is = cc
-
 module _ (given : Given) (are : given.stations ≡ 0 ∷ 1 ∷ []) (fates : List Fate) (sender channel : ℕ) (sent : List ℕ) (history : List Event) (one : (sender ≡ 0) ⊎ (sender ≡ 1)) where
   abbrev hearings : List Hearing
   hearings = hearings_of given fates sender channel sent history
@@ -134,7 +125,7 @@ module _ (given : Given) (are : given.stations ≡ 0 ∷ 1 ∷ []) (fates : List
   stays_asked : (station : ℕ) → (station ≡ 0) ⊎ (station ≡ 1) → (octets : List ℕ) → is_asked history station octets ≡ true → is_asked next station octets ≡ true
   stays_asked station is octets asked =
       asked_packet given are fates sender channel sent history station octets one is
-      ∙ left_true (is_asked history station octets) (asks_in station channel sent hearings octets) asked
+      ∙ or_left (is_asked history station octets) (asks_in station channel sent hearings octets) asked
 
   packet_answering : (station : ℕ) → (station ≡ 0) ⊎ (station ≡ 1) → IsAnswering given history station → IsAnswering given next station
   packet_answering station is answering = more_answering given history next station (event_past station history event refl) (stays_asked station is) answering
@@ -145,9 +136,9 @@ module _ (given : Given) (are : given.stations ≡ 0 ∷ 1 ∷ []) (fates : List
       let listener = is_listener given fates channel sent history sender station got in
       let told : Some sent ≡ Some heard = sym (received_event station history event ∙ ap (λ b. if b then Some sent else packet_received station history) got) ∙ same in
       let equal : sent ≡ heard = cc in
-      let on_it = listens_one channel on (sym listener.listens ∙ sym (use_same given station history next (event_past station history event refl)) ∙ listens) in
+      let on_it = one_channel channel on (sym listener.listens ∙ sym (use_same given station history next (event_past station history event refl)) ∙ listens) in
       asked_packet given are fates sender channel sent history station octets one is
-      ∙ right_true (is_asked history station octets) (asks_in station channel sent hearings octets)
+      ∙ or_right (is_asked history station octets) (asks_in station channel sent hearings octets)
       (ap (λ b. b && (not (is_advertising channel) && have_one_access sent octets)) got
       ∙ ap (λ n. not (is_advertising n) && have_one_access sent octets) on_it
       ∙ ap (λ b. not b && have_one_access sent octets) off

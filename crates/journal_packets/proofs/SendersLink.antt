@@ -38,9 +38,9 @@ use Rattle.journal_packets.proofs.SentLinks.{IsOfTwo, begun_are_sent, link_begun
 
 -- ---- the side of the central
 
-own_side : (side : Side) → is_side side side ≡ true
-own_side A = refl
-own_side B = refl
+pub same_side : (side : Side) → is_side side side ≡ true
+same_side A = refl
+same_side B = refl
 
 -- ---- the link of an end
 
@@ -61,7 +61,7 @@ link_is nth apart given history station number end octets sent taken has begins 
     let more : 1 + place ≡ place + 1 = omega arith in
     ap (first_number (side_of sender) octets 1) (begun_are_sent history sent)
     ∙ first_is nth apart (side_of sender) (setup_at given sender).cursor (connects_sent sender []) 1 place octets (links_sent [] history) link
-    (sent_ordered given sender one [] history sent taken) at (own_side (side_of sender)) (begins ∙ ap (λ f. access_octets f.access) (sym from.fields_are))
+    (sent_ordered given sender one [] history sent taken) at (same_side (side_of sender)) (begins ∙ ap (λ f. access_octets f.access) (sym from.fields_are))
     ∙ ap Some (more ∙ sym has.number_is)
 
 -- the sender of its CONNECT_IND

@@ -1,6 +1,6 @@
 -- In every run of two stations, each answer on a link that passes is judged good.
-use Rattle.std.proofs.Common.{◌≡◌, ℕ, zero, suc, ◌==◌, ◌≤◌, Bool, true, false, Some, List, [], ◌∷◌, ◌++◌, take, refl, sym, ap, subst, ◌∙◌, arith}
-use Rattle.std.specs.Prelude.{⊤, not, ◌&&◌}
+use Rattle.std.proofs.Common.{◌≡◌, ℕ, zero, suc, ◌==◌, ◌≤◌, true, false, Some, List, [], ◌∷◌, ◌++◌, take, refl, sym, ap, subst, ◌∙◌, arith}
+use Rattle.std.specs.Prelude.{⊤}
 use Rattle.ble_base.specs.declared.roles.Role.{Role}
 use Rattle.ble_base.specs.declared.roles.Role.TheVariants.{Central, Peripheral}
 use Rattle.ble_base.specs.declared.verdicts.Verdict.TheVariants.{Good}
@@ -16,7 +16,7 @@ use Rattle.open_links.specs.OpenLinks.{Links, OpenLink, facts_in, link_after, li
 use Rattle.open_links.specs.Slots.{IsOnTime}
 use Rattle.radio_replay.specs.Damage.{damaged_packet}
 use Rattle.radio_replay.specs.declared.fates.Fate.{Fate}
-use Rattle.radio_replay.specs.declared.fates.Fate.TheVariants.{Pass, Lost, Damage}
+use Rattle.radio_replay.specs.declared.fates.Fate.TheVariants.{Pass}
 use Rattle.controller_model.specs.declared.doing.Doing.{Doing}
 use Rattle.controller_model.specs.declared.doing.Doing.TheVariants.{Advertises, CentralSends, CentralListens, PeripheralSends}
 use Rattle.controller_model.specs.Facts.{Facts, Use, Sends, Listens}
@@ -62,6 +62,7 @@ use Rattle.journal_acks.proofs.Seen.{IsSeen, seen_packet}
 use Rattle.journal_acks.proofs.Standing.{PhasedBy, phased_at}
 use Rattle.journal_acks.proofs.TwoStations.{IsOfTwo, hearing_of, one_hearing, other_of, same_number, side_other}
 use Rattle.journal_data.proofs.KeptData.{other_in}
+use Rattle.journal_hearings.proofs.RequestsHeard.{pass_mark, judged_where, one_of_list}
 use Rattle.journal_pdus.specs.Answered.{AllAnswersAreHeard}
 use Rattle.journal_pdus.proofs.Awaited.{AreAskedWell, IsAsker, IsAsking, asked_well_first, asked_well_kept}
 
@@ -109,15 +110,6 @@ listens_for facts handle far channel octets doing listens is_open channel_is goo
   judges = ap (λ (d : Doing). verdict_doing facts.links d octets) doing ∙ ap (λ may. verdict_of_link may octets) is_open ∙ good;
 }
 
-pass_mark : (fate : Fate) → Passed ≡ mark_of fate → fate ≡ Pass
-pass_mark Pass is = refl
-pass_mark Lost is = absurd cc
-pass_mark (Damage at pattern) is = absurd cc
-
-judged_where : (same : Bool) (facts : Facts) (octets : List ℕ) → same ≡ true → verdict_where (not false && same) facts octets ≡ verdict_of facts octets
-judged_where true facts octets is = refl
-judged_where false facts octets is = absurd cc
-
 judges_good : (given : Given) (channel : ℕ) (octets : List ℕ) (history : List Event) (listener : ℕ) → ListensFor (facts_at given listener history) channel octets
     → (hearing_at given Pass channel octets history listener).verdict ≡ Good
 judges_good given channel octets history listener listens =
@@ -125,9 +117,6 @@ judges_good given channel octets history listener listens =
     ap (λ (wanted : Use). verdict_where (reaches Pass channel (channel_listened wanted)) facts (damaged_packet Pass octets))
     (sym (wanted_is given listener history) ∙ listens.wants)
     ∙ judged_where (channel == channel) facts octets (same_number channel) ∙ listens.judges
-
-one_of_list : (hearing one : Hearing) (others : List Hearing) → hearing ∷ others ≡ one ∷ [] → hearing ≡ one
-one_of_list hearing one others is = cc
 
 module _ (whole : IsHeardWhole) (understood : IsUnderstood) (taken : AreTaken) (nth : AreNth) (apart : AreApart) (given : Given) (pair : IsOfTwo given) (six : HaveAddresses given) where
   distinct : AreDistinct given.stations

@@ -1,5 +1,5 @@
 -- In every run of two stations, a central whose packet was heard listens in the next phase.
-use Rattle.std.proofs.Common.{◌≡◌, ℕ, zero, suc, ◌==◌, ◌⊎◌, inl, inr, ◌&&◌, ◌||◌, not, Bool, true, false, Option, Some, None, List, [], ◌∷◌, ◌++◌, take, refl, sym, ap, subst, ◌∙◌, arith}
+use Rattle.std.proofs.Common.{◌≡◌, ℕ, zero, suc, ◌==◌, inl, inr, ◌&&◌, ◌||◌, not, Bool, true, false, Option, Some, None, List, [], ◌∷◌, ◌++◌, take, refl, sym, ap, subst, ◌∙◌, arith}
 use Rattle.std.specs.Prelude.{⊤, if◌then◌else◌}
 use Rattle.std.proofs.lemmas.Bool.{eqb-true}
 use Rattle.std.proofs.lemmas.Slice.Eq.{bytes_eq-Decides}
@@ -36,6 +36,7 @@ use Rattle.journal_packets.proofs.Asked.{asked_called, asked_packet, asks_in, is
 use Rattle.journal_packets.proofs.SoFar.{IsBelongingSoFar, belonging_first, belonging_kept}
 use Rattle.journal_acks.proofs.Standing.{PhasedBy, phased_at}
 use Rattle.journal_acks.proofs.TwoStations.{IsOfTwo, other_is, other_of}
+use Rattle.journal_slots.proofs.OnAir.{either}
 
 -- ---- a central that asked
 
@@ -149,10 +150,6 @@ not_advertising true false true is = record { received_is = refl; off_is = refl;
 not_advertising true false false is = absurd cc
 not_advertising true true same is = absurd cc
 not_advertising false off same is = absurd cc
-
-either : (one other : Bool) → (one || other) ≡ true → (one ≡ true) ⊎ (other ≡ true)
-either true other is = inl refl
-either false other is = inr is
 
 module _ (given : Given) (pair : IsOfTwo given) (six : HaveAddresses given) where
   stands : (phases : ℕ) (done left : List ℕ) (history : List Event) → IsBelongingSoFar given (AtPackets phases done left) history

@@ -17,7 +17,7 @@ use Rattle.radio_replay.specs.declared.fates.Fate.{Fate}
 use Rattle.controller_model.specs.declared.doing.Doing.{Doing}
 use Rattle.controller_model.specs.declared.doing.Doing.TheVariants.{Advertises, Connects}
 use Rattle.controller_model.proofs.DataChannels.{link_channel}
-use Rattle.controller_model.specs.Facts.{Facts, Sends, Listens}
+use Rattle.controller_model.specs.Facts.{Facts, Sends}
 use Rattle.controller_model.specs.Packets.{pdu_heard, use_of}
 use Rattle.controller_model.specs.Side.{facts_of, notes_after}
 use Rattle.controller_model.specs.Step.{Step, HostOctet, TurnBegins, TurnEnds}
@@ -25,14 +25,15 @@ use Rattle.run_model.specs.Feeding.{AreDistinct}
 use Rattle.run_model.specs.History.{Event, TurnBegan, HostFed, Called, Noted, Transmitted, Hearing, has_received, packet_received}
 use Rattle.run_model.specs.Journal.{entries_of, entry_of, journal_of, radio_in, side_of}
 use Rattle.run_model.specs.LinkEnds.{HaveAddresses}
-use Rattle.run_model.specs.Links.{Links, begins_link, first_links, is_advertising, is_connect_ind, links_after, links_noted, links_of, with_link}
+use Rattle.run_model.specs.Links.{Links, begins_link, is_advertising, is_connect_ind, links_after, links_noted, links_of, with_link}
 use Rattle.run_model.specs.OnAir.{ends_phase}
 use Rattle.run_model.specs.Readers.{turns_of}
 use Rattle.run_model.specs.Run.{Given, GoesOn, after_call, after_feed, after_octets, facts_at, hearings_of, history_of, octets_left, run_of, setup_at, step_of, use_at}
-use Rattle.run_model.proofs.Calls.{fold_event}
 use Rattle.run_model.proofs.EntryEvents.{is_of_event}
-use Rattle.run_model.proofs.LinkEnds.{AreTaken, IsUnderstood, is_listener}
+use Rattle.run_model.proofs.LinkEnds.{AreTaken, IsUnderstood, deaf_by}
+use Rattle.run_model.proofs.LinksKnown.{links_event}
 use Rattle.run_model.proofs.OpenedNotes.{is_opened, made_is_noted, opens_under}
+use Rattle.run_model.proofs.Parts.{journal_event}
 use Rattle.run_model.proofs.Stations.{is_in, among, in_more_other, in_more_same, not_before}
 use Rattle.run_model.proofs.Walk.{Place, NoTurn, AtFeeds, AtBegins, AfterPhases, AtPackets, AtListening, AtEnds, IsKept}
 use Rattle.run_laws.proofs.ConnectInds.{no_advertising}
@@ -41,13 +42,12 @@ use Rattle.run_laws.proofs.SentPackets.{IsUseSent, Says}
 use Rattle.run_laws.proofs.TurnPlaces.{event_past}
 use Rattle.journal_links.specs.Begun.{LinkBegun, begun_by, begun_in, link_numbered, links_begun, with_number}
 use Rattle.journal_links.proofs.LinksBegun.{links_more, note_begins}
-use Rattle.journal_packets.proofs.Asked.{journal_event}
 use Rattle.journal_packets.proofs.SentLinks.{begun_are_sent, is_answered, number_sent}
 use Rattle.journal_packets.proofs.SoFar.{IsBelongingSoFar, belonging_first, belonging_kept}
 use Rattle.journal_acks.proofs.Seen.{IsSeen, seen_last, seen_turn}
 use Rattle.journal_acks.proofs.TwoStations.{IsOfTwo, one_hearing, same_number, side_same}
+use Rattle.journal_hearings.proofs.LinksOpened.{turn_event}
 use Rattle.journal_pdus.specs.OpenedLinks.{AllAreOpenedByThen, AreOpened, is_opened_by, opens}
-use Rattle.journal_pdus.proofs.SettledRuns.{turn_event}
 
 -- ---- no link begins
 
@@ -75,10 +75,6 @@ event_opened : (history : List Event) (event : Event) (side : Side) (number : �
     → is_opened_by side number (journal_of (history ++ event ∷ [])) ≡ true
 event_opened history event side number is =
     ap (is_opened_by side number) (journal_event history event) ∙ stays_opened side number (journal_of history) (entries_of (links_of history) event) is
-
-links_event : (history : List Event) (event : Event) → links_of (history ++ event ∷ []) ≡ links_after (links_of history) event
-unfolding links_of
-links_event history event = fold_event links_after first_links history event
 
 no_entry : (front : List Entry) → links_begun (front ++ []) ≡ links_begun front
 no_entry front = ap links_begun (append-nil front)
@@ -268,13 +264,6 @@ in_more other station done false is was = in_more_other other station done is �
 
 -- ---- a packet
 
-not_heard : (given : Given) (fates : List Fate) (sender channel : ℕ) (octets : List ℕ) (history : List Event) (station on : ℕ) (own : List ℕ)
-    → use_at given station history ≡ Sends on own → (received : Bool) → has_received station (hearings_of given fates sender channel octets history) ≡ received → received ≡ false
-not_heard given fates sender channel octets history station on own wants true is =
-    let listener = is_listener given fates channel octets history sender station is in
-    let h : Sends on own ≡ Listens channel = sym wants ∙ listener.listens in absurd cc
-not_heard given fates sender channel octets history station on own wants false is = refl
-
 -- the link of a CONNECT_IND, if a packet is one
 data Begins (turns station channel : ℕ) (offered : Bool) (octets : List ℕ) : Type 0 where
   BeginsNone : begins_link channel octets ≡ false → (if is_advertising channel then begun_by (side_of station) (turns - 1) offered (pdu_heard channel octets) else []) ≡ []
@@ -392,7 +381,7 @@ module _ (understood : IsUnderstood) (given : Given) (pair : IsOfTwo given) (six
         let differs = false_from_ne_true (other == station) (λ same.
         let h : true ≡ false = sym waiting.waits.0 ∙ ap (λ n. is_in n done) (eqb-true other station same) ∙ out in absurd cc) in
         let connects = waiting.waits.1 in
-        let deaf = not_heard given fates station channel octets history other connects.sent_on connects.octets connects.wanted (has_received other hearings) refl in record {
+        let deaf = deaf_by given fates station channel octets history other connects.sent_on connects.octets connects.wanted (has_received other hearings) refl in record {
           station = other;
           is_one = waiting.is_one;
           side_is = waiting.side_is;

@@ -35,8 +35,9 @@ use Rattle.journal_data.specs.HostLines.{OpenUnder}
 use Rattle.journal_data.specs.Lines.{lines_of}
 use Rattle.journal_data.proofs.EachLine.{lines_at}
 use Rattle.journal_data.proofs.FewLinks.{HaveFewLinks}
+use Rattle.journal_hearings.proofs.LinksOpened.{turn_event}
 use Rattle.journal_pdus.specs.InTime.{AllEndInTime, EndsLater, NoneIsOverdue}
-use Rattle.journal_pdus.proofs.SettledRuns.{IsOfPlace, by_side, open_in, turn_event}
+use Rattle.journal_pdus.proofs.SettledRuns.{IsOfPlace, by_side, open_in}
 use Rattle.journal_pdus.proofs.Together.{IsKnownAt, known_first, known_kept}
 
 -- ---- the slot in which a link ends, by the lines and by its end

@@ -1,17 +1,15 @@
 -- A link sends or listens only in the slot of the anchor of an event that it entered, or in the next one.
-use Rattle.std.proofs.Common.{◌≡◌, ℕ, ◌+◌, ◌<◌, ◌≤◌, ◌==◌, ◌⊎◌, inl, inr, Bool, true, false, Option, Some, None, List, [], ◌∷◌, refl, sym, ap, subst, ◌∙◌, arith}
+use Rattle.std.proofs.Common.{◌≡◌, ℕ, ◌+◌, ◌<◌, ◌≤◌, ◌==◌, ◌⊎◌, inl, inr, Bool, true, false, Option, Some, None, List, refl, sym, ap, subst, ◌∙◌, arith}
 use Rattle.std.specs.Prelude.{nat_le, nat_lt}
-use Rattle.std.specs.Option.{option_map}
 use Rattle.std.proofs.lemmas.Bool.{and_parts, eqb-false, eqb-true, leb-true, ltb-true}
 use Rattle.instants.specs.Track.{next_anchor_of}
-use Rattle.link_model.specs.Events.{anchor_of, count_entry, entries_in}
+use Rattle.link_model.specs.Events.{anchor_of, entries_in}
 use Rattle.link_model.specs.Setup.{Setup as EndSetup}
-use Rattle.link_model.specs.Step.{EventEntered, PacketReceived}
+use Rattle.link_model.specs.Step.{PacketReceived}
 use Rattle.link_model.specs.Times.{has_second_exchange, span_of}
 use Rattle.link_model.proofs.InEvents.{past_in}
-use Rattle.std.proofs.lemmas.List.Sums.{fold-append}
 use Rattle.open_links.specs.OpenLinks.{OpenLink, facts_in, link_after, link_at}
-use Rattle.open_links.specs.Turns.{entered_if, is_anchor, link_entered, links_entered, wants_entering, wants_if}
+use Rattle.open_links.specs.Turns.{entered_if, is_anchor, link_entered, wants_entering}
 use Rattle.open_links.proofs.Ends.{entered_setup}
 use Rattle.slot_plan.specs.declared.Activity.{Activity}
 use Rattle.slot_plan.specs.declared.Activity.TheVariants.{Link, Advertise, Scan, Initiate}
@@ -29,20 +27,14 @@ use Rattle.controller_model.proofs.Always.{ending_is}
 use Rattle.run_model.specs.Run.{step_of}
 use Rattle.run_laws.proofs.TurnPlaces.{Between, IsTurned, Stage, Within}
 use Rattle.run_laws.proofs.TurnSteps.{begins_begun, begins_slot, octet_turn, phase_turn}
+use Rattle.journal_acks.proofs.DueLinks.{sent_setup, fixed_setup}
 use Rattle.journal_acks.proofs.EnteredLinks.{AreEntered, HasEntered, entered_first, entered_kept, entries_fixed, entries_received, entries_sent}
 use Rattle.journal_acks.proofs.RadioUses.{Listening, Sending, Uses, advertises_off, exchange_uses, first_of_both, initiates_off, no_link, off_uses, rests_uses, scans_off, winner_wants}
-use Rattle.journal_acks.proofs.LinkCalls.{HasBegun, HasPassed, IsNew, Stays as StaysSo, Takes, begins_under, fixed_if, passes_under}
+use Rattle.journal_acks.proofs.LinkCalls.{HasBegun, HasPassed, IsNew, Stays as StaysSo, Takes, begins_under, passes_under}
 use Rattle.journal_acks.proofs.LinkUses.{sends_under}
-use Rattle.journal_acks.proofs.UnderHandles.{end_under, map_under, octet_under, sent_if}
+use Rattle.journal_acks.proofs.UnderHandles.{end_under, octet_under}
+use Rattle.journal_slots.proofs.ExchangeSlots.{one_entry_more, wants_anchor, entered_is}
 use Rattle.journal_pdus.proofs.HeldRadio.{Holds, IsBegunSo, Keeps, Stays, begins_so, ending_keeps, keeps_same, keeps_then, octet_keeps, phase_keeps}
-
-sent_setup : (sends : Bool) (slot : ℕ) (link : OpenLink) → (sent_if sends slot link).setup ≡ link.setup
-sent_setup true slot link = refl
-sent_setup false slot link = refl
-
-fixed_setup : (fixes : Bool) (link : OpenLink) → (fixed_if fixes link).setup ≡ link.setup
-fixed_setup true link = refl
-fixed_setup false link = refl
 
 -- ---- an event of a link
 
@@ -60,9 +52,6 @@ event_stays slot before after setup more has = record {
 }
 
 -- a link that enters its event
-one_entry_more : (slot : ℕ) (link : OpenLink) → entries_in (link_after (EventEntered slot) link).past ≡ entries_in link.past + 1
-one_entry_more slot link = fold-append count_entry 0 link.past (EventEntered slot ∷ [])
-
 now_entered : (anchor : Bool) (slot : ℕ) (link : OpenLink) → is_anchor slot link ≡ anchor → anchor ≡ true → HasEvent slot (entered_if anchor slot link)
 now_entered true slot link is enters = record {
   event = entries_in link.past;
@@ -70,10 +59,6 @@ now_entered true slot link is enters = record {
   at = sym (past_in link.setup link.past).next_anchor ∙ eqb-true (next_anchor_of (facts_in link).parameters) slot is;
 }
 now_entered false slot link is enters = absurd cc
-
-wants_anchor : (anchor : Bool) (slot : ℕ) (link : OpenLink) → is_anchor slot link ≡ anchor → wants_entering slot link ≡ true → anchor ≡ true
-wants_anchor true slot link is wants = refl
-wants_anchor false slot link is wants = absurd (let h : false ≡ true = sym (ap (λ b. wants_if b slot link) is) ∙ wants in absurd cc)
 
 -- ---- the slot in which it sends or listens
 
@@ -164,10 +149,6 @@ module _ (slot handle : ℕ) (begun : Facts) (link : OpenLink) (at : link_at han
       by true = let more = one_entry_more slot link in omega (arith, more)
       by false = omega arith
 
-  entered_is : (found : Option OpenLink) (other : ℕ) → other ≡ handle → link_at other (facts_entering slot begun).links ≡ found → found ≡ Some now
-  entered_is found other same is =
-      sym is ∙ ap (λ n. link_at n (links_entered slot begun.links)) same ∙ map_under (option_map (link_entered slot)) refl 0 handle begun.links ∙ ap (option_map (link_entered slot)) at
-
   wins_slot : wants_entering slot link ≡ true → HasEvent slot now
   wins_slot wants = now_entered (is_anchor slot link) slot link refl (wants_anchor (is_anchor slot link) slot link refl wants)
 
@@ -200,7 +181,7 @@ module _ (slot handle : ℕ) (begun : Facts) (link : OpenLink) (at : link_at han
             → Uses handle (exchange_if continues one.setup.link.role other) → IsInSlot slot now
         if_by one true is found uses =
             let same = exchange_uses one.setup.link.role handle other uses in
-            let some : Some one ≡ Some now = entered_is (Some one) other same found in
+            let some : Some one ≡ Some now = entered_is slot handle begun link at (Some one) other same found in
             let equal : one ≡ now = cc in
             own same (ap (λ (l : OpenLink). (facts_in l).event.heard) (sym equal) ∙ first_of_both (facts_in one).event.heard (facts_in one).event.more is)
         if_by one false is found uses = off_uses handle Rests _ refl uses

@@ -1,17 +1,13 @@
 -- In every run of two stations, each packet of a link comes in the turn of the event that its side entered last, or in the
 -- next turn.
 use Rattle.std.proofs.Common.{◌≡◌, ℕ, ◌+◌, ◌-◌, ◌*◌, ◌<◌, ◌≤◌, ◌==◌, ◌⊎◌, inl, inr, Bool, true, false, List, [], ◌∷◌, ◌++◌, length, refl, sym, ap, subst, ◌∙◌, arith}
-use Rattle.std.specs.Prelude.{⊤, fold}
+use Rattle.std.specs.Prelude.{⊤}
 use Rattle.std.proofs.Math.Nat.{mul-le-mul_right}
 use Rattle.std.proofs.lemmas.Bool.{eqb-false, eqb-true}
 use Rattle.adv_pdu.specs.declared.pdu.ConnectFields.{ConnectFields}
-use Rattle.link_model.specs.Delivery.{notes_of as end_notes_of}
-use Rattle.link_model.specs.End.{facts_of as end_facts_of}
-use Rattle.link_model.specs.Events.{IsInEvent as IsEndInEvent, anchor_of, entries_in}
-use Rattle.link_model.specs.Facts.{first_facts as first_end_facts}
+use Rattle.link_model.specs.Events.{anchor_of, entries_in}
 use Rattle.link_model.specs.Setup.{Setup as EndSetup}
-use Rattle.link_model.specs.Step.{PacketSent, Step as EndStep}
-use Rattle.link_model.proofs.InEvents.{past_in}
+use Rattle.link_model.specs.Step.{PacketSent}
 use Rattle.link_model.proofs.Received.{IsHeardWhole}
 use Rattle.open_links.specs.OpenLinks.{OpenLink, link_after}
 use Rattle.open_links.specs.Slots.{IsOnTime}
@@ -43,7 +39,6 @@ use Rattle.journal_packets.proofs.SoFar.{IsBelongingSoFar}
 use Rattle.journal_acks.specs.EventOrder.{entered_on}
 use Rattle.journal_acks.proofs.Counting.{AreKnown, IsBegun}
 use Rattle.journal_acks.proofs.EntryLines.{count_read}
-use Rattle.journal_acks.proofs.EntryNotes.{count_note, end_entered}
 use Rattle.journal_acks.proofs.Exchanging.{number_at}
 use Rattle.journal_acks.proofs.KeptCounts.{AreCountedAt}
 use Rattle.journal_acks.proofs.Known.{known_of}
@@ -53,6 +48,7 @@ use Rattle.journal_acks.proofs.Standing.{sends_on}
 use Rattle.journal_acks.proofs.TwoStations.{IsOfTwo}
 use Rattle.journal_pdus.specs.InEvent.{AllAreInEvents, IsInEvent}
 use Rattle.journal_acks.proofs.RadioUses.{Sending}
+use Rattle.journal_slots.proofs.SecondSlots.{entered_noted}
 use Rattle.journal_pdus.proofs.EventSlots.{AreInSlots, IsInSlot, OfEvent, TooEarly, in_slots_first, in_slots_kept}
 
 -- ---- the last event of a link
@@ -113,15 +109,6 @@ record IsInTime (given : Given) (history : List Event) (station channel : ℕ) (
 
 abbrev IsInTimeOn : Given → List Event → ℕ → ℕ → List ℕ → Type 0
 IsInTimeOn given history station channel octets = is_advertising channel ≡ false → IsInTime given history station channel octets
-
-first_in : (setup : EndSetup) → IsEndInEvent setup 0 (first_end_facts setup)
-unfolding end_facts_of
-first_in setup = past_in setup []
-
--- an end has noted as many events as it has entered
-entered_noted : (setup : EndSetup) (past : List EndStep) → fold count_note 0 (notes_opened_on setup past) ≡ entries_in past
-unfolding end_notes_of
-entered_noted setup past = (end_entered setup 0 (first_end_facts setup) past (first_in setup)).count
 
 module _ (whole : IsHeardWhole) (understood : IsUnderstood) (taken : AreTaken) (nth : AreNth) (apart : AreApart) (given : Given) (pair : IsOfTwo given) (six : HaveAddresses given) where
   distinct : AreDistinct given.stations

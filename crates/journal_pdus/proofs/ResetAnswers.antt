@@ -42,6 +42,7 @@ use Rattle.controller_model.proofs.Always.{IsInTurn}
 use Rattle.controller_model.proofs.Handles.{HaveOwnHandles}
 use Rattle.controller_model.proofs.OpenPlaces.{is_reset}
 use Rattle.controller_model.proofs.TurnNotes.{EachNote, IsOfTurn, event_noted, turn_noted}
+use Rattle.journal_data.proofs.Openness.{all_append}
 use Rattle.journal_pdus.specs.Resetting.{answers_reset}
 
 -- ---- what is no such answer
@@ -49,10 +50,6 @@ use Rattle.journal_pdus.specs.Resetting.{answers_reset}
 abbrev pub IsQuiet : Note → Type 0
 IsQuiet (Up packet) = answers_reset packet.items ≡ false
 IsQuiet other = ⊤
-
-all_append : (P : Note → Type 0) (xs ys : List Note) → AllByRecursion P xs → AllByRecursion P ys → AllByRecursion P (xs ++ ys)
-all_append P [] ys all also = also
-all_append P (x ∷ xs) ys all also = (all.0, all_append P xs ys all.1 also)
 
 turn_quiet : (event : Event) → IsOfTurn event → answers_reset (written event) ≡ false
 unfolding little_endian

@@ -1,5 +1,5 @@
 -- In every run of a pair, no link is open at a side by the lines before the answer to a Reset that is done.
-use Rattle.std.proofs.Common.{◌≡◌, ℕ, ◌+◌, ◌≤◌, ◌==◌, Bool, true, false, Option, Some, None, List, [], ◌∷◌, ◌++◌, map, cond, refl, sym, ap, subst, ◌∙◌, append-nil, append_assoc, arith}
+use Rattle.std.proofs.Common.{◌≡◌, ℕ, ◌+◌, ◌≤◌, ◌==◌, Bool, true, false, Option, None, List, [], ◌∷◌, ◌++◌, map, cond, refl, sym, ap, subst, ◌∙◌, append-nil, append_assoc, arith}
 use Rattle.std.specs.Prelude.{⊤, is_some, take}
 use Rattle.std.specs.List.{AllByRecursion, sum_by}
 use Rattle.std.proofs.lemmas.List.Sums.{sum_by-cons}
@@ -24,12 +24,14 @@ use Rattle.run_model.specs.Journal.{entries_of, entry_of, journal_of, side_of}
 use Rattle.run_model.specs.LinkEnds.{HaveAddresses}
 use Rattle.run_model.specs.Links.{links_of}
 use Rattle.run_model.specs.Run.{Given, after_call, after_feed, after_octets, facts_at, hearings_of, history_of, octets_left, run_of, setup_at, step_of}
+use Rattle.run_model.proofs.CallNotes.{map_push}
 use Rattle.run_model.proofs.EntryEvents.{is_of_event}
 use Rattle.run_model.proofs.LinkEnds.{AreTaken, IsUnderstood}
 use Rattle.run_model.proofs.Places.{each_append, each_at, each_event}
 use Rattle.run_model.proofs.Stations.{among}
 use Rattle.run_model.proofs.Walk.{AtFeeds, Place, IsKept, IsStopped, IsWhole, ends_with, run_kept}
 use Rattle.run_laws.proofs.DistinctAccess.{AreApart}
+use Rattle.run_laws.proofs.Hearings.{own_facts}
 use Rattle.journal_packets.proofs.AccessOrder.{AreNth}
 use Rattle.journal_packets.proofs.SoFar.{IsBelongingSoFar}
 use Rattle.journal_acks.proofs.Counting.{AreKnown, HaveOwnNumbers}
@@ -40,10 +42,10 @@ use Rattle.journal_data.specs.Lines.{Lines, lines_of}
 use Rattle.journal_data.proofs.EachLine.{lines_at, note_lines, numbers_at}
 use Rattle.journal_data.proofs.FewLinks.{HaveFewLinks}
 use Rattle.journal_data.proofs.HeldLinks.{HoldsLinks, nothing_in}
-use Rattle.journal_data.proofs.KeptData.{IsDataAt, data_kept, own_numbers}
+use Rattle.journal_data.proofs.KeptData.{IsDataAt, data_kept, own_numbers, pass_in_turn}
 use Rattle.journal_data.proofs.Law.{first_data}
 use Rattle.journal_data.proofs.Openness.{is_open}
-use Rattle.journal_data.proofs.StationLines.{IsStationBooked, call_booked, event_booked, event_own, octet_own, octet_unused, own_facts}
+use Rattle.journal_data.proofs.StationLines.{IsStationBooked, call_booked, event_booked, event_own, octet_own, octet_unused}
 use Rattle.journal_pdus.specs.Resetting.{ResetsLeaveNoLink, answers_reset}
 use Rattle.journal_pdus.proofs.ResetAnswers.{IsAnsweredSo, IsQuiet, Quiet, Resets, octet_so, turn_calls_quiet}
 
@@ -107,10 +109,6 @@ up_links : (station : ℕ) (history : List Event) (packet : ArrayVec ℕ)
     → (lines_at station (history ++ Noted station (UpNote packet) ∷ [])).links ≡ (lines_at station history).links
 up_links station history packet = ap (λ (lines : Lines). lines.links) (note_lines station history (UpNote packet))
 
-map_push : (station : ℕ) (notes : List Note) (note : Note) → map (Noted station) (notes ++ note ∷ []) ≡ map (Noted station) notes ++ Noted station note ∷ []
-map_push station [] note = refl
-map_push station (first ∷ notes) note = ap (λ (all : List Event). Noted station first ∷ all) (map_push station notes note)
-
 -- ---- a call
 
 module _ (given : Given) (station : ℕ) where
@@ -171,10 +169,6 @@ module _ (given : Given) (station : ℕ) where
         let event = HostFed station (octet ∷ octets) in
         octets_none (octet ∷ octets) (history ++ event ∷ []) (event_own given station history event refl own)
         (event_booked given station history event refl booked) (each_event LeavesNone history event each tt)
-
-heard_in_turn : (received : Option (List ℕ)) → IsInTurn (step_of received)
-heard_in_turn None = tt
-heard_in_turn (Some octets) = tt
 
 -- ---- each line
 
@@ -241,7 +235,7 @@ module _ (whole : IsHeardWhole) (understood : IsUnderstood) (taken : AreTaken) (
     on_air = λ phases history has. record { is = kept.on_air phases history has.is; each = has.each };
     on_hearing = λ phases done left station history are some has. record {
       is = kept.on_hearing phases done left station history are some has.is;
-      each = turn_none given station (step_of (packet_received station history)) history (heard_in_turn (packet_received station history)) has.each;
+      each = turn_none given station (step_of (packet_received station history)) history (pass_in_turn (packet_received station history)) has.each;
     };
     on_heard = λ phases history has. record { is = kept.on_heard phases history has.is; each = has.each };
     on_phases = λ history has. record { is = kept.on_phases history has.is; each = has.each };

@@ -21,10 +21,11 @@ use Rattle.journal_acks.proofs.Seen.{IsSeen, seen_last, seen_turn}
 use Rattle.journal_acks.proofs.Standing.{phased_at}
 use Rattle.journal_acks.proofs.TwoStations.{IsOfTwo}
 use Rattle.journal_data.proofs.FewLinks.{HaveFewLinks}
+use Rattle.journal_hearings.proofs.LinksOpened.{turn_event}
 use Rattle.journal_pdus.specs.Announced.{announced_pdu}
 use Rattle.journal_pdus.specs.Exchanged.{AllAreAtRest, IsAtRest}
 use Rattle.journal_pdus.specs.Pending.{pending_pdu}
-use Rattle.journal_pdus.proofs.SettledRuns.{by_side, turn_event}
+use Rattle.journal_pdus.proofs.SettledRuns.{by_side}
 use Rattle.journal_pdus.proofs.TakenInRuns.{IsTakenAt, taken_first, taken_kept}
 use Rattle.journal_pdus.proofs.Told.{off_told}
 use Rattle.journal_pdus.proofs.ToldInRuns.{IsToldAt, told_first, told_kept}

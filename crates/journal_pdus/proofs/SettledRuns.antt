@@ -1,8 +1,6 @@
 -- Before each turn of a run of a pair, and at its end, each host has received all data that its side took, and is told of
 -- all its packets that are acknowledged.
-use Rattle.std.proofs.Common.{◌≡◌, ℕ, true, Bool, Option, Some, List, [], ◌∷◌, ◌++◌, refl, sym, ap, subst, ◌∙◌}
-use Rattle.ble_base.specs.declared.notes.Note.{Note}
-use Rattle.ble_base.specs.declared.notes.Note.TheVariants.{Up as UpNote}
+use Rattle.std.proofs.Common.{◌≡◌, ℕ, true, Some, List, ◌∷◌, ◌++◌, sym, ap, subst, ◌∙◌}
 use Rattle.ble_base.specs.declared.roles.Side.{Side}
 use Rattle.ble_base.specs.declared.roles.Side.TheVariants.{A, B}
 use Rattle.journal.specs.declared.entries.Entry.TheVariants.{Turn}
@@ -13,10 +11,10 @@ use Rattle.controller_model.specs.Between.{is_between_turns}
 use Rattle.controller_model.specs.Since.{data_waiting}
 use Rattle.controller_model.proofs.BetweenTurns.{none_complete, nothing_waits}
 use Rattle.run_model.specs.Feeding.{AreDistinct}
-use Rattle.run_model.specs.History.{Event, TurnBegan, HostFed, Called, Noted, Transmitted, past_of, turns_begun}
-use Rattle.run_model.specs.Journal.{entries_of, entry_of, journal_of, side_of}
+use Rattle.run_model.specs.History.{Event, past_of, turns_begun}
+use Rattle.run_model.specs.Journal.{journal_of, side_of}
 use Rattle.run_model.specs.LinkEnds.{HaveAddresses}
-use Rattle.run_model.specs.Links.{Links, links_of}
+use Rattle.run_model.specs.Links.{links_of}
 use Rattle.run_model.specs.Run.{Given, GoesOn, facts_at, history_of, run_of, setup_at}
 use Rattle.run_model.proofs.EntryEvents.{is_of_event}
 use Rattle.run_model.proofs.LinkEnds.{AreTaken, IsUnderstood}
@@ -41,6 +39,7 @@ use Rattle.journal_data.proofs.FedInRuns.{between_standing}
 use Rattle.journal_data.proofs.FewLinks.{HaveFewLinks}
 use Rattle.journal_data.proofs.NotedLines.{is_link}
 use Rattle.journal_data.proofs.StationLines.{IsStationBooked}
+use Rattle.journal_hearings.proofs.LinksOpened.{turn_event}
 use Rattle.journal_pdus.specs.Exchanged.{AllAreSettled}
 use Rattle.journal_pdus.specs.Settled.{AreSettled, IsSettled}
 use Rattle.journal_pdus.proofs.SettledEnds.{settled_end}
@@ -102,25 +101,6 @@ module _ (given : Given) (Q : Place → List Event → Type 0) (are_two : IsOfTw
   settled_between = λ side before after one are. by_side given are_two IsSettledSide settled_side side before after one are
 
 -- ---- the event of a line
-
-pub record IsTurnEvent (event : Event) : Type 0 where
-  pub slot : ℕ
-  pub radios : List Bool
-  pub is : event ≡ TurnBegan slot radios
-
-no_note : (side : Side) (link_of : ℕ → ℕ) (last : ℕ) (note : Note) (slot : ℕ) (a_on : Bool) (b_on : Option Bool) (X : Type 0)
-    → entry_of side link_of last note ∷ [] ≡ Turn slot a_on b_on ∷ [] → X
-no_note side link_of last (UpNote packet) slot a_on b_on X is = absurd cc
-no_note side link_of last note slot a_on b_on X is = absurd cc
-
-pub turn_event : (links : Links) (event : Event) (slot : ℕ) (a_on : Bool) (b_on : Option Bool) → entries_of links event ≡ Turn slot a_on b_on ∷ [] → IsTurnEvent event
-turn_event links (TurnBegan now radios) slot a_on b_on is = record { slot = now; radios = radios; is = refl }
-turn_event links (HostFed station octets) slot a_on b_on is = absurd cc
-turn_event links (Called station step) slot a_on b_on is = absurd cc
-turn_event links (Noted station note) slot a_on b_on is =
-    no_note (side_of station) (links.link_of station) (links.last_of station) note slot a_on b_on (IsTurnEvent (Noted station note)) is
-turn_event links (Transmitted station channel octets []) slot a_on b_on is = absurd cc
-turn_event links (Transmitted station channel octets (hearing ∷ hearings)) slot a_on b_on is = absurd cc
 
 -- ---- in a run
 

@@ -66,8 +66,9 @@ use Rattle.journal_acks.proofs.TwoStations.{IsListening, IsOfTwo, hearing_of, ju
 use Rattle.journal_data.specs.Lines.{PduLine}
 use Rattle.journal_data.proofs.Arriving.{lines_length}
 use Rattle.journal_data.proofs.Ends.{sound}
-use Rattle.journal_data.proofs.KeptData.{far_side, other_in}
+use Rattle.journal_data.proofs.KeptData.{other_in}
 use Rattle.journal_data.proofs.FewLinks.{HaveFewLinks}
+use Rattle.journal_data.proofs.OneCall.{far_side}
 use Rattle.journal_pdus.specs.Announced.{last_number_sent, pdu_line_if, side_of_line}
 use Rattle.journal_pdus.specs.Exchanged.{AllAreTakenAtOnce}
 use Rattle.journal_pdus.specs.Pending.{last_number_taken, pending_pdu, taken_pdu, untaken_pdu}
@@ -497,7 +498,7 @@ run_taken whole understood taken nth separate given are_two few_links six distin
 
 -- ---- the lines
 
-note_side : (side : Side) (link_of : ℕ → ℕ) (last : ℕ) (note : Note) → side_of_line (entry_of side link_of last note) ≡ Some side
+pub note_side : (side : Side) (link_of : ℕ → ℕ) (last : ℕ) (note : Note) → side_of_line (entry_of side link_of last note) ≡ Some side
 note_side side link_of last (Up packet) = refl
 note_side side link_of last note = refl
 

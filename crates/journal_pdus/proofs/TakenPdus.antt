@@ -1,6 +1,7 @@
 -- A link that receives a packet notes that it takes the PDU in it where that is new and not empty: there is always room.
-use Rattle.std.proofs.Common.{◌≡◌, ℕ, ◌+◌, ◌<◌, ◌≤◌, ◌==◌, ◌&&◌, not, Bool, true, false, Option, Some, None, List, [], ◌∷◌, ◌++◌, length, refl, sym, ap, subst, ◌∙◌, nat_lt, arith}
+use Rattle.std.proofs.Common.{◌≡◌, ℕ, ◌+◌, ◌<◌, ◌≤◌, ◌==◌, ◌&&◌, not, Bool, true, false, Option, Some, None, List, [], ◌++◌, length, refl, sym, ap, subst, ◌∙◌, nat_lt, arith}
 use Rattle.std.specs.Prelude.{All}
+use Rattle.std.proofs.Math.Bool.{and-false}
 use Rattle.std.proofs.lemmas.Bool.{eqb-false, eqb-true}
 use Rattle.std.proofs.lemmas.Bool.Decides.{nat_tests}
 use Rattle.std.proofs.lemmas.List.{take_all}
@@ -19,7 +20,7 @@ use Rattle.hci_cmd.specs.declared.command.CmdRead.{CmdRead}
 use Rattle.hci_cmd.specs.declared.command.CmdRead.TheVariants.{Known, UnknownOpcode, BadLength}
 use Rattle.hci_cmd.specs.Command.{command_of}
 use Rattle.host_view.specs.Unbuilt.{status_of}
-use Rattle.link_model.specs.Acknowledgement.{Acknowledgement, Pdu, bits_of, end_of, is_acked, next_sent}
+use Rattle.link_model.specs.Acknowledgement.{Acknowledgement, Pdu, bits_of, end_of, is_acked}
 use Rattle.link_model.specs.Data.{is_empty, numbered}
 use Rattle.link_model.specs.End.{has_new_pdu, is_accepted, took_notes, took_notes_if, took_notes_of}
 use Rattle.link_model.specs.Facts.{Facts as EndFacts}
@@ -28,7 +29,6 @@ use Rattle.link_model.specs.Pair.{AreInAgreement, AreOneLink}
 use Rattle.link_model.specs.Setup.{Setup as EndSetup}
 use Rattle.link_model.proofs.Payloads.{past_fits, past_form}
 use Rattle.link_model.proofs.Received.{IsHeardWhole, header_read, heard_good, pdu_read}
-use Rattle.open_links.specs.declared.ended.LinkEnded.{LinkEnded}
 use Rattle.open_links.specs.declared.offers.Offer.{Offer}
 use Rattle.open_links.specs.declared.offers.Offer.TheVariants.{NoLink, Empty, Overflow, Kept}
 use Rattle.open_links.specs.OpenLinks.{OpenLink, facts_in, link_at}
@@ -39,20 +39,21 @@ use Rattle.controller_model.specs.Commands.{facts_commanded, facts_known, receiv
 use Rattle.controller_model.specs.Data.{facts_offered, offer_of}
 use Rattle.controller_model.specs.Facts.{Facts, Setup, first_facts}
 use Rattle.controller_model.specs.Heard.{asks_if, has_room, link_heard, link_received, link_taken, notes_taken, replies_in, reply_if}
-use Rattle.controller_model.specs.Links.{ends_in}
 use Rattle.controller_model.specs.Outcome.{facts_passed, notes_passed}
 use Rattle.controller_model.specs.Packets.{notes_doing}
 use Rattle.controller_model.specs.Side.{facts_after, facts_fed, notes_after, result_of}
-use Rattle.controller_model.proofs.Always.{IsKeptAtStarts, opening_passes, received_shut, start_keeps}
+use Rattle.controller_model.proofs.Always.{opening_passes, start_keeps}
 use Rattle.controller_model.proofs.Phases.{EachOutcome, heard_is, unheard_is}
 use Rattle.run_model.specs.Run.{step_of}
 use Rattle.run_laws.proofs.Agreed.{ack_of, out_after, packet_of, sent_ack}
 use Rattle.run_laws.proofs.TurnPlaces.{Between, IsTurned, Stage, Within}
+use Rattle.journal_acks.proofs.Acks.{sent_again}
 use Rattle.journal_acks.proofs.CallNotes.{HasNoData, TakesNone, all_more, doing_noted}
 use Rattle.journal_acks.proofs.DataCalls.{on_link_notes, unfound}
 use Rattle.journal_acks.proofs.LinkUses.{listens_under}
 use Rattle.journal_acks.proofs.PhaseNotes.{IsOnLink, IsPhaseOf, IsPlainPhase, phase_of}
 use Rattle.journal_acks.proofs.TwoStations.{same_number}
+use Rattle.journal_hosts.proofs.Calm.{received_none}
 use Rattle.journal_pdus.specs.Announced.{pdu_line_if}
 use Rattle.journal_pdus.proofs.PendingLines.{first_none, first_taken, later_none, later_notes}
 
@@ -100,22 +101,6 @@ fed_none setup facts (Packet (Acl handle start count body)) none = offered_none 
 fed_none setup facts LostSync none = none
 fed_none setup facts More none = none
 
--- a turn begins
-nothing_shut : (ended : List LinkEnded) → received_shut [] ended ≡ []
-nothing_shut [] = refl
-nothing_shut (one ∷ ended) = nothing_shut ended
-
-starts_none : IsKeptAtStarts HasNone HasNone
-starts_none = record {
-  weakens = λ facts none. none;
-  ends = λ slot facts none. ap (λ pieces. received_shut pieces (ends_in slot facts)) none ∙ nothing_shut (ends_in slot facts);
-  begins = λ slot facts none. none;
-  enters = λ slot facts none. none;
-  wins = λ slot activity facts none. none;
-  fixes = λ doing facts none. none;
-  does = λ doing facts may none. none;
-}
-
 -- a phase passes: a link listens only after it sent, and a turn receives on it at most once
 not_true : (X : Type 0) (awaited : Bool) → awaited ≡ false → awaited ≡ true → X
 not_true X awaited never on = absurd (let h : false ≡ true = sym never ∙ on in absurd cc)
@@ -154,7 +139,7 @@ phase_none setup facts (Some octets) yet =
 pub empty_kept : (setup : Setup) → IsTurned setup (IsEmptyAt setup)
 empty_kept setup = record {
   feeds = λ begun octet facts none. fed_none setup facts (result_of facts.octets octet) none;
-  begins = λ begun on facts none on_it. start_keeps HasNone HasNone starts_none begun on facts none;
+  begins = λ begun on facts none on_it. start_keeps HasNone HasNone received_none begun on facts none;
   passes = λ phases begun received facts yet. phase_none setup facts received yet;
   ends = λ begun facts yet. refl;
 }
@@ -283,11 +268,6 @@ took_as whole slot link from octets fits fields packet channel =
     ∙ heard_good whole alike link.setup sender (facts_in link) is_one (past_fits from.setup from.past link.setup (facts_in link) fits) form channel)
     ∙ (λ i. took_notes_of link.setup.link.handle true (header_read sender form i) (pdu_read sender form i) (facts_in link))
 
--- while a PDU is not acknowledged, the same one is sent again
-again : (ack : Acknowledgement) (next : Pdu) (acked : Bool) → is_acked ack ≡ acked → ack.acked < length ack.sent → (next_sent acked next ack).sent ≡ ack.sent
-again ack next true is out = absurd (let same = eqb-true ack.acked (length ack.sent) is in omega (arith, same, out))
-again ack next false is out = refl
-
 module _ (sender : EndFacts) (one : Acknowledgement) (agreed : AreInAgreement (sent_ack sender) one) where
   abbrev fresh : Bool
   fresh = is_new (bits_of one) (header_sent sender)
@@ -303,15 +283,11 @@ module _ (sender : EndFacts) (one : Acknowledgement) (agreed : AreInAgreement (s
       let ahead = agreed.from_a.reliable in
       let new : fresh ≡ (length sent == length one.accepted + 1) =
       (says (end_of (sent_ack sender)) (end_of one) (packet_of sender true) agreed).fresh
-      ∙ ap (λ pdus. length pdus == length one.accepted + 1) (again (sent_ack sender) sender.outgoing.fixed (is_acked (sent_ack sender)) refl (out_after sender one agreed)) in
+      ∙ ap (λ pdus. length pdus == length one.accepted + 1) (sent_again (sent_ack sender) sender.outgoing.fixed (is_acked (sent_ack sender)) refl (out_after sender one agreed)) in
       let differs = eqb-false (length sent) (length one.accepted + 1) (sym new ∙ is) in
       let high = ahead.at_most_one_ahead in
       let all : length sent ≤ length one.accepted = omega (arith, differs, high) in
       ap (λ pdus. numbered pdus) (sym (ahead.in_order ∙ take_all (length one.accepted) sent all))
-
-and_false : (b : Bool) → (b && false) ≡ false
-and_false true = refl
-and_false false = refl
 
 one_less : (n : ℕ) → nat_lt n (n + 1) ≡ true
 one_less n = grind (arith, nat_tests)
@@ -322,7 +298,7 @@ none_less n = grind (arith, nat_tests)
 same_line : (new empty : Bool) (sent accepted number : ℕ) (pdu : Pdu) → (new ≡ true → empty ≡ false → sent ≡ accepted + 1) → (new ≡ false → sent ≡ accepted)
     → pdu_line_if (nat_lt accepted sent && not empty) number sent pdu ≡ pdu_line_if ((new && true) && not empty) number (accepted + 1) pdu
 same_line new true sent accepted number pdu more same =
-    ap (λ b. pdu_line_if b number sent pdu) (and_false (nat_lt accepted sent)) ∙ sym (ap (λ b. pdu_line_if b number (accepted + 1) pdu) (and_false (new && true)))
+    ap (λ b. pdu_line_if b number sent pdu) (and-false (nat_lt accepted sent)) ∙ sym (ap (λ b. pdu_line_if b number (accepted + 1) pdu) (and-false (new && true)))
 same_line true false sent accepted number pdu more same =
     let is = more refl refl in
     (λ i. pdu_line_if (nat_lt accepted (is i) && true) number (is i) pdu) ∙ ap (λ b. pdu_line_if (b && true) number (accepted + 1) pdu) (one_less accepted)

@@ -59,6 +59,7 @@ use Rattle.journal_acks.proofs.TwoStations.{IsOfTwo, hearing_of, one_hearing, sa
 use Rattle.journal_data.proofs.FewLinks.{HaveFewLinks}
 use Rattle.journal_pdus.specs.Announced.{announced_pdu, new_pdu_in, side_of_line}
 use Rattle.journal_pdus.specs.Exchanged.{AllGoOutAtOnce}
+use Rattle.journal_pdus.proofs.TakenInRuns.{note_side}
 use Rattle.journal_pdus.proofs.Together.{IsKnownAt, known_first, known_kept}
 use Rattle.journal_pdus.proofs.ToldLines.{air_told, call_told, called_none, fed_told, noted_none, told_at}
 use Rattle.journal_pdus.proofs.Told.{AreTold, IsTold, StaysTold, begin_tells, call_stays, feed_stays, from_off, off_told, packet_stays, phase_tells, same_told, still_told, told_step, turn_stays}
@@ -395,10 +396,6 @@ GoesOut front side entry = announced_pdu side front ≡ new_pdu_in front side en
 
 same_side : (one other : Side) → Some one ≡ Some other → one ≡ other
 same_side one other is = cc
-
-note_side : (own : Side) (link_of : ℕ → ℕ) (last : ℕ) (note : Note) → side_of_line (entry_of own link_of last note) ≡ Some own
-note_side own link_of last (UpNote packet) = refl
-note_side own link_of last note = refl
 
 note_brings : (entries : List Entry) (own : Side) (link_of : ℕ → ℕ) (last : ℕ) (note : Note) → new_pdu_in entries own (entry_of own link_of last note) ≡ None
 note_brings entries own link_of last (UpNote packet) = refl

@@ -1,16 +1,17 @@
 -- Each packet of a link tells whether more data of its side waits, and a new empty PDU goes out only where none does.
-use Rattle.std.proofs.Common.{◌≡◌, ℕ, nat_lt, Bool, true, false, List, length, refl, ap, ◌∙◌}
+use Rattle.std.proofs.Common.{◌≡◌, ℕ, nat_lt, List, length, ap, ◌∙◌}
 use Rattle.ack_bit.specs.Nonempty.{nonempty}
 use Rattle.acl_banks.specs.History.{octets_of}
 use Rattle.acl_banks.specs.Packets.{Marked}
 use Rattle.link_model.specs.Acknowledgement.{is_acked}
-use Rattle.link_model.specs.Data.{Data, data_of, data_sent_if, is_empty}
+use Rattle.link_model.specs.Data.{data_of, is_empty}
 use Rattle.link_model.specs.Facts.{Facts as EndFacts}
 use Rattle.link_model.specs.Step.{PacketSent}
 use Rattle.open_links.specs.OpenLinks.{OpenLink, facts_in, link_after}
 use Rattle.run_laws.proofs.Agreed.{ack_of, ack_sent, sent_ack, step_facts}
 use Rattle.journal_data.specs.Lines.{Lines, pdus_on}
 use Rattle.journal_data.proofs.Arriving.{IsEndBooked, data_nonempty, lines_data}
+use Rattle.journal_data.proofs.SameGiven.{sent_same}
 use Rattle.journal_pdus.specs.Waiting.{data_of_lines, data_waits}
 
 -- ---- by what an end holds
@@ -28,13 +29,9 @@ waits_is number lines facts waiting booked =
     λ i. nat_lt (length (sent_data_is number lines facts waiting booked i)) (length (octets_of (booked.submitted i)))
 
 -- sending adds nothing to what was given
-given_sent : (is_new : Bool) (outgoing : Data) → (data_sent_if is_new outgoing).given ≡ outgoing.given
-given_sent true outgoing = refl
-given_sent false outgoing = refl
-
 given_same : (slot : ℕ) (link : OpenLink) → (facts_in (link_after (PacketSent slot) link)).outgoing.given ≡ (facts_in link).outgoing.given
 given_same slot link =
-    ap (λ (f : EndFacts). f.outgoing.given) (step_facts link (PacketSent slot)) ∙ given_sent (is_acked (ack_of link)) (facts_in link).outgoing
+    ap (λ (f : EndFacts). f.outgoing.given) (step_facts link (PacketSent slot)) ∙ sent_same (is_acked (ack_of link)) (facts_in link).outgoing
 
 pub waits_after : (number : ℕ) (lines : Lines) (slot : ℕ) (link : OpenLink) (waiting : List Marked) → IsEndBooked number lines (facts_in (link_after (PacketSent slot) link)) waiting
     → data_waits number lines ≡ nat_lt (length (data_of (sent_ack (facts_in link)).sent)) (length (octets_of (facts_in link).outgoing.given))

@@ -145,7 +145,7 @@ served_later one other setup past = record {
 
 -- ---- a link that enters its event
 
-one_entry_more : (slot : ℕ) (link : OpenLink) → entries_in (link_after (EventEntered slot) link).past ≡ entries_in link.past + 1
+pub one_entry_more : (slot : ℕ) (link : OpenLink) → entries_in (link_after (EventEntered slot) link).past ≡ entries_in link.past + 1
 one_entry_more slot link = fold-append count_entry 0 link.past (EventEntered slot ∷ [])
 
 entered_slot : (anchor : Bool) (slot : ℕ) (link : OpenLink) → anchor ≡ true → slot ≡ (facts_in (entered_if anchor slot link)).event.slot
@@ -160,7 +160,7 @@ entered_anchor true slot link is at = λ event entered.
     ap (λ (f : EndFacts). f.event.slot) (step_facts link (EventEntered slot))
     ∙ sym (eqb-true (next_anchor_of (facts_in link).parameters) slot is) ∙ (past_in link.setup link.past).next_anchor ∙ ap (anchor_of link.setup) same
 
-wants_anchor : (anchor : Bool) (slot : ℕ) (link : OpenLink) → is_anchor slot link ≡ anchor → wants_entering slot link ≡ true → anchor ≡ true
+pub wants_anchor : (anchor : Bool) (slot : ℕ) (link : OpenLink) → is_anchor slot link ≡ anchor → wants_entering slot link ≡ true → anchor ≡ true
 wants_anchor true slot link is wants = refl
 wants_anchor false slot link is wants = absurd (let h : false ≡ true = sym (ap (λ b. wants_if b slot link) is) ∙ wants in absurd cc)
 
@@ -171,7 +171,7 @@ module _ (slot handle : ℕ) (begun : Facts) (link : OpenLink) (at : link_at han
   abbrev now : OpenLink
   now = link_entered slot link
 
-  entered_is : (found : Option OpenLink) (other : ℕ) → other ≡ handle → link_at other (facts_entering slot begun).links ≡ found → found ≡ Some now
+  pub entered_is : (found : Option OpenLink) (other : ℕ) → other ≡ handle → link_at other (facts_entering slot begun).links ≡ found → found ≡ Some now
   entered_is found other same is =
       sym is ∙ ap (λ n. link_at n (links_entered slot begun.links)) same ∙ map_under (option_map (link_entered slot)) refl 0 handle begun.links ∙ ap (option_map (link_entered slot)) at
 

@@ -1,7 +1,7 @@
 -- The lemmas of this crate.
-mod ExchangeSlots
-mod OnAir
+pub mod ExchangeSlots
+pub mod OnAir
 mod OnAirCalls
 mod OnAirPackets
-mod SecondSlots
+pub mod SecondSlots
 mod Refusals

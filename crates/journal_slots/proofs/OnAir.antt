@@ -25,9 +25,10 @@ use Rattle.controller_model.specs.declared.doing.Doing.{Doing}
 use Rattle.controller_model.specs.declared.doing.Turn.{Turn}
 use Rattle.controller_model.specs.Facts.{Facts}
 use Rattle.run_laws.proofs.Agreed.{step_facts}
-use Rattle.journal_acks.proofs.Counting.{taking_if}
+use Rattle.journal_acks.proofs.Counting.{taking_if, nothing_taken}
 use Rattle.journal_acks.proofs.LinkCalls.{HasBegun, fixed_if}
 use Rattle.journal_acks.proofs.LinkUses.{listens_under, sends_under}
+use Rattle.journal_acks.proofs.RadioUses.{first_of_both}
 use Rattle.journal_acks.proofs.UnderHandles.{sent_if}
 use Rattle.journal_slots.specs.SecondSlot.{HasToContinue, PacketInSlot, has_more}
 
@@ -131,15 +132,11 @@ room_event slot octets room other link =
 
 -- ---- it sends a packet, which is on the air
 
-first_of_both : (one other : Bool) → (one && other) ≡ true → one ≡ true
-first_of_both true other is = refl
-first_of_both false other is = absurd cc
-
 second_of_both : (one other : Bool) → (one && other) ≡ true → other ≡ true
 second_of_both true other is = is
 second_of_both false other is = absurd cc
 
-either : (one other : Bool) → (one || other) ≡ true → (one ≡ true) ⊎ (other ≡ true)
+pub either : (one other : Bool) → (one || other) ≡ true → (one ≡ true) ⊎ (other ≡ true)
 either true other is = inl refl
 either false other is = inr is
 
@@ -230,11 +227,6 @@ pub not_sending : (sends : Bool) (slot : ℕ) (taken : OpenLink) (number : ℕ) 
     → IsOnAir number side journal (facts_in taken).event
 not_sending true slot taken number side journal none was = absurd cc
 not_sending false slot taken number side journal none was = subst (λ (l : OpenLink). IsOnAir number side journal (facts_in l).event) (sym was.is) was.on_air
-
-nothing_taken : (listens : Bool) (received : Option (List ℕ)) (slot : ℕ) (link : OpenLink) → (listens ≡ true → received ≡ None) → taking_if listens received slot link ≡ link
-nothing_taken true None slot link none = refl
-nothing_taken true (Some octets) slot link none = absurd (let h : Some octets ≡ None = none refl in absurd cc)
-nothing_taken false received slot link none = refl
 
 -- an end that neither is to send nor has a packet to take
 pub plain : (unsent : Bool) (received : Option (List ℕ)) (handle : ℕ) (turn : Turn) (link : OpenLink) (number : ℕ) (side : Side) (journal : List Entry)

@@ -114,10 +114,6 @@ module _ (given : Given) where
 
 -- ---- a call after which an end may have a packet to send, and none to take
 
-pub none_sent : (one other : Bool) → other ≡ false → (one && other) ≡ false
-none_sent true other is = is
-none_sent false other is = refl
-
 -- an end with what was on the air before, but for a packet that it is to send
 pub own_sends : (given : Given) (station : ℕ) (step : Step) (history : List Event) (received : Option (List ℕ)) (handle : ℕ) (link base : OpenLink) → received ≡ None
     → number_at station handle (after_call given station step history) ≡ number_at station handle history

@@ -2,11 +2,9 @@
 use Rattle.std.proofs.Common.{◌≡◌, ℕ, zero, suc, ◌+◌, ◌==◌, ◌&&◌, Bool, true, false, not, Option, Some, None, List, [], ◌∷◌, ◌++◌, length, take, refl, sym, ap, subst, ◌∙◌, append-nil}
 use Rattle.std.specs.Prelude.{if◌then◌else◌}
 use Rattle.std.specs.Str.{bytes_eq}
-use Rattle.std.proofs.lemmas.Bool.{eqb-true, false_from_ne_true}
+use Rattle.std.proofs.lemmas.Bool.{eqb-true, false_from_ne_true, and_right}
 use Rattle.ble_base.specs.Side.{other_side}
 use Rattle.ble_base.specs.declared.roles.Side.{Side}
-use Rattle.ble_base.specs.declared.verdicts.Verdict.{Verdict}
-use Rattle.ble_base.specs.declared.verdicts.Verdict.TheVariants.{Broken as BrokenVerdict, Forged, Good, Missed}
 use Rattle.air_frame.specs.declared.Heard.{Heard}
 use Rattle.air_frame.specs.declared.Heard.TheVariants.{NotOurs, Broken, Whole}
 use Rattle.air_frame.specs.Hearing.{heard_in}
@@ -36,6 +34,7 @@ use Rattle.run_model.proofs.Fates.{turns_are}
 use Rattle.run_model.proofs.LinkEnds.{is_listener, received_event}
 use Rattle.run_model.proofs.Parts.{journal_event}
 use Rattle.run_model.proofs.Stations.{among, in_more_other, in_more_same, is_in, not_before}
+use Rattle.run_model.proofs.Unseen.{good_is}
 use Rattle.run_model.proofs.Walk.{AtPackets, Place}
 use Rattle.run_laws.proofs.Hearings.{wanted_is}
 use Rattle.run_laws.proofs.TurnPlaces.{Within, at_stage}
@@ -51,7 +50,7 @@ use Rattle.journal_acks.proofs.TwoStations.{IsOfTwo, hearing_of, one_hearing, ot
 use Rattle.journal_acks.proofs.UnderHandles.{same_base}
 use Rattle.journal_slots.specs.SecondSlot.{PacketInSlot, has_more}
 use Rattle.journal_slots.proofs.OnAir.{IsEndOnAir, IsOnAir, WasOnAir, moved, on_air_stays, plain, received_on_air, sent_on_air}
-use Rattle.journal_slots.proofs.OnAirCalls.{AreOnAirSo, none_sent}
+use Rattle.journal_slots.proofs.OnAirCalls.{AreOnAirSo}
 
 -- ---- MD of a packet that an end sends
 
@@ -107,12 +106,6 @@ packet_of_line number slot sender history station channel octets hearings hearin
 other_back : (station : ℕ) → other_side (side_of (other_of station)) ≡ side_of station
 other_back zero = refl
 other_back (suc station) = refl
-
-is_good_one : (verdict : Verdict) → is_good verdict ≡ true → verdict ≡ Good
-is_good_one Good is = refl
-is_good_one Missed is = absurd cc
-is_good_one BrokenVerdict is = absurd cc
-is_good_one Forged is = absurd cc
 
 -- ---- small steps
 
@@ -309,14 +302,14 @@ module _ (whole : IsHeardWhole) (given : Given) (Q : Place → List Event → Ty
           let numbers = one_number whole given Q known are_two six distinct phases done left station channel octets fates history are wanted has.known has.holds has.counted off is_too differs seen silent
           good handle link at listens in
           let before = plain (not (is_in other done)) (packet_received other history) handle turn link number (side_of other) (journal_of history)
-          (none_sent (not (is_in other done)) (sends_under handle turn.doing) (listener_sends handle turn.doing listens)) (λ on. silent other is_too differs) (on_air other handle link is_too at) in
+          (and_right (not (is_in other done)) (sends_under handle turn.doing) (listener_sends handle turn.doing listens)) (λ on. silent other is_too differs) (on_air other handle link is_too at) in
           is_taken (not (is_in other done)) octets handle turn link number (side_of other) (journal_of after) listens
           (received_on_air number (side_of other) (journal_of after) turn.slot false link
           (subst (λ xs. IsOnAir number (side_of other) xs (facts_in link).event) (sym grown) (on_air_stays number (side_of other) (journal_of history) line (facts_in link).event before))
           (record {
             packet = packet_of_line number turn.slot (other_side (side_of other)) history station channel octets hearings hearing has_one (other_back station) off ((sent off).belongs ∙ ap Some numbers)
                 (turns other is_too);
-            good = is_good_one hearing.verdict good;
+            good = good_is hearing.verdict good;
           })
           (hears.channel_is ∙ ap (λ (l : OpenLink). (facts_in l).event.channel) (sym one.links)))
 

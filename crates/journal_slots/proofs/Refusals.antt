@@ -4,7 +4,6 @@ use Rattle.std.specs.List.{list_any}
 use Rattle.std.proofs.lemmas.List.Folds.{list_any-append}
 use Rattle.ble_base.specs.Side.{other_side}
 use Rattle.ble_base.specs.declared.roles.Side.{Side}
-use Rattle.ble_base.specs.declared.roles.Side.TheVariants.{A, B}
 use Rattle.journal.specs.declared.entries.Entry.{Entry}
 use Rattle.journal.specs.declared.entries.Entry.TheVariants.{Air}
 use Rattle.run_model.specs.History.{is_good}
@@ -13,6 +12,7 @@ use Rattle.run_model.specs.Readers.{turns_of}
 use Rattle.journal_links.specs.Begun.{LinkBegun, link_numbered}
 use Rattle.journal_links.specs.Entered.{anchor_in}
 use Rattle.journal_packets.specs.Belonging.{is_side, link_of_packet}
+use Rattle.journal_packets.proofs.SendersLink.{same_side}
 use Rattle.journal_acks.specs.EventOrder.{entered_on}
 use Rattle.journal_slots.specs.SecondSlot.{HasToContinue, IsContinued, PacketInSlot, has_more}
 
@@ -83,10 +83,6 @@ no_more_refutes number slot side front none has = by has.more
     by : (has_more has.heard.channel has.heard.octets ≡ true) ⊎ ((sent : PacketInSlot number slot side front) × (has_more sent.channel sent.octets ≡ true)) → ⊥
     by (inl more) = none_says number slot (other_side side) front none has.heard more
     by (inr sent) = none_says number slot side front none sent.0 sent.1
-
-same_side : (side : Side) → is_side side side ≡ true
-same_side A = refl
-same_side B = refl
 
 pub unheard_refutes : (number slot : ℕ) (side : Side) (front : List Entry) → list_any (is_heard_by side) front ≡ false → HasToContinue number slot side front → ⊥
 unheard_refutes number slot side front none has =

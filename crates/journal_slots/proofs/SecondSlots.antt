@@ -204,7 +204,7 @@ unfolding end_facts_of
 first_in setup = past_in setup []
 
 -- an end has noted as many events as it has entered
-entered_noted : (setup : EndSetup) (past : List EndStep) → fold count_note 0 (notes_opened_on setup past) ≡ entries_in past
+pub entered_noted : (setup : EndSetup) (past : List EndStep) → fold count_note 0 (notes_opened_on setup past) ≡ entries_in past
 unfolding end_notes_of
 entered_noted setup past = (end_entered setup 0 (first_end_facts setup) past (first_in setup)).count
 

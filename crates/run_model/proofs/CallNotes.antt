@@ -25,7 +25,7 @@ outside_in given history (Transmitted station channel octets hearings) is = tt
 outside_in given history (Called station step) is = absurd cc
 outside_in given history (Noted station note) is = absurd cc
 
-map_push : (station : ℕ) (notes : List Note) (note : Note) → map (Noted station) (notes ++ note ∷ []) ≡ map (Noted station) notes ++ Noted station note ∷ []
+pub map_push : (station : ℕ) (notes : List Note) (note : Note) → map (Noted station) (notes ++ note ∷ []) ≡ map (Noted station) notes ++ Noted station note ∷ []
 map_push station [] note = refl
 map_push station (first ∷ notes) note = ap (λ xs. Noted station first ∷ xs) (map_push station notes note)
 

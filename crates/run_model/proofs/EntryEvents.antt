@@ -115,23 +115,23 @@ unchanged_by octets heard good rest seen is = (bytes_eq-Decides heard octets).0 
 good_verdict : (verdict : Verdict) → verdict ≡ Good → is_good verdict ≡ true
 good_verdict verdict is = ap is_good is
 
-not_turn : (slot : ℕ) (radios : List Bool) (side : Side) (channel : ℕ) (octets : List ℕ) (fate : Mark) (verdict : Verdict) (X : Type 0)
+pub turn_not_air : (slot : ℕ) (radios : List Bool) (side : Side) (channel : ℕ) (octets : List ℕ) (fate : Mark) (verdict : Verdict) (X : Type 0)
     → Turn slot (radio_in 0 radios) (Some (radio_in 1 radios)) ∷ [] ≡ Air side channel octets fate verdict ∷ [] → X
-not_turn slot radios side channel octets fate verdict X is = absurd cc
+turn_not_air slot radios side channel octets fate verdict X is = absurd cc
 
-not_note : (own : Side) (link : ℕ → ℕ) (last : ℕ) (note : Note) (side : Side) (channel : ℕ) (octets : List ℕ) (fate : Mark) (verdict : Verdict) (X : Type 0)
+pub note_not_air : (own : Side) (link : ℕ → ℕ) (last : ℕ) (note : Note) (side : Side) (channel : ℕ) (octets : List ℕ) (fate : Mark) (verdict : Verdict) (X : Type 0)
     → entry_of own link last note ∷ [] ≡ Air side channel octets fate verdict ∷ [] → X
-not_note own link last (UpNote packet) side channel octets fate verdict X is = absurd cc
-not_note own link last note side channel octets fate verdict X is = absurd cc
+note_not_air own link last (UpNote packet) side channel octets fate verdict X is = absurd cc
+note_not_air own link last note side channel octets fate verdict X is = absurd cc
 
 aired_by : (given : Given) (links : Links) (before after : List Event) (event : Event) (front : List Entry) (side : Side) (channel : ℕ) (octets : List ℕ) (fate : Mark) (verdict : Verdict)
     → history_of (run_of given) ≡ before ++ event ∷ after → front ≡ journal_of before → IsDue given before event → entries_of links event ≡ Air side channel octets fate verdict ∷ []
     → IsAired given front side channel octets fate verdict
-aired_by given links before after (TurnBegan slot radios) front side channel octets fate verdict at are due is = not_turn slot radios side channel octets fate verdict _ is
+aired_by given links before after (TurnBegan slot radios) front side channel octets fate verdict at are due is = turn_not_air slot radios side channel octets fate verdict _ is
 aired_by given links before after (HostFed station sent) front side channel octets fate verdict at are due is = absurd cc
 aired_by given links before after (Called station step) front side channel octets fate verdict at are due is = absurd cc
 aired_by given links before after (Noted station note) front side channel octets fate verdict at are due is =
-    not_note (side_of station) (links.link_of station) (links.last_of station) note side channel octets fate verdict _ is
+    note_not_air (side_of station) (links.link_of station) (links.last_of station) note side channel octets fate verdict _ is
 aired_by given links before after (Transmitted station on sent []) front side channel octets fate verdict at are due is = absurd cc
 aired_by given links before after (Transmitted station on sent (hearing ∷ others)) front side channel octets fate verdict at are due is =
     let same : Air (side_of station) on sent (mark_of hearing.fate) hearing.verdict ≡ Air side channel octets fate verdict = cc in

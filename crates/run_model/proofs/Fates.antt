@@ -24,7 +24,7 @@ use Rattle.run_model.proofs.Calls.{with_notes, fold_called, fold_event}
 use Rattle.run_model.proofs.Places.{each_at, each_event, each_called}
 use Rattle.run_model.proofs.Stations.{is_in, among}
 use Rattle.run_model.proofs.Walk.{Place, NoTurn, AtFeeds, AtBegins, AfterPhases, AtPackets, AtListening, AtEnds, IsKept, IsWhole, IsStopped, ends_stopped, ends_with, run_kept}
-use Rattle.run_model.proofs.Journals.{each_front, two}
+use Rattle.run_model.proofs.Journals.{each_front, two, note_turns}
 use Rattle.run_model.proofs.EntryEvents.{is_aired, is_of_event}
 
 -- ---- counts
@@ -208,10 +208,6 @@ stop_placed given one history stop is =
       place = stopped.place_is ∙ ap (λ n. n + 1) (sym packets);
     }
 
-pub note_begun : (side : Side) (link : ℕ → ℕ) (last : ℕ) (note : Note) → pair_openings_in (entry_of side link last note) ≡ []
-note_begun side link last (UpNote packet) = refl
-note_begun side link last note = refl
-
 add_none : (start count : ℕ) → start + count ≡ start + 0 + count
 add_none start count = omega arith
 
@@ -226,7 +222,7 @@ turns_from links (HostFed station octets ∷ history) start = add_none start _ �
 turns_from links (Called station step ∷ history) start = add_none start _ ∙ turns_from links history (start + 0)
 turns_from links (Noted station note ∷ history) start =
     ap (λ xs. start + length (xs ++ flat_map pair_openings_in (journal_from (links_after links (Noted station note)) history)))
-    (note_begun (side_of station) (links.link_of station) (links.last_of station) note)
+    (note_turns (side_of station) (links.link_of station) (links.last_of station) note)
     ∙ add_none start _ ∙ turns_from (links_after links (Noted station note)) history (start + 0)
 turns_from links (Transmitted station channel octets [] ∷ history) start =
     add_none start _ ∙ turns_from (links_after links (Transmitted station channel octets [])) history (start + 0)

@@ -45,7 +45,7 @@ octets_more given station (octet ∷ octets) history =
     let next = after_call given station (HostOctet octet) history in
     more_then history next _ (call_more given station (HostOctet octet) history) (octets_more given station octets next)
 
-feed_more : (given : Given) (station : ℕ) (octets : List ℕ) (history : List Event) → More history (after_feed given station octets history)
+pub feed_more : (given : Given) (station : ℕ) (octets : List ℕ) (history : List Event) → More history (after_feed given station octets history)
 feed_more given station [] history = no_more history
 feed_more given station (octet ∷ octets) history =
     let next = history ++ HostFed station (octet ∷ octets) ∷ [] in

@@ -73,7 +73,7 @@ air_fed : (side other : Side) (channel : ℕ) (octets : List ℕ) (hearings : Li
 air_fed side other channel octets [] = refl
 air_fed side other channel octets (hearing ∷ hearings) = refl
 
-note_fed : (side other : Side) (link_of : ℕ → ℕ) (last : ℕ) (note : Note) → fed_in side (entry_of other link_of last note) ≡ []
+pub note_fed : (side other : Side) (link_of : ℕ → ℕ) (last : ℕ) (note : Note) → fed_in side (entry_of other link_of last note) ≡ []
 note_fed side other link_of last (Up packet) = refl
 note_fed side other link_of last note = refl
 
@@ -101,7 +101,7 @@ pair_fed a b script before rest side is =
 
 -- ---- packets to hosts
 
-side_none : {X : Type 0} (side other : Side) → of_side {X = X} side other [] ≡ []
+pub side_none : {X : Type 0} (side other : Side) → of_side {X = X} side other [] ≡ []
 side_none A A = refl
 side_none A B = refl
 side_none B A = refl
@@ -115,7 +115,7 @@ one_packets : (same : Bool) (note : Note) → (if same then packets_of_note note
 one_packets true note = sym (append-nil (packets_of_note note))
 one_packets false note = refl
 
-air_packets : (side other : Side) (channel : ℕ) (octets : List ℕ) (hearings : List Hearing) → flat_map (packets_in side) (air_entries other channel octets hearings) ≡ []
+pub air_packets : (side other : Side) (channel : ℕ) (octets : List ℕ) (hearings : List Hearing) → flat_map (packets_in side) (air_entries other channel octets hearings) ≡ []
 air_packets side other channel octets [] = refl
 air_packets side other channel octets (hearing ∷ hearings) = refl
 
@@ -147,7 +147,7 @@ air_turns : (other : Side) (channel : ℕ) (octets : List ℕ) (hearings : List 
 air_turns other channel octets [] = refl
 air_turns other channel octets (hearing ∷ hearings) = refl
 
-note_turns : (other : Side) (link_of : ℕ → ℕ) (last : ℕ) (note : Note) → pair_openings_in (entry_of other link_of last note) ≡ []
+pub note_turns : (other : Side) (link_of : ℕ → ℕ) (last : ℕ) (note : Note) → pair_openings_in (entry_of other link_of last note) ≡ []
 note_turns other link_of last (Up packet) = refl
 note_turns other link_of last note = refl
 

@@ -43,6 +43,7 @@ use Rattle.run_model.proofs.Stations.{is_in, among, in_more_other, in_more_same,
 use Rattle.run_model.proofs.Walk.{Place, NoTurn, AtFeeds, AtBegins, AfterPhases, AtPackets, AtListening, AtEnds, IsKept, IsWhole, IsStopped, ends_with, run_kept}
 use Rattle.run_model.proofs.Doings.{IsWanted, always_wanted}
 use Rattle.run_model.proofs.LinkSteps.{EachLink, MayOpen, begun_slot, link_has, none_linked, phase_slot}
+use Rattle.run_model.proofs.Sending.{use_same}
 
 -- ---- what a station sent and heard
 
@@ -95,10 +96,6 @@ record IsSame (station : ℕ) (history more : List Event) : Type 0 where
   past : past_of station (history ++ more) ≡ past_of station history
   turns : turns_begun (history ++ more) ≡ turns_begun history
   noted : noted_by station (history ++ more) ≡ noted_by station history
-
-use_same : (given : Given) (station : ℕ) (history after : List Event) → past_of station after ≡ past_of station history
-    → use_at given station after ≡ use_at given station history
-use_same given station history after same = ap (λ past. use_of (facts_of (setup_at given station) past)) same
 
 slot_same : (given : Given) (station : ℕ) (history more : List Event) → IsSame station history more → IsInSlot given history station
     → IsInSlot given (history ++ more) station
@@ -244,8 +241,8 @@ is_request taken params list (Connect from to ch_sel said) fields takes =
 is_request taken params list (ScanReq from to) fields takes = scan_takes_none (is_scan_answered params list from to) fields _ takes
 is_request taken params list other fields takes = absurd cc
 
-on_channel : (channel : ℕ) → IsAdvertisingChannel channel → is_advertising channel ≡ true
-on_channel channel is = rw (le-leb 37 channel is.0, lt-ltb channel 40 (omega (arith, is.1))) refl
+pub of_advertising : (channel : ℕ) → IsAdvertisingChannel channel → is_advertising channel ≡ true
+of_advertising channel is = rw (le-leb 37 channel is.0, lt-ltb channel 40 (omega (arith, is.1))) refl
 
 heard_step : (received : Option (List ℕ)) (octets : List ℕ) → step_of received ≡ PacketHeard octets → received ≡ Some octets
 heard_step None octets is = absurd cc
@@ -294,7 +291,7 @@ made_by understood given six station channel link history aired in_slot doing =
       fields = link.fields;
     } in
     let end : EndSetup = record { link = link; opened = (facts_at given station history).turn.slot } in
-    let on = on_channel channel fits.0 in
+    let on = of_advertising channel fits.0 in
     let says = understood channel pdu fits.1 in record {
       has = record {
         sent = connect;
@@ -327,7 +324,7 @@ taken_by taken given six station channel octets on pdu fields handle history hea
     let sent = heard octets (heard_step (packet_received station history) octets is) in
     let on_it : channel ≡ sent.channel = same_channel channel sent.channel (sym wants ∙ wanted_is given station history ∙ sent.listens) in
     let request = is_request taken on.params (facts_at given station history).view.accepted pdu fields takes in
-    let on_air = subst (λ one. is_advertising one ≡ true) on_it (on_channel channel fits) in
+    let on_air = subst (λ one. is_advertising one ≡ true) on_it (of_advertising channel fits) in
     let says = subst (λ one. pdu_heard one octets ≡ Some (Connect request.from request.to request.ch_sel fields)) on_it (found ∙ ap Some request.is) in
     subst (λ one. IsLast history station (record { link = link_taken on.params.own one fields handle; opened = (facts_at given station history).turn.slot }))
     (sym request.is) (record {
@@ -468,7 +465,7 @@ last_other station channel octets hearings history other differs none =
 sends_or_listens : (wanted : Use) (channel on : ℕ) (octets : List ℕ) (X : Type 0) → wanted ≡ Sends channel octets → wanted ≡ Listens on → X
 sends_or_listens wanted channel on octets X sends listens = absurd (let h : Sends channel octets ≡ Listens on = sym sends ∙ listens in absurd cc)
 
-deaf_by : (given : Given) (fates : List Fate) (station channel : ℕ) (octets : List ℕ) (history : List Event) (other on : ℕ) (own : List ℕ)
+pub deaf_by : (given : Given) (fates : List Fate) (station channel : ℕ) (octets : List ℕ) (history : List Event) (other on : ℕ) (own : List ℕ)
     → use_at given other history ≡ Sends on own → (received : Bool) → has_received other (hearings_of given fates station channel octets history) ≡ received → received ≡ false
 deaf_by given fates station channel octets history other on own wants true is =
     let listener = is_listener given fates channel octets history station other is in

@@ -21,14 +21,14 @@ pub record IsNotedSoFar (given : Given) (history : List Event) : Type 0 where
   pub each : Each (NotedBefore given) [] history
   pub noted : (station : ℕ) → HasNoted given station history
 
-no_steps : (station : ℕ) (event : Event) → is_outside event ≡ true → steps_in station event ≡ []
+pub no_steps : (station : ℕ) (event : Event) → is_outside event ≡ true → steps_in station event ≡ []
 no_steps station (TurnBegan slot radios) is = refl
 no_steps station (HostFed other octets) is = refl
 no_steps station (Transmitted other channel octets hearings) is = refl
 no_steps station (Called other step) is = absurd cc
 no_steps station (Noted other note) is = absurd cc
 
-no_notes : (station : ℕ) (event : Event) → is_outside event ≡ true → notes_in station event ≡ []
+pub no_notes : (station : ℕ) (event : Event) → is_outside event ≡ true → notes_in station event ≡ []
 no_notes station (TurnBegan slot radios) is = refl
 no_notes station (HostFed other octets) is = refl
 no_notes station (Transmitted other channel octets hearings) is = refl
@@ -41,7 +41,7 @@ noted_event given station history event is noted =
     flat_nothing (notes_in station) history event (no_notes station event is) ∙ noted
     ∙ ap (notes_of (setup_at given station)) (sym (flat_nothing (steps_in station) history event (no_steps station event is)))
 
-noted_own : (given : Given) (station : ℕ) (step : Step) (history : List Event) → HasNoted given station history → HasNoted given station (after_call given station step history)
+pub noted_own : (given : Given) (station : ℕ) (step : Step) (history : List Event) → HasNoted given station history → HasNoted given station (after_call given station step history)
 noted_own given station step history noted =
     let notes = notes_after (setup_at given station) (facts_at given station history) step in
     noted_called station station step notes history true (same_station station)

@@ -1,6 +1,7 @@
 -- A link that is noted as opened is the one that its station knows last.
-use Rattle.std.proofs.Common.{◌≡◌, ℕ, ◌+◌, ◌<◌, ◌==◌, ◌||◌, Bool, true, false, Some, None, List, [], ◌∷◌, ◌++◌, length, map, refl, sym, ap, subst, ◌∙◌, append-nil, append_assoc}
+use Rattle.std.proofs.Common.{◌≡◌, ℕ, ◌+◌, ◌<◌, ◌==◌, true, false, Some, None, List, [], ◌∷◌, ◌++◌, length, map, refl, sym, ap, subst, ◌∙◌, append-nil, append_assoc}
 use Rattle.std.specs.Prelude.{⊤}
+use Rattle.std.proofs.lemmas.Bool.{or_parts}
 use Rattle.ble_base.specs.declared.addresses.Address.{Address}
 use Rattle.ble_base.specs.declared.notes.Note.{Note}
 use Rattle.ble_base.specs.declared.notes.Note.TheVariants.{Opened}
@@ -55,16 +56,12 @@ abbrev FirstOpens : Facts → Places → List Note → Type 0
 FirstOpens facts links [] = ⊤
 FirstOpens facts links (note ∷ notes) = OpensNow facts links note × OpenNone notes
 
-either_false : (one other : Bool) → (one || other) ≡ false → (one ≡ false) × (other ≡ false)
-either_false true other is = absurd cc
-either_false false other is = (refl, is)
-
 rest_open : (note : Note) (notes : List Note) → OpenNone (note ∷ notes) → OpenNone notes
-rest_open note notes none = λ handle. (either_false (opens_under handle note) (is_opened handle notes) (none handle)).1
+rest_open note notes none = λ handle. (or_parts (opens_under handle note) (is_opened handle notes) (none handle)).1
 
 not_opened : (handle : ℕ) (role : Role) (own peer : Address) (notes : List Note) (X : Type 0) → OpenNone (Opened handle role own peer ∷ notes) → X
 not_opened handle role own peer notes X none =
-    absurd (let h : true ≡ false = sym (same_station handle) ∙ (either_false (handle == handle) (is_opened handle notes) (none handle)).0 in absurd cc)
+    absurd (let h : true ≡ false = sym (same_station handle) ∙ (or_parts (handle == handle) (is_opened handle notes) (none handle)).0 in absurd cc)
 
 none_now : (facts : Facts) (links : Places) (notes : List Note) → OpenNone notes → FirstOpens facts links notes
 none_now facts links [] none = tt

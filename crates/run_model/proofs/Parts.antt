@@ -128,12 +128,12 @@ side_noted : (side : Side) (link : ℕ → ℕ) (last : ℕ) (note : Note) → s
 side_noted side link last (UpNote packet) = refl
 side_noted side link last note = refl
 
-notes_noted : (links : Links) (station : ℕ) (notes : List Note) → AreNotes (side_of station) (journal_from links (map (Noted station) notes))
+pub notes_noted : (links : Links) (station : ℕ) (notes : List Note) → AreNotes (side_of station) (journal_from links (map (Noted station) notes))
 notes_noted links station [] = tt
 notes_noted links station (note ∷ notes) =
     (side_noted (side_of station) (links.link_of station) (links.last_of station) note, notes_noted (links_after links (Noted station note)) station notes)
 
-notes_more : (side : Side) (first second : List Entry) → AreNotes side first → AreNotes side second → AreNotes side (first ++ second)
+pub notes_more : (side : Side) (first second : List Entry) → AreNotes side first → AreNotes side second → AreNotes side (first ++ second)
 notes_more side [] second one other = other
 notes_more side (entry ∷ first) second one other = (one.0, notes_more side first second one.1 other)
 

@@ -37,8 +37,8 @@ transmitted_more : (other station channel : ℕ) (octets : List ℕ) (hearings :
 transmitted_more other station channel octets hearings history same is =
     transmitted_event other history (Transmitted station channel octets hearings) ∙ ap (λ b. transmitted_since other history ++ one_if b (channel, octets)) is
 
-use_with : (given : Given) (station : ℕ) (history after : List Event) → past_of station after ≡ past_of station history → use_at given station after ≡ use_at given station history
-use_with given station history after is = ap (λ past. use_of (facts_of (setup_at given station) past)) is
+pub use_same : (given : Given) (station : ℕ) (history after : List Event) → past_of station after ≡ past_of station history → use_at given station after ≡ use_at given station history
+use_same given station history after is = ap (λ past. use_of (facts_of (setup_at given station) past)) is
 
 -- ---- what each step keeps
 
@@ -131,14 +131,14 @@ packet_by given done station channel octets hearings history first wants other b
     transmitted_more other station channel octets hearings history true is
     ∙ ap (λ xs. xs ++ (channel, octets) ∷ []) unsent
     ∙ sym wants ∙ ap (λ s. packets_wanted given s history) (sym same)
-    ∙ ap packet_in (sym (use_with given other history (history ++ event ∷ []) (flat_nothing (steps_in other) history event refl)))
+    ∙ ap packet_in (sym (use_same given other history (history ++ event ∷ []) (flat_nothing (steps_in other) history event refl)))
     ∙ ap (λ b. if b then packets_wanted given other (history ++ event ∷ []) else []) (sym (in_more_same other station done is))
 packet_by given done station channel octets hearings history first wants other before false is =
     let event = Transmitted station channel octets hearings in
     transmitted_more other station channel octets hearings history false is
     ∙ append-nil (transmitted_since other history) ∙ before
     ∙ ap (λ packets. if is_in other done then packets else [])
-    (ap packet_in (sym (use_with given other history (history ++ event ∷ []) (flat_nothing (steps_in other) history event refl))))
+    (ap packet_in (sym (use_same given other history (history ++ event ∷ []) (flat_nothing (steps_in other) history event refl))))
     ∙ ap (λ b. if b then packets_wanted given other (history ++ event ∷ []) else []) (sym (in_more_other other station done is))
 
 -- a station that wants to transmit nothing
@@ -169,7 +169,7 @@ heard_by given done station step history other before false is =
     let after = after_call given station step history in
     transmitted_by other station step notes history false is ∙ before
     ∙ ap (λ packets. if is_in other done then [] else (if is_in other given.stations then packets else []))
-    (ap packet_in (sym (use_with given other history after (past_other other station step notes history is))))
+    (ap packet_in (sym (use_same given other history after (past_other other station step notes history is))))
     ∙ ap (λ b. if b then [] else (if is_in other given.stations then packets_wanted given other after else [])) (sym (in_more_other other station done is))
 
 all_heard : (in_stations : Bool) (packets : List (ℕ × List ℕ)) → (if in_stations then [] else (if in_stations then packets else [])) ≡ []

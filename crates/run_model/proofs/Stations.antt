@@ -13,10 +13,6 @@ or_true : (b : Bool) → (b || true) ≡ true
 or_true true = refl
 or_true false = refl
 
-or_false : (b : Bool) → (b || false) ≡ b
-or_false true = refl
-or_false false = refl
-
 pub in_middle : (station : ℕ) (done left : List ℕ) → is_in station (done ++ station ∷ left) ≡ true
 in_middle station [] left = rw (same_station station) refl
 in_middle station (first ∷ done) left = ap (λ b. (station == first) || b) (in_middle station done left) ∙ or_true (station == first)

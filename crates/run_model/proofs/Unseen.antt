@@ -17,7 +17,7 @@ use Rattle.run_model.specs.OnAir.{IsUnseenStop}
 use Rattle.run_model.proofs.Stations.{others_differ}
 use Rattle.run_model.proofs.Walk.{Place, IsKept, IsWhole, IsStopped, ends_stopped, run_kept}
 
-good_is : (verdict : Verdict) → is_good verdict ≡ true → verdict ≡ Good
+pub good_is : (verdict : Verdict) → is_good verdict ≡ true → verdict ≡ Good
 good_is Good is = refl
 good_is Missed is = absurd cc
 good_is Broken is = absurd cc

@@ -54,16 +54,16 @@ record IsOutside (event : Event) : Type 0 where
   pub feeds : is_of_feeding event ≡ false
   pub notes : is_note event ≡ false
 
-not_note : (own : Side) (link : ℕ → ℕ) (last : ℕ) (note : Note) (slot : ℕ) (a_on : Bool) (b_on : Option Bool) (X : Type 0)
+pub note_not_turn : (own : Side) (link : ℕ → ℕ) (last : ℕ) (note : Note) (slot : ℕ) (a_on : Bool) (b_on : Option Bool) (X : Type 0)
     → entry_of own link last note ∷ [] ≡ Turn slot a_on b_on ∷ [] → X
-not_note own link last (UpNote packet) slot a_on b_on X is = absurd cc
-not_note own link last note slot a_on b_on X is = absurd cc
+note_not_turn own link last (UpNote packet) slot a_on b_on X is = absurd cc
+note_not_turn own link last note slot a_on b_on X is = absurd cc
 
 turn_event : (links : Links) (event : Event) (slot : ℕ) (a_on : Bool) (b_on : Option Bool) → entries_of links event ≡ Turn slot a_on b_on ∷ [] → IsOutside event
 turn_event links (TurnBegan number radios) slot a_on b_on is = record { begins = λ rest. tt; feeds = refl; notes = refl }
 turn_event links (HostFed station octets) slot a_on b_on is = absurd cc
 turn_event links (Called station step) slot a_on b_on is = absurd cc
-turn_event links (Noted station note) slot a_on b_on is = not_note (side_of station) (links.link_of station) (links.last_of station) note slot a_on b_on _ is
+turn_event links (Noted station note) slot a_on b_on is = note_not_turn (side_of station) (links.link_of station) (links.last_of station) note slot a_on b_on _ is
 turn_event links (Transmitted station channel octets []) slot a_on b_on is = absurd cc
 turn_event links (Transmitted station channel octets (hearing ∷ hearings)) slot a_on b_on is = absurd cc
 
