@@ -44,7 +44,7 @@ use Rattle.joint_collisions.proofs.Terminated.{terminated_never}
 
 -- ---- what is on its way is an indication, in both words
 
-timed_indication : (outgoing : Outgoing) → is_pdu is_timed (outgoing_part outgoing) ≡ is_some (indication_of outgoing 0 0)
+pub timed_indication : (outgoing : Outgoing) → is_pdu is_timed (outgoing_part outgoing) ≡ is_some (indication_of outgoing 0 0)
 timed_indication Nothing = refl
 timed_indication (Disconnect code) = refl
 timed_indication (Rejection rejection) = by (rejection.opcode == param_request_opcode) (rejection.opcode == phy_request_opcode)
@@ -74,7 +74,7 @@ timed_way (OnAir (control_item outgoing ctrl) sealed) is = by (outgoing_part out
 
 -- ---- the last indication that was sent
 
-last_both : (changes : List Change) (change : Change) → last_change changes ≡ Some change → last_event_of changes ≡ Some change.at
+pub last_both : (changes : List Change) (change : Change) → last_change changes ≡ Some change → last_event_of changes ≡ Some change.at
 last_both [] change is = absurd (cc)
 last_both (one ∷ []) change is = ap event_if is
   where
@@ -83,7 +83,7 @@ last_both (one ∷ []) change is = ap event_if is
     event_if (Some change) = Some change.at
 last_both (one ∷ two ∷ more) change is = last_both (two ∷ more) change is
 
-last_none : (changes : List Change) → last_change changes ≡ None → last_event_of changes ≡ None
+pub last_none : (changes : List Change) → last_change changes ≡ None → last_event_of changes ≡ None
 last_none [] is = refl
 last_none (one ∷ []) is = absurd (cc)
 last_none (one ∷ two ∷ more) is = last_none (two ∷ more) is

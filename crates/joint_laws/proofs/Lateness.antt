@@ -46,7 +46,7 @@ use Rattle.collisions.specs.JointRun.{is_taken as is_pdu_taken}
 use Rattle.instants.specs.Parameters.{instant_of}
 use Rattle.joint_collisions.proofs.EachStep.{InstantOn, untaken_way}
 use Rattle.joint_collisions.proofs.Instants.{PeripheralTook, peripheral_takes as pdu_taken}
-use Rattle.joint_collisions.proofs.PeripheralJoint.{in_time}
+use Rattle.joint_collisions.proofs.PeripheralJoint.{in_time, last_both, last_none, timed_indication}
 use Rattle.joint_collisions.proofs.PeripheralSteps.{is_peripheral}
 use Rattle.joint_collisions.proofs.PeripheralTakes.{ahead_is}
 use Rattle.joint_collisions.proofs.Reaching.{sound_of}
@@ -73,41 +73,6 @@ use Rattle.procedures.specs.Table.{TableFacts}
 use Rattle.procedures.specs.Taking.{facts_with, lacks_room, no_room, outcome_of, taken_by, took_step}
 use Rattle.joint_laws.proofs.TakenEnds.{has_room}
 use Rattle.joint_laws.proofs.Common.{settled_of}
-
--- ---- which PDU is an indication
-
-timed_indication : (outgoing : Outgoing) → is_pdu is_timed (outgoing_part outgoing) ≡ is_some (indication_of outgoing 0 0)
-timed_indication Nothing = refl
-timed_indication (Disconnect code) = refl
-timed_indication (Rejection rejection) = by (rejection.opcode == param_request_opcode) (rejection.opcode == phy_request_opcode)
-  where
-    by : (a c : Bool) → is_pdu is_timed (if a then Some (RejectParam (reason_part rejection.code)) else (if c then Some (RejectPhy (reason_part rejection.code)) else None)) ≡ false
-    by true c = refl
-    by false true = refl
-    by false false = refl
-timed_indication (Other draft) = by draft
-  where
-    by : (draft : Draft) → is_pdu is_timed (outgoing_part (Other draft)) ≡ is_some (indication_of (Other draft) 0 0)
-    by (Update params) = refl
-    by (Grant params) = refl
-    by (Map map) = refl
-    by draft = refl
-
--- ---- the last indication that was sent
-
-last_both : (changes : List Change) (change : Change) → last_change changes ≡ Some change → last_event_of changes ≡ Some change.at
-last_both [] change is = absurd (cc)
-last_both (one ∷ []) change is = ap event_if is
-  where
-    event_if : Option Change → Option EventNo
-    event_if None = None
-    event_if (Some change) = Some change.at
-last_both (one ∷ two ∷ more) change is = last_both (two ∷ more) change is
-
-last_none : (changes : List Change) → last_change changes ≡ None → last_event_of changes ≡ None
-last_none [] is = refl
-last_none (one ∷ []) is = absurd (cc)
-last_none (one ∷ two ∷ more) is = last_none (two ∷ more) is
 
 differ : true ≡ false → ⊥
 differ is = absurd (cc)
