@@ -3,3 +3,4 @@ pub mod Depending
 pub mod Grants
 pub mod Handing
 pub mod Kept
+pub mod Sendable

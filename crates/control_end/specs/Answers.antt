@@ -51,6 +51,7 @@ entry_of slot quiet h =
 
 -- ---- the host
 
+-- the host may ask for a procedure of this kind
 abbrev pub may_ask : Kind → Held → Bool
 may_ask kind h = goes_on h && may_ask_of h.table kind
 
@@ -60,6 +61,7 @@ awaits_host h = goes_on h && is_host_asked h.table.progress
 
 -- ---- a control PDU is sent and acknowledged
 
+-- the control PDU that goes next
 abbrev pub next_ctrl : Bool → Held → Option Ctrl
 next_ctrl quiet h =
     (if goes_on h then next_ctrl_of h.table (event_of h.track) h.track.params.latency quiet else None)

@@ -36,6 +36,7 @@ indication_read (Known (ConnectionUpdateInd win_size win_offset interval latency
 indication_read (Known (ChannelMapInd map instant)) = Some (Map map instant)
 indication_read other = None
 
+-- whether it is the role that follows indications of the peer
 abbrev pub is_peripheral : Role → Bool
 is_peripheral Central = false
 is_peripheral Peripheral = true
@@ -68,6 +69,7 @@ abbrev pub AwaitsWaiting : Progress → Option Change → Type 0
 AwaitsWaiting (central c) waits = ⊤
 AwaitsWaiting (peripheral p) waits = kind_awaited (peripheral p) ≡ kind_waiting waits
 
+-- an end with this role, whose two parts fit together; `closing` says whether its link is to end
 pub record IsEnd (role : Role) (closing : Closing) (h : Held) : Type 0 where
   pub role_is : role_of h.table.progress ≡ role
   pub closing_is : h.table.closing ≡ closing

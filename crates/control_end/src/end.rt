@@ -22,13 +22,13 @@ use std::marker::Model;
 /// would answer is empty.
 #[derive(Drop)]
 pub struct ControlEnd {
-    /// The role of this end in its link.
+    /// The role of this end, which is that of its table.
     pub(crate) role: Role,
     /// Its control procedures.
     pub(crate) table: ProcTable,
     /// Its parameters and anchors.
     pub(crate) track: ParamTrack,
-    /// Whether the link is to end, as its table has it.
+    /// Whether the link is to end, which is so for its table too: the table does not give it.
     pub(crate) closing: Closing,
     /// The error with which it ended the link, once it did.
     pub(crate) ends: Option<ErrCode>,

@@ -24,7 +24,7 @@ fn is_answer(answer: &Result<Ask, ErrCode>) -> bool
 
 impl ControlEnd {
     /// Whether the host may ask for a procedure of this kind: it is neither wanted nor running
-    /// here.
+    /// here, and this end has not ended the link.
     pub fn may_ask(&self, kind: Kind) -> bool
         ensures { result ≡ may_ask kind self.now }
     {

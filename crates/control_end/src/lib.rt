@@ -12,4 +12,4 @@ mod taking;
 
 pub use crate::answers::{Entry, Taken};
 pub use crate::end::ControlEnd;
-pub use crate::laws::steps_depend_on_what_is_held;
+pub use crate::laws::{ends_can_follow_what_they_send, steps_depend_on_what_is_held};

@@ -37,7 +37,8 @@ fn follow(track: &mut ParamTrack, indication: Indication)
 
 impl ControlEnd {
     /// The control PDU that goes next in the event entered last, with the latency of the parameters
-    /// of that event; `quiet` is phase Clear or Secure.
+    /// of that event; `quiet` is phase Clear or Secure. There is none where nothing waits that may
+    /// be sent, or this end ended the link.
     pub fn next(&self, quiet: bool) -> Option<Ctrl>
         requires { 1 ≤ self.now.track.entered }
         ensures value { result ≡ next_ctrl quiet self.now }
