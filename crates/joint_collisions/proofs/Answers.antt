@@ -32,7 +32,7 @@ use Rattle.control_model.proofs.Waiting.{handed}
 
 -- ---- how a link ends
 
-open_of : (end : End) → code_of_end end ≡ None → end ≡ Open
+pub open_of : (end : End) → code_of_end end ≡ None → end ≡ Open
 open_of Open is = refl
 open_of InstantPassed is = absurd (cc)
 open_of (Collided SameKind) is = absurd (cc)
@@ -43,11 +43,11 @@ pub record IsCollided (end : End) : Type 0 where
   pub reason : Reason
   pub is : end ≡ Collided reason
 
-not_passed : EndsByCollision (Some (record { 0 = instant_passed })) → ⊥
+pub not_passed : EndsByCollision (Some (record { 0 = instant_passed })) → ⊥
 not_passed (inl h) = omega (arith, h)
 not_passed (inr h) = omega (arith, h)
 
-collided_of : (end : End) → EndsByCollision (code_of_end end) → IsCollided end
+pub collided_of : (end : End) → EndsByCollision (code_of_end end) → IsCollided end
 collided_of Open h = absurd h
 collided_of InstantPassed h = absurd (not_passed h)
 collided_of (Collided SameKind) h = record { reason = SameKind; is = refl }

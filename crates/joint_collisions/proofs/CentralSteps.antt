@@ -45,7 +45,7 @@ pub is_central : (p : Progress) → role_of p ≡ central_role → (c : Central)
 is_central (central c) is = (c, refl)
 is_central (peripheral p) is = absurd (cc)
 
-passed_by_last : (p : Progress) → passed_from p ≡ passed_from_of (last_instant_of p)
+pub passed_by_last : (p : Progress) → passed_from p ≡ passed_from_of (last_instant_of p)
 passed_by_last (central c) = refl
 passed_by_last (peripheral p) = refl
 

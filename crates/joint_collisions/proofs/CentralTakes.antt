@@ -36,7 +36,8 @@ use Rattle.phased_control.specs.Taken.{answered_if_quiet, answered_kept, ciphere
 use Rattle.joint_controls.specs.Ends.{IsSentAs}
 use Rattle.joint_controls.specs.Joint.{is_terminate}
 use Rattle.joint_controls.proofs.Keeping.{choice, ciphered_keeps_end}
-use Rattle.joint_collisions.specs.Facts.{CentralFacts, fits_up}
+use Rattle.joint_collisions.specs.Facts.{fits_up}
+use Rattle.joint_collisions.proofs.Alone.{CentralKnown}
 use Rattle.joint_collisions.specs.Views.{first_part, kept_part, waits_part, way_if}
 use Rattle.joint_collisions.proofs.Answers.{IsCollided, Means, ReadAs, means_none, means_one, read_as}
 use Rattle.joint_collisions.proofs.CentralSteps.{SeenAt, is_central, owes, passed_kept, view_at}
@@ -102,11 +103,11 @@ pub record GoesAs (p : Control) (down up : Way) (s : Phased) : Type 0 where
   pub goes : s.control.ends ≡ None → SeenAt p down up (kept_part s.kept) s.control
   pub never : EndsByCollision s.control.ends → ⊥
 
-not_room : EndsByCollision (Some (record { 0 = memory_capacity_exceeded })) → ⊥
+pub not_room : EndsByCollision (Some (record { 0 = memory_capacity_exceeded })) → ⊥
 not_room (inl h) = omega (arith, h)
 not_room (inr h) = omega (arith, h)
 
-not_forged : EndsByCollision (Some (record { 0 = mic_failure })) → ⊥
+pub not_forged : EndsByCollision (Some (record { 0 = mic_failure })) → ⊥
 not_forged (inl h) = omega (arith, h)
 not_forged (inr h) = omega (arith, h)
 
@@ -114,16 +115,16 @@ module _ (p : Control) (down up : Way) where
   ended_room : (s : Phased) → GoesAs p down up (ended_with memory_capacity_exceeded s)
   ended_room s = record { goes = λ h. absurd (cc); never = not_room }
 
-  ended_forged : (s : Phased) → GoesAs p down up (ended_with mic_failure s)
+  pub ended_forged : (s : Phased) → GoesAs p down up (ended_with mic_failure s)
   ended_forged s = record { goes = λ h. absurd (cc); never = not_forged }
 
   -- what the central knows, and keeps, while PDUs of the encryption are queued
-  record Stays (kept : Option Ctrl) (s : Phased) : Type 0 where
-    lasts : s.control.ends ≡ None
-    same : s.kept ≡ kept
-    seen : SeenAt p down up (kept_part kept) s.control
+  pub record Stays (kept : Option Ctrl) (s : Phased) : Type 0 where
+    pub lasts : s.control.ends ≡ None
+    pub same : s.kept ≡ kept
+    pub seen : SeenAt p down up (kept_part kept) s.control
 
-  owes_stays : (kept : Option Ctrl) (ctrl : Ctrl) (s : Phased) → Stays kept s → Stays kept (with_owed ctrl s)
+  pub owes_stays : (kept : Option Ctrl) (ctrl : Ctrl) (s : Phased) → Stays kept s → Stays kept (with_owed ctrl s)
   owes_stays kept ctrl s h =
       record {
         lasts = open_step (λ (c : Control). c.ends ≡ None) (Owes ctrl) s.control h.lasts h.lasts;
@@ -161,24 +162,24 @@ module _ (p : Control) (down up : Way) where
 
 -- ---- the whole of a PDU
 
-not_stopping : (b : Bool) (ctrl : Ctrl) → is_terminate ctrl ≡ false → stops_run (seen_if b (Known ctrl)) ≡ false
+pub not_stopping : (b : Bool) (ctrl : Ctrl) → is_terminate ctrl ≡ false → stops_run (seen_if b (Known ctrl)) ≡ false
 not_stopping true ctrl live = refl
 not_stopping false (TerminateInd code) live = absurd (cc)
 not_stopping false ctrl live = refl
 
-record Keeping (pdu : PduClass) (role : Role) (quiet : Bool) : Type 0 where
-  request : pdu ≡ Request
-  central : role ≡ central_role
-  loud : quiet ≡ false
+pub record Keeping (pdu : PduClass) (role : Role) (quiet : Bool) : Type 0 where
+  pub request : pdu ≡ Request
+  pub central : role ≡ central_role
+  pub loud : quiet ≡ false
 
-keeping_of : (pdu : PduClass) (role : Role) (quiet : Bool) → keeps_class pdu role quiet ≡ true → Keeping pdu role quiet
+pub keeping_of : (pdu : PduClass) (role : Role) (quiet : Bool) → keeps_class pdu role quiet ≡ true → Keeping pdu role quiet
 keeping_of Request central_role true is = absurd (cc)
 keeping_of Request central_role false is = record { request = refl; central = refl; loud = refl }
 keeping_of Request peripheral_role quiet is = absurd (cc)
 keeping_of pdu role quiet is = absurd (cc)
 
 module _ (p : Control) (down : Way) (s : Phased) (outgoing : Outgoing) (ctrl : Ctrl) (slot : ℕ) (response : Ctrl) (x : Central) (is : s.control.table.progress ≡ central x)
-    (lasts : s.control.ends ≡ None) (facts : CentralFacts s) (sent : IsSentAs outgoing ctrl) (fits : fits_up outgoing ≡ true) (live : is_terminate ctrl ≡ false)
+    (lasts : s.control.ends ≡ None) (facts : CentralKnown s) (sent : IsSentAs outgoing ctrl) (fits : fits_up outgoing ≡ true) (live : is_terminate ctrl ≡ false)
     (free : is_taken down ≡ false) (same : event_of s.control.track ≡ event_of p.track)
     (seen : SeenAt p down (way_if (λ q. OnAir q) (pdu_of_outgoing outgoing)) (kept_part s.kept) s.control) where
   abbrev up : Way

@@ -30,6 +30,11 @@ use Rattle.joint_collisions.proofs.Reaching.{Seen, fixes, peripheral_acks, sends
 use Rattle.joint_collisions.proofs.PeripheralSteps.{SeenAt, view_at}
 use Rattle.joint_collisions.proofs.Sending.{goes_if}
 
+-- the events have one number, or the peripheral has passed the Instant of an indication that comes
+abbrev pub IsInTime : Control → Way → Control → Type 0
+IsInTime c down p =
+    ((event_of c.track == event_of p.track) || (nat_le (passed_from c.table.progress) (event_of p.track) && is_pdu is_timed (pdu_on_air down))) ≡ true
+
 module _ (c : Control) (down : Way) (kept : Option Pdu) (p : Control) (x : Peripheral) (is : p.table.progress ≡ peripheral x) where
   -- ---- a PDU is fixed
 
@@ -70,22 +75,19 @@ module _ (c : Control) (down : Way) (kept : Option Pdu) (p : Control) (x : Perip
 
   -- ---- it is acknowledged
 
-  abbrev pub IsInTime : Type 0
-  IsInTime = ((event_of c.track == event_of p.track) || (nat_le (passed_from c.table.progress) (event_of p.track) && is_pdu is_timed (pdu_on_air down))) ≡ true
-
-  acked_view : (pdu : Option Pdu) → IsInTime → Seen (view_at c down (way_if (λ q. Taken q) pdu) kept p)
+  acked_view : (pdu : Option Pdu) → IsInTime c down p → Seen (view_at c down (way_if (λ q. Taken q) pdu) kept p)
       → Seen (record (view_at c down Clear kept p) { peripheral = after_steps (ack_of pdu) (peripheral_of p.table) })
   acked_view None time s = s
   acked_view (Some pdu) time s = peripheral_acks (view_at c down (Taken pdu) kept p) s pdu refl time
 
-  acked_now : IsInTime → SeenAt c down (way_if (λ q. Taken q) (pdu_of_outgoing p.table.out)) kept p → SeenAt c down Clear kept (record p { table = (acked_step p.table).0 })
+  acked_now : IsInTime c down p → SeenAt c down (way_if (λ q. Taken q) (pdu_of_outgoing p.table.out)) kept p → SeenAt c down Clear kept (record p { table = (acked_step p.table).0 })
   acked_now time s =
       record {
         role = (acked_same p.table.out p.table.progress).role ∙ s.role;
         seen = rw (acked_one p.table x is) (acked_view (pdu_of_outgoing p.table.out) time s.seen);
       }
 
-  pub acked_seen : IsInTime → SeenAt c down (way_if (λ q. Taken q) (pdu_of_outgoing p.table.out)) kept p
+  pub acked_seen : IsInTime c down p → SeenAt c down (way_if (λ q. Taken q) (pdu_of_outgoing p.table.out)) kept p
       → SeenAt c down Clear kept (table_if (is_out p.table.out) (acked_step p.table).0 p)
   acked_seen time s = by p.table.out refl
     where

@@ -1,8 +1,9 @@
 -- A PDU that a central takes means in its table what it means in a joint run of the procedures that exclude each other.
 use Rattle.std.proofs.Common.{◌≡◌, ℕ, ◌==◌, Bool, true, false, not, ◌||◌, if◌then◌else◌, Option, Some, None, refl, sym, subst, ◌∙◌, eqb-true}
+use Rattle.std.proofs.lemmas.Bool.{or_parts}
 use Rattle.ble_base.specs.declared.roles.Role.TheVariants.{Central as central_role}
 use Rattle.data_pdu.specs.declared.ctrl.Ctrl.{Ctrl}
-use Rattle.data_pdu.specs.declared.ctrl.Ctrl.TheVariants.{ConnectionParamReq, EncRsp, LengthReq as length_req, PauseEncRsp, PeripheralFeatureReq as peripheral_feature_req, PhyReq as phy_req, RejectExtInd, StartEncReq, StartEncRsp, TerminateInd, VersionInd as version_ind}
+use Rattle.data_pdu.specs.declared.ctrl.Ctrl.TheVariants.{ConnectionParamReq, EncRsp, LengthReq as length_req, PauseEncRsp, PeripheralFeatureReq as peripheral_feature_req, PhyReq as phy_req, RejectExtInd, StartEncReq, StartEncRsp, TerminateInd, UnknownRsp as unknown_rsp, VersionInd as version_ind}
 use Rattle.data_pdu.specs.declared.ctrl.CtrlRead.TheVariants.{Known}
 use Rattle.enc_phase.specs.declared.classes.PduClass.{PduClass}
 use Rattle.enc_phase.specs.declared.classes.PduClass.TheVariants.{Other as other_class, Refusal as refusal_class, Request as request_class}
@@ -26,7 +27,7 @@ use Rattle.procedure_stages.specs.declared.stages.OwnCentral.TheVariants.{Encryp
 use Rattle.procedure_stages.specs.declared.stages.Progress.{Progress}
 use Rattle.procedure_stages.specs.declared.stages.Progress.TheVariants.{Central as central}
 use Rattle.procedure_stages.specs.Exclusive.{central_stage, pdu_of_draft, pdu_of_outgoing}
-use Rattle.procedure_stages.specs.Opcodes.{is_opcode, later_opcode_at_central, opcode_at_central}
+use Rattle.procedure_stages.specs.Opcodes.{channel_map_ind_opcode, connection_update_ind_opcode, phy_req_opcode, is_opcode, later_opcode_at_central, opcode_at_central}
 use Rattle.procedures.specs.Table.{TableFacts}
 use Rattle.collisions.specs.declared.central.Central.{Central as CentralPdus}
 use Rattle.collisions.specs.declared.joint.End.{End}
@@ -38,7 +39,7 @@ use Rattle.collision_steps.proofs.CentralTaking.{over}
 use Rattle.phased_control.specs.Taken.{seen_if}
 use Rattle.joint_controls.specs.Ends.{IsSentAs}
 use Rattle.joint_controls.specs.Joint.{is_terminate}
-use Rattle.joint_collisions.specs.Facts.{fits_up, is_cipher_up}
+use Rattle.joint_collisions.specs.Facts.{fits_up, is_cipher_up, is_first_down}
 use Rattle.joint_collisions.specs.Views.{first_part}
 use Rattle.joint_collisions.proofs.Answers.{Means, means_none, means_one}
 
@@ -54,7 +55,7 @@ other_known Clear = refl
 other_known Secure = refl
 other_known phase = refl
 
-same_ctrl : (a b : Ctrl) → ◌≡◌ {A = Option Ctrl} (Some a) (Some b) → a ≡ b
+pub same_ctrl : (a b : Ctrl) → ◌≡◌ {A = Option Ctrl} (Some a) (Some b) → a ≡ b
 same_ctrl a b is = cc
 
 -- ---- a rejection of LL_ENC_REQ does nothing to them
@@ -95,6 +96,47 @@ rejected_at_three (exchange LengthSent) t is = refl
 rejected_at_three EncryptUnsent t is = refl
 rejected_at_three EncryptSent t is = idle_refused t is
 
+-- an LL_UNKNOWN_RSP that names none of their first PDUs does nothing to them either
+abbrev unknown_by : OwnCentral → ℕ → CentralPdus → CentralPdus × End
+unknown_by own opcode t = answer_to (refusal_if (is_opcode (opcode_at_central own) opcode)) t
+
+none_named : (b : Bool) (t : CentralPdus) → b ≡ false → answer_to (refusal_if b) t ≡ (t, Open)
+none_named true t is = absurd (cc)
+none_named false t is = refl
+
+idle_named : (b : Bool) (t : CentralPdus) → t.own ≡ Idle → answer_to (refusal_if b) t ≡ (t, Open)
+idle_named true t is = idle_refused t is
+idle_named false t is = refl
+
+record NamesNone (opcode : ℕ) : Type 0 where
+  update : (connection_update_ind_opcode == opcode) ≡ false
+  map : (channel_map_ind_opcode == opcode) ≡ false
+  phy : (phy_req_opcode == opcode) ≡ false
+
+names_none : (opcode : ℕ) → not (is_first_down opcode) ≡ true → NamesNone opcode
+names_none opcode h =
+    let one = or_parts (connection_update_ind_opcode == opcode) ((channel_map_ind_opcode == opcode) || (phy_req_opcode == opcode)) (not_true (is_first_down opcode) h) in
+    let two = or_parts (channel_map_ind_opcode == opcode) (phy_req_opcode == opcode) one.1 in
+    record { update = one.0; map = two.0; phy = two.1 }
+  where
+    not_true : (b : Bool) → not b ≡ true → b ≡ false
+    not_true true is = absurd (cc)
+    not_true false is = refl
+
+unknown_at : (own : OwnCentral) (opcode : ℕ) (t : CentralPdus) → t.own ≡ central_stage own → NamesNone opcode → unknown_by own opcode t ≡ (t, Open)
+unknown_at (exclusive Idle) opcode t is n = refl
+unknown_at (exclusive UpdateUnsent) opcode t is n = refl
+unknown_at (exclusive UpdateSent) opcode t is n = none_named (connection_update_ind_opcode == opcode) t n.update
+unknown_at (exclusive MapUnsent) opcode t is n = refl
+unknown_at (exclusive MapSent) opcode t is n = none_named (channel_map_ind_opcode == opcode) t n.map
+unknown_at (exclusive PhyUnsent) opcode t is n = refl
+unknown_at (exclusive PhySent) opcode t is n = none_named (phy_req_opcode == opcode) t n.phy
+unknown_at (exclusive PhyAnswered) opcode t is n = none_named (phy_req_opcode == opcode) t n.phy
+unknown_at (exclusive PhyIndicated) opcode t is n = none_named (phy_req_opcode == opcode) t n.phy
+unknown_at (exchange stage) opcode t is n = idle_named (is_opcode (opcode_at_central (exchange stage)) opcode) t is
+unknown_at EncryptUnsent opcode t is n = refl
+unknown_at EncryptSent opcode t is n = idle_named (is_opcode (opcode_at_central EncryptSent) opcode) t is
+
 view_own : (f : TableFacts) (x : Central) → f.progress ≡ central x → (central_of f).own ≡ central_stage x.own
 view_own f x is = over (λ (g : TableFacts). (central_of g).own ≡ central_stage x.own) f x is refl
 
@@ -122,6 +164,13 @@ module _ (f : TableFacts) (x : Central) (is : f.progress ≡ central x) (phase :
       let at : answer_to (step_of_ctrl f.progress (RejectExtInd 3 code)) t ≡ (t, Open) =
       subst (λ (p : Progress). answer_to (step_of_ctrl p (RejectExtInd 3 code)) t ≡ (t, Open)) (sym is) (rejected_at_three x.own t (view_own f x is)) in
       subst (λ (n : ℕ). answer_to (step_of_ctrl f.progress (RejectExtInd n code)) t ≡ (t, Open)) same at
+
+  unknown_seen : (b : Bool) (opcode : ℕ) → not (is_first_down opcode) ≡ true
+      → answer_to (step_of_read f.progress (seen_if b (Known (unknown_rsp opcode)))) t ≡ (t, Open)
+  unknown_seen true opcode h = refl
+  unknown_seen false opcode h =
+      subst (λ (p : Progress). answer_to (step_of_ctrl p (unknown_rsp opcode)) t ≡ (t, Open)) (sym is)
+      (unknown_at x.own opcode t (view_own f x is) (names_none opcode h))
 
   cipher_means : (ctrl : Ctrl) → is_cipher_up ctrl ≡ true → MeansBy None ctrl
   cipher_means (EncRsp skd_s iv_s) fits lasts = means_none (no_step _ (EncRsp skd_s iv_s) refl)
@@ -158,7 +207,7 @@ module _ (f : TableFacts) (x : Central) (is : f.progress ≡ central x) (phase :
   draft_means VersionInd event latency fits lasts = means_none (no_step _ (ctrl_of_draft VersionInd event latency) refl)
   draft_means (LengthReq rx tx) event latency fits lasts = means_none (no_step _ (ctrl_of_draft (LengthReq rx tx) event latency) refl)
   draft_means (LengthRsp rx tx) event latency fits lasts = means_none (no_step _ (ctrl_of_draft (LengthRsp rx tx) event latency) refl)
-  draft_means (UnknownRsp opcode) event latency fits lasts = absurd (cc)
+  draft_means (UnknownRsp opcode) event latency fits lasts = means_none (unknown_seen _ opcode fits)
   draft_means (Cipher ctrl) event latency fits lasts = cipher_means ctrl fits lasts
 
   pub up_means : (outgoing : Outgoing) (ctrl : Ctrl) → IsSentAs outgoing ctrl → fits_up outgoing ≡ true → MeansBy (pdu_of_outgoing outgoing) ctrl

@@ -175,7 +175,7 @@ module _ (v : View) (s : Seen v) where
 
   -- ---- what the central takes
 
-  take_may : (test : Pdu → Bool) (pdu : Pdu) (up down : Way) → up ≡ OnAir pdu → test pdu ≡ true → is_taken down ≡ false → v.central_event ≡ v.peripheral_event
+  pub take_may : (test : Pdu → Bool) (pdu : Pdu) (up down : Way) → up ≡ OnAir pdu → test pdu ≡ true → is_taken down ≡ false → v.central_event ≡ v.peripheral_event
       → (is_pdu test (pdu_on_air up) && (not (is_taken down) && (v.central_event == v.peripheral_event))) ≡ true
   take_may test pdu up down is passes free same = rw (is, passes, free) (same_is same)
 

@@ -104,7 +104,7 @@ nothing_waits : (rejections drafts : List Pdu) → is_empty rejections ≡ true 
 nothing_waits [] drafts is none = rw none refl
 nothing_waits (pdu ∷ more) drafts is none = absurd (cc)
 
-view_closed : (f : TableFacts) (x : Central) → f.progress ≡ central x → (central_of f).closed ≡ not (is_open f.closing)
+pub view_closed : (f : TableFacts) (x : Central) → f.progress ≡ central x → (central_of f).closed ≡ not (is_open f.closing)
 view_closed f x is = over (λ (g : TableFacts). (central_of g).closed ≡ not (is_open g.closing)) f x is refl
 
 view_queue : (f : TableFacts) (x : Central) → f.progress ≡ central x → (central_of f).queue.items ≡ drafts_part f.queue.drafts

@@ -1,31 +1,34 @@
--- What the laws of joint runs of exclusive procedures need to know of one end, and of the PDUs of the encryption and of those
--- that are not supported (Core 5.2, volume 6 part B, sections 5.1.3 and 5.3; our choice of words).
-use Rattle.std.specs.Prelude.{◌≡◌, ◌==◌, Bool, true, false, [], Option, Some, None, is_some}
+-- What the laws of joint runs of exclusive procedures need to know of each end alone (Core 5.2, volume 6 part B, sections
+-- 5.1.3 and 5.3; our choice of words).
+use Rattle.std.specs.Prelude.{◌≡◌, ◌≤◌, ℕ, ◌==◌, ◌||◌, Bool, true, false, not, List, [], ◌∷◌, Option, Some, None, is_some, ⊤}
+use Rattle.std.specs.List.{All}
 use Rattle.ble_base.specs.declared.roles.Role.TheVariants.{Central}
 use Rattle.data_pdu.specs.declared.ctrl.Ctrl.{Ctrl}
 use Rattle.data_pdu.specs.declared.ctrl.Ctrl.TheVariants.{EncReq, EncRsp, PauseEncReq, PauseEncRsp, RejectExtInd, StartEncReq, StartEncRsp, TerminateInd}
 use Rattle.enc_phase.specs.declared.classes.PduClass.TheVariants.{Request}
 use Rattle.enc_phase.specs.Taking.{allows, ctrl_class}
-use Rattle.exclusive_stages.specs.declared.stages.CentralStage.TheVariants.{Idle}
 use Rattle.procedure_values.specs.declared.drafts.Outgoing.{Outgoing}
 use Rattle.procedure_values.specs.declared.drafts.Outgoing.TheVariants.{Other, Rejection}
 use Rattle.procedure_values.specs.declared.drafts.Draft.TheVariants.{Cipher, UnknownRsp}
 use Rattle.procedure_stages.specs.Closing.{is_disconnecting}
-use Rattle.procedure_stages.specs.Opcodes.{enc_req_opcode}
-use Rattle.collision_steps.specs.CentralPart.{central_of}
-use Rattle.collision_steps.specs.Parts.{drafts_part, rejection_part}
-use Rattle.phased_control.specs.Phased.{Phased, is_open_now, is_quiet_now}
-use Rattle.joint_controls.specs.Joint.{Control, Data, Item, Joint, item_on_air}
+use Rattle.procedure_stages.specs.Opcodes.{channel_map_ind_opcode, connection_param_req_opcode, connection_update_ind_opcode, enc_req_opcode, phy_req_opcode}
+use Rattle.collision_steps.specs.Parts.{rejection_part}
+use Rattle.phased_control.specs.Phased.{Phased, is_open_now, is_pause_rsp, is_quiet_now}
+use Rattle.joint_controls.specs.Joint.{Control, Data, Item, Joint, JointStep, after, after_all, beginning, is_running, item_on_air}
+use Rattle.joint_controls.specs.Ends.{AreStepsInRange}
+use Rattle.instants.specs.declared.indications.Params.{Params}
 
 -- ---- one end
 
--- a central outside the phases Clear and Secure runs an encryption and nothing else
+-- a central
 pub record CentralFacts (s : Phased) : Type 0 where
   -- it keeps one first PDU, and allows no other until that is answered
   pub kept : (ctrl : Ctrl) → s.kept ≡ Some ctrl → allows s.phase Central Request ≡ false
   pub first : (ctrl : Ctrl) → s.kept ≡ Some ctrl → ctrl_class ctrl ≡ Request
-  pub own : is_quiet_now s ≡ false → (central_of s.control.table).own ≡ Idle
-  pub drafts : is_quiet_now s ≡ false → drafts_part s.control.table.queue.drafts ≡ []
+  -- it asks for encryption again only after a pause
+  pub pauses : is_pause_rsp s.control.table.out ≡ true → is_quiet_now s ≡ false
+  -- it rejects the procedures of the peripheral that exclude others, and nothing else
+  pub rejections : All (λ rejection. is_some (rejection_part rejection) ≡ true) s.control.table.queue.rejections
   -- until it takes LL_TERMINATE_IND it is to end only by the Disconnect of its host
   pub closing : is_open_now s ≡ false → is_disconnecting s.control.table.closing ≡ true
 
@@ -54,17 +57,25 @@ is_cipher_down PauseEncRsp = true
 is_cipher_down (TerminateInd code) = true
 is_cipher_down ctrl = false
 
--- a peripheral rejects nothing but the start of an encryption, and each PDU of the other end is known
+-- the first PDUs of the central's procedures that exclude others, and those of the peripheral: each end knows them
+abbrev pub is_first_down : ℕ → Bool
+is_first_down opcode =
+    (connection_update_ind_opcode == opcode) || ((channel_map_ind_opcode == opcode) || (phy_req_opcode == opcode))
+
+abbrev pub is_first_up : ℕ → Bool
+is_first_up opcode = (connection_param_req_opcode == opcode) || (phy_req_opcode == opcode)
+
+-- a peripheral rejects nothing but the start of an encryption
 abbrev pub fits_up : Outgoing → Bool
 fits_up (Rejection rejection) = false
-fits_up (Other (UnknownRsp opcode)) = false
+fits_up (Other (UnknownRsp opcode)) = not (is_first_down opcode)
 fits_up (Other (Cipher ctrl)) = is_cipher_up ctrl
 fits_up outgoing = true
 
 -- a central rejects the procedures of the peripheral that exclude others, and nothing else
 abbrev pub fits_down : Outgoing → Bool
 fits_down (Rejection rejection) = is_some (rejection_part rejection)
-fits_down (Other (UnknownRsp opcode)) = false
+fits_down (Other (UnknownRsp opcode)) = not (is_first_up opcode)
 fits_down (Other (Cipher ctrl)) = is_cipher_down ctrl
 fits_down outgoing = true
 
@@ -83,3 +94,21 @@ pub record Facts (s : Joint) : Type 0 where
   pub peripheral : PeripheralFacts s.peripheral
   pub down : fits_if fits_down (item_on_air s.down) ≡ true
   pub up : fits_if fits_up (item_on_air s.up) ≡ true
+
+-- in each state of a run in which a step may come
+abbrev pub AllFacts : List JointStep → Joint → Type 0
+AllFacts [] s = ⊤
+AllFacts (step ∷ steps) s = (is_running s ≡ true → Facts s) × AllFacts steps (after step s)
+
+-- a state of a joint run in which a step may come
+pub record IsState (s : Joint) : Type 0 where
+  pub central_rx : ℕ
+  pub peripheral_rx : ℕ
+  pub first : Params
+  pub slot : ℕ
+  pub steps : List JointStep
+  pub latency : first.latency ≤ 499
+  pub in_range : AreStepsInRange steps
+  pub before : AllFacts steps (beginning central_rx peripheral_rx first slot)
+  pub now : Facts s
+  pub reaches : after_all steps (beginning central_rx peripheral_rx first slot) ≡ s

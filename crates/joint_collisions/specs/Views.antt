@@ -1,7 +1,7 @@
--- What joint runs of the procedures that exclude each other see of a joint run of both ends (our choice; Core 5.2, volume 6
--- part B, section 5.3): their parts of both tables, their PDUs on the two ways, the PDU that the central keeps, and the
--- numbers of the events.
-use Rattle.std.specs.Prelude.{◌≡◌, ℕ, List, Option, Some, None}
+-- What joint runs of the procedures that exclude each other see of a joint run of both ends (our choice; Core 5.2,
+-- volume 6 part B, section 5.3): their parts of both tables, their PDUs on the two ways, the PDU that the central keeps,
+-- and the numbers of the events.
+use Rattle.std.specs.Prelude.{◌≡◌, ℕ, true, List, Option, Some, None}
 use Rattle.data_pdu.specs.declared.ctrl.Ctrl.{Ctrl}
 use Rattle.data_pdu.specs.declared.ctrl.Ctrl.TheVariants.{ConnectionParamReq, PhyReq as phy_req}
 use Rattle.exclusive_stages.specs.declared.pdus.Pdu.{Pdu}
@@ -13,7 +13,10 @@ use Rattle.procedure_stages.specs.Exclusive.{pdu_of_outgoing}
 use Rattle.collisions.specs.declared.central.Central.{Central}
 use Rattle.collisions.specs.declared.peripheral.Peripheral.{Peripheral}
 use Rattle.collisions.specs.declared.events.Place.{Place}
+use Rattle.collisions.specs.declared.events.Place.TheVariants.{After}
 use Rattle.collisions.specs.declared.joint.End.TheVariants.{Open}
+use Rattle.collisions.specs.declared.joint.Link.{Link}
+use Rattle.collisions.specs.Agreement.{agree}
 use Rattle.collisions.specs.declared.joint.Way.{Way as pdu_way}
 use Rattle.collisions.specs.declared.joint.Way.TheVariants.{Clear as no_pdu, Fixed as pdu_fixed, OnAir as pdu_on_air, Taken as pdu_taken}
 use Rattle.collisions.specs.Numbers.{Move, Numbered, numbered_collisions}
@@ -96,21 +99,25 @@ view_of s =
 
 -- ---- a joint run of these procedures comes to it
 
--- the state of such a run, with the places of the two events and the event after the Instant before the last one
+-- the link of such a run, with the places of the two events
+abbrev pub link_at : View → Place → Place → Link
+link_at v central_at peripheral_at =
+    record {
+      central = v.central;
+      peripheral = v.peripheral;
+      down = v.down;
+      up = v.up;
+      kept = v.kept;
+      central_at = central_at;
+      peripheral_at = peripheral_at;
+      end = Open;
+    }
+
+-- its state, with the event after the Instant before the last one
 abbrev pub numbered_of : View → Place → Place → ℕ → Numbered
 numbered_of v central_at peripheral_at earlier =
     record {
-      link =
-          record {
-            central = v.central;
-            peripheral = v.peripheral;
-            down = v.down;
-            up = v.up;
-            kept = v.kept;
-            central_at = central_at;
-            peripheral_at = peripheral_at;
-            end = Open;
-          };
+      link = link_at v central_at peripheral_at;
       central_event = v.central_event;
       peripheral_event = v.peripheral_event;
       passed_from = v.passed_from;
@@ -123,3 +130,13 @@ pub record IsReached (v : View) : Type 0 where
   pub peripheral_at : Place
   pub earlier : ℕ
   pub is : run numbered_collisions moves ≡ numbered_of v central_at peripheral_at earlier
+
+-- the tables of both ends agree on these procedures, but for the PDUs that are on their way
+pub record TablesAgree (s : Joint) : Type 0 where
+  pub central_at : Place
+  pub peripheral_at : Place
+  pub is : agree (link_at (view_of s) central_at peripheral_at) ≡ true
+
+-- the link, where the places of the events do not matter
+abbrev pub link_of : Joint → Link
+link_of s = link_at (view_of s) After After

@@ -121,7 +121,7 @@ module _ (first second : Control) where
   down_taken (OnAir item sealed) slot response s r =
       record { central = r.central; peripheral = takes_end second item slot response s.peripheral r.peripheral }
 
-  runs_step : (step : JointStep) (s : Joint) → IsStepInRange step → AreRuns first second s → AreRuns first second (act step s)
+  pub runs_step : (step : JointStep) (s : Joint) → IsStepInRange step → AreRuns first second s → AreRuns first second (act step s)
   runs_step (CentralEnters slot) s range r = record { central = enters_end first slot s.central r.central; peripheral = r.peripheral }
   runs_step (CentralHost step) s range r = record { central = hosts_end first step s.central range r.central; peripheral = r.peripheral }
   runs_step (CentralSends slot) s range r = record { central = sends_end first slot s.central r.central; peripheral = r.peripheral }
@@ -142,6 +142,22 @@ module _ (first second : Control) where
   all_runs (step ∷ steps) s range r =
       all_runs steps (joint.after step s) range.1 (after_one (AreRuns first second) step s r (λ comes. runs_step step s range.0 r))
 
+-- what is known of the indications of a central, and of those that a peripheral awaits
+pub indicates_from : (central_rx : ℕ) (first : Params) (slot : ℕ) (c : Control) → first.latency ≤ 499 → IsRun (first_control Central central_rx first slot) c → Indicates c
+indicates_from central_rx first slot c latency run =
+    subst Indicates run.reaches (indicates central_rx first slot run.steps latency run.in_range)
+
+pub awaits_from : (peripheral_rx : ℕ) (first : Params) (slot : ℕ) (c : Control) → IsRun (first_control Peripheral peripheral_rx first slot) c → Awaits c
+awaits_from peripheral_rx first slot c run = subst Awaits run.reaches (awaits peripheral_rx first slot run.steps)
+
+pub first_runs : (central_rx peripheral_rx : ℕ) (first : Params) (slot : ℕ)
+    → AreRuns (first_control Central central_rx first slot) (first_control Peripheral peripheral_rx first slot) (beginning central_rx peripheral_rx first slot)
+first_runs central_rx peripheral_rx first slot =
+    record {
+      central = λ lasts. record { steps = []; in_range = tt; reaches = refl };
+      peripheral = λ lasts. record { steps = []; in_range = tt; reaches = refl };
+    }
+
 module _ (central_rx peripheral_rx : ℕ) (first : Params) (slot : ℕ) (steps : List JointStep) (range : AreStepsInRange steps) where
   abbrev now : Joint
   now = joint.after_all steps (beginning central_rx peripheral_rx first slot)
@@ -149,18 +165,13 @@ module _ (central_rx peripheral_rx : ℕ) (first : Params) (slot : ℕ) (steps :
   pub runs : AreRuns (first_control Central central_rx first slot) (first_control Peripheral peripheral_rx first slot) now
   runs =
       all_runs (first_control Central central_rx first slot) (first_control Peripheral peripheral_rx first slot) steps
-      (beginning central_rx peripheral_rx first slot) range
-      (record {
-        central = λ lasts. record { steps = []; in_range = tt; reaches = refl };
-        peripheral = λ lasts. record { steps = []; in_range = tt; reaches = refl };
-      })
+      (beginning central_rx peripheral_rx first slot) range (first_runs central_rx peripheral_rx first slot)
 
   -- what is known of the indications of the central, and of those that the peripheral awaits
   pub central_indicates : first.latency ≤ 499 → now.central.control.ends ≡ None → Indicates now.central.control
   central_indicates latency lasts =
-      let run = runs.central lasts in
-      subst Indicates run.reaches (indicates central_rx first slot run.steps latency run.in_range)
+      indicates_from central_rx first slot now.central.control latency (runs.central lasts)
 
   pub peripheral_awaits : now.peripheral.control.ends ≡ None → Awaits now.peripheral.control
   peripheral_awaits lasts =
-      let run = runs.peripheral lasts in subst Awaits run.reaches (awaits peripheral_rx first slot run.steps)
+      awaits_from peripheral_rx first slot now.peripheral.control (runs.peripheral lasts)

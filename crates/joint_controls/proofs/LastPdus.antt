@@ -244,7 +244,7 @@ module _ (s : Joint) (t : Tied s) where
   data_out out (OnAir item sealed) is clear = absurd (cc)
   data_out out (Taken item) is clear = absurd (cc)
 
-tied_step : (step : JointStep) (s : Joint) → Tied s → may step s ≡ true → Tied (act step s)
+pub tied_step : (step : JointStep) (s : Joint) → Tied s → may step s ≡ true → Tied (act step s)
 tied_step (CentralEnters slot) s t comes = record { central = enters_end (outgoing_on s.down) slot s.central t.central; peripheral = t.peripheral; down = t.down; sent_down = t.sent_down; sent_up = t.sent_up }
 tied_step (CentralHost step) s t comes = record { central = hosts_end (outgoing_on s.down) step s.central t.central; peripheral = t.peripheral; down = t.down; sent_down = t.sent_down; sent_up = t.sent_up }
 tied_step (CentralSends slot) s t comes =

@@ -1,7 +1,7 @@
--- What each end does in a joint run, as steps of that end alone, and what its last PDU is as its table has it (our choice).
-use Rattle.std.specs.Prelude.{◌≡◌, ℕ, List, [], ◌∷◌, ◌++◌, Option, Some, None, Ok, if◌then◌else◌, ⊤}
+-- What each end does in a joint run, as steps of that end alone, and its last PDU as its table has it (our choice).
+use Rattle.std.specs.Prelude.{◌≡◌, ℕ, Bool, true, false, List, [], ◌∷◌, ◌++◌, Option, Some, None, Ok, if◌then◌else◌, ⊤}
 use Rattle.data_pdu.specs.declared.ctrl.Ctrl.{Ctrl}
-use Rattle.data_pdu.specs.declared.ctrl.Ctrl.TheVariants.{TerminateInd}
+use Rattle.data_pdu.specs.declared.ctrl.Ctrl.TheVariants.{EncRsp, TerminateInd}
 use Rattle.procedure_values.specs.declared.drafts.Outgoing.{Outgoing}
 use Rattle.procedure_values.specs.declared.drafts.Outgoing.TheVariants.{Nothing}
 use Rattle.procedure_values.specs.Drafts.{ctrl_of_outgoing}
@@ -43,7 +43,11 @@ steps_of_peripheral [] s = []
 steps_of_peripheral (step ∷ steps) s =
     (if may step s then peripheral_does step s else []) ++ steps_of_peripheral steps (after step s)
 
--- ---- what the hosts ask is in its range
+-- ---- what the hosts ask is in its range, and LL_ENC_REQ is answered with LL_ENC_RSP
+
+abbrev pub is_enc_rsp : Ctrl → Bool
+is_enc_rsp (EncRsp skd_s iv_s) = true
+is_enc_rsp ctrl = false
 
 abbrev pub IsHostInRange : HostStep → Type 0
 IsHostInRange (AsksFor ask) = IsAsk ask
@@ -53,6 +57,7 @@ IsHostInRange step = ⊤
 abbrev pub IsStepInRange : JointStep → Type 0
 IsStepInRange (CentralHost step) = IsHostInRange step
 IsStepInRange (PeripheralHost step) = IsHostInRange step
+IsStepInRange (PeripheralTakes slot response) = is_enc_rsp response ≡ true
 IsStepInRange step = ⊤
 
 abbrev pub AreStepsInRange : List JointStep → Type 0

@@ -24,8 +24,8 @@ pub fn each_end_makes_its_own_steps()
 {}
 
 /// What the table of an end has as its last PDU is the control PDU that this end fixed, sent or saw
-/// taken, and none where there is no such PDU or the last one is data. A central fixes a PDU only as
-/// it sends it. The PDU that is read is the one that its sender fixed.
+/// taken, and none where there is no such PDU or the last one is data. A central fixes a PDU only
+/// as it sends it. The PDU that is read is the one that its sender fixed.
 pub fn a_last_pdu_is_on_its_way()
     ensures central { (central_rx peripheral_rx : ℕ) (first : Params) (slot : ℕ)
         (steps : List JointStep)

@@ -1,0 +1,160 @@
+-- An end answers with LL_UNKNOWN_RSP only what its peer never begins: it knows each first PDU of the procedures that exclude others.
+use Rattle.std.proofs.Common.{◌≡◌, ℕ, Bool, true, false, not, ◌||◌, if◌then◌else◌, Option, Some, None, is_some, refl, sym, subst}
+use Rattle.ble_base.specs.declared.error_codes.ErrCode.{ErrCode}
+use Rattle.ble_base.specs.declared.procedure_kinds.Kind.{Kind}
+use Rattle.ble_base.specs.declared.procedure_kinds.Kind.TheVariants.{Map as map_kind, Phy, Request}
+use Rattle.data_pdu.specs.declared.ctrl.Ctrl.{Ctrl}
+use Rattle.data_pdu.specs.declared.ctrl.Ctrl.TheVariants.{ChannelMapInd, ConnectionParamReq, ConnectionParamRsp, ConnectionUpdateInd, EncReq, EncRsp, FeatureReq, FeatureRsp, LengthReq, LengthRsp, PauseEncReq, PauseEncRsp, PeripheralFeatureReq, PhyReq, PhyRsp, PhyUpdateInd, RejectExtInd, RejectInd, StartEncReq, StartEncRsp, TerminateInd, UnknownRsp, VersionInd}
+use Rattle.data_pdu.specs.declared.ctrl.CtrlRead.TheVariants.{Known}
+use Rattle.exclusive_stages.specs.Awaited.{awaits_phy_ind, awaits_phy_rsp, central_answered, has_phy_of_central, peer_answered, reads_as_answer}
+use Rattle.procedure_values.specs.declared.drafts.Draft.TheVariants.{UnknownRsp as unknown_rsp}
+use Rattle.procedure_values.specs.Values.{are_valid}
+use Rattle.procedure_stages.specs.declared.reply.Reply.{Reply}
+use Rattle.procedure_stages.specs.declared.reply.Reply.TheVariants.{Answer}
+use Rattle.procedure_stages.specs.declared.stages.Ahead.{Ahead}
+use Rattle.procedure_stages.specs.declared.stages.Ahead.TheVariants.{Map as map_ahead, Nothing, Update as update_ahead}
+use Rattle.procedure_stages.specs.declared.stages.Central.{Central}
+use Rattle.procedure_stages.specs.declared.stages.Peripheral.{Peripheral}
+use Rattle.procedure_stages.specs.declared.stages.Progress.{Progress}
+use Rattle.procedure_stages.specs.declared.stages.Progress.TheVariants.{Central as central, Peripheral as peripheral}
+use Rattle.procedure_stages.specs.Awaited.{awaits_features, awaits_lengths, is_own_encryption}
+use Rattle.procedure_stages.specs.Collisions.{collision}
+use Rattle.procedure_stages.specs.Exclusive.{central_stage, peripheral_stage}
+use Rattle.procedure_stages.specs.Kinds.{kind_at_central, kind_at_peripheral, own_exchange}
+use Rattle.procedure_stages.specs.Opcodes.{connection_param_req_opcode, first_opcode, is_opcode, later_opcode, phy_req_opcode}
+use Rattle.procedures.specs.declared.outcome.Outcome.{Outcome}
+use Rattle.procedures.specs.Encryption.{start_rsp_at_central}
+use Rattle.procedures.specs.Refusals.{refused_if}
+use Rattle.procedures.specs.Request.{after_grant, against_central, collided, outlived, request_judged}
+use Rattle.procedures.specs.Table.{TableFacts}
+use Rattle.procedures.specs.Taking.{outcome_of, taken_by, taken_by_central, taken_by_either, taken_by_peripheral}
+use Rattle.procedures.specs.Update.{follow}
+use Rattle.procedures.specs.Version.{version_reply}
+use Rattle.phased_control.specs.Taken.{opcode_of, seen_if}
+use Rattle.joint_collisions.specs.Facts.{is_first_down, is_first_up}
+
+-- no such PDU is answered with LL_UNKNOWN_RSP
+abbrev pub knows : (ℕ → Bool) → Reply → Bool
+knows names (Answer (unknown_rsp opcode)) = not (names opcode)
+knows names reply = true
+
+abbrev pub Knows : (ℕ → Bool) → Outcome → Type 0
+Knows names o = knows names o.reply ≡ true
+
+module _ (names : ℕ → Bool) (f : TableFacts) where
+  choice : (b : Bool) (x y : Outcome) → Knows names x → Knows names y → Knows names (if b then x else y)
+  choice true x y hx hy = hx
+  choice false x y hx hy = hy
+
+  refusal : (b : Bool) (code : ErrCode) → Knows names (refused_if b f code)
+  refusal true code = refl
+  refusal false code = refl
+
+  version : (used : Bool) → knows names (version_reply used) ≡ true
+  version true = refl
+  version false = refl
+
+  either : (p : Progress) (ctrl : Ctrl) → not (names 0x10) ≡ true → f.progress ≡ p → Knows names (taken_by_either f ctrl)
+  either p (TerminateInd code) known is = refl
+  either p (UnknownRsp opcode) known is = refusal (is_opcode (first_opcode f.progress) opcode) _
+  either p (FeatureRsp value) known is = choice (awaits_features (own_exchange f.progress)) _ _ refl refl
+  either p (VersionInd number company sub) known is = version f.version_used
+  either p (RejectInd code) known is = refusal (is_some (first_opcode f.progress)) _
+  either p (ConnectionParamRsp min max latency timeout periodicity reference offsets) known is = known
+  either p (RejectExtInd opcode code) known is = refusal (is_opcode (first_opcode f.progress) opcode || is_opcode (later_opcode f.progress) opcode) _
+  either p (LengthReq rx rx_time tx tx_time) known is = refl
+  either p (LengthRsp rx rx_time tx tx_time) known is = choice (awaits_lengths (own_exchange f.progress)) _ _ refl refl
+  either p other known is = refl
+
+-- ---- at a central
+
+module _ (f : TableFacts) where
+  against : (c : Central) (kind : Kind) (opcode : ℕ) (other : Outcome) → Knows is_first_up other → Knows is_first_up (against_central f c kind opcode other)
+  against c kind opcode other h = by (peer_answered (central_stage c.own)) (collision (kind_at_central c.own) kind)
+    where
+      by : (answered : Bool) (code : Option ErrCode) → Knows is_first_up (collided f answered opcode code other)
+      by answered None = h
+      by true (Some code) = refl
+      by false (Some code) = refl
+
+  judged : (c : Central) (min max latency timeout : ℕ) → Knows is_first_up (request_judged f c min max latency timeout)
+  judged c min max latency timeout = choice is_first_up f (are_valid min max latency timeout) _ _ refl refl
+
+  start_rsp : (c : Central) (quiet own : Bool) → is_own_encryption c.own ≡ own → Knows is_first_up (start_rsp_at_central f c quiet StartEncRsp)
+  start_rsp c true own is = refl
+  start_rsp c false true is = rw is refl
+  start_rsp c false false is = rw is refl
+
+  at_central : (c : Central) (quiet : Bool) (ctrl : Ctrl) → Knows is_first_up (taken_by_central f c quiet ctrl)
+  at_central c quiet (ConnectionUpdateInd win_size win_offset interval latency timeout instant) = refl
+  at_central c quiet (ChannelMapInd map instant) = refl
+  at_central c quiet (EncReq rand ediv skd_m iv_m) = refl
+  at_central c quiet (FeatureReq value) = refl
+  at_central c quiet PauseEncReq = refl
+  at_central c quiet (PhyUpdateInd to_peripheral to_central instant) = refl
+  at_central c quiet (EncRsp skd_s iv_s) = choice is_first_up f quiet _ _ refl refl
+  at_central c quiet StartEncReq = choice is_first_up f quiet _ _ refl refl
+  at_central c quiet PauseEncRsp = choice is_first_up f quiet _ _ refl refl
+  at_central c quiet StartEncRsp = start_rsp c quiet (is_own_encryption c.own) refl
+  at_central c quiet (PeripheralFeatureReq value) = refl
+  at_central c quiet (ConnectionParamReq min max latency timeout periodicity reference offsets) =
+      against c Request connection_param_req_opcode _ (judged c min max latency timeout)
+  at_central c quiet (PhyReq tx rx) = against c Phy phy_req_opcode _ refl
+  at_central c quiet (PhyRsp tx rx) = choice is_first_up f (awaits_phy_rsp (central_stage c.own)) _ _ refl refl
+  at_central c quiet other = either is_first_up f f.progress other refl refl
+
+  -- ---- at a peripheral
+
+  granting : (p : Peripheral) (kind : Kind) (o : Outcome) → Knows is_first_down o → Knows is_first_down (after_grant f p kind o)
+  granting p kind o h = choice is_first_down f (central_answered (peripheral_stage p.own)) _ _ (by (collision (kind_at_peripheral p.own) kind)) h
+    where
+      by : (code : Option ErrCode) → Knows is_first_down (outlived f code o)
+      by None = h
+      by (Some code) = refl
+
+  followed : (ahead new : Ahead) (o : Outcome) → Knows is_first_down o → Knows is_first_down (follow f ahead new o)
+  followed Nothing new o h = h
+  followed update_ahead new o h = refl
+  followed map_ahead new o h = refl
+
+  at_peripheral : (p : Peripheral) (quiet : Bool) (ctrl : Ctrl) → Knows is_first_down (taken_by_peripheral f p quiet ctrl)
+  at_peripheral p quiet (ConnectionUpdateInd win_size win_offset interval latency timeout instant) =
+      followed p.ahead update_ahead _ (choice is_first_down f (reads_as_answer (peripheral_stage p.own)) _ _ refl refl)
+  at_peripheral p quiet (ChannelMapInd map instant) = granting p map_kind _ (followed p.ahead map_ahead _ refl)
+  at_peripheral p quiet (EncReq rand ediv skd_m iv_m) = refl
+  at_peripheral p quiet PauseEncReq = refl
+  at_peripheral p quiet PauseEncRsp = choice is_first_down f quiet _ _ refl refl
+  at_peripheral p quiet StartEncRsp = choice is_first_down f quiet _ _ refl refl
+  at_peripheral p quiet (EncRsp skd_s iv_s) = refl
+  at_peripheral p quiet StartEncReq = refl
+  at_peripheral p quiet (PeripheralFeatureReq value) = refl
+  at_peripheral p quiet (ConnectionParamReq min max latency timeout periodicity reference offsets) = refl
+  at_peripheral p quiet (FeatureReq value) = refl
+  at_peripheral p quiet (PhyReq tx rx) = granting p Phy _ refl
+  at_peripheral p quiet (PhyUpdateInd to_peripheral to_central instant) =
+      choice is_first_down f (has_phy_of_central p.peer) _ _ refl (choice is_first_down f (awaits_phy_ind (peripheral_stage p.own)) _ _ refl refl)
+  at_peripheral p quiet other = either is_first_down f f.progress other refl refl
+
+-- ---- a PDU of the encryption that is seen as unknown
+
+unknown_up : (ctrl : Ctrl) → not (is_first_up (opcode_of ctrl)) ≡ true
+unknown_up (EncReq rand ediv skd_m iv_m) = refl
+unknown_up (EncRsp skd_s iv_s) = refl
+unknown_up StartEncReq = refl
+unknown_up ctrl = refl
+
+unknown_down : (ctrl : Ctrl) → not (is_first_down (opcode_of ctrl)) ≡ true
+unknown_down (EncReq rand ediv skd_m iv_m) = refl
+unknown_down (EncRsp skd_s iv_s) = refl
+unknown_down StartEncReq = refl
+unknown_down ctrl = refl
+
+pub central_knows : (f : TableFacts) (c : Central) (unknown : Bool) (ctrl : Ctrl) (quiet : Bool) → f.progress ≡ central c
+    → Knows is_first_up (outcome_of f quiet (seen_if unknown (Known ctrl)))
+central_knows f c true ctrl quiet is = unknown_up ctrl
+central_knows f c false ctrl quiet is = subst (λ (p : Progress). Knows is_first_up (taken_by p f quiet ctrl)) (sym is) (at_central f c quiet ctrl)
+
+pub peripheral_knows : (f : TableFacts) (p : Peripheral) (unknown : Bool) (ctrl : Ctrl) (quiet : Bool) → f.progress ≡ peripheral p
+    → Knows is_first_down (outcome_of f quiet (seen_if unknown (Known ctrl)))
+peripheral_knows f p true ctrl quiet is = unknown_down ctrl
+peripheral_knows f p false ctrl quiet is = subst (λ (q : Progress). Knows is_first_down (taken_by q f quiet ctrl)) (sym is) (at_peripheral f p quiet ctrl)
