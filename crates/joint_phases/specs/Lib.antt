@@ -1,0 +1,8 @@
+-- The definitions of this crate.
+pub mod Agreement
+pub mod Classes
+pub mod Events
+pub mod Facts
+pub mod Pairs
+pub mod Parts
+pub mod Worked
